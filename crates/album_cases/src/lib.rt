@@ -1,0 +1,13 @@
+//! Tests that cross crates: worked rows and hostile input, each with its exact answer.
+#![tactic(auto)]
+
+#[cfg(test)]
+mod calls;
+#[cfg(test)]
+mod engine_runs;
+#[cfg(test)]
+mod hostile_lines;
+#[cfg(test)]
+mod judge_rows;
+#[cfg(test)]
+mod running;

@@ -1,0 +1,122 @@
+-- The verdict on the bits below a number.
+use Rattle.std.proofs.Common.{◌≡◌, ◌≤◌, ◌<◌, ◌+◌, ◌^◌, ◌&&◌, ℕ, List, [], ◌∷◌, Bool, true, false, Option, Some, None, IfSome, IsSome, IsSomeAnd, MatchOption, min, length, below_more, get_or, refl, arith, inl, inr}
+use Rattle.std.proofs.lemmas.List.Quantifiers.{position-Some}
+use Rattle.std.proofs.lemmas.Option.{slice_get_cases, slice_get_read}
+use Rattle.std.proofs.lemmas.Bool.{cases_lt}
+use Rattle.std.proofs.lemmas.Bool.Decides.{Decides-eqb}
+use Rattle.std.proofs.lemmas.Nat.Bits.{bit_at_above}
+use Rattle.std.specs.Int.{bit_at}
+use Rattle.album_access.specs.Bits.{mask_bits, has_bit}
+use Rattle.album_access.specs.declared.masks.Mask.{Mask}
+use Rattle.album_access.specs.declared.types.AceType.{AceType}
+use Rattle.album_access.specs.declared.types.AceType.TheVariants.{Allowed, Denied, Audit, Alarm}
+use Rattle.album_lists.specs.declared.lists.Ace.{Ace}
+use Rattle.album_eval.specs.declared.verdicts.Verdict.TheVariants.{Granted, DeniedBy, DeniedAtEnd}
+use Rattle.album_eval.specs.Matching.{Case, is_match}
+use Rattle.album_eval.specs.Verdict.{first_mention, mentions, decides, IsSortAt, Denies, IsVerdict}
+
+both_true : (a b : Bool) → (a && b) ≡ true → (a ≡ true) × (b ≡ true)
+both_true true true e = (refl, refl)
+both_true true false e = absurd (cc)
+both_true false b e = absurd (cc)
+
+-- the least denial among the bits below n, and whether one of them is never mentioned
+pub record Judged (case : Case) (entries : List Ace) (mask : Mask) (n : ℕ) (denial : Option ℕ) (open' : Bool) : Type 0 where
+  pub denies : IfSome denial (Denies case entries mask)
+  pub least : (bit k : ℕ) → bit < n → has_bit mask bit ≡ true → first_mention case bit entries ≡ Some k → IsSortAt Denied entries k → IsSomeAnd denial (λ d. d ≤ k)
+  pub unmentioned : open' ≡ true → (bit : ℕ) × (has_bit mask bit ≡ true) × (first_mention case bit entries ≡ None)
+  pub mentioned : open' ≡ false → (bit : ℕ) → bit < n → has_bit mask bit ≡ true → IsSome (first_mention case bit entries)
+
+-- what stands at a first mention
+pub at_mention : (case : Case) (bit : ℕ) (entries : List Ace) (k : ℕ) (d : Ace) → first_mention case bit entries ≡ Some k → (k < length entries) × (mentions case bit (get_or entries k d) ≡ true)
+unfolding first_mention
+at_mention case bit entries k d e = let p = position-Some (mentions case bit) entries k d e in (p.0, p.1)
+
+pub skipped : (case : Case) (entries : List Ace) (mask : Mask) (n : ℕ) (denial : Option ℕ) (open' : Bool) → has_bit mask n ≡ false → Judged case entries mask n denial open' → Judged case entries mask (n + 1) denial open'
+skipped case entries mask n denial open' unasked j = record {
+  denies = j.denies;
+  least = λ bit k l asked first denied. below_more (λ (b : ℕ). has_bit mask b ≡ true → first_mention case b entries ≡ Some k → IsSomeAnd denial (λ d. d ≤ k)) n (λ b below a f. j.least b k below a f denied) (λ a f. absurd (cc)) bit l asked first;
+  unmentioned = j.unmentioned;
+  mentioned = λ is bit l asked. below_more (λ (b : ℕ). has_bit mask b ≡ true → IsSome (first_mention case b entries)) n (λ b below a. j.mentioned is b below a) (λ a. absurd (cc)) bit l asked;
+}
+
+pub not_mentioned : (case : Case) (entries : List Ace) (mask : Mask) (n : ℕ) (denial : Option ℕ) (open' : Bool) → has_bit mask n ≡ true → first_mention case n entries ≡ None → Judged case entries mask n denial open' → Judged case entries mask (n + 1) denial true
+not_mentioned case entries mask n denial open' asks never j = record {
+  denies = j.denies;
+  least = λ bit k l asked first denied. below_more (λ (b : ℕ). has_bit mask b ≡ true → first_mention case b entries ≡ Some k → IsSomeAnd denial (λ d. d ≤ k)) n (λ b below a f. j.least b k below a f denied) (λ a f. absurd (cc)) bit l asked first;
+  unmentioned = λ is. (n, asks, never);
+  mentioned = λ is. absurd (cc);
+}
+
+pub allowed : (case : Case) (entries : List Ace) (mask : Mask) (n k : ℕ) (denial : Option ℕ) (open' : Bool) → has_bit mask n ≡ true → first_mention case n entries ≡ Some k → (IsSortAt Denied entries k → ⊥) → Judged case entries mask n denial open' → Judged case entries mask (n + 1) denial open'
+allowed case entries mask n k denial open' asks at not_denied j = record {
+  denies = j.denies;
+  least = λ bit i l asked first denied. below_more (λ (b : ℕ). has_bit mask b ≡ true → first_mention case b entries ≡ Some i → IsSomeAnd denial (λ d. d ≤ i)) n (λ b below a f. j.least b i below a f denied) (λ a f. let same : i ≡ k = cc in absurd (not_denied (rw (← same) denied))) bit l asked first;
+  unmentioned = j.unmentioned;
+  mentioned = λ is bit l asked. below_more (λ (b : ℕ). has_bit mask b ≡ true → IsSome (first_mention case b entries)) n (λ b below a. j.mentioned is b below a) (λ a. rw at refl) bit l asked;
+}
+
+pub denied_at : (case : Case) (entries : List Ace) (mask : Mask) (n k new : ℕ) (denial : Option ℕ) (open' : Bool) → has_bit mask n ≡ true → first_mention case n entries ≡ Some k → IsSortAt Denied entries k → MatchOption denial (new ≡ k) (λ d. new ≡ min d k) → Judged case entries mask n denial open' → Judged case entries mask (n + 1) (Some new) open'
+denied_at case entries mask n k new None open' asks at denied earlier j = record {
+  denies = record { bit = n; asked = asks; first = rw earlier at; denied = rw earlier denied };
+  least = λ bit i l asked first den. below_more (λ (b : ℕ). has_bit mask b ≡ true → first_mention case b entries ≡ Some i → new ≤ i) n (λ b below a f. absurd (j.least b i below a f den)) (λ a f. let same : i ≡ k = cc in omega (arith, same, earlier)) bit l asked first;
+  unmentioned = j.unmentioned;
+  mentioned = λ is bit l asked. below_more (λ (b : ℕ). has_bit mask b ≡ true → IsSome (first_mention case b entries)) n (λ b below a. j.mentioned is b below a) (λ a. rw at refl) bit l asked;
+}
+denied_at case entries mask n k new (Some d) open' asks at denied earlier j = record {
+  denies = elim (cases_lt d k) [ inl l ↦ (let e : new ≡ d = omega (arith, earlier, l) in rw e j.denies) | inr l ↦ (let e : new ≡ k = omega (arith, earlier, l) in rw e (record { bit = n; asked = asks; first = at; denied = denied })) ];
+  least = λ bit i l asked first den. below_more (λ (b : ℕ). has_bit mask b ≡ true → first_mention case b entries ≡ Some i → new ≤ i) n (λ b below a f. let before = j.least b i below a f den in omega (arith, before, earlier)) (λ a f. let same : i ≡ k = cc in omega (arith, same, earlier)) bit l asked first;
+  unmentioned = j.unmentioned;
+  mentioned = λ is bit l asked. below_more (λ (b : ℕ). has_bit mask b ≡ true → IsSome (first_mention case b entries)) n (λ b below a. j.mentioned is b below a) (λ a. rw at refl) bit l asked;
+}
+
+-- no bit of a mask is past its 32
+asked_small : (mask : Mask) (bit : ℕ) → mask_bits mask < 2 ^ 32 → has_bit mask bit ≡ true → bit < 32
+asked_small mask bit small asks = elim (cases_lt bit 32) [ inl l ↦ l | inr l ↦ (let none = bit_at_above (mask_bits mask) 32 bit small l in let one = (Decides-eqb (bit_at (mask_bits mask) bit) 1).0 asks in absurd (omega (arith, none, one))) ]
+
+pub verdict_denied : (case : Case) (entries : List Ace) (mask : Mask) (i : ℕ) (open' : Bool) → mask_bits mask < 2 ^ 32 → Judged case entries mask 32 (Some i) open' → IsVerdict case entries mask (DeniedBy i)
+verdict_denied case entries mask i open' small j = (j.denies, λ k d. j.least d.bit k (asked_small mask d.bit small d.asked) d.asked d.first d.denied)
+
+pub verdict_at_end : (case : Case) (entries : List Ace) (mask : Mask) → mask_bits mask < 2 ^ 32 → Judged case entries mask 32 None true → IsVerdict case entries mask DeniedAtEnd
+verdict_at_end case entries mask small j = (λ k d. j.least d.bit k (asked_small mask d.bit small d.asked) d.asked d.first d.denied, (j.unmentioned refl).0, (j.unmentioned refl).1, (j.unmentioned refl).2)
+
+-- an entry that decides allows or denies
+allows : (s : AceType) → decides s ≡ true → (s ≡ Denied → ⊥) → s ≡ Allowed
+allows Allowed e h = refl
+allows Denied e h = absurd (h refl)
+allows Audit e h = absurd (cc)
+allows Alarm e h = absurd (cc)
+
+within_mention : (case : Case) (bit : ℕ) (entries : List Ace) (k : ℕ) → first_mention case bit entries ≡ Some k → k < length entries
+unfolding first_mention
+within_mention case bit [] k e = absurd (cc)
+within_mention case bit (x ∷ xs) k e = (at_mention case bit (x ∷ xs) k x e).0
+
+decides_there : (case : Case) (bit : ℕ) (entry : Ace) → mentions case bit entry ≡ true → decides entry.sort ≡ true
+unfolding mentions
+decides_there case bit entry e = (both_true (is_match case entry) (decides entry.sort) (both_true (is_match case entry && decides entry.sort) (has_bit entry.mask bit) e).0).1
+
+bit_granted : (case : Case) (bit : ℕ) (entries : List Ace) (o : Option ℕ) → first_mention case bit entries ≡ o → IsSome o → ((k : ℕ) → o ≡ Some k → IsSortAt Denied entries k → ⊥) → IsSomeAnd o (IsSortAt Allowed entries)
+bit_granted case bit entries None e is h = absurd (cc)
+bit_granted case bit entries (Some k) e is h =
+    elim (slice_get_cases entries k).1 [ inl p ↦ (let there : decides p.0.sort ≡ true = decides_there case bit p.0 (rw p.3 at ((at_mention case bit entries k p.0 e).1)) in rw p.2 (allows p.0.sort there (λ d. h k refl (rw p.2 d)))) | inr p ↦ (let l = within_mention case bit entries k e in absurd (omega (arith, p.0, l))) ]
+
+pub verdict_granted : (case : Case) (entries : List Ace) (mask : Mask) → mask_bits mask < 2 ^ 32 → Judged case entries mask 32 None false → IsVerdict case entries mask Granted
+verdict_granted case entries mask small j = λ bit asks. bit_granted case bit entries (first_mention case bit entries) refl (j.mentioned refl bit (asked_small mask bit small asks) asks) (λ k at d. j.least bit k (asked_small mask bit small asks) asks at d)
+
+-- the type of the entry that was read
+pub sort_at : (entries : List Ace) (k : ℕ) (x : Ace) (sort : AceType) → k < length entries → x ≡ get_or entries k x → x.sort ≡ sort → IsSortAt sort entries k
+sort_at entries k x sort l e s = rw (slice_get_read entries (length entries) k x refl l e) s
+
+pub sort_not_at : (entries : List Ace) (k : ℕ) (x : Ace) (sort : AceType) → k < length entries → x ≡ get_or entries k x → (x.sort ≡ sort → ⊥) → IsSortAt sort entries k → ⊥
+sort_not_at entries k x sort l e s there = s (rw (slice_get_read entries (length entries) k x refl l e) at there)
+
+-- the same at the end of the loop
+pub end_denied : (case : Case) (entries list : List Ace) (mask : Mask) (n i : ℕ) (denial : Option ℕ) (open' : Bool) → n ≡ 32 → denial ≡ Some i → entries ≡ list → mask_bits mask < 2 ^ 32 → Judged case entries mask n denial open' → IsVerdict case list mask (DeniedBy i)
+end_denied case entries list mask n i denial open' last is same small j = rw (← same) (verdict_denied case entries mask i open' small (rw (last, is) at j))
+
+pub end_open : (case : Case) (entries list : List Ace) (mask : Mask) (n : ℕ) (denial : Option ℕ) (open' : Bool) → n ≡ 32 → denial ≡ None → open' ≡ true → entries ≡ list → mask_bits mask < 2 ^ 32 → Judged case entries mask n denial open' → IsVerdict case list mask DeniedAtEnd
+end_open case entries list mask n denial open' last is left same small j = rw (← same) (verdict_at_end case entries mask small (rw (last, is, left) at j))
+
+pub end_granted : (case : Case) (entries list : List Ace) (mask : Mask) (n : ℕ) (denial : Option ℕ) (open' : Bool) → n ≡ 32 → denial ≡ None → open' ≡ false → entries ≡ list → mask_bits mask < 2 ^ 32 → Judged case entries mask n denial open' → IsVerdict case list mask Granted
+end_granted case entries list mask n denial open' last is left same small j = rw (← same) (verdict_granted case entries mask small (rw (last, is, left) at j))

@@ -1,0 +1,4 @@
+pub mod Finding
+pub mod Judging
+pub mod Computing
+pub mod Principals

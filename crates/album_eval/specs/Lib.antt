@@ -1,0 +1,4 @@
+pub mod Groups
+pub mod Matching
+pub mod Verdict
+pub mod Computed

@@ -1,0 +1,54 @@
+-- Which entries take part in a request (RFC 7530, section 6.2.1).
+use Rattle.std.specs.Prelude.{◌≡◌, ℕ, List, Bool, true, false, not, ◌&&◌, codes, bytes_eq, if◌then◌else◌, Option, Some, option_map}
+use Rattle.std.specs.Ordering.{nat_cmp}
+use Rattle.std.specs.BTreeSet as set
+use Rattle.album_lists.specs.declared.lists.Ace.{Ace}
+use Rattle.album_lists.specs.declared.whos.Who.{Who}
+use Rattle.album_lists.specs.declared.whos.Who.TheVariants as who
+use Rattle.album_lists.specs.Whos.{IsUserText, user_of}
+use Rattle.album_lists.specs.Entries.{is_only_inherited}
+use Rattle.album_eval.specs.declared.facts.Facts.{Facts}
+use Rattle.album_eval.specs.declared.facts.Principal.{Principal}
+use Rattle.album_eval.specs.declared.facts.Principal.TheVariants as principal
+
+-- who asks, whose the object is, its head group, and whether who asks is in a group
+pub record Case : Type 0 where
+  pub principal : Principal
+  pub owner : List ℕ
+  pub head_group : ℕ
+  pub is_in : ℕ → Bool
+
+abbrev pub case_of : Facts → Case
+case_of facts =
+    record { principal = facts.principal.now; owner = facts.owner.now; head_group = facts.head_group; is_in = set.contains nat_cmp facts.groups.now }
+
+abbrev pub is_user : Principal → List ℕ → Bool
+is_user principal.Anonymous name = false
+is_user (principal.User user) name = bytes_eq user name
+
+abbrev pub is_known : Principal → Bool
+is_known principal.Anonymous = false
+is_known (principal.User user) = true
+
+-- the who means who asks
+abbrev pub is_for : Case → Who → Bool
+is_for case (who.User name) = is_user case.principal name
+is_for case (who.Group number) = case.is_in number
+is_for case who.Owner = is_user case.principal case.owner
+is_for case who.OwnerGroup = case.is_in case.head_group
+is_for case who.Everyone = true
+is_for case who.Anonymous = not (is_known case.principal)
+is_for case who.Authenticated = is_known case.principal
+
+-- an entry takes part where its who means who asks, and never where it is only inherited
+unfoldable pub is_match : Case → Ace → Bool
+is_match case entry = not (is_only_inherited entry.flags) && is_for case entry.who
+
+-- how a principal is spelled: `name@users` or `ANONYMOUS@`
+abbrev pub IsPrincipalText : Principal → List ℕ → Type 0
+IsPrincipalText principal.Anonymous text = text ≡ codes "ANONYMOUS@"
+IsPrincipalText (principal.User name) text = IsUserText name text
+
+-- the principal that the text is
+unfoldable pub principal_of : List ℕ → Option Principal
+principal_of text = if bytes_eq text (codes "ANONYMOUS@") then Some principal.Anonymous else option_map principal.User (user_of text)

@@ -1,0 +1,48 @@
+-- What an access list says of a request (RFC 7530, section 6.2.1).
+use Rattle.std.specs.Prelude.{◌≡◌, ◌≤◌, ℕ, List, Bool, true, false, ◌&&◌, Option, Some, None, position, IsSomeAnd}
+use Rattle.std.specs.List.{slice_get}
+use Rattle.album_access.specs.Bits.{has_bit}
+use Rattle.album_access.specs.declared.masks.Mask.{Mask}
+use Rattle.album_access.specs.declared.types.AceType.{AceType}
+use Rattle.album_access.specs.declared.types.AceType.TheVariants.{Allowed, Denied, Audit, Alarm}
+use Rattle.album_lists.specs.declared.lists.Ace.{Ace}
+use Rattle.album_eval.specs.declared.verdicts.Verdict.{Verdict}
+use Rattle.album_eval.specs.declared.verdicts.Verdict.TheVariants.{Granted, DeniedBy, DeniedAtEnd}
+use Rattle.album_eval.specs.Matching.{Case, is_match}
+
+-- entries of these types decide; the others are only noted
+abbrev pub decides : AceType → Bool
+decides Allowed = true
+decides Denied = true
+decides Audit = false
+decides Alarm = false
+
+-- a matching entry that decides, and whose mask has the bit
+unfoldable pub mentions : Case → ℕ → Ace → Bool
+mentions case bit entry = is_match case entry && decides entry.sort && has_bit entry.mask bit
+
+-- the first mention of a bit: the least index of such an entry, if there is one
+unfoldable pub first_mention : Case → ℕ → List Ace → Option ℕ
+first_mention case bit entries = position (mentions case bit) entries
+
+abbrev pub IsSortAt : AceType → List Ace → ℕ → Type 0
+IsSortAt sort entries i = IsSomeAnd (slice_get entries i) (λ entry. entry.sort ≡ sort)
+
+-- a bit that is asked is first mentioned at the index, by an entry that denies it
+pub record Denies (case : Case) (entries : List Ace) (mask : Mask) (i : ℕ) : Type 0 where
+  pub bit : ℕ
+  pub asked : has_bit mask bit ≡ true
+  pub first : first_mention case bit entries ≡ Some i
+  pub denied : IsSortAt Denied entries i
+
+-- the bit is first mentioned by an entry that allows it
+abbrev pub IsAllowed : Case → List Ace → ℕ → Type 0
+IsAllowed case entries bit = IsSomeAnd (first_mention case bit entries) (IsSortAt Allowed entries)
+
+-- Granted: each bit asked is allowed by its first mention. DeniedBy: the least index at which a first mention denies.
+-- DeniedAtEnd: no first mention denies, and a bit that is asked has none.
+abbrev pub IsVerdict : Case → List Ace → Mask → Verdict → Type 0
+IsVerdict case entries mask Granted = (bit : ℕ) → has_bit mask bit ≡ true → IsAllowed case entries bit
+IsVerdict case entries mask (DeniedBy i) = Denies case entries mask i × ((k : ℕ) → Denies case entries mask k → i ≤ k)
+IsVerdict case entries mask DeniedAtEnd =
+    ((k : ℕ) → Denies case entries mask k → ⊥) × (bit : ℕ) × (has_bit mask bit ≡ true) × (first_mention case bit entries ≡ None)

@@ -1,0 +1,88 @@
+// Who asks, of whose object.
+ghost use Rattle.std.specs.Prelude.{◌≡◌, ◌↔◌, ℕ, List, Some};
+ghost use Rattle.std.specs.Option.{ok_or};
+ghost use Rattle.album_stamps.specs.Outcome.{Makes};
+ghost use Rattle.album_stamps.specs.declared.refusals.Refusal.TheVariants.{BadWho};
+ghost use Rattle.album_lists.specs.declared.lists.Ace.{Ace};
+ghost use Rattle.album_lists.specs.declared.whos.Who.{Who};
+ghost use Rattle.album_eval.specs.declared.facts.Principal.{Principal};
+ghost use Rattle.album_eval.specs.Matching.{case_of, is_user, is_for, is_match, IsPrincipalText, principal_of};
+
+use album_access::AceFlags;
+use album_lists::{Ace, Name, Who, user_name};
+use album_stamps::Refusal;
+use bitflags::Flags;
+use std::alloc::Global;
+use std::collections::BTreeSet;
+
+/// Who asks.
+#[derive(Debug, Drop)]
+pub enum Principal {
+    /// `ANONYMOUS@`
+    Anonymous,
+    /// `name@users`
+    User(Name),
+}
+
+/// What a list is judged on: who asks, whose the object is, and the groups that who asks is in.
+#[derive(Clone, Copy, Debug)]
+pub struct Facts<'a> {
+    pub principal: &'a Principal,
+    pub owner: &'a Name,
+    pub head_group: u64,
+    pub groups: &'a BTreeSet<u64>,
+}
+
+/// A law: the principal that is read of a text is the one that is spelled by it, and no other is.
+pub fn principals_by_text()
+    ensures { (p : Principal) (text : List ℕ) → (principal_of text ≡ Some p) ↔ IsPrincipalText p text }
+{}
+
+impl Principal {
+    /// The principal that the text is, or `BadWho`.
+    #[tactic(auto, unfolding(crate::specs::Matching::principal_of))]
+    pub fn read(alloc: Global, text: &str) -> Result<Principal, Refusal>
+        ensures { Makes (λ principal. principal) result (ok_or (principal_of text.now) BadWho) }
+    {
+        if text == "ANONYMOUS@" {
+            return Ok(Principal::Anonymous);
+        }
+        let name = user_name(alloc, text)?;
+        Ok(Principal::User(name))
+    }
+
+    /// Whether this is the user of that name.
+    pub fn is_user(&self, name: &Name) -> bool
+        ensures { result ≡ is_user self.now name.now }
+    {
+        match self {
+            Principal::Anonymous => false,
+            Principal::User(user) => user.as_str() == name.as_str(),
+        }
+    }
+}
+
+impl Facts<'_> {
+    /// Whether the who means who asks.
+    fn is_for(&self, who: &Who) -> bool
+        ensures { result ≡ is_for (case_of self.now) who.now }
+    {
+        match who {
+            Who::User(name) => self.principal.is_user(name),
+            Who::Group(number) => self.groups.contains(number),
+            Who::Owner => self.principal.is_user(self.owner),
+            Who::OwnerGroup => self.groups.contains(&self.head_group),
+            Who::Everyone => true,
+            Who::Anonymous => matches!(self.principal, Principal::Anonymous),
+            Who::Authenticated => matches!(self.principal, Principal::User(_)),
+        }
+    }
+
+    /// Whether the entry takes part.
+    #[tactic(auto, unfolding(crate::specs::Matching::is_match))]
+    pub(crate) fn is_match(&self, entry: &Ace) -> bool
+        ensures { result ≡ is_match (case_of self.now) entry.now }
+    {
+        !entry.flags.contains(AceFlags::INHERIT_ONLY) && self.is_for(&entry.who)
+    }
+}

@@ -1,0 +1,71 @@
+// The name of a user.
+ghost use Rattle.std.specs.Prelude.{◌≡◌, IsTrue};
+ghost use Rattle.std.specs.Option.{ok_or};
+ghost use Rattle.std.specs.List.{list_all};
+ghost use Rattle.album_stamps.specs.Outcome.{Makes};
+ghost use Rattle.album_stamps.specs.declared.refusals.Refusal.TheVariants.{BadWho};
+ghost use Rattle.album_lists.specs.Names.{is_name, is_name_byte, name_of};
+
+use album_stamps::Refusal;
+use std::alloc::Global;
+use std::marker::Model;
+
+/// The name of a user: 1 to 64 bytes of a to z, 0 to 9, dot, hyphen and underscore. Contracts see its
+/// bytes.
+#[derive(Debug, Drop)]
+pub struct Name {
+    text: String,
+}
+
+impl Model for Name {
+    ghost use Rattle.std.specs.Prelude.{List, ℕ, IsTrue, string_bytes};
+    ghost use Rattle.album_lists.specs.Names.{is_name};
+
+    ghost Value = { List ℕ };
+
+    ghost view = { λ n. string_bytes n.text };
+
+    ghost invariant = { λ n. IsTrue (is_name (string_bytes n.text)) };
+}
+
+impl Name {
+    /// The name that the text is, or `BadWho`.
+    pub fn of(alloc: Global, text: &str) -> Result<Name, Refusal>
+        ensures { Makes (λ name. name) result (ok_or (name_of text.now) BadWho) }
+    {
+        if !is_name(text) {
+            return Err(Refusal::BadWho);
+        }
+        let text = String::from_str(alloc, text)?;
+        Ok(Name { text })
+    }
+
+    /// The text of the name.
+    pub fn as_str(&self) -> &str
+        ensures text { result.now ≡ self.now }
+        ensures valid { IsTrue (is_name self.now) }
+    {
+        self.text.as_str()
+    }
+}
+
+fn is_name(text: &str) -> bool
+    ensures { result ≡ is_name text.now }
+{
+    match text.len() {
+        1..=64 => has_name_bytes(text),
+        _ => false,
+    }
+}
+
+fn has_name_bytes(text: &str) -> bool
+    ensures { result ≡ list_all is_name_byte text.now }
+{
+    text.bytes().all(is_name_byte)
+}
+
+fn is_name_byte(byte: u8) -> bool
+    ensures { result ≡ is_name_byte byte }
+{
+    matches!(byte, b'a'..=b'z' | b'0'..=b'9' | b'.' | b'-' | b'_')
+}

@@ -1,0 +1,4 @@
+pub mod Parts
+pub mod Outputs
+pub mod Turns
+pub mod Judging

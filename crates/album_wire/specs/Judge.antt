@@ -1,0 +1,161 @@
+-- What a judge line spells: may `who` do what `mask` says to an object that carries this list?
+use Rattle.std.specs.Prelude.{ℕ, List, [], ◌∷◌, Bool, true, ◌&&◌, ◌==◌, not, codes, bytes_eq, if◌then◌else◌, Option, Some, None, Result, Ok, Err, map}
+use Rattle.std.specs.Option.{ok_or}
+use Rattle.std.specs.List.{list_any}
+use Rattle.serde_json.specs.Data.{Data}
+use Rattle.serde_json.specs.Find.{get}
+use Rattle.album_stamps.specs.declared.refusals.Refusal.{Refusal}
+use Rattle.album_stamps.specs.declared.refusals.Refusal.TheVariants.{BadRequest, BadWho, BadFlags}
+use Rattle.album_stamps.specs.Outcome.{◌>>=◌}
+use Rattle.album_access.specs.Bits.{mask_of}
+use Rattle.album_access.specs.declared.masks.Mask.{Mask}
+use Rattle.album_lists.specs.Whos.{user_of}
+use Rattle.album_lists.specs.Entries.{fits}
+use Rattle.album_lists.specs.declared.lists.Ace.{Ace}
+use Rattle.album_lists.specs.declared.lists.Holder.{Holder}
+use Rattle.album_lists.specs.declared.lists.Holder.TheVariants.{Plain, Folder}
+use Rattle.album_lists.specs.declared.whos.Member.{Member}
+use Rattle.album_eval.specs.Matching.{principal_of}
+use Rattle.album_eval.specs.declared.facts.Principal.{Principal}
+use Rattle.album_wire.specs.Fields.{guard, only_of, field_of, item_of, text_of, whole_of, list_of, sized, each, data_of}
+use Rattle.album_wire.specs.Shapes.{SpelledEntry, spelled_entry, entry_shapes_of, texts_of}
+use Rattle.album_wire.specs.Values.{all_of, entries_read, members_read}
+use Rattle.album_wire.specs.declared.judge_line.Group.{Group}
+use Rattle.album_wire.specs.declared.judge_line.JudgeLine.{JudgeLine}
+use Rattle.album_wire.specs.declared.judge_shape.GroupShape.{GroupShape}
+use Rattle.album_wire.specs.declared.judge_shape.JudgeShape.{JudgeShape}
+
+-- ---- the shape, refused as a bad request
+
+pub record SpelledGroup : Type 0 where
+  pub number : ℕ
+  pub members : List (List ℕ)
+
+pub record SpelledJudge : Type 0 where
+  pub entries : List SpelledEntry
+  pub holder : Holder
+  pub head_group : ℕ
+  pub groups : List SpelledGroup
+  pub owner : List ℕ
+  pub who : List ℕ
+  pub mask : ℕ
+
+abbrev pub spelled_group : GroupShape → SpelledGroup
+spelled_group g = record { number = g.number; members = map (λ text. text.now) g.members.items }
+
+abbrev pub spelled_judge : JudgeShape → SpelledJudge
+spelled_judge s = record {
+  entries = map spelled_entry s.entries.items;
+  holder = s.holder;
+  head_group = s.head_group;
+  groups = map spelled_group s.groups.items;
+  owner = s.owner.now;
+  who = s.who.now;
+  mask = s.mask;
+}
+
+-- [number, members]
+unfoldable pub group_shape_of : Data → Result SpelledGroup Refusal
+group_shape_of d = do
+  _ ← sized 2 d
+  number ← item_of 0 d >>= whole_of
+  members ← item_of 1 d >>= texts_of
+  Ok (record { number = number; members = members })
+
+-- no number stands twice
+abbrev pub are_distinct : List ℕ → Bool
+are_distinct [] = true
+are_distinct (n ∷ ns) = not (list_any (λ m. m == n) ns) && are_distinct ns
+
+abbrev pub numbers : List SpelledGroup → List ℕ
+numbers gs = map (λ g. g.number) gs
+
+-- `groups` may be left out: then there are none
+unfoldable pub groups_shape_of : Option Data → Result (List SpelledGroup) Refusal
+groups_shape_of None = Ok []
+groups_shape_of (Some d) = do
+  groups ← list_of d >>= each group_shape_of
+  _ ← guard (are_distinct (numbers groups))
+  Ok groups
+
+-- what a kind of object is to its list
+abbrev pub holder_of : List ℕ → Option Holder
+holder_of word =
+    if bytes_eq word (codes "picture") then Some Plain
+    else if bytes_eq word (codes "album") then Some Folder
+    else if bytes_eq word (codes "group") then Some Plain
+    else None
+
+-- `kind` may be left out: then it is a picture
+unfoldable pub kind_shape_of : Option Data → Result Holder Refusal
+kind_shape_of None = Ok Plain
+kind_shape_of (Some d) = text_of d >>= λ word. ok_or (holder_of word) BadRequest
+
+abbrev pub judge_keys : List (List ℕ)
+judge_keys = codes "entries" ∷ codes "kind" ∷ codes "group" ∷ codes "groups" ∷ codes "owner" ∷ codes "who" ∷ codes "mask" ∷ []
+
+unfoldable pub judge_shape_of : Data → Result SpelledJudge Refusal
+judge_shape_of d = do
+  _ ← only_of judge_keys d
+  entries ← field_of (codes "entries") d >>= entry_shapes_of
+  holder ← kind_shape_of (get (codes "kind") d)
+  head_group ← field_of (codes "group") d >>= whole_of
+  groups ← groups_shape_of (get (codes "groups") d)
+  owner ← field_of (codes "owner") d >>= text_of
+  who ← field_of (codes "who") d >>= text_of
+  mask ← field_of (codes "mask") d >>= whole_of
+  Ok (record { entries = entries; holder = holder; head_group = head_group; groups = groups; owner = owner; who = who; mask = mask })
+
+-- ---- the values, in this order
+
+pub record Listing : Type 0 where
+  pub number : ℕ
+  pub members : List Member
+
+-- a judge line, without where it lies in memory
+pub record Question : Type 0 where
+  pub list : List Ace
+  pub holder : Holder
+  pub head_group : ℕ
+  pub groups : List Listing
+  pub owner : List ℕ
+  pub who : Principal
+  pub mask : Mask
+
+abbrev pub listing : Group → Listing
+listing g = record { number = g.number; members = g.members.items }
+
+abbrev pub question : JudgeLine → Question
+question line = record {
+  list = line.list;
+  holder = line.holder;
+  head_group = line.head_group;
+  groups = map listing line.groups.items;
+  owner = line.owner;
+  who = line.who;
+  mask = line.mask;
+}
+
+-- the object may carry the list
+abbrev pub carried : Holder → List Ace → Result (List Ace) Refusal
+carried holder list = if fits holder list then Ok list else Err BadFlags
+
+abbrev pub carried_list_of : Holder → List SpelledEntry → Result (List Ace) Refusal
+carried_list_of holder entries = entries_read entries >>= carried holder
+
+unfoldable pub listing_of : SpelledGroup → Result Listing Refusal
+listing_of g = members_read g.members >>= λ members. Ok (record { number = g.number; members = members })
+
+unfoldable pub question_of : SpelledJudge → Result Question Refusal
+question_of s = do
+  list ← carried_list_of s.holder s.entries
+  groups ← all_of listing_of s.groups
+  owner ← ok_or (user_of s.owner) BadWho
+  who ← ok_or (principal_of s.who) BadWho
+  mask ← mask_of s.mask
+  Ok (record { list = list; holder = s.holder; head_group = s.head_group; groups = groups; owner = owner; who = who; mask = mask })
+
+-- ---- the line
+
+unfoldable pub judge_of : List ℕ → Result Question Refusal
+judge_of bytes = data_of bytes >>= judge_shape_of >>= question_of

@@ -1,0 +1,6 @@
+pub mod Lines
+pub mod Fields
+pub mod Shapes
+pub mod Values
+pub mod Judge
+pub mod Output

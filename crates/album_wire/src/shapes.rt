@@ -1,0 +1,84 @@
+// The shapes that several kinds of lines have in common.
+ghost use Rattle.std.specs.Prelude.{◌≡◌, List, ℕ, map};
+ghost use Rattle.serde_json.specs.View.{view, items_view};
+ghost use Rattle.album_stamps.specs.Outcome.{Gives};
+ghost use Rattle.album_wire.specs.Fields.{each, text_of};
+ghost use Rattle.album_wire.specs.Shapes.{SpelledEntry, spelled_entry, sort_of, entry_shape_of, entry_shapes_of, texts_of};
+
+use crate::fields::{item, list, sized_list, text, whole};
+use album_access::AceType;
+use album_stamps::Refusal;
+use serde_json::Value;
+use std::alloc::Global;
+
+/// An entry as a line spells it.
+#[derive(Drop)]
+pub(crate) struct EntryShape<'a> {
+    pub(crate) sort: AceType,
+    pub(crate) who: &'a str,
+    pub(crate) mask: u64,
+    pub(crate) flags: u64,
+}
+
+fn sort(word: &str) -> Option<AceType>
+    ensures { result ≡ sort_of word.now }
+{
+    match word {
+        "allow" => Some(AceType::Allowed),
+        "deny" => Some(AceType::Denied),
+        "audit" => Some(AceType::Audit),
+        "alarm" => Some(AceType::Alarm),
+        _ => None,
+    }
+}
+
+#[tactic(auto, unfolding(crate::specs::Shapes::entry_shape_of))]
+fn entry_shape(value: &Value) -> Result<EntryShape<'_>, Refusal>
+    ensures { Gives spelled_entry result (entry_shape_of (view value.now)) }
+{
+    sized_list(value, 4)?;
+    let sort = sort(text(item(value, 0)?)?).ok_or(Refusal::BadRequest)?;
+    let who = text(item(value, 1)?)?;
+    let mask = whole(item(value, 2)?)?;
+    let flags = whole(item(value, 3)?)?;
+    Ok(EntryShape {
+        sort,
+        who,
+        mask,
+        flags,
+    })
+}
+
+fn each_entry_shape(alloc: Global, values: &[Value]) -> Result<Vec<EntryShape<'_>>, Refusal>
+    ensures { Gives (λ shapes. map spelled_entry shapes.items) result (each entry_shape_of (items_view values.now)) }
+{
+    let mut shapes = Vec::new(alloc);
+    for value in values {
+        shapes.push(entry_shape(value)?)?;
+    }
+    Ok(shapes)
+}
+
+fn each_text(alloc: Global, values: &[Value]) -> Result<Vec<&str>, Refusal>
+    ensures { Gives (λ texts. map (λ t. t.now) texts.items) result (each text_of (items_view values.now)) }
+{
+    let mut texts = Vec::new(alloc);
+    for value in values {
+        texts.push(text(value)?)?;
+    }
+    Ok(texts)
+}
+
+/// A list of entries.
+pub(crate) fn entry_shapes(alloc: Global, value: &Value) -> Result<Vec<EntryShape<'_>>, Refusal>
+    ensures { Gives (λ shapes. map spelled_entry shapes.items) result (entry_shapes_of (view value.now)) }
+{
+    each_entry_shape(alloc, list(value)?)
+}
+
+/// A list of texts.
+pub(crate) fn texts(alloc: Global, value: &Value) -> Result<Vec<&str>, Refusal>
+    ensures { Gives (λ texts. map (λ t. t.now) texts.items) result (texts_of (view value.now)) }
+{
+    each_text(alloc, list(value)?)
+}
