@@ -11,3 +11,5 @@ mod hostile_lines;
 mod judge_rows;
 #[cfg(test)]
 mod running;
+#[cfg(test)]
+mod values;

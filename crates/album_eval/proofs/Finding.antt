@@ -1,9 +1,10 @@
 -- The groups found so far, and what is due.
-use Rattle.std.proofs.Common.{◌≡◌, ◌≤◌, ◌<◌, ℕ, zero, suc, List, [], ◌∷◌, Bool, true, false, not, ◌&&◌, ◌||◌, cond, Option, Some, None, Vec, Global, Contains, refl, sym, ◌∙◌, ap, subst, arith, inl, inr, ◌⊎◌}
+use Rattle.std.proofs.Common.{◌≡◌, ◌≤◌, ◌<◌, ℕ, zero, suc, List, [], ◌∷◌, Bool, true, false, not, ◌&&◌, cond, Option, Some, None, Vec, Global, Contains, refl, sym, ◌∙◌, ap, subst, arith, inl, inr}
 use Rattle.std.specs.List.{list_any, slice_get, find}
 use Rattle.std.specs.Ordering.{nat_cmp}
 use Rattle.std.specs.BTreeMap as map
 use Rattle.std.specs.BTreeMap.{BTreeMap}
+use Rattle.std.proofs.lemmas.Bool.{or_cases, and_parts}
 use Rattle.std.proofs.lemmas.Slice.Eq.{bytes_eq-Decides}
 use Rattle.std.proofs.lemmas.List.Elements.{Contains-append_right}
 use Rattle.std.proofs.lemmas.List.Folds.{list_any_at}
@@ -16,15 +17,6 @@ use Rattle.album_lists.specs.declared.whos.Member.{Member}
 use Rattle.album_lists.specs.declared.whos.Member.TheVariants.{User, Group}
 use Rattle.album_eval.specs.Groups.{IsIn, by_name, by_group, is_named, is_due, listed_in, members_of}
 
-or_true : (a b : Bool) → (a || b) ≡ true → (a ≡ true) ⊎ (b ≡ true)
-or_true true b e = inl refl
-or_true false b e = inr e
-
-and_true : (a b : Bool) → (a && b) ≡ true → (a ≡ true) × (b ≡ true)
-and_true true true e = (refl, refl)
-and_true true false e = absurd (cc)
-and_true false b e = absurd (cc)
-
 not_true : (a : Bool) → not a ≡ true → a ≡ false
 not_true false e = refl
 not_true true e = absurd (cc)
@@ -32,7 +24,7 @@ not_true true e = absurd (cc)
 -- a member that passes
 pub member_from_any : {X : Type 0} (p : X → Bool) (xs : List X) → list_any p xs ≡ true → (x : X) × Contains xs x × (p x ≡ true)
 member_from_any p [] e = absurd (cc)
-member_from_any p (y ∷ xs) e = elim (or_true (p y) (list_any p xs) e) [ inl h ↦ (y, (0, omega arith, refl), h) | inr h ↦ (let r = member_from_any p xs h in (r.0, Contains-append_right (y ∷ []) xs r.0 r.1, r.2)) ]
+member_from_any p (y ∷ xs) e = elim (or_cases (p y) (list_any p xs) e) [ inl h ↦ (y, (0, omega arith, refl), h) | inr h ↦ (let r = member_from_any p xs h in (r.0, Contains-append_right (y ∷ []) xs r.0 r.1, r.2)) ]
 
 pub any_from_member : {X : Type 0} (p : X → Bool) (xs : List X) (x : X) → Contains xs x → p x ≡ true → list_any p xs ≡ true
 any_from_member p xs x c e = list_any_at p xs c.0 x c.1 (ap p c.2 ∙ e)
@@ -49,12 +41,12 @@ in_from_member listed user found group sound (Group inner) c e = by_group group 
 pub in_from_due : (listed : ℕ → List Member) (user : List ℕ) (found : ℕ → Bool) (group : ℕ) → IsSound listed user found → is_due user found group (listed group) ≡ true → IsIn listed user group
 unfolding is_due
 in_from_due listed user found group sound due =
-    let m = member_from_any (is_named user found) (listed group) (and_true (not (found group)) (list_any (is_named user found) (listed group)) due).1 in
+    let m = member_from_any (is_named user found) (listed group) (and_parts (not (found group)) (list_any (is_named user found) (listed group)) due).1 in
     in_from_member listed user found group sound m.0 m.1 m.2
 
 pub not_found_from_due : (listed : ℕ → List Member) (user : List ℕ) (found : ℕ → Bool) (group : ℕ) → is_due user found group (listed group) ≡ true → found group ≡ false
 unfolding is_due
-not_found_from_due listed user found group due = not_true (found group) (and_true (not (found group)) (list_any (is_named user found) (listed group)) due).0
+not_found_from_due listed user found group due = not_true (found group) (and_parts (not (found group)) (list_any (is_named user found) (listed group)) due).0
 
 -- where nothing is due, each group with the user in it is found
 found_from_any : (user : List ℕ) (found : ℕ → Bool) (group : ℕ) (members : List Member) → is_due user found group members ≡ false → list_any (is_named user found) members ≡ true → found group ≡ true

@@ -2,7 +2,7 @@
 use Rattle.std.proofs.Common.{◌≡◌, ◌≤◌, ◌<◌, ◌+◌, ◌^◌, ◌&&◌, ℕ, List, [], ◌∷◌, Bool, true, false, Option, Some, None, IfSome, IsSome, IsSomeAnd, MatchOption, min, length, below_more, get_or, refl, arith, inl, inr}
 use Rattle.std.proofs.lemmas.List.Quantifiers.{position-Some}
 use Rattle.std.proofs.lemmas.Option.{slice_get_cases, slice_get_read}
-use Rattle.std.proofs.lemmas.Bool.{cases_lt}
+use Rattle.std.proofs.lemmas.Bool.{cases_lt, and_parts}
 use Rattle.std.proofs.lemmas.Bool.Decides.{Decides-eqb}
 use Rattle.std.proofs.lemmas.Nat.Bits.{bit_at_above}
 use Rattle.std.specs.Int.{bit_at}
@@ -14,11 +14,6 @@ use Rattle.album_lists.specs.declared.lists.Ace.{Ace}
 use Rattle.album_eval.specs.declared.verdicts.Verdict.TheVariants.{Granted, DeniedBy, DeniedAtEnd}
 use Rattle.album_eval.specs.Matching.{Case, is_match}
 use Rattle.album_eval.specs.Verdict.{first_mention, mentions, decides, IsSortAt, Denies, IsVerdict}
-
-both_true : (a b : Bool) → (a && b) ≡ true → (a ≡ true) × (b ≡ true)
-both_true true true e = (refl, refl)
-both_true true false e = absurd (cc)
-both_true false b e = absurd (cc)
 
 -- the least denial among the bits below n, and whether one of them is never mentioned
 pub record Judged (case : Case) (entries : List Ace) (mask : Mask) (n : ℕ) (denial : Option ℕ) (open' : Bool) : Type 0 where
@@ -94,7 +89,7 @@ within_mention case bit (x ∷ xs) k e = (at_mention case bit (x ∷ xs) k x e).
 
 decides_there : (case : Case) (bit : ℕ) (entry : Ace) → mentions case bit entry ≡ true → decides entry.sort ≡ true
 unfolding mentions
-decides_there case bit entry e = (both_true (is_match case entry) (decides entry.sort) (both_true (is_match case entry && decides entry.sort) (has_bit entry.mask bit) e).0).1
+decides_there case bit entry e = (and_parts (is_match case entry) (decides entry.sort) (and_parts (is_match case entry && decides entry.sort) (has_bit entry.mask bit) e).0).1
 
 bit_granted : (case : Case) (bit : ℕ) (entries : List Ace) (o : Option ℕ) → first_mention case bit entries ≡ o → IsSome o → ((k : ℕ) → o ≡ Some k → IsSortAt Denied entries k → ⊥) → IsSomeAnd o (IsSortAt Allowed entries)
 bit_granted case bit entries None e is h = absurd (cc)

@@ -1,8 +1,8 @@
 // Who asks, of whose object.
-ghost use Rattle.std.specs.Prelude.{◌≡◌, ◌↔◌, ℕ, List, Some};
+ghost use Rattle.std.specs.Prelude.{◌≡◌, ◌↔◌, ℕ, List, Some, IfOk, IfErr};
 ghost use Rattle.std.specs.Option.{ok_or};
 ghost use Rattle.album_stamps.specs.Outcome.{Makes};
-ghost use Rattle.album_stamps.specs.declared.refusals.Refusal.TheVariants.{BadWho};
+ghost use Rattle.album_stamps.specs.declared.refusals.Refusal.TheVariants.{OutOfMemory, BadWho};
 ghost use Rattle.album_lists.specs.declared.lists.Ace.{Ace};
 ghost use Rattle.album_lists.specs.declared.whos.Who.{Who};
 ghost use Rattle.album_eval.specs.declared.facts.Principal.{Principal};
@@ -49,6 +49,17 @@ impl Principal {
         }
         let name = user_name(alloc, text)?;
         Ok(Principal::User(name))
+    }
+
+    /// The same principal once more.
+    pub fn copy(&self, alloc: Global) -> Result<Principal, Refusal>
+        ensures found { IfOk result (λ principal. principal ≡ self.now) }
+        ensures memory { IfErr result (λ e. e ≡ OutOfMemory) }
+    {
+        match self {
+            Principal::Anonymous => Ok(Principal::Anonymous),
+            Principal::User(name) => Ok(Principal::User(name.copy(alloc)?)),
+        }
     }
 
     /// Whether this is the user of that name.

@@ -1,13 +1,17 @@
 // Entries, and the lists of them.
 ghost use Rattle.std.specs.Prelude.{◌≡◌, ◌≤◌, IsTrue, length, Ok, Err, IfOk, IfErr};
 ghost use Rattle.std.specs.List.{list_all};
+ghost use Rattle.album_stamps.specs.declared.refusals.Refusal.TheVariants.{OutOfMemory};
 ghost use Rattle.album_access.specs.Bits.{flag_bits};
 ghost use Rattle.album_lists.specs.Entries.{is_whole, is_own, most_entries, access_list_of, fits};
+ghost use Rattle.album_lists.specs.Inheritance.{inherited};
 
+use crate::inheritance::inherited;
 use crate::whos::Who;
 use album_access::{AceFlags, AceType, Mask};
 use album_stamps::{Refusal, Refused};
 use bitflags::Flags;
+use std::alloc::Global;
 use std::marker::Model;
 
 /// An entry of an access list (RFC 7530, section 6.2.1).
@@ -17,6 +21,22 @@ pub struct Ace {
     pub who: Who,
     pub mask: Mask,
     pub flags: AceFlags,
+}
+
+impl Ace {
+    /// The same entry once more.
+    pub fn copy(&self, alloc: Global) -> Result<Ace, Refusal>
+        ensures found { IfOk result (λ entry. entry ≡ self.now) }
+        ensures memory { IfErr result (λ e. e ≡ OutOfMemory) }
+    {
+        let who = self.who.copy(alloc)?;
+        Ok(Ace {
+            sort: self.sort,
+            who,
+            mask: self.mask,
+            flags: self.flags,
+        })
+    }
 }
 
 /// What carries a list: a picture or a group is `Plain`, an album is a `Folder`.
@@ -91,6 +111,36 @@ impl AccessList {
             Holder::Folder => true,
         }
     }
+
+    /// The list of a new object of this kind, made in an album with this list.
+    pub fn inherit(&self, alloc: Global, holder: Holder) -> Result<AccessList, Refusal>
+        ensures found { IfOk result (λ list. list ≡ inherited holder self.now) }
+        ensures memory { IfErr result (λ e. e ≡ OutOfMemory) }
+    {
+        let entries = inherited(alloc, self.entries.as_slice(), holder)?;
+        Ok(AccessList { entries })
+    }
+
+    /// The same list once more.
+    pub fn copy(&self, alloc: Global) -> Result<AccessList, Refusal>
+        ensures found { IfOk result (λ list. list ≡ self.now) }
+        ensures memory { IfErr result (λ e. e ≡ OutOfMemory) }
+    {
+        let entries = copies(alloc, self.entries.as_slice())?;
+        Ok(AccessList { entries })
+    }
+}
+
+/// The same entries once more.
+fn copies(alloc: Global, entries: &[Ace]) -> Result<Vec<Ace>, Refusal>
+    ensures found { IfOk result (λ copies. copies.items ≡ entries.now) }
+    ensures memory { IfErr result (λ e. e ≡ OutOfMemory) }
+{
+    let mut copies = Vec::new(alloc);
+    for entry in entries {
+        copies.push(entry.copy(alloc)?)?;
+    }
+    Ok(copies)
 }
 
 /// Whether something inherits the entry, if it is only inherited.
@@ -125,7 +175,7 @@ fn are_own(entries: &[Ace]) -> bool
 }
 
 /// The flags that speak of inheritance.
-fn inheritance() -> AceFlags
+pub(crate) fn inheritance() -> AceFlags
     ensures { flag_bits result ≡ 15 }
 {
     AceFlags::FILE_INHERIT

@@ -1,9 +1,9 @@
 // The name of a user.
-ghost use Rattle.std.specs.Prelude.{◌≡◌, IsTrue};
+ghost use Rattle.std.specs.Prelude.{◌≡◌, IsTrue, IfOk, IfErr};
 ghost use Rattle.std.specs.Option.{ok_or};
 ghost use Rattle.std.specs.List.{list_all};
 ghost use Rattle.album_stamps.specs.Outcome.{Makes};
-ghost use Rattle.album_stamps.specs.declared.refusals.Refusal.TheVariants.{BadWho};
+ghost use Rattle.album_stamps.specs.declared.refusals.Refusal.TheVariants.{OutOfMemory, BadWho};
 ghost use Rattle.album_lists.specs.Names.{is_name, is_name_byte, name_of};
 
 use album_stamps::Refusal;
@@ -46,6 +46,15 @@ impl Name {
         ensures valid { IsTrue (is_name self.now) }
     {
         self.text.as_str()
+    }
+
+    /// The same name once more.
+    pub fn copy(&self, alloc: Global) -> Result<Name, Refusal>
+        ensures found { IfOk result (λ name. name ≡ self.now) }
+        ensures memory { IfErr result (λ e. e ≡ OutOfMemory) }
+    {
+        let text = String::from_str(alloc, self.text.as_str())?;
+        Ok(Name { text })
     }
 }
 

@@ -1,8 +1,8 @@
 // Whos and members, by their texts.
-ghost use Rattle.std.specs.Prelude.{◌≡◌, ◌↔◌, List, ℕ, Some, option_map};
+ghost use Rattle.std.specs.Prelude.{◌≡◌, ◌↔◌, List, ℕ, Some, option_map, IfOk, IfErr};
 ghost use Rattle.std.specs.Option.{ok_or};
 ghost use Rattle.album_stamps.specs.Outcome.{Makes};
-ghost use Rattle.album_stamps.specs.declared.refusals.Refusal.TheVariants.{BadWho};
+ghost use Rattle.album_stamps.specs.declared.refusals.Refusal.TheVariants.{OutOfMemory, BadWho};
 ghost use Rattle.album_access.specs.declared.flags.AceFlags.{AceFlags};
 ghost use Rattle.album_lists.specs.declared.whos.Member.{Member};
 ghost use Rattle.album_lists.specs.declared.whos.Who.{Who};
@@ -57,7 +57,7 @@ fn before<'a>(text: &'a str, end: &str) -> Option<&'a str>
 }
 
 /// The number that the text is, in decimal without leading zeros.
-fn whole_number(text: &str) -> Option<u64>
+pub fn whole_number(text: &str) -> Option<u64>
     ensures { result ≡ whole_number_of text.now }
 {
     let first = *text.as_bytes().first()?;
@@ -99,6 +99,17 @@ impl Member {
         let name = user_name(alloc, text)?;
         Ok(Member::User(name))
     }
+
+    /// The same member once more.
+    pub fn copy(&self, alloc: Global) -> Result<Member, Refusal>
+        ensures found { IfOk result (λ member. member ≡ self.now) }
+        ensures memory { IfErr result (λ e. e ≡ OutOfMemory) }
+    {
+        match self {
+            Member::User(name) => Ok(Member::User(name.copy(alloc)?)),
+            Member::Group(number) => Ok(Member::Group(*number)),
+        }
+    }
 }
 
 impl Who {
@@ -116,6 +127,22 @@ impl Who {
         }
         let name = user_name(alloc, text)?;
         Ok(Who::User(name))
+    }
+
+    /// The same who once more.
+    pub fn copy(&self, alloc: Global) -> Result<Who, Refusal>
+        ensures found { IfOk result (λ who. who ≡ self.now) }
+        ensures memory { IfErr result (λ e. e ≡ OutOfMemory) }
+    {
+        match self {
+            Who::User(name) => Ok(Who::User(name.copy(alloc)?)),
+            Who::Group(number) => Ok(Who::Group(*number)),
+            Who::Owner => Ok(Who::Owner),
+            Who::OwnerGroup => Ok(Who::OwnerGroup),
+            Who::Everyone => Ok(Who::Everyone),
+            Who::Anonymous => Ok(Who::Anonymous),
+            Who::Authenticated => Ok(Who::Authenticated),
+        }
     }
 }
 

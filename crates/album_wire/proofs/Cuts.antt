@@ -6,6 +6,7 @@ use Rattle.std.proofs.lemmas.Bool.{lt-ltb, le-ltb, ltb-true, ltb-false}
 use Rattle.std.specs.List.{fold, list_all, flat_map}
 use Rattle.album_wire.specs.declared.cutting.LineIn.{LineIn}
 use Rattle.album_wire.specs.Lines.{Line, said, limit, kept, longer, cut, continued, last, lines_of, has_no_newline}
+use Rattle.std.proofs.lemmas.Bool.{and_parts}
 
 -- the step of `cut_append` at a byte, which is a newline or is not
 at_byte : (line : Line) (e : Bool) (f : Line → List Line × Line) (p q u v : List Line × Line)
@@ -73,15 +74,11 @@ pub longer_long : (bytes part : List ℕ) → length bytes ≤ 65536 → 65536 <
     → fold longer (Some bytes) part ≡ None
 longer_long bytes part short long = longer_kept bytes part short ∙ kept_long (bytes ++ part) (omega (arith, length-append bytes part))
 
-both : (a b : Bool) → (a && b) ≡ true → (a ≡ true) × (b ≡ true)
-both true b is = (refl, is)
-both false b is = let wrong : false ≡ true = is in cc
-
 joined : (lines : List (List ℕ)) (rest : List ℕ) → IsTrue (list_all has_no_newline lines) → IsTrue (has_no_newline rest)
     → cut (Some []) (flat_map (λ line. line ++ 10 ∷ []) lines ++ rest) ≡ (map kept lines, kept rest)
 joined [] rest all none = cut_part (Some []) rest none ∙ ap (λ (line : Line). continued [] ([], line)) (longer_kept [] rest (omega arith))
 joined (line ∷ lines) rest all none =
-    let each : IsTrue (has_no_newline line) × IsTrue (list_all has_no_newline lines) = both _ _ all in
+    let each : IsTrue (has_no_newline line) × IsTrue (list_all has_no_newline lines) = and_parts _ _ all in
     let others : List ℕ = flat_map (λ bytes. bytes ++ 10 ∷ []) lines ++ rest in
     let text : (line ++ 10 ∷ []) ++ flat_map (λ bytes. bytes ++ 10 ∷ []) lines ++ rest ≡ line ++ 10 ∷ others = simp append_assoc in
     ap (λ t. cut (Some []) t) text ∙ cut_line (Some []) line others each.0

@@ -1,0 +1,5 @@
+pub mod ItemIds
+pub mod ItemBack
+pub mod Texts
+pub mod Values
+pub mod Openings

@@ -1,0 +1,134 @@
+-- Which states the service may open with.
+use Rattle.std.specs.Prelude.{ℕ, List, [], ◌∷◌, Bool, true, false, not, ◌&&◌, ◌||◌, ◌==◌, nat_le, length}
+use Rattle.std.specs.List.{list_all, list_any}
+use Rattle.std.specs.Option.{option_map_or}
+use Rattle.album_lists.specs.Entries.{fits}
+use Rattle.album_lists.specs.declared.lists.Holder.{Holder}
+use Rattle.album_lists.specs.declared.lists.Holder.TheVariants.{Plain, Folder}
+use Rattle.album_items.specs.ItemIds.{list, kind_of, number_of}
+use Rattle.album_items.specs.Values.{is_of, is_there, head_of, most_children}
+use Rattle.album_items.specs.declared.values.Value.{Value}
+use Rattle.album_items.specs.declared.values.Value.TheVariants as value
+use Rattle.album_items.specs.declared.openings.Opening.{Opening}
+
+-- an item with its value
+abbrev pub Row : Type 0
+Row = ℕ × Value
+
+-- no two elements, at two places of the list, clash
+abbrev pub no_two : {X : Type 0} → (X → X → Bool) → List X → Bool
+no_two clash [] = true
+no_two clash (x ∷ xs) = not (list_any (clash x) xs) && no_two clash xs
+
+-- ---- what is tested of one row
+
+-- the value is there, and of its item's kind
+abbrev pub has_own_value : Row → Bool
+has_own_value row = is_there row.1 && is_of row.1 (kind_of row.0)
+
+-- a number that an opening may use
+abbrev pub is_low : ℕ → Bool
+is_low number = nat_le number 65535
+
+-- the number of each item is low
+abbrev pub are_low : List ℕ → Bool
+are_low items = list_all (λ item. is_low (number_of item)) items
+
+-- the list that the head names, the home and the children have low numbers
+abbrev pub has_low_numbers : Value → Bool
+has_low_numbers value.Missing = true
+has_low_numbers (value.Picture picture) = is_low picture.head.list && is_low picture.home
+has_low_numbers (value.Album album) = is_low album.head.list && option_map_or is_low album.home true && are_low album.children
+has_low_numbers (value.List entries) = true
+has_low_numbers (value.Group group) = is_low group.head.list
+
+-- so have the item and its value
+abbrev pub is_low_row : Row → Bool
+is_low_row row = is_low (number_of row.0) && has_low_numbers row.1
+
+-- the children of an album
+abbrev pub children_of : Value → List ℕ
+children_of value.Missing = []
+children_of (value.Picture picture) = []
+children_of (value.Album album) = album.children
+children_of (value.List entries) = []
+children_of (value.Group group) = []
+
+-- an album has at most 128 children
+abbrev pub has_few_children : Row → Bool
+has_few_children row = nat_le (length (children_of row.1)) most_children
+
+-- no child stands twice in one album
+abbrev pub has_single_children : Row → Bool
+has_single_children row = no_two (λ a b. a == b) (children_of row.1)
+
+-- a row is right by itself
+abbrev pub is_right_row : Row → Bool
+is_right_row row = has_own_value row && is_low_row row && has_few_children row && has_single_children row
+
+-- ---- what is tested of two rows
+
+-- both tell of one item
+abbrev pub same_item : Row → Row → Bool
+same_item a b = a.0 == b.0
+
+-- the head of the value, if it has one, names this list
+abbrev pub names_list : ℕ → Value → Bool
+names_list number value = option_map_or (λ head. head.list == number) (head_of value) false
+
+-- the heads of both, if they have any, name one list
+abbrev pub same_list : Row → Row → Bool
+same_list a b = option_map_or (λ head. names_list head.list b.1) (head_of a.1) false
+
+-- what carries the list of the head
+abbrev pub holder_of : Value → Holder
+holder_of value.Missing = Plain
+holder_of (value.Picture picture) = Plain
+holder_of (value.Album album) = Folder
+holder_of (value.List entries) = Plain
+holder_of (value.Group group) = Plain
+
+-- a list fits the holder
+abbrev pub fits_holder : Holder → Value → Bool
+fits_holder held value.Missing = true
+fits_holder held (value.Picture picture) = true
+fits_holder held (value.Album album) = true
+fits_holder held (value.List entries) = fits held entries
+fits_holder held (value.Group group) = true
+
+-- where the second is the list that the head of the first names, it fits
+abbrev pub suits : Row → Row → Bool
+suits a b = option_map_or (λ head. not (b.0 == list head.list) || fits_holder (holder_of a.1) b.1) (head_of a.1) true
+
+-- ---- an opening
+
+-- 1 to 16 partitions
+abbrev pub has_parts : Opening → Bool
+has_parts opening = nat_le 1 opening.parts && nat_le opening.parts 16
+
+-- the history of a partition has room for 2 to 1,000,000 marks
+abbrev pub has_limit : Opening → Bool
+has_limit opening = nat_le 2 opening.limit && nat_le opening.limit 1000000
+
+-- at most 4,096 items
+abbrev pub has_few_items : List Row → Bool
+has_few_items rows = nat_le (length rows) 4096
+
+-- no item stands twice
+abbrev pub has_single_items : List Row → Bool
+has_single_items rows = no_two same_item rows
+
+-- no two heads name one list
+abbrev pub has_own_lists : List Row → Bool
+has_own_lists rows = no_two same_list rows
+
+-- a list that a head names, if it is there, fits what carries it
+abbrev pub has_fit_lists : List Row → Bool
+has_fit_lists rows = list_all (λ row. list_all (suits row) rows) rows
+
+-- all that an opening must be
+abbrev pub is_opening : Opening → Bool
+is_opening opening =
+    (has_parts opening && has_limit opening && has_few_items opening.items)
+    && list_all is_right_row opening.items
+    && (has_single_items opening.items && has_own_lists opening.items && has_fit_lists opening.items)

@@ -1,0 +1,245 @@
+// The state that the service opens with.
+ghost use Rattle.std.specs.Prelude.{◌≡◌, ◌==◌, ◌&&◌, true, false, MatchResult};
+ghost use Rattle.std.specs.List.{list_all, list_any};
+ghost use Rattle.std.specs.Option.{option_map_or};
+ghost use Rattle.album_stamps.specs.declared.refusals.Refusal.TheVariants.{BadOpening};
+ghost use Rattle.album_items.specs.Openings.{no_two, has_own_value, is_low, are_low, has_low_numbers, is_low_row, children_of, has_single_children, has_few_children, same_item, names_list, same_list, holder_of, fits_holder, suits, is_right_row, has_parts, has_limit, has_few_items, has_single_items, has_own_lists, has_fit_lists, is_opening};
+
+use crate::collections::{ItemValues, Items, MOST_CHILDREN};
+use crate::item_ids::{ItemId, Kind};
+use crate::values::Value;
+use album_lists::Holder;
+use album_stamps::Refusal;
+
+/// The state that the service opens with: how many partitions there are, how many marks the
+/// history of each may have, and the first values of items.
+#[derive(Debug, Drop)]
+pub struct Opening {
+    pub parts: u64,
+    pub limit: u64,
+    pub items: ItemValues,
+}
+
+impl Opening {
+    /// Whether the service may open with it, or `BadOpening`.
+    pub fn check(&self) -> Result<(), Refusal>
+        ensures { MatchResult result (λ _. is_opening self.now ≡ true) (λ e. (e ≡ BadOpening) × (is_opening self.now ≡ false)) }
+    {
+        if self.is_opening() {
+            Ok(())
+        } else {
+            Err(Refusal::BadOpening)
+        }
+    }
+
+    fn is_opening(&self) -> bool
+        ensures { result ≡ is_opening self.now }
+    {
+        let rows = self.items.as_slice();
+        self.has_counts() && are_right(rows) && go_together(rows)
+    }
+
+    /// Whether the partitions, their marks and the items are neither too few nor too many.
+    fn has_counts(&self) -> bool
+        ensures { result ≡ (has_parts self.now && has_limit self.now && has_few_items self.now.items) }
+    {
+        matches!(self.parts, 1..=16)
+            && matches!(self.limit, 2..=1_000_000)
+            && self.items.as_slice().len() <= 4096
+    }
+}
+
+fn go_together(rows: &[(ItemId, Value)]) -> bool
+    ensures { result ≡ (has_single_items rows.now && has_own_lists rows.now && has_fit_lists rows.now) }
+{
+    has_single_items(rows) && has_own_lists(rows) && has_fit_lists(rows)
+}
+
+fn are_right(rows: &[(ItemId, Value)]) -> bool
+    ensures { result ≡ list_all is_right_row rows.now }
+{
+    rows.iter().all(is_right_row)
+}
+
+fn is_right_row(row: &(ItemId, Value)) -> bool
+    ensures { result ≡ is_right_row row.now }
+{
+    has_own_value(row) && is_low_row(row) && has_few_children(row) && has_single_children(row)
+}
+
+fn has_own_value(row: &(ItemId, Value)) -> bool
+    ensures { result ≡ has_own_value row.now }
+{
+    row.1.is_there() && row.1.is_of(row.0.kind())
+}
+
+fn is_low(number: u64) -> bool
+    ensures { result ≡ is_low number }
+{
+    number <= 65_535
+}
+
+fn are_low(children: &Items) -> bool
+    ensures { result ≡ are_low children.now }
+{
+    children
+        .as_slice()
+        .iter()
+        .all(|child| is_low(child.number()))
+}
+
+fn has_low_numbers(value: &Value) -> bool
+    ensures { result ≡ has_low_numbers value.now }
+{
+    match value {
+        Value::Missing | Value::List(_) => true,
+        Value::Picture(picture) => is_low(picture.head.list) && is_low(picture.home),
+        Value::Album(album) => {
+            is_low(album.head.list) && album.home.is_none_or(is_low) && are_low(&album.children)
+        }
+        Value::Group(group) => is_low(group.head.list),
+    }
+}
+
+fn is_low_row(row: &(ItemId, Value)) -> bool
+    ensures { result ≡ is_low_row row.now }
+{
+    is_low(row.0.number()) && has_low_numbers(&row.1)
+}
+
+fn has_few_children(row: &(ItemId, Value)) -> bool
+    ensures { result ≡ has_few_children row.now }
+{
+    match &row.1 {
+        Value::Album(album) => album.children.as_slice().len() <= MOST_CHILDREN,
+        _ => true,
+    }
+}
+
+fn has_single_children(row: &(ItemId, Value)) -> bool
+    ensures { result ≡ has_single_children row.now }
+{
+    match &row.1 {
+        Value::Album(album) => are_single(album.children.as_slice()),
+        _ => true,
+    }
+}
+
+/// Whether no item stands twice.
+fn are_single(items: &[ItemId]) -> bool
+    ensures { result ≡ no_two (λ a b. a == b) items.now }
+{
+    for place in 0..items.len() {
+        if holds(&items[place + 1..], items[place]) {
+            return false;
+        }
+    }
+    true
+}
+
+fn holds(items: &[ItemId], item: ItemId) -> bool
+    ensures { result ≡ list_any (λ other. item == other) items.now }
+{
+    items.iter().any(|other| item.is(*other))
+}
+
+/// Whether no item stands twice.
+fn has_single_items(rows: &[(ItemId, Value)]) -> bool
+    ensures { result ≡ has_single_items rows.now }
+{
+    for place in 0..rows.len() {
+        if tells_of(&rows[place + 1..], &rows[place]) {
+            return false;
+        }
+    }
+    true
+}
+
+/// Whether one of the rows tells of the row's item.
+fn tells_of(rows: &[(ItemId, Value)], row: &(ItemId, Value)) -> bool
+    ensures { result ≡ list_any (same_item row.now) rows.now }
+{
+    rows.iter().any(|other| row.0.is(other.0))
+}
+
+/// Whether no two heads name one list.
+fn has_own_lists(rows: &[(ItemId, Value)]) -> bool
+    ensures { result ≡ has_own_lists rows.now }
+{
+    for place in 0..rows.len() {
+        if shares_list(&rows[place + 1..], &rows[place]) {
+            return false;
+        }
+    }
+    true
+}
+
+/// Whether one of the rows has a head that names the list of the row's head.
+fn shares_list(rows: &[(ItemId, Value)], row: &(ItemId, Value)) -> bool
+    ensures { result ≡ list_any (same_list row.now) rows.now }
+{
+    rows.iter().any(|other| same_list(row, other))
+}
+
+fn same_list(row: &(ItemId, Value), other: &(ItemId, Value)) -> bool
+    ensures { result ≡ same_list row.now other.now }
+{
+    match row.1.head() {
+        Some(head) => names_list(head.list, &other.1),
+        None => false,
+    }
+}
+
+fn names_list(number: u64, value: &Value) -> bool
+    ensures { result ≡ names_list number value.now }
+{
+    match value.head() {
+        Some(head) => head.list == number,
+        None => false,
+    }
+}
+
+/// Whether each list that a head names, if it is there, fits what carries it.
+fn has_fit_lists(rows: &[(ItemId, Value)]) -> bool
+    ensures { result ≡ has_fit_lists rows.now }
+{
+    rows.iter().all(|row| suit(row, rows))
+}
+
+fn suit(row: &(ItemId, Value), rows: &[(ItemId, Value)]) -> bool
+    ensures { result ≡ list_all (suits row.now) rows.now }
+{
+    rows.iter().all(|other| suits(row, other))
+}
+
+/// Whether the other row, where it is the list that the row's head names, fits it.
+fn suits(row: &(ItemId, Value), other: &(ItemId, Value)) -> bool
+    ensures { result ≡ suits row.now other.now }
+{
+    match row.1.head() {
+        Some(head) => {
+            !other.0.is(ItemId::new(Kind::List, head.list)) || fits_holder(holder(&row.1), &other.1)
+        }
+        None => true,
+    }
+}
+
+/// What carries the list of the head.
+fn holder(value: &Value) -> Holder
+    ensures { result ≡ holder_of value.now }
+{
+    match value {
+        Value::Album(_) => Holder::Folder,
+        _ => Holder::Plain,
+    }
+}
+
+/// Whether the value, where it is a list, fits the holder.
+fn fits_holder(holder: Holder, value: &Value) -> bool
+    ensures { result ≡ fits_holder holder value.now }
+{
+    match value {
+        Value::List(list) => list.fits(holder),
+        _ => true,
+    }
+}

@@ -1,0 +1,140 @@
+// Titles and contents.
+ghost use Rattle.std.specs.Prelude.{◌≡◌, ◌≤◌, ◌↔◌, IsTrue, IsOk, IfOk, IfErr, length};
+ghost use Rattle.std.specs.Option.{ok_or};
+ghost use Rattle.std.specs.List.{list_all};
+ghost use Rattle.album_stamps.specs.Outcome.{Makes};
+ghost use Rattle.album_stamps.specs.declared.refusals.Refusal.TheVariants.{OutOfMemory, BadText};
+ghost use Rattle.album_items.specs.Texts.{is_title, is_title_byte, title_of, most_content};
+
+use album_stamps::{Refusal, Refused};
+use bytes::Bytes;
+use std::alloc::Global;
+use std::marker::Model;
+
+/// A title: at most 200 bytes of UTF-8 without control characters. Contracts see its bytes.
+#[derive(Debug, Drop)]
+pub struct Title {
+    text: String,
+}
+
+impl Model for Title {
+    ghost use Rattle.std.specs.Prelude.{List, ℕ, IsTrue, string_bytes};
+    ghost use Rattle.album_items.specs.Texts.{is_title};
+
+    ghost Value = { List ℕ };
+
+    ghost view = { λ t. string_bytes t.text };
+
+    ghost invariant = { λ t. IsTrue (is_title (string_bytes t.text)) };
+}
+
+impl Title {
+    /// The title that the text is, or `BadText`.
+    pub fn of(alloc: Global, text: &str) -> Result<Title, Refusal>
+        ensures { Makes (λ title. title) result (ok_or (title_of text.now) BadText) }
+    {
+        if !is_title(text) {
+            return Err(Refusal::BadText);
+        }
+        let text = String::from_str(alloc, text)?;
+        Ok(Title { text })
+    }
+
+    /// The text of the title.
+    pub fn as_str(&self) -> &str
+        ensures text { result.now ≡ self.now }
+        ensures valid { IsTrue (is_title self.now) }
+    {
+        self.text.as_str()
+    }
+
+    /// The same title once more.
+    pub fn copy(&self, alloc: Global) -> Result<Title, Refusal>
+        ensures found { IfOk result (λ title. title ≡ self.now) }
+        ensures memory { IfErr result (λ e. e ≡ OutOfMemory) }
+    {
+        let text = String::from_str(alloc, self.text.as_str())?;
+        Ok(Title { text })
+    }
+}
+
+fn is_title(text: &str) -> bool
+    ensures { result ≡ is_title text.now }
+{
+    text.len() <= 200 && has_title_bytes(text)
+}
+
+fn has_title_bytes(text: &str) -> bool
+    ensures { result ≡ list_all is_title_byte text.now }
+{
+    text.bytes().all(is_title_byte)
+}
+
+fn is_title_byte(byte: u8) -> bool
+    ensures { result ≡ is_title_byte byte }
+{
+    byte >= 32 && byte != 127
+}
+
+/// How many bytes a content may have.
+pub const MOST_CONTENT: usize = 4096;
+
+/// What a picture shows: at most 4,096 bytes, which its copies share. Contracts see them.
+#[derive(Debug, Drop)]
+pub struct Content {
+    bytes: Bytes,
+}
+
+impl Model for Content {
+    ghost use Rattle.std.specs.Prelude.{List, ℕ, ◌≤◌, length};
+    ghost use Rattle.album_items.specs.Texts.{most_content};
+
+    ghost Value = { List ℕ };
+
+    ghost view = { λ c. c.bytes };
+
+    ghost invariant = { λ c. length c.bytes ≤ most_content };
+}
+
+impl Content {
+    /// The content of these bytes, or `BadText` where they are more than 4,096. Refused bytes are
+    /// handed back.
+    pub fn of(bytes: Bytes) -> Result<Content, Refused<Bytes>>
+        ensures taken { IfOk result (λ content. content ≡ bytes) }
+        ensures short { IsOk result ↔ (length bytes ≤ most_content) }
+        ensures refused { IfErr result (λ e. e.refusal ≡ BadText) }
+        ensures given { IfErr result (λ e. e.given ≡ bytes) }
+    {
+        if bytes.len() > MOST_CONTENT {
+            return Err(Refused {
+                refusal: Refusal::BadText,
+                given: bytes,
+            });
+        }
+        Ok(Content { bytes })
+    }
+
+    /// The bytes.
+    pub fn as_slice(&self) -> &[u8]
+        ensures bytes { result.now ≡ self.now }
+        ensures short { length self.now ≤ most_content }
+    {
+        &self.bytes
+    }
+
+    /// The bytes, to be shared.
+    pub fn bytes(&self) -> &Bytes
+        ensures { result.now ≡ self.now }
+    {
+        &self.bytes
+    }
+
+    /// The same content once more.
+    pub fn copy(&self) -> Result<Content, Refusal>
+        ensures found { IfOk result (λ content. content ≡ self.now) }
+        ensures memory { IfErr result (λ e. e ≡ OutOfMemory) }
+    {
+        let bytes = self.bytes.clone()?;
+        Ok(Content { bytes })
+    }
+}
