@@ -13,3 +13,5 @@ mod judge_rows;
 mod running;
 #[cfg(test)]
 mod values;
+#[cfg(test)]
+mod versions;

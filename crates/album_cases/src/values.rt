@@ -147,7 +147,7 @@ fn head(alloc: Global, list: u64) -> Result<Head, Refusal> {
 }
 
 /// A picture of amy's under the list of this number.
-fn picture(alloc: Global, list: u64) -> Result<Value, Refusal> {
+pub fn picture(alloc: Global, list: u64) -> Result<Value, Refusal> {
     let content = Content::of(Bytes::new())?;
     Ok(Value::Picture(Picture {
         title: title(alloc, 3)?,

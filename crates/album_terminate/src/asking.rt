@@ -1,0 +1,34 @@
+// What a partition asks of the others.
+ghost use Rattle.std.specs.Prelude.{◌≡◌, IfOk, IfErr, map};
+ghost use Rattle.album_stamps.specs.declared.refusals.Refusal.TheVariants.{OutOfMemory};
+ghost use Rattle.album_terminate.specs.Asking.{check_to};
+
+use album_calls::{Body, Message, Node, Request};
+use album_stamps::{Refusal, Stamp};
+use std::alloc::Global;
+
+/// What this partition asks of the others, each of them once and in their order: how does the stamp
+/// stand at your side?
+pub fn checks(
+    alloc: Global,
+    part: u16,
+    others: &[u16],
+    stamp: Stamp,
+) -> Result<Vec<Message>, Refusal>
+    ensures found { IfOk result (λ messages. messages.items ≡ map (check_to part stamp) others.now) }
+    ensures memory { IfErr result (λ e. e ≡ OutOfMemory) }
+{
+    let mut messages = Vec::new(alloc);
+    for other in others {
+        messages.push(check_to(part, stamp, *other))?;
+    }
+    Ok(messages)
+}
+
+/// What one of the others is asked.
+fn check_to(part: u16, stamp: Stamp, other: u16) -> Message
+    ensures { result ≡ check_to part stamp other }
+{
+    let check = Body::Request(Request::Check(stamp));
+    Message::new(Node::Part(part), Node::Part(other), 0, check)
+}

@@ -1,0 +1,65 @@
+// What a partition tells of a stamp, and what it decides by what others tell.
+ghost use Rattle.std.specs.Prelude.{◌≡◌, ◌↔◌, ◌⊎◌, All, Contains};
+ghost use Rattle.album_terminate.specs.Deciding.{vote_of, have_told, decision_of};
+
+use album_calls::Vote;
+
+/// How a stamp stands at a partition.
+#[derive(Clone, Copy, Debug, PartialEq, Eq)]
+pub enum StampState {
+    /// Nothing is kept of it.
+    Unknown,
+    /// It is prepared, and undecided.
+    Pending,
+    Committed,
+    Discarded,
+}
+
+/// What a partition does with a stamp that is pending there.
+#[derive(Clone, Copy, Debug, PartialEq, Eq)]
+pub enum Decision {
+    Wait,
+    Commit,
+    Discard,
+}
+
+/// What the partition tells another that asks. Once it has told `Never`, it must not prepare the stamp.
+pub fn vote_of(state: StampState) -> Vote
+    ensures vote { result ≡ vote_of state }
+    ensures prepared { (result ≡ Vote.Prepared) ↔ (state ≡ StampState.Pending) }
+    ensures committed { (result ≡ Vote.Committed) ↔ (state ≡ StampState.Committed) }
+    ensures never { (result ≡ Vote.Never)
+        ↔ ((state ≡ StampState.Unknown) ⊎ (state ≡ StampState.Discarded)) }
+{
+    match state {
+        StampState::Pending => Vote::Prepared,
+        StampState::Committed => Vote::Committed,
+        StampState::Unknown | StampState::Discarded => Vote::Never,
+    }
+}
+
+/// What a partition does with its pending stamp as another of the stamp's partitions votes. `others`
+/// are all of the stamp's partitions but this one, and `heard` are those that have told that it is
+/// prepared there, the one that votes now included. One that has committed decides, and so does one
+/// that never will. Where each is prepared, it is committed.
+#[tactic(auto, using(crate::proofs::Telling::have_told_tells))]
+pub fn decide(vote: Vote, heard: &[u16], others: &[u16]) -> Decision
+    ensures decision { result ≡ decision_of vote heard.now others.now }
+    ensures commit { (result ≡ Decision.Commit)
+        ↔ ((vote ≡ Vote.Committed) ⊎ ((vote ≡ Vote.Prepared) × All (Contains heard.now) others.now)) }
+    ensures discard { (result ≡ Decision.Discard) ↔ (vote ≡ Vote.Never) }
+{
+    match vote {
+        Vote::Committed => Decision::Commit,
+        Vote::Never => Decision::Discard,
+        Vote::Prepared if have_told(heard, others) => Decision::Commit,
+        Vote::Prepared => Decision::Wait,
+    }
+}
+
+/// Whether each of the others is among those that were heard.
+fn have_told(heard: &[u16], others: &[u16]) -> bool
+    ensures { result ≡ have_told heard.now others.now }
+{
+    others.iter().all(|other| heard.contains(other))
+}

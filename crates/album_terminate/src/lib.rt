@@ -1,0 +1,9 @@
+//! How a write that was left undecided is settled: each partition at which it is prepared asks the
+//! others of its partitions how the stamp stands there, and decides by what they tell.
+#![tactic(auto)]
+
+mod asking;
+mod deciding;
+
+pub use asking::checks;
+pub use deciding::{Decision, StampState, decide, vote_of};
