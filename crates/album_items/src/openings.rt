@@ -67,7 +67,8 @@ fn is_right_row(row: &(ItemId, Value)) -> bool
     has_own_value(row) && is_low_row(row) && has_few_children(row) && has_single_children(row)
 }
 
-fn has_own_value(row: &(ItemId, Value)) -> bool
+/// Whether the value is there, and of its item's kind.
+pub fn has_own_value(row: &(ItemId, Value)) -> bool
     ensures { result ≡ has_own_value row.now }
 {
     row.1.is_there() && row.1.is_of(row.0.kind())
@@ -126,7 +127,7 @@ fn has_single_children(row: &(ItemId, Value)) -> bool
 }
 
 /// Whether no item stands twice.
-fn are_single(items: &[ItemId]) -> bool
+pub fn are_single(items: &[ItemId]) -> bool
     ensures { result ≡ no_two (λ a b. a == b) items.now }
 {
     for place in 0..items.len() {
@@ -143,8 +144,8 @@ fn holds(items: &[ItemId], item: ItemId) -> bool
     items.iter().any(|other| item.is(*other))
 }
 
-/// Whether no item stands twice.
-fn has_single_items(rows: &[(ItemId, Value)]) -> bool
+/// Whether no item has two values.
+pub fn has_single_items(rows: &[(ItemId, Value)]) -> bool
     ensures { result ≡ has_single_items rows.now }
 {
     for place in 0..rows.len() {

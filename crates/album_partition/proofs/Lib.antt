@@ -1,0 +1,12 @@
+pub mod States
+pub mod Legal
+pub mod Load
+pub mod Indexing
+pub mod Keeping
+pub mod Rows
+pub mod Making
+pub mod Others
+pub mod Fitting
+pub mod Pending
+pub mod Orderly
+pub mod Full
