@@ -3,6 +3,7 @@ use Rattle.std.proofs.Common.{◌≡◌, ◌≢◌, ℕ, Bool, true, false, ◌=
 use Rattle.std.proofs.lemmas.Bool.Decides.{Decides-eqb}
 use Rattle.album_items.specs.ItemIds.{place_of}
 use Rattle.album_items.specs.Openings.{Row}
+use Rattle.album_calls.specs.Nodes.{is_part}
 use Rattle.album_calls.specs.declared.messages.Body.{Body}
 use Rattle.album_calls.specs.declared.messages.Body.TheVariants as body
 use Rattle.album_calls.specs.declared.messages.Message.{Message}
@@ -16,7 +17,7 @@ use Rattle.album_calls.specs.declared.replies.Reply.TheVariants as reply
 use Rattle.album_terminate.specs.declared.deciding.StampState.{StampState}
 use Rattle.album_terminate.specs.declared.deciding.StampState.TheVariants as state
 use Rattle.album_partition.specs.declared.effects.Effect.{Effect}
-use Rattle.album_partition.specs.Answers.{nothing, says, is_proper, is_same, prepare_by, to_prepare, commit_by, to_commit, check_by, to_check, to_get, to_part, to_vote, to_status, to_body, is_part, effect_of}
+use Rattle.album_partition.specs.Answers.{nothing, says, is_proper, is_same, prepare_by, to_prepare, commit_by, to_commit, check_by, to_check, to_get, to_part, to_vote, to_status, to_body, effect_of}
 use Rattle.album_partition.specs.Held.{Held}
 use Rattle.album_partition.specs.Marks.{state_of, is_pending, is_full}
 use Rattle.album_partition.specs.Places.{lies_at}
@@ -123,7 +124,7 @@ body_tells held from (body.Reply reply.Clash) = λ u g. absurd (cc)
 body_tells held from (body.Reply (reply.Full t)) = λ u g. absurd (cc)
 
 pub full_only : (held : Held) (message : Message) (t : ℕ) → (effect_of held message).reply ≡ Some (reply.Full t) → (is_full held.opening.limit held.marks ≡ true) × (state_of held.marks t ≡ state.Unknown)
-full_only held message = go (is_part held.number message.to)
+full_only held message = go (is_part message.to held.number)
   where
     go : (b : Bool) → Tells held (if b then to_body held message.from message.body else nothing)
     go true = body_tells held message.from message.body

@@ -1,11 +1,12 @@
 -- What a partition does with a message: the whole table of its answers.
-use Rattle.std.specs.Prelude.{ℕ, Bool, false, ◌==◌, ◌&&◌, not, nat_le, List, [], ◌∷◌, ◌++◌, length, map, Option, Some, None, Result, Ok, Err, if◌then◌else◌, option_map, option_to_list}
+use Rattle.std.specs.Prelude.{ℕ, Bool, ◌==◌, ◌&&◌, not, nat_le, List, [], ◌∷◌, ◌++◌, length, map, Option, Some, None, Result, Ok, Err, if◌then◌else◌, option_map, option_to_list}
 use Rattle.std.specs.List.{list_all}
 use Rattle.album_stamps.specs.declared.refusals.Refusal.{Refusal}
 use Rattle.album_stamps.specs.declared.refusals.Refusal.TheVariants as refusal
 use Rattle.album_items.specs.ItemIds.{place_of, kind_of}
 use Rattle.album_items.specs.Openings.{Row, no_two}
 use Rattle.album_items.specs.Values.{is_of}
+use Rattle.album_calls.specs.Nodes.{is_part}
 use Rattle.album_calls.specs.Same.{same_rows, same_numbers}
 use Rattle.album_calls.specs.declared.messages.Body.{Body}
 use Rattle.album_calls.specs.declared.messages.Body.TheVariants as body
@@ -160,14 +161,9 @@ abbrev pub to_body : Held → Node → Body → Effect
 to_body held from (body.Request request) = to_request held request
 to_body held from (body.Reply reply) = to_reply held from reply
 
--- it is this partition
-abbrev pub is_part : ℕ → Node → Bool
-is_part number (Part part) = part == number
-is_part number (Client client) = false
-
 -- what a message does here: nothing where it is another's
 abbrev pub effect_of : Held → Message → Effect
-effect_of held message = if is_part held.number message.to then to_body held message.from message.body else nothing
+effect_of held message = if is_part message.to held.number then to_body held message.from message.body else nothing
 
 -- the partition once that is done
 abbrev pub with_effect : Held → Effect → Held

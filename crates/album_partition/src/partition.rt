@@ -2,7 +2,7 @@
 ghost use Rattle.std.specs.Prelude.{◌≡◌, ◌≤◌, true, IfOk, IfErr, OnOk, OnErr, IfSome, MatchResult, Ok, Err};
 ghost use Rattle.album_stamps.specs.Outcome.{Makes};
 ghost use Rattle.album_stamps.specs.declared.refusals.Refusal.TheVariants.{OutOfMemory};
-ghost use Rattle.album_partition.specs.Answers.{to_body, is_part, with_effect, after, answer, swept};
+ghost use Rattle.album_partition.specs.Answers.{to_body, with_effect, after, answer, swept};
 ghost use Rattle.album_partition.specs.Fits.{CanMake};
 ghost use Rattle.album_partition.specs.Held.{opened};
 ghost use Rattle.album_partition.specs.Marks.{ArePending, state_of, is_legal, load, latest};
@@ -99,7 +99,7 @@ impl Partition {
         ensures unchanged { OnErr result (self.new ≡ self.old) }
         ensures memory { IfErr result (λ e. e ≡ OutOfMemory) }
     {
-        if !is_part(self.number, message.to()) {
+        if !message.to().is_part(self.number) {
             return Ok(None);
         }
         let effect = self.to_body(message.from(), message.body())?;
@@ -192,15 +192,5 @@ impl Partition {
         self.stored.add(mark)?;
         push_vote(&mut self.votes, vote);
         Ok(reply)
-    }
-}
-
-/// Whether the node is the partition of this number.
-fn is_part(number: u16, node: Node) -> bool
-    ensures { result ≡ is_part number node }
-{
-    match node {
-        Node::Part(part) => part == number,
-        Node::Client(_) => false,
     }
 }
