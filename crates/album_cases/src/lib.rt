@@ -10,6 +10,12 @@ mod hostile_lines;
 #[cfg(test)]
 mod judge_rows;
 #[cfg(test)]
+mod messages;
+#[cfg(test)]
+mod partitions;
+#[cfg(test)]
+mod reads;
+#[cfg(test)]
 mod running;
 #[cfg(test)]
 mod values;
