@@ -1,16 +1,14 @@
 // What a partition answers.
-ghost use Rattle.std.specs.Prelude.{◌≡◌, IfOk, IfErr};
-ghost use Rattle.album_stamps.specs.declared.refusals.Refusal.TheVariants.{OutOfMemory};
+ghost use Rattle.std.specs.Prelude.{◌≡◌, IfOk, IsOkUnless};
 
 use crate::nodes::Vote;
 use album_items::{ItemId, Value};
 use album_stamps::{Refusal, Stamp};
-use std::alloc::Global;
 
 /// What a partition answers.
-#[derive(Debug, Drop)]
+#[derive(Clone, Debug, Drop)]
 pub enum Reply {
-    /// The writes of the stamp are kept, undecided.
+    /// The writes of the stamp are kept, pending.
     Prepared(Stamp),
     /// The writes of the stamp can be read.
     Committed(Stamp),
@@ -20,7 +18,7 @@ pub enum Reply {
     Version(ItemId, Stamp, Value),
     /// How the stamp stands here.
     Status(Stamp, Vote),
-    /// The stamp is not undecided here.
+    /// The stamp is not pending here.
     NotPrepared(Stamp),
     /// The request does not fit what is kept.
     Clash,
@@ -30,21 +28,10 @@ pub enum Reply {
 
 impl Reply {
     /// The same reply once more.
-    pub fn copy(&self, alloc: Global) -> Result<Reply, Refusal>
-        ensures found { IfOk result (λ reply. reply ≡ self.now) }
-        ensures memory { IfErr result (λ e. e ≡ OutOfMemory) }
+    pub fn copy(&self) -> Result<Reply, Refusal>
+        ensures copy { IfOk result (λ reply. reply ≡ self.now) }
+        ensures memory { IsOkUnless result Refusal.OutOfMemory }
     {
-        match self {
-            Reply::Prepared(stamp) => Ok(Reply::Prepared(*stamp)),
-            Reply::Committed(stamp) => Ok(Reply::Committed(*stamp)),
-            Reply::Discarded(stamp) => Ok(Reply::Discarded(*stamp)),
-            Reply::Version(item, stamp, value) => {
-                Ok(Reply::Version(*item, *stamp, value.copy(alloc)?))
-            }
-            Reply::Status(stamp, vote) => Ok(Reply::Status(*stamp, *vote)),
-            Reply::NotPrepared(stamp) => Ok(Reply::NotPrepared(*stamp)),
-            Reply::Clash => Ok(Reply::Clash),
-            Reply::Full(stamp) => Ok(Reply::Full(*stamp)),
-        }
+        Ok(self.clone()?)
     }
 }

@@ -10,8 +10,7 @@ use Rattle.album_lists.specs.declared.lists.Ace.{Ace}
 use Rattle.album_eval.specs.declared.verdicts.Verdict.{Verdict}
 use Rattle.album_eval.specs.declared.verdicts.Verdict.TheVariants.{Granted, DeniedBy, DeniedAtEnd}
 use Rattle.album_eval.specs.Matching.{Case}
-use Rattle.album_eval.specs.Verdict.{first_mention, IsSortAt, Denies, IsVerdict}
-use Rattle.album_eval.specs.Computed.{denies, is_denied_at, Told, least_of, with_mention, with_bit, told_below, verdict_by, verdict}
+use Rattle.album_eval.specs.Verdict.{first_mention, IsSortAt, Denies, IsVerdict, denies, is_denied_at, Tally, least_of, with_mention, with_bit, tally_below, verdict_by, verdict}
 use Rattle.album_eval.proofs.Judging.{Judged, skipped, not_mentioned, allowed, denied_at, verdict_denied, verdict_at_end, verdict_granted}
 
 denied_sort : (s : AceType) → denies s ≡ true → s ≡ Denied
@@ -45,39 +44,39 @@ least_is None i = refl
 least_is (Some k) i = refl
 
 -- the facts of a state, with n + 1 for suc n
-abbrev pub Tells : Case → List Ace → Mask → ℕ → Told → Type 0
-Tells case entries mask n told = Judged case entries mask n told.denial told.is_unmentioned
+abbrev pub Tells : Case → List Ace → Mask → ℕ → Tally → Type 0
+Tells case entries mask n tally = Judged case entries mask n tally.denial tally.is_unmentioned
 
-mention_told : (case : Case) (entries : List Ace) (mask : Mask) (n i : ℕ) (told : Told) (b : Bool) → is_denied_at entries i ≡ b → has_bit mask n ≡ true → first_mention case n entries ≡ Some i → Tells case entries mask n told → Tells case entries mask (n + 1) (with_mention b i told)
-mention_told case entries mask n i told true is asks at j = denied_at case entries mask n i _ told.denial told.is_unmentioned asks at (is_denied_there entries i is) (least_is told.denial i) j
-mention_told case entries mask n i told false is asks at j = allowed case entries mask n i told.denial told.is_unmentioned asks at (not_denied_there entries i is) j
+mention_counts : (case : Case) (entries : List Ace) (mask : Mask) (n i : ℕ) (tally : Tally) (b : Bool) → is_denied_at entries i ≡ b → has_bit mask n ≡ true → first_mention case n entries ≡ Some i → Tells case entries mask n tally → Tells case entries mask (n + 1) (with_mention b i tally)
+mention_counts case entries mask n i tally true is asks at j = denied_at case entries mask n i _ tally.denial tally.is_unmentioned asks at (is_denied_there entries i is) (least_is tally.denial i) j
+mention_counts case entries mask n i tally false is asks at j = allowed case entries mask n i tally.denial tally.is_unmentioned asks at (not_denied_there entries i is) j
 
-bit_told : (case : Case) (entries : List Ace) (mask : Mask) (n : ℕ) (told : Told) (b : Bool) (o : Option ℕ) → has_bit mask n ≡ b → first_mention case n entries ≡ o → Tells case entries mask n told → Tells case entries mask (n + 1) (with_bit b entries o told)
-bit_told case entries mask n told false o asks at j = skipped case entries mask n told.denial told.is_unmentioned asks j
-bit_told case entries mask n told true None asks at j = not_mentioned case entries mask n told.denial told.is_unmentioned asks at j
-bit_told case entries mask n told true (Some i) asks at j = mention_told case entries mask n i told (is_denied_at entries i) refl asks at j
+bit_counts : (case : Case) (entries : List Ace) (mask : Mask) (n : ℕ) (tally : Tally) (b : Bool) (o : Option ℕ) → has_bit mask n ≡ b → first_mention case n entries ≡ o → Tells case entries mask n tally → Tells case entries mask (n + 1) (with_bit b entries o tally)
+bit_counts case entries mask n tally false o asks at j = skipped case entries mask n tally.denial tally.is_unmentioned asks j
+bit_counts case entries mask n tally true None asks at j = not_mentioned case entries mask n tally.denial tally.is_unmentioned asks at j
+bit_counts case entries mask n tally true (Some i) asks at j = mention_counts case entries mask n i tally (is_denied_at entries i) refl asks at j
 
-below_told : (case : Case) (entries : List Ace) (mask : Mask) (n : ℕ) → Tells case entries mask n (told_below case entries mask n)
-below_told case entries mask zero = record {
+below_counts : (case : Case) (entries : List Ace) (mask : Mask) (n : ℕ) → Tells case entries mask n (tally_below case entries mask n)
+below_counts case entries mask zero = record {
   denies = tt;
   least = λ bit k l asked first denied. absurd (omega (arith, l));
   unmentioned = λ is. absurd (cc);
   mentioned = λ is bit l asked. absurd (omega (arith, l));
 }
-below_told case entries mask (suc n) =
-    let told = told_below case entries mask n in
-    subst (λ (m : ℕ). Tells case entries mask m (with_bit (has_bit mask n) entries (first_mention case n entries) told)) (add-one n) (bit_told case entries mask n told (has_bit mask n) (first_mention case n entries) refl refl (below_told case entries mask n))
+below_counts case entries mask (suc n) =
+    let tally = tally_below case entries mask n in
+    subst (λ (m : ℕ). Tells case entries mask m (with_bit (has_bit mask n) entries (first_mention case n entries) tally)) (add-one n) (bit_counts case entries mask n tally (has_bit mask n) (first_mention case n entries) refl refl (below_counts case entries mask n))
 
-by_told : (case : Case) (entries : List Ace) (mask : Mask) (d : Option ℕ) (b : Bool) → mask_bits mask < 2 ^ 32 → Judged case entries mask 32 d b → IsVerdict case entries mask (verdict_by d b)
-by_told case entries mask (Some i) b small j = verdict_denied case entries mask i b small j
-by_told case entries mask None true small j = verdict_at_end case entries mask small j
-by_told case entries mask None false small j = verdict_granted case entries mask small j
+by_tally : (case : Case) (entries : List Ace) (mask : Mask) (d : Option ℕ) (b : Bool) → mask_bits mask < 2 ^ 32 → Judged case entries mask 32 d b → IsVerdict case entries mask (verdict_by d b)
+by_tally case entries mask (Some i) b small j = verdict_denied case entries mask i b small j
+by_tally case entries mask None true small j = verdict_at_end case entries mask small j
+by_tally case entries mask None false small j = verdict_granted case entries mask small j
 
 -- the computed verdict is a verdict
 pub verdict_computed : (case : Case) (entries : List Ace) (mask : Mask) → mask_bits mask < 2 ^ 32 → IsVerdict case entries mask (verdict case entries mask)
 unfolding verdict
 verdict_computed case entries mask small =
-    let told : Told = told_below case entries mask 32 in by_told case entries mask told.denial told.is_unmentioned small (below_told case entries mask 32)
+    let tally : Tally = tally_below case entries mask 32 in by_tally case entries mask tally.denial tally.is_unmentioned small (below_counts case entries mask 32)
 
 two_sorts : (entries : List Ace) (i : ℕ) → IsSortAt Allowed entries i → IsSortAt Denied entries i → ⊥
 two_sorts entries i = go (slice_get entries i)

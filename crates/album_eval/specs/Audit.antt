@@ -26,8 +26,13 @@ outcome_flag success = if success then 16 else 32
 
 -- a matching entry that takes note, shares a bit with the mask and selects the outcome
 unfoldable pub is_noted : Case → Mask → Bool → Ace → Bool
-is_noted case mask success entry = is_match case entry && is_noting entry.sort && meets entry.mask mask && has_flag (outcome_flag success) entry.flags
+is_noted case mask success entry =
+    is_match case entry
+    && is_noting entry.sort
+    && meets entry.mask mask
+    && has_flag (outcome_flag success) entry.flags
 
 -- the indexes of these entries, rising
 unfoldable pub audited : Case → Mask → Bool → List Ace → List ℕ
-audited case mask success entries = map (λ p. p.0) (filter (λ p. is_noted case mask success p.1) (enumerate_from 0 entries))
+audited case mask success entries =
+    map (λ p. p.0) (filter (λ p. is_noted case mask success p.1) (enumerate_from 0 entries))

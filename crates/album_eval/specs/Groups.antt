@@ -13,7 +13,9 @@ use Rattle.album_eval.specs.declared.facts.Principal.TheVariants as principal
 -- The least relation in which a user is in a group that lists the user, or that lists a group that the user is in.
 pub data IsIn (listed : ℕ → List Member) (user : List ℕ) : ℕ → Type 0 where
   by_name : (group : ℕ) → Contains (listed group) (member.User user) → IsIn listed user group
-  by_group : (group inner : ℕ) → Contains (listed group) (member.Group inner) → IsIn listed user inner → IsIn listed user group
+  by_group :
+      (group inner : ℕ) → Contains (listed group) (member.Group inner)
+      → IsIn listed user inner → IsIn listed user group
 
 -- Anonymous is in no group
 abbrev pub IsMember : (ℕ → List Member) → Principal → ℕ → Type 0

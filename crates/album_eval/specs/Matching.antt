@@ -20,7 +20,12 @@ pub record Case : Type 0 where
 
 abbrev pub case_of : Facts → Case
 case_of facts =
-    record { principal = facts.principal.now; owner = facts.owner.now; head_group = facts.head_group; is_in = set.contains nat_cmp facts.groups.now }
+    record {
+      principal = facts.principal.now;
+      owner = facts.owner.now;
+      head_group = facts.head_group;
+      is_in = set.contains nat_cmp facts.groups.now;
+    }
 
 abbrev pub is_user : Principal → List ℕ → Bool
 is_user principal.Anonymous name = false
@@ -51,4 +56,6 @@ IsPrincipalText (principal.User name) text = IsUserText name text
 
 -- the principal that the text is
 unfoldable pub principal_of : List ℕ → Option Principal
-principal_of text = if bytes_eq text (codes "ANONYMOUS@") then Some principal.Anonymous else option_map principal.User (user_of text)
+principal_of text =
+    if bytes_eq text (codes "ANONYMOUS@") then Some principal.Anonymous
+    else option_map principal.User (user_of text)

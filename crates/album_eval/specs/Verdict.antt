@@ -1,6 +1,7 @@
 -- What an access list says of a request (RFC 7530, section 6.2.1).
-use Rattle.std.specs.Prelude.{◌≡◌, ◌≤◌, ℕ, List, Bool, true, false, ◌&&◌, Option, Some, None, position, IsSomeAnd}
+use Rattle.std.specs.Prelude.{◌≡◌, ◌≤◌, ℕ, zero, suc, min, List, Bool, true, false, ◌&&◌, Option, Some, None, position, IsSomeAnd}
 use Rattle.std.specs.List.{slice_get}
+use Rattle.std.specs.Option.{option_map_or}
 use Rattle.album_access.specs.Bits.{has_bit}
 use Rattle.album_access.specs.declared.masks.Mask.{Mask}
 use Rattle.album_access.specs.declared.types.AceType.{AceType}
@@ -43,6 +44,57 @@ IsAllowed case entries bit = IsSomeAnd (first_mention case bit entries) (IsSortA
 -- DeniedAtEnd: no first mention denies, and a bit that is asked has none.
 abbrev pub IsVerdict : Case → List Ace → Mask → Verdict → Type 0
 IsVerdict case entries mask Granted = (bit : ℕ) → has_bit mask bit ≡ true → IsAllowed case entries bit
-IsVerdict case entries mask (DeniedBy i) = Denies case entries mask i × ((k : ℕ) → Denies case entries mask k → i ≤ k)
+IsVerdict case entries mask (DeniedBy i) =
+    Denies case entries mask i × ((k : ℕ) → Denies case entries mask k → i ≤ k)
 IsVerdict case entries mask DeniedAtEnd =
-    ((k : ℕ) → Denies case entries mask k → ⊥) × (bit : ℕ) × (has_bit mask bit ≡ true) × (first_mention case bit entries ≡ None)
+    ((k : ℕ) → Denies case entries mask k → ⊥)
+    × (bit : ℕ)
+    × (has_bit mask bit ≡ true)
+    × (first_mention case bit entries ≡ None)
+
+-- ---- the same, computed; that the two agree is the law `one_verdict`
+
+abbrev pub denies : AceType → Bool
+denies Allowed = false
+denies Denied = true
+denies Audit = false
+denies Alarm = false
+
+-- the entry at the index denies
+abbrev pub is_denied_at : List Ace → ℕ → Bool
+is_denied_at entries i = option_map_or (λ (entry : Ace). denies entry.sort) (slice_get entries i) false
+
+-- of the bits looked at: the least index at which one is denied, and whether one is never mentioned
+pub record Tally : Type 0 where
+  pub denial : Option ℕ
+  pub is_unmentioned : Bool
+
+abbrev pub least_of : Option ℕ → ℕ → ℕ
+least_of None i = i
+least_of (Some k) i = min k i
+
+abbrev pub with_mention : Bool → ℕ → Tally → Tally
+with_mention true i tally = record tally { denial = Some (least_of tally.denial i) }
+with_mention false i tally = tally
+
+-- one bit more, by whether it is asked and where it is first mentioned
+abbrev pub with_bit : Bool → List Ace → Option ℕ → Tally → Tally
+with_bit false entries first tally = tally
+with_bit true entries None tally = record tally { is_unmentioned = true }
+with_bit true entries (Some i) tally = with_mention (is_denied_at entries i) i tally
+
+-- the bits below a number
+abbrev pub tally_below : Case → List Ace → Mask → ℕ → Tally
+tally_below case entries mask zero = record { denial = None; is_unmentioned = false }
+tally_below case entries mask (suc n) =
+    with_bit (has_bit mask n) entries (first_mention case n entries) (tally_below case entries mask n)
+
+abbrev pub verdict_by : Option ℕ → Bool → Verdict
+verdict_by (Some i) is_unmentioned = DeniedBy i
+verdict_by None true = DeniedAtEnd
+verdict_by None false = Granted
+
+-- the verdict on a request for the 32 bits of the mask
+unfoldable pub verdict : Case → List Ace → Mask → Verdict
+verdict case entries mask =
+    let tally : Tally = tally_below case entries mask 32 in verdict_by tally.denial tally.is_unmentioned

@@ -1,8 +1,8 @@
 // Who asks, of whose object.
-ghost use Rattle.std.specs.Prelude.{◌≡◌, ◌↔◌, ℕ, List, Some, IfOk, IfErr};
+ghost use Rattle.std.specs.Prelude.{◌≡◌, ◌↔◌, ℕ, List, Some, IfOk, IsOkUnless};
 ghost use Rattle.std.specs.Option.{ok_or};
 ghost use Rattle.album_stamps.specs.Outcome.{Makes};
-ghost use Rattle.album_stamps.specs.declared.refusals.Refusal.TheVariants.{OutOfMemory, BadWho};
+ghost use Rattle.album_stamps.specs.declared.refusals.Refusal.TheVariants.{BadWho};
 ghost use Rattle.album_lists.specs.declared.lists.Ace.{Ace};
 ghost use Rattle.album_lists.specs.declared.whos.Who.{Who};
 ghost use Rattle.album_eval.specs.declared.facts.Principal.{Principal};
@@ -16,7 +16,7 @@ use std::alloc::Global;
 use std::collections::BTreeSet;
 
 /// Who asks.
-#[derive(Debug, Drop)]
+#[derive(Clone, Debug, Drop)]
 pub enum Principal {
     /// `ANONYMOUS@`
     Anonymous,
@@ -52,14 +52,11 @@ impl Principal {
     }
 
     /// The same principal once more.
-    pub fn copy(&self, alloc: Global) -> Result<Principal, Refusal>
-        ensures found { IfOk result (λ principal. principal ≡ self.now) }
-        ensures memory { IfErr result (λ e. e ≡ OutOfMemory) }
+    pub fn copy(&self) -> Result<Principal, Refusal>
+        ensures copy { IfOk result (λ principal. principal ≡ self.now) }
+        ensures memory { IsOkUnless result Refusal.OutOfMemory }
     {
-        match self {
-            Principal::Anonymous => Ok(Principal::Anonymous),
-            Principal::User(name) => Ok(Principal::User(name.copy(alloc)?)),
-        }
+        Ok(self.clone()?)
     }
 
     /// Whether this is the user of that name.

@@ -1,9 +1,8 @@
 // The groups that a principal is in.
-ghost use Rattle.std.specs.Prelude.{◌≡◌, ◌↔◌, ℕ, IsTrue, IfOk, IfErr, IfSome, IfNone, true, false};
+ghost use Rattle.std.specs.Prelude.{◌≡◌, ◌↔◌, ℕ, IsTrue, IfOk, IsOkUnless, IfSome, IfNone, true, false};
 ghost use Rattle.std.specs.List.{list_any};
 ghost use Rattle.std.specs.Ordering.{nat_cmp};
 ghost use Rattle.std.specs.BTreeSet as set;
-ghost use Rattle.album_stamps.specs.declared.refusals.Refusal.TheVariants.{OutOfMemory};
 ghost use Rattle.album_eval.specs.Groups.{IsMember, listed_in, is_named, is_due};
 
 use crate::facts::Principal;
@@ -12,32 +11,28 @@ use album_stamps::Refusal;
 use std::alloc::Global;
 use std::collections::{BTreeMap, BTreeSet};
 
-/// Whether the member is the user, or a group that is found.
-fn is_named(member: &Member, user: &Name, found: &BTreeSet<u64>) -> bool
-    ensures { result ≡ is_named user.now (set.contains nat_cmp found.now) member.now }
+/// The groups that the principal is in, by name or through groups in groups. A group that is
+/// missing lists nobody.
+pub fn members(
+    alloc: Global,
+    groups: &BTreeMap<u64, Vec<Member>>,
+    principal: &Principal,
+) -> Result<BTreeSet<u64>, Refusal>
+    ensures exact { IfOk result (λ found. (group : ℕ)
+        → IsTrue (set.contains nat_cmp found group) ↔ IsMember (listed_in groups.now) principal.now group) }
+    ensures memory { IsOkUnless result Refusal.OutOfMemory }
 {
-    match member {
-        Member::User(name) => name.as_str() == user.as_str(),
-        Member::Group(number) => found.contains(number),
+    let mut found = BTreeSet::new(alloc);
+    let Principal::User(user) = principal else {
+        return Ok(found);
+    };
+    while let Some(number) = next_group(groups, user, &found) {
+        found.insert(number)?;
     }
+    Ok(found)
 }
 
-/// Whether one of the members is.
-fn has_named(members: &[Member], user: &Name, found: &BTreeSet<u64>) -> bool
-    ensures { result ≡ list_any (is_named user.now (set.contains nat_cmp found.now)) members.now }
-{
-    members.iter().any(|member| is_named(member, user, found))
-}
-
-/// Whether the group is not found yet, and one of its members is named.
-#[tactic(auto, unfolding(crate::specs::Groups::is_due))]
-fn is_due(number: u64, members: &Vec<Member>, user: &Name, found: &BTreeSet<u64>) -> bool
-    ensures { result ≡ is_due user.now (set.contains nat_cmp found.now) number members.now.items }
-{
-    !found.contains(&number) && has_named(members.as_slice(), user, found)
-}
-
-/// The first such group.
+/// The first group that is not found yet and has a member who is.
 fn next_group(
     groups: &BTreeMap<u64, Vec<Member>>,
     user: &Name,
@@ -54,23 +49,26 @@ fn next_group(
     Some(*number)
 }
 
-/// The groups that the principal is in, by name or through groups in groups. A group that is
-/// missing lists nobody.
-pub fn members(
-    alloc: Global,
-    groups: &BTreeMap<u64, Vec<Member>>,
-    principal: &Principal,
-) -> Result<BTreeSet<u64>, Refusal>
-    ensures found { IfOk result (λ found. (group : ℕ)
-        → IsTrue (set.contains nat_cmp found group) ↔ IsMember (listed_in groups.now) principal.now group) }
-    ensures memory { IfErr result (λ e. e ≡ OutOfMemory) }
+/// Whether the group is not found yet, and one of its members is named.
+#[tactic(auto, unfolding(crate::specs::Groups::is_due))]
+fn is_due(number: u64, members: &Vec<Member>, user: &Name, found: &BTreeSet<u64>) -> bool
+    ensures { result ≡ is_due user.now (set.contains nat_cmp found.now) number members.now.items }
 {
-    let mut found = BTreeSet::new(alloc);
-    let Principal::User(user) = principal else {
-        return Ok(found);
-    };
-    while let Some(number) = next_group(groups, user, &found) {
-        found.insert(number)?;
+    !found.contains(&number) && has_named(members.as_slice(), user, found)
+}
+
+/// Whether one of the members is the user, or a group that is found.
+fn has_named(members: &[Member], user: &Name, found: &BTreeSet<u64>) -> bool
+    ensures { result ≡ list_any (is_named user.now (set.contains nat_cmp found.now)) members.now }
+{
+    members.iter().any(|member| is_named(member, user, found))
+}
+
+fn is_named(member: &Member, user: &Name, found: &BTreeSet<u64>) -> bool
+    ensures { result ≡ is_named user.now (set.contains nat_cmp found.now) member.now }
+{
+    match member {
+        Member::User(name) => name.as_str() == user.as_str(),
+        Member::Group(number) => found.contains(number),
     }
-    Ok(found)
 }

@@ -1,4 +1,6 @@
 //! Who is in which group, what an access list says of a request, and which entries take note of it.
+//!
+//! Who asks and the groups come in, and a verdict goes out. Read `facts` and `groups` first, then `verdicts`.
 #![tactic(auto)]
 
 mod facts;

@@ -1,6 +1,5 @@
 // Which entries take note of a request.
-ghost use Rattle.std.specs.Prelude.{◌≡◌, IfOk, IfErr};
-ghost use Rattle.album_stamps.specs.declared.refusals.Refusal.TheVariants.{OutOfMemory};
+ghost use Rattle.std.specs.Prelude.{◌≡◌, IfOk, IsOkUnless};
 ghost use Rattle.album_eval.specs.Matching.{case_of};
 ghost use Rattle.album_eval.specs.Audit.{is_noted, audited};
 
@@ -11,20 +10,20 @@ use album_stamps::Refusal;
 use bitflags::Flags;
 use std::alloc::{AllocError, Global};
 
-/// Whether the entry takes note of a request with this outcome.
-#[tactic(auto, unfolding(crate::specs::Audit::is_noted))]
-fn is_noted(facts: &Facts, mask: Mask, success: bool, entry: &Ace) -> bool
-    ensures { result ≡ is_noted (case_of facts.now) mask success entry.now }
+/// The indexes, rising from 0, of the AUDIT and ALARM entries that take note of a request for these
+/// bits that was granted (`success`) or denied.
+pub fn audits(
+    alloc: Global,
+    list: &AccessList,
+    facts: &Facts,
+    mask: Mask,
+    success: bool,
+) -> Result<Vec<usize>, Refusal>
+    ensures noted { IfOk result (λ indexes. indexes.items ≡ audited (case_of facts.now) mask success list.now) }
+    ensures memory { IsOkUnless result Refusal.OutOfMemory }
 {
-    let outcome = if success {
-        AceFlags::SUCCESSFUL_ACCESS
-    } else {
-        AceFlags::FAILED_ACCESS
-    };
-    facts.is_match(entry)
-        && matches!(entry.sort, AceType::Audit | AceType::Alarm)
-        && entry.mask.intersects(mask)
-        && entry.flags.contains(outcome)
+    let indexes = noted_indexes(alloc, list.entries(), facts, mask, success)?;
+    Ok(indexes)
 }
 
 #[tactic(auto, unfolding(crate::specs::Audit::audited))]
@@ -45,18 +44,18 @@ fn noted_indexes(
         .collect(alloc)
 }
 
-/// The indexes, rising from 0, of the AUDIT and ALARM entries that take note of a request for these
-/// bits that was granted (`success`) or denied.
-pub fn audits(
-    alloc: Global,
-    list: &AccessList,
-    facts: &Facts,
-    mask: Mask,
-    success: bool,
-) -> Result<Vec<usize>, Refusal>
-    ensures found { IfOk result (λ indexes. indexes.items ≡ audited (case_of facts.now) mask success list.now) }
-    ensures memory { IfErr result (λ e. e ≡ OutOfMemory) }
+/// Whether the entry takes note of a request with this outcome.
+#[tactic(auto, unfolding(crate::specs::Audit::is_noted))]
+fn is_noted(facts: &Facts, mask: Mask, success: bool, entry: &Ace) -> bool
+    ensures { result ≡ is_noted (case_of facts.now) mask success entry.now }
 {
-    let indexes = noted_indexes(alloc, list.entries(), facts, mask, success)?;
-    Ok(indexes)
+    let outcome = if success {
+        AceFlags::SUCCESSFUL_ACCESS
+    } else {
+        AceFlags::FAILED_ACCESS
+    };
+    facts.is_match(entry)
+        && matches!(entry.sort, AceType::Audit | AceType::Alarm)
+        && entry.mask.intersects(mask)
+        && entry.flags.contains(outcome)
 }

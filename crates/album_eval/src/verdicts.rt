@@ -6,8 +6,7 @@ ghost use Rattle.album_access.specs.declared.masks.Mask.{Mask};
 ghost use Rattle.album_lists.specs.declared.lists.Ace.{Ace};
 ghost use Rattle.album_eval.specs.declared.verdicts.Verdict.{Verdict};
 ghost use Rattle.album_eval.specs.Matching.{Case, case_of};
-ghost use Rattle.album_eval.specs.Verdict.{mentions, first_mention, IsVerdict};
-ghost use Rattle.album_eval.specs.Computed.{verdict};
+ghost use Rattle.album_eval.specs.Verdict.{mentions, first_mention, IsVerdict, verdict};
 
 use crate::facts::Facts;
 use album_access::{AceType, Mask};
@@ -32,6 +31,34 @@ pub fn one_verdict()
         → IsVerdict case entries mask (verdict case entries mask) }
 {}
 
+/// What the list says of a request for the bits of the mask (RFC 7530, section 6.2.1).
+pub fn evaluate(list: &AccessList, facts: &Facts, mask: Mask) -> Verdict
+    ensures is { IsVerdict (case_of facts.now) list.now mask result }
+    ensures computed { result ≡ verdict (case_of facts.now) list.now mask }
+{
+    let entries = list.entries();
+    let asked = mask.bits();
+    let mut denial: Option<usize> = None;
+    let mut unmentioned = false;
+    for bit in 0..u32::BITS {
+        if is_set(asked, bit) {
+            match first_mention(entries, facts, bit) {
+                Some(index) => {
+                    if is_denied(&entries[index]) {
+                        denial = Some(earlier(denial, index));
+                    }
+                }
+                None => unmentioned = true,
+            }
+        }
+    }
+    match denial {
+        Some(index) => Verdict::DeniedBy(index),
+        None if unmentioned => Verdict::DeniedAtEnd,
+        None => Verdict::Granted,
+    }
+}
+
 /// Whether the bit of this number is set.
 fn is_set(bits: u32, bit: u32) -> bool
     requires { bit < 32 }
@@ -55,7 +82,7 @@ fn mentions(facts: &Facts, bit: u32, entry: &Ace) -> bool
 #[tactic(auto, unfolding(crate::specs::Verdict::first_mention))]
 fn first_mention(entries: &[Ace], facts: &Facts, bit: u32) -> Option<usize>
     requires { bit < 32 }
-    ensures place { result ≡ first_mention (case_of facts.now) bit entries.now }
+    ensures index { result ≡ first_mention (case_of facts.now) bit entries.now }
     ensures within { IfSome result (λ i. i < length entries.now) }
 {
     entries.iter().position(|entry| mentions(facts, bit, entry))
@@ -68,40 +95,12 @@ fn is_denied(entry: &Ace) -> bool
     matches!(entry.sort, AceType::Denied)
 }
 
-/// The lesser of the places.
-fn earlier(denial: Option<usize>, place: usize) -> usize
-    ensures { MatchOption denial (result ≡ place) (λ least. result ≡ min least place) }
+/// The lesser of the indexes.
+fn earlier(denial: Option<usize>, index: usize) -> usize
+    ensures { MatchOption denial (result ≡ index) (λ least. result ≡ min least index) }
 {
     match denial {
-        Some(least) => least.min(place),
-        None => place,
-    }
-}
-
-/// What the list says of a request for the bits of the mask (RFC 7530, section 6.2.1).
-pub fn evaluate(list: &AccessList, facts: &Facts, mask: Mask) -> Verdict
-    ensures is { IsVerdict (case_of facts.now) list.now mask result }
-    ensures computed { result ≡ verdict (case_of facts.now) list.now mask }
-{
-    let entries = list.entries();
-    let asked = mask.bits();
-    let mut denial: Option<usize> = None;
-    let mut unmentioned = false;
-    for bit in 0..u32::BITS {
-        if is_set(asked, bit) {
-            match first_mention(entries, facts, bit) {
-                Some(place) => {
-                    if is_denied(&entries[place]) {
-                        denial = Some(earlier(denial, place));
-                    }
-                }
-                None => unmentioned = true,
-            }
-        }
-    }
-    match denial {
-        Some(place) => Verdict::DeniedBy(place),
-        None if unmentioned => Verdict::DeniedAtEnd,
-        None => Verdict::Granted,
+        Some(least) => least.min(index),
+        None => index,
     }
 }

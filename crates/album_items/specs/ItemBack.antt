@@ -27,5 +27,13 @@ pub number_of-item : (c n : ℕ) → c < 4 → (n * 4 + c) / 4 ≡ n
 number_of-item c n small = omega arith
 
 -- the whole item
-pub item_back : (a : Inside) → record { kind = kind_with (kind_of (item (code_of a.kind) a.number)); number = number_of (item (code_of a.kind) a.number) } ≡ a
-item_back a = rw (kind_of-item (code_of a.kind) a.number (code_small a.kind), number_of-item (code_of a.kind) a.number (code_small a.kind), kind_with-code_of a.kind) refl
+pub item_back : (a : Inside) → record {
+  kind = kind_with (kind_of (item (code_of a.kind) a.number));
+  number = number_of (item (code_of a.kind) a.number);
+} ≡ a
+item_back a =
+    rw (
+      kind_of-item (code_of a.kind) a.number (code_small a.kind),
+      number_of-item (code_of a.kind) a.number (code_small a.kind),
+      kind_with-code_of a.kind,
+    ) refl

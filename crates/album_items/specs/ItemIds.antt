@@ -83,4 +83,6 @@ code_named word =
 
 -- the item of which the text tells: the kind before its first slash, the number after it
 unfoldable pub item_of : List ℕ → Option ℕ
-item_of text = option_and_then (λ code. option_map (item code) (whole_number_of (after_first is_slash text))) (code_named (before_first is_slash text))
+item_of text =
+    option_and_then (λ code. option_map (item code) (whole_number_of (after_first is_slash text)))
+    (code_named (before_first is_slash text))

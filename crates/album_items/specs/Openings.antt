@@ -1,12 +1,14 @@
 -- Which states the service may open with.
-use Rattle.std.specs.Prelude.{ℕ, List, [], ◌∷◌, Bool, true, false, not, ◌&&◌, ◌||◌, ◌==◌, nat_le, length}
-use Rattle.std.specs.List.{list_all, list_any}
+use Rattle.std.specs.Prelude.{ℕ, List, [], Bool, true, false, not, ◌&&◌, ◌||◌, ◌==◌, nat_le, length}
+use Rattle.std.specs.List.{list_all}
 use Rattle.std.specs.Option.{option_map_or}
 use Rattle.album_lists.specs.Entries.{fits}
 use Rattle.album_lists.specs.declared.lists.Holder.{Holder}
 use Rattle.album_lists.specs.declared.lists.Holder.TheVariants.{Plain, Folder}
+use Rattle.album_stamps.specs.declared.limits.TheConstants.{MOST_PARTS, LEAST_MARKS, MOST_MARKS, MOST_CHILDREN, MOST_OPENING_ITEMS, MOST_OPENING_NUMBER}
 use Rattle.album_items.specs.ItemIds.{list, kind_of, number_of}
-use Rattle.album_items.specs.Values.{is_of, is_there, head_of, most_children}
+use Rattle.album_stamps.specs.Distinct.{no_two, are_single}
+use Rattle.album_items.specs.Values.{is_of, is_there, head_of}
 use Rattle.album_items.specs.declared.values.Value.{Value}
 use Rattle.album_items.specs.declared.values.Value.TheVariants as value
 use Rattle.album_items.specs.declared.openings.Opening.{Opening}
@@ -14,11 +16,6 @@ use Rattle.album_items.specs.declared.openings.Opening.{Opening}
 -- an item with its value
 abbrev pub Row : Type 0
 Row = ℕ × Value
-
--- no two elements, at two places of the list, clash
-abbrev pub no_two : {X : Type 0} → (X → X → Bool) → List X → Bool
-no_two clash [] = true
-no_two clash (x ∷ xs) = not (list_any (clash x) xs) && no_two clash xs
 
 -- ---- what is tested of one row
 
@@ -28,7 +25,7 @@ has_own_value row = is_there row.1 && is_of row.1 (kind_of row.0)
 
 -- a number that an opening may use
 abbrev pub is_low : ℕ → Bool
-is_low number = nat_le number 65535
+is_low number = nat_le number MOST_OPENING_NUMBER
 
 -- the number of each item is low
 abbrev pub are_low : List ℕ → Bool
@@ -38,7 +35,8 @@ are_low items = list_all (λ item. is_low (number_of item)) items
 abbrev pub has_low_numbers : Value → Bool
 has_low_numbers value.Missing = true
 has_low_numbers (value.Picture picture) = is_low picture.head.list && is_low picture.home
-has_low_numbers (value.Album album) = is_low album.head.list && option_map_or is_low album.home true && are_low album.children
+has_low_numbers (value.Album album) =
+    is_low album.head.list && option_map_or is_low album.home true && are_low album.children
 has_low_numbers (value.List entries) = true
 has_low_numbers (value.Group group) = is_low group.head.list
 
@@ -56,11 +54,11 @@ children_of (value.Group group) = []
 
 -- an album has at most 128 children
 abbrev pub has_few_children : Row → Bool
-has_few_children row = nat_le (length (children_of row.1)) most_children
+has_few_children row = nat_le (length (children_of row.1)) MOST_CHILDREN
 
 -- no child stands twice in one album
 abbrev pub has_single_children : Row → Bool
-has_single_children row = no_two (λ a b. a == b) (children_of row.1)
+has_single_children row = are_single (children_of row.1)
 
 -- a row is right by itself
 abbrev pub is_right_row : Row → Bool
@@ -98,25 +96,26 @@ fits_holder held (value.Group group) = true
 
 -- where the second is the list that the head of the first names, it fits
 abbrev pub suits : Row → Row → Bool
-suits a b = option_map_or (λ head. not (b.0 == list head.list) || fits_holder (holder_of a.1) b.1) (head_of a.1) true
+suits a b =
+    option_map_or (λ head. not (b.0 == list head.list) || fits_holder (holder_of a.1) b.1) (head_of a.1) true
 
 -- ---- an opening
 
 -- 1 to 16 partitions
 abbrev pub has_parts : Opening → Bool
-has_parts opening = nat_le 1 opening.parts && nat_le opening.parts 16
+has_parts opening = nat_le 1 opening.parts && nat_le opening.parts MOST_PARTS
 
 -- the history of a partition has room for 2 to 1,000,000 marks
 abbrev pub has_limit : Opening → Bool
-has_limit opening = nat_le 2 opening.limit && nat_le opening.limit 1000000
+has_limit opening = nat_le LEAST_MARKS opening.limit && nat_le opening.limit MOST_MARKS
 
 -- at most 4,096 items
 abbrev pub has_few_items : List Row → Bool
-has_few_items rows = nat_le (length rows) 4096
+has_few_items rows = nat_le (length rows) MOST_OPENING_ITEMS
 
--- no item stands twice
-abbrev pub has_single_items : List Row → Bool
-has_single_items rows = no_two same_item rows
+-- no item has two values
+abbrev pub has_single_rows : List Row → Bool
+has_single_rows rows = no_two same_item rows
 
 -- no two heads name one list
 abbrev pub has_own_lists : List Row → Bool
@@ -131,4 +130,4 @@ abbrev pub is_opening : Opening → Bool
 is_opening opening =
     (has_parts opening && has_limit opening && has_few_items opening.items)
     && list_all is_right_row opening.items
-    && (has_single_items opening.items && has_own_lists opening.items && has_fit_lists opening.items)
+    && (has_single_rows opening.items && has_own_lists opening.items && has_fit_lists opening.items)

@@ -27,7 +27,3 @@ head_of (Picture picture) = Some picture.head
 head_of (Album album) = Some album.head
 head_of (List entries) = None
 head_of (Group group) = Some group.head
-
--- how many children an album may have
-abbrev pub most_children : ℕ
-most_children = 128

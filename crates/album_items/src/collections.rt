@@ -1,19 +1,14 @@
 // Lists inside values: items, members of groups, and items with their values.
-ghost use Rattle.std.specs.Prelude.{◌≡◌, IfOk, IfErr};
-ghost use Rattle.album_stamps.specs.declared.refusals.Refusal.TheVariants.{OutOfMemory};
+ghost use Rattle.std.specs.Prelude.{◌≡◌, IfOk, IsOkUnless};
 
 use crate::item_ids::ItemId;
 use crate::values::Value;
 use album_lists::Member;
 use album_stamps::Refusal;
-use std::alloc::Global;
 use std::marker::Model;
 
-/// How many children an album may have.
-pub const MOST_CHILDREN: usize = 128;
-
 /// Items, as the children of an album. Contracts see them in order.
-#[derive(Debug, Drop)]
+#[derive(Clone, Debug, Drop)]
 pub struct Items {
     items: Vec<ItemId>,
 }
@@ -42,17 +37,16 @@ impl Items {
     }
 
     /// The same items once more.
-    pub fn copy(&self, alloc: Global) -> Result<Items, Refusal>
-        ensures found { IfOk result (λ items. items ≡ self.now) }
-        ensures memory { IfErr result (λ e. e ≡ OutOfMemory) }
+    pub fn copy(&self) -> Result<Items, Refusal>
+        ensures copy { IfOk result (λ items. items ≡ self.now) }
+        ensures memory { IsOkUnless result Refusal.OutOfMemory }
     {
-        let items = Vec::from_slice(alloc, self.items.as_slice())?;
-        Ok(Items { items })
+        Ok(self.clone()?)
     }
 }
 
 /// The members of a group. Contracts see them in order.
-#[derive(Debug, Drop)]
+#[derive(Clone, Debug, Drop)]
 pub struct Members {
     members: Vec<Member>,
 }
@@ -82,28 +76,16 @@ impl Members {
     }
 
     /// The same members once more.
-    pub fn copy(&self, alloc: Global) -> Result<Members, Refusal>
-        ensures found { IfOk result (λ members. members ≡ self.now) }
-        ensures memory { IfErr result (λ e. e ≡ OutOfMemory) }
+    pub fn copy(&self) -> Result<Members, Refusal>
+        ensures copy { IfOk result (λ members. members ≡ self.now) }
+        ensures memory { IsOkUnless result Refusal.OutOfMemory }
     {
-        let members = copied_members(alloc, self.members.as_slice())?;
-        Ok(Members { members })
+        Ok(self.clone()?)
     }
-}
-
-fn copied_members(alloc: Global, members: &[Member]) -> Result<Vec<Member>, Refusal>
-    ensures found { IfOk result (λ copies. copies.items ≡ members.now) }
-    ensures memory { IfErr result (λ e. e ≡ OutOfMemory) }
-{
-    let mut copies = Vec::new(alloc);
-    for member in members {
-        copies.push(member.copy(alloc)?)?;
-    }
-    Ok(copies)
 }
 
 /// Items, each with its value. Contracts see the pairs in order.
-#[derive(Debug, Drop)]
+#[derive(Clone, Debug, Drop)]
 pub struct ItemValues {
     rows: Vec<(ItemId, Value)>,
 }
@@ -140,22 +122,10 @@ impl ItemValues {
     }
 
     /// The same items with the same values once more.
-    pub fn copy(&self, alloc: Global) -> Result<ItemValues, Refusal>
-        ensures found { IfOk result (λ rows. rows ≡ self.now) }
-        ensures memory { IfErr result (λ e. e ≡ OutOfMemory) }
+    pub fn copy(&self) -> Result<ItemValues, Refusal>
+        ensures copy { IfOk result (λ rows. rows ≡ self.now) }
+        ensures memory { IsOkUnless result Refusal.OutOfMemory }
     {
-        let rows = copied_rows(alloc, self.rows.as_slice())?;
-        Ok(ItemValues { rows })
+        Ok(self.clone()?)
     }
-}
-
-fn copied_rows(alloc: Global, rows: &[(ItemId, Value)]) -> Result<Vec<(ItemId, Value)>, Refusal>
-    ensures found { IfOk result (λ copies. copies.items ≡ rows.now) }
-    ensures memory { IfErr result (λ e. e ≡ OutOfMemory) }
-{
-    let mut copies = Vec::new(alloc);
-    for row in rows {
-        copies.push((row.0, row.1.copy(alloc)?))?;
-    }
-    Ok(copies)
 }

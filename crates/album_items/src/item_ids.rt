@@ -1,14 +1,13 @@
 // Items: a kind, and a number among the items of that kind.
-ghost use Rattle.std.specs.Prelude.{◌≡◌, ◌↔◌, ◌==◌, ◌≤◌, ◌<◌, ◌^◌, ℕ, List, Some, IfOk, IfErr, string_bytes, option_map};
+ghost use Rattle.std.specs.Prelude.{◌≡◌, ◌↔◌, ◌==◌, ◌≤◌, ◌<◌, ◌^◌, ℕ, List, Some, IfOk, IsOkUnless, string_bytes, option_map};
 ghost use Rattle.std.specs.Cmp.Rules.{comparing};
 ghost use Rattle.std.specs.Cmp.{partial_order_from_own_ties};
 ghost use Rattle.std.specs.Ordering.{nat_cmp, as_partial_cmp};
 ghost use Rattle.std.proofs.Common.{rules};
-ghost use Rattle.album_stamps.specs.declared.refusals.Refusal.TheVariants.{OutOfMemory};
 ghost use Rattle.album_items.specs.ItemIds.{code_of, item, kind_of, number_of, place_of, IsItemText, word_of, text_of, code_named, item_of};
 
 use album_lists::whole_number;
-use album_stamps::Refusal;
+use album_stamps::{MOST_PARTS, Refusal};
 use std::alloc::Global;
 use std::cmp::Ordering;
 use std::marker::Model;
@@ -116,7 +115,7 @@ impl ItemId {
     /// The item's one text, as `picture/5`.
     pub fn text(self, alloc: Global) -> Result<String, Refusal>
         ensures spelled { IfOk result (λ text. IsItemText self (string_bytes text)) }
-        ensures memory { IfErr result (λ e. e ≡ OutOfMemory) }
+        ensures memory { IsOkUnless result Refusal.OutOfMemory }
     {
         Ok(format!(in alloc; "{}/{}", self.kind.word(), self.number)?)
     }
@@ -125,7 +124,7 @@ impl ItemId {
 /// The partition that keeps the item, of so many partitions: (number + code of the kind) mod parts.
 pub fn place(item: ItemId, parts: u16) -> u16
     requires low { 1 ≤ parts }
-    requires high { parts ≤ 16 }
+    requires high { parts ≤ MOST_PARTS }
     ensures place { result ≡ place_of parts item }
     ensures below { result < parts }
 {

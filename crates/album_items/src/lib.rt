@@ -1,4 +1,6 @@
 //! The items of the service, their values, and the state that the service opens with.
+//!
+//! Read `item_ids` first, then `values` with the lists and texts that they are made of, then `openings`.
 #![tactic(auto)]
 
 mod collections;
@@ -7,8 +9,8 @@ mod openings;
 mod texts;
 mod values;
 
-pub use collections::{ItemValues, Items, MOST_CHILDREN, Members};
+pub use collections::{ItemValues, Items, Members};
 pub use item_ids::{ItemId, Kind, items_by_text, place, read_item};
-pub use openings::{Opening, are_single, has_own_value, has_single_items};
-pub use texts::{Content, MOST_CONTENT, Title};
+pub use openings::{Opening, are_single, has_own_value, has_single_rows};
+pub use texts::{Content, Title};
 pub use values::{Album, Group, Head, Picture, Value};

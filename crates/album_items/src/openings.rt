@@ -3,13 +3,17 @@ ghost use Rattle.std.specs.Prelude.{◌≡◌, ◌==◌, ◌&&◌, true, false, 
 ghost use Rattle.std.specs.List.{list_all, list_any};
 ghost use Rattle.std.specs.Option.{option_map_or};
 ghost use Rattle.album_stamps.specs.declared.refusals.Refusal.TheVariants.{BadOpening};
-ghost use Rattle.album_items.specs.Openings.{no_two, has_own_value, is_low, are_low, has_low_numbers, is_low_row, children_of, has_single_children, has_few_children, same_item, names_list, same_list, holder_of, fits_holder, suits, is_right_row, has_parts, has_limit, has_few_items, has_single_items, has_own_lists, has_fit_lists, is_opening};
+ghost use Rattle.album_stamps.specs.Distinct.{are_single};
+ghost use Rattle.album_items.specs.Openings.{has_own_value, is_low, are_low, has_low_numbers, is_low_row, children_of, has_single_children, has_few_children, same_item, names_list, same_list, holder_of, fits_holder, suits, is_right_row, has_parts, has_limit, has_few_items, has_single_rows, has_own_lists, has_fit_lists, is_opening};
 
-use crate::collections::{ItemValues, Items, MOST_CHILDREN};
+use crate::collections::{ItemValues, Items};
 use crate::item_ids::{ItemId, Kind};
 use crate::values::Value;
 use album_lists::Holder;
-use album_stamps::Refusal;
+use album_stamps::{
+    LEAST_MARKS, MOST_CHILDREN, MOST_MARKS, MOST_OPENING_ITEMS, MOST_OPENING_NUMBER, MOST_PARTS,
+    Refusal,
+};
 
 /// The state that the service opens with: how many partitions there are, how many marks the
 /// history of each may have, and the first values of items.
@@ -23,7 +27,9 @@ pub struct Opening {
 impl Opening {
     /// Whether the service may open with it, or `BadOpening`.
     pub fn check(&self) -> Result<(), Refusal>
-        ensures { MatchResult result (λ _. is_opening self.now ≡ true) (λ e. (e ≡ BadOpening) × (is_opening self.now ≡ false)) }
+        ensures { MatchResult result
+            (λ _. is_opening self.now ≡ true)
+            (λ e. (e ≡ BadOpening) × (is_opening self.now ≡ false)) }
     {
         if self.is_opening() {
             Ok(())
@@ -43,16 +49,16 @@ impl Opening {
     fn has_counts(&self) -> bool
         ensures { result ≡ (has_parts self.now && has_limit self.now && has_few_items self.now.items) }
     {
-        matches!(self.parts, 1..=16)
-            && matches!(self.limit, 2..=1_000_000)
-            && self.items.as_slice().len() <= 4096
+        (1..=u64::from(MOST_PARTS)).contains(&self.parts)
+            && (LEAST_MARKS..=MOST_MARKS).contains(&self.limit)
+            && self.items.as_slice().len() <= MOST_OPENING_ITEMS
     }
 }
 
 fn go_together(rows: &[(ItemId, Value)]) -> bool
-    ensures { result ≡ (has_single_items rows.now && has_own_lists rows.now && has_fit_lists rows.now) }
+    ensures { result ≡ (has_single_rows rows.now && has_own_lists rows.now && has_fit_lists rows.now) }
 {
-    has_single_items(rows) && has_own_lists(rows) && has_fit_lists(rows)
+    has_single_rows(rows) && has_own_lists(rows) && has_fit_lists(rows)
 }
 
 fn are_right(rows: &[(ItemId, Value)]) -> bool
@@ -77,7 +83,7 @@ pub fn has_own_value(row: &(ItemId, Value)) -> bool
 fn is_low(number: u64) -> bool
     ensures { result ≡ is_low number }
 {
-    number <= 65_535
+    number <= MOST_OPENING_NUMBER
 }
 
 fn are_low(children: &Items) -> bool
@@ -128,10 +134,10 @@ fn has_single_children(row: &(ItemId, Value)) -> bool
 
 /// Whether no item stands twice.
 pub fn are_single(items: &[ItemId]) -> bool
-    ensures { result ≡ no_two (λ a b. a == b) items.now }
+    ensures { result ≡ are_single items.now }
 {
-    for place in 0..items.len() {
-        if holds(&items[place + 1..], items[place]) {
+    for index in 0..items.len() {
+        if holds(&items[index + 1..], items[index]) {
             return false;
         }
     }
@@ -145,11 +151,11 @@ fn holds(items: &[ItemId], item: ItemId) -> bool
 }
 
 /// Whether no item has two values.
-pub fn has_single_items(rows: &[(ItemId, Value)]) -> bool
-    ensures { result ≡ has_single_items rows.now }
+pub fn has_single_rows(rows: &[(ItemId, Value)]) -> bool
+    ensures { result ≡ has_single_rows rows.now }
 {
-    for place in 0..rows.len() {
-        if tells_of(&rows[place + 1..], &rows[place]) {
+    for index in 0..rows.len() {
+        if tells_of(&rows[index + 1..], &rows[index]) {
             return false;
         }
     }
@@ -167,8 +173,8 @@ fn tells_of(rows: &[(ItemId, Value)], row: &(ItemId, Value)) -> bool
 fn has_own_lists(rows: &[(ItemId, Value)]) -> bool
     ensures { result ≡ has_own_lists rows.now }
 {
-    for place in 0..rows.len() {
-        if shares_list(&rows[place + 1..], &rows[place]) {
+    for index in 0..rows.len() {
+        if shares_list(&rows[index + 1..], &rows[index]) {
             return false;
         }
     }

@@ -1,18 +1,19 @@
 // Titles and contents.
-ghost use Rattle.std.specs.Prelude.{◌≡◌, ◌≤◌, ◌↔◌, IsTrue, IsOk, IfOk, IfErr, length};
+ghost use Rattle.std.specs.Prelude.{◌≡◌, ◌≤◌, ◌↔◌, IsTrue, IsOk, IfOk, IfErr, IsOkUnless, length};
 ghost use Rattle.std.specs.Option.{ok_or};
 ghost use Rattle.std.specs.List.{list_all};
 ghost use Rattle.album_stamps.specs.Outcome.{Makes};
-ghost use Rattle.album_stamps.specs.declared.refusals.Refusal.TheVariants.{OutOfMemory, BadText};
-ghost use Rattle.album_items.specs.Texts.{is_title, is_title_byte, title_of, most_content};
+ghost use Rattle.album_stamps.specs.declared.refusals.Refusal.TheVariants.{BadText};
+ghost use Rattle.album_items.specs.Texts.{is_title, is_title_byte, title_of};
 
-use album_stamps::{Refusal, Refused};
+use album_stamps::{MOST_CONTENT, MOST_TITLE, Refusal, Refused};
 use bytes::Bytes;
 use std::alloc::Global;
 use std::marker::Model;
 
-/// A title: at most 200 bytes of UTF-8 without control characters. Contracts see its bytes.
-#[derive(Debug, Drop)]
+/// A title: at most `MOST_TITLE` bytes of UTF-8, with none of U+0000 to U+001F and U+007F. Contracts
+/// see its bytes.
+#[derive(Clone, Debug, Drop)]
 pub struct Title {
     text: String,
 }
@@ -49,19 +50,18 @@ impl Title {
     }
 
     /// The same title once more.
-    pub fn copy(&self, alloc: Global) -> Result<Title, Refusal>
-        ensures found { IfOk result (λ title. title ≡ self.now) }
-        ensures memory { IfErr result (λ e. e ≡ OutOfMemory) }
+    pub fn copy(&self) -> Result<Title, Refusal>
+        ensures copy { IfOk result (λ title. title ≡ self.now) }
+        ensures memory { IsOkUnless result Refusal.OutOfMemory }
     {
-        let text = String::from_str(alloc, self.text.as_str())?;
-        Ok(Title { text })
+        Ok(self.clone()?)
     }
 }
 
 fn is_title(text: &str) -> bool
     ensures { result ≡ is_title text.now }
 {
-    text.len() <= 200 && has_title_bytes(text)
+    text.len() <= MOST_TITLE && has_title_bytes(text)
 }
 
 fn has_title_bytes(text: &str) -> bool
@@ -76,32 +76,29 @@ fn is_title_byte(byte: u8) -> bool
     byte >= 32 && byte != 127
 }
 
-/// How many bytes a content may have.
-pub const MOST_CONTENT: usize = 4096;
-
-/// What a picture shows: at most 4,096 bytes, which its copies share. Contracts see them.
-#[derive(Debug, Drop)]
+/// What a picture shows: at most `MOST_CONTENT` bytes, which its copies share. Contracts see them.
+#[derive(Clone, Debug, Drop)]
 pub struct Content {
     bytes: Bytes,
 }
 
 impl Model for Content {
     ghost use Rattle.std.specs.Prelude.{List, ℕ, ◌≤◌, length};
-    ghost use Rattle.album_items.specs.Texts.{most_content};
+    ghost use Rattle.album_stamps.specs.declared.limits.TheConstants.{MOST_CONTENT};
 
     ghost Value = { List ℕ };
 
     ghost view = { λ c. c.bytes };
 
-    ghost invariant = { λ c. length c.bytes ≤ most_content };
+    ghost invariant = { λ c. length c.bytes ≤ MOST_CONTENT };
 }
 
 impl Content {
-    /// The content of these bytes, or `BadText` where they are more than 4,096. Refused bytes are
+    /// The content of these bytes, or `BadText` where they are more than `MOST_CONTENT`. Refused bytes are
     /// handed back.
     pub fn of(bytes: Bytes) -> Result<Content, Refused<Bytes>>
         ensures taken { IfOk result (λ content. content ≡ bytes) }
-        ensures short { IsOk result ↔ (length bytes ≤ most_content) }
+        ensures short { IsOk result ↔ (length bytes ≤ MOST_CONTENT) }
         ensures refused { IfErr result (λ e. e.refusal ≡ BadText) }
         ensures given { IfErr result (λ e. e.given ≡ bytes) }
     {
@@ -117,7 +114,7 @@ impl Content {
     /// The bytes.
     pub fn as_slice(&self) -> &[u8]
         ensures bytes { result.now ≡ self.now }
-        ensures short { length self.now ≤ most_content }
+        ensures short { length self.now ≤ MOST_CONTENT }
     {
         &self.bytes
     }
@@ -131,10 +128,9 @@ impl Content {
 
     /// The same content once more.
     pub fn copy(&self) -> Result<Content, Refusal>
-        ensures found { IfOk result (λ content. content ≡ self.now) }
-        ensures memory { IfErr result (λ e. e ≡ OutOfMemory) }
+        ensures copy { IfOk result (λ content. content ≡ self.now) }
+        ensures memory { IsOkUnless result Refusal.OutOfMemory }
     {
-        let bytes = self.bytes.clone()?;
-        Ok(Content { bytes })
+        Ok(self.clone()?)
     }
 }

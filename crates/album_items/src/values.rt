@@ -1,7 +1,6 @@
 // The values of items.
-ghost use Rattle.std.specs.Prelude.{◌≡◌, IfOk, IfErr};
+ghost use Rattle.std.specs.Prelude.{◌≡◌, IfOk, IsOkUnless};
 ghost use Rattle.std.specs.Option.{option_copied};
-ghost use Rattle.album_stamps.specs.declared.refusals.Refusal.TheVariants.{OutOfMemory};
 ghost use Rattle.album_items.specs.ItemIds.{code_of};
 ghost use Rattle.album_items.specs.Values.{is_of, is_there, head_of};
 
@@ -10,10 +9,9 @@ use crate::item_ids::Kind;
 use crate::texts::{Content, Title};
 use album_lists::{AccessList, Name};
 use album_stamps::Refusal;
-use std::alloc::Global;
 
 /// Whose an object is, the number of its group, and the number of its list.
-#[derive(Debug, Drop)]
+#[derive(Clone, Debug, Drop)]
 pub struct Head {
     pub owner: Name,
     pub group: u64,
@@ -21,7 +19,7 @@ pub struct Head {
 }
 
 /// A picture, and the number of the album that is its home.
-#[derive(Debug, Drop)]
+#[derive(Clone, Debug, Drop)]
 pub struct Picture {
     pub title: Title,
     pub content: Content,
@@ -30,7 +28,7 @@ pub struct Picture {
 }
 
 /// An album, and the number of the album that is its home, if it has one.
-#[derive(Debug, Drop)]
+#[derive(Clone, Debug, Drop)]
 pub struct Album {
     pub title: Title,
     pub head: Head,
@@ -39,14 +37,14 @@ pub struct Album {
 }
 
 /// A group.
-#[derive(Debug, Drop)]
+#[derive(Clone, Debug, Drop)]
 pub struct Group {
     pub head: Head,
     pub members: Members,
 }
 
 /// What an item is.
-#[derive(Debug, Drop)]
+#[derive(Clone, Debug, Drop)]
 pub enum Value {
     Missing,
     Picture(Picture),
@@ -57,58 +55,41 @@ pub enum Value {
 
 impl Head {
     /// The same head once more.
-    pub fn copy(&self, alloc: Global) -> Result<Head, Refusal>
-        ensures found { IfOk result (λ head. head ≡ self.now) }
-        ensures memory { IfErr result (λ e. e ≡ OutOfMemory) }
+    pub fn copy(&self) -> Result<Head, Refusal>
+        ensures copy { IfOk result (λ head. head ≡ self.now) }
+        ensures memory { IsOkUnless result Refusal.OutOfMemory }
     {
-        Ok(Head {
-            owner: self.owner.copy(alloc)?,
-            group: self.group,
-            list: self.list,
-        })
+        Ok(self.clone()?)
     }
 }
 
 impl Picture {
     /// The same picture once more.
-    pub fn copy(&self, alloc: Global) -> Result<Picture, Refusal>
-        ensures found { IfOk result (λ picture. picture ≡ self.now) }
-        ensures memory { IfErr result (λ e. e ≡ OutOfMemory) }
+    pub fn copy(&self) -> Result<Picture, Refusal>
+        ensures copy { IfOk result (λ picture. picture ≡ self.now) }
+        ensures memory { IsOkUnless result Refusal.OutOfMemory }
     {
-        Ok(Picture {
-            title: self.title.copy(alloc)?,
-            content: self.content.copy()?,
-            head: self.head.copy(alloc)?,
-            home: self.home,
-        })
+        Ok(self.clone()?)
     }
 }
 
 impl Album {
     /// The same album once more.
-    pub fn copy(&self, alloc: Global) -> Result<Album, Refusal>
-        ensures found { IfOk result (λ album. album ≡ self.now) }
-        ensures memory { IfErr result (λ e. e ≡ OutOfMemory) }
+    pub fn copy(&self) -> Result<Album, Refusal>
+        ensures copy { IfOk result (λ album. album ≡ self.now) }
+        ensures memory { IsOkUnless result Refusal.OutOfMemory }
     {
-        Ok(Album {
-            title: self.title.copy(alloc)?,
-            head: self.head.copy(alloc)?,
-            home: self.home,
-            children: self.children.copy(alloc)?,
-        })
+        Ok(self.clone()?)
     }
 }
 
 impl Group {
     /// The same group once more.
-    pub fn copy(&self, alloc: Global) -> Result<Group, Refusal>
-        ensures found { IfOk result (λ group. group ≡ self.now) }
-        ensures memory { IfErr result (λ e. e ≡ OutOfMemory) }
+    pub fn copy(&self) -> Result<Group, Refusal>
+        ensures copy { IfOk result (λ group. group ≡ self.now) }
+        ensures memory { IsOkUnless result Refusal.OutOfMemory }
     {
-        Ok(Group {
-            head: self.head.copy(alloc)?,
-            members: self.members.copy(alloc)?,
-        })
+        Ok(self.clone()?)
     }
 }
 
@@ -146,16 +127,10 @@ impl Value {
     }
 
     /// The same value once more.
-    pub fn copy(&self, alloc: Global) -> Result<Value, Refusal>
-        ensures found { IfOk result (λ value. value ≡ self.now) }
-        ensures memory { IfErr result (λ e. e ≡ OutOfMemory) }
+    pub fn copy(&self) -> Result<Value, Refusal>
+        ensures copy { IfOk result (λ value. value ≡ self.now) }
+        ensures memory { IsOkUnless result Refusal.OutOfMemory }
     {
-        match self {
-            Value::Missing => Ok(Value::Missing),
-            Value::Picture(picture) => Ok(Value::Picture(picture.copy(alloc)?)),
-            Value::Album(album) => Ok(Value::Album(album.copy(alloc)?)),
-            Value::List(list) => Ok(Value::List(list.copy(alloc)?)),
-            Value::Group(group) => Ok(Value::Group(group.copy(alloc)?)),
-        }
+        Ok(self.clone()?)
     }
 }

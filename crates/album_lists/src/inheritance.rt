@@ -1,14 +1,35 @@
 // What a new object inherits.
-ghost use Rattle.std.specs.Prelude.{◌≡◌, IfOk, IfErr};
+ghost use Rattle.std.specs.Prelude.{◌≡◌, IfOk};
 ghost use Rattle.std.specs.List.{filter_map};
-ghost use Rattle.album_stamps.specs.declared.refusals.Refusal.TheVariants.{OutOfMemory};
 ghost use Rattle.album_lists.specs.Inheritance.{inherited_flags, inherited};
 
 use crate::lists::{Ace, Holder, inheritance};
 use album_access::AceFlags;
-use album_stamps::Refusal;
 use bitflags::Flags;
-use std::alloc::Global;
+use std::alloc::{AllocError, Global};
+
+/// The entries that an object of this kind inherits, in order.
+pub(crate) fn inherited(
+    alloc: Global,
+    entries: &[Ace],
+    holder: Holder,
+) -> Result<Vec<Ace>, AllocError>
+    ensures { IfOk result (λ kept. kept.items ≡ inherited holder entries.now) }
+{
+    let mut kept = Vec::new(alloc);
+    for entry in entries {
+        if let Some(flags) = inherited_flags(entry.flags, holder) {
+            let who = entry.who.clone()?;
+            kept.push(Ace {
+                sort: entry.sort,
+                who,
+                mask: entry.mask,
+                flags,
+            })?;
+        }
+    }
+    Ok(kept)
+}
 
 /// The flags under which an object of this kind inherits an entry, if it does.
 #[tactic(auto, unfolding(crate::specs::Inheritance::inherited_flags))]
@@ -38,24 +59,4 @@ fn inherited_flags(flags: AceFlags, holder: Holder) -> Option<AceFlags>
             }
         }
     }
-}
-
-/// The entries that an object of this kind inherits, in order.
-pub(crate) fn inherited(alloc: Global, entries: &[Ace], holder: Holder) -> Result<Vec<Ace>, Refusal>
-    ensures found { IfOk result (λ kept. kept.items ≡ inherited holder entries.now) }
-    ensures memory { IfErr result (λ e. e ≡ OutOfMemory) }
-{
-    let mut kept = Vec::new(alloc);
-    for entry in entries {
-        if let Some(flags) = inherited_flags(entry.flags, holder) {
-            let who = entry.who.copy(alloc)?;
-            kept.push(Ace {
-                sort: entry.sort,
-                who,
-                mask: entry.mask,
-                flags,
-            })?;
-        }
-    }
-    Ok(kept)
 }

@@ -1,21 +1,20 @@
 // Entries, and the lists of them.
-ghost use Rattle.std.specs.Prelude.{◌≡◌, ◌≤◌, IsTrue, length, Ok, Err, IfOk, IfErr};
+ghost use Rattle.std.specs.Prelude.{◌≡◌, ◌≤◌, ◌&&◌, IsTrue, length, Ok, Err, IfOk, IfErr, IsOkUnless};
 ghost use Rattle.std.specs.List.{list_all};
-ghost use Rattle.album_stamps.specs.declared.refusals.Refusal.TheVariants.{OutOfMemory};
-ghost use Rattle.album_access.specs.Bits.{flag_bits};
-ghost use Rattle.album_lists.specs.Entries.{is_whole, is_own, most_entries, access_list_of, fits};
+ghost use Rattle.album_access.specs.Bits.{mask_bits, flag_bits, is_mask, is_within, all_flag_bits};
+ghost use Rattle.album_lists.specs.Entries.{is_spelled, is_of_use, is_whole, is_never_inherited, access_list_of, fits};
 ghost use Rattle.album_lists.specs.Inheritance.{inherited};
 
 use crate::inheritance::inherited;
 use crate::whos::Who;
 use album_access::{AceFlags, AceType, Mask};
-use album_stamps::{Refusal, Refused};
+use album_stamps::{MOST_ENTRIES, Refusal, Refused};
 use bitflags::Flags;
 use std::alloc::Global;
 use std::marker::Model;
 
 /// An entry of an access list (RFC 7530, section 6.2.1).
-#[derive(Debug, Drop)]
+#[derive(Clone, Debug, Drop)]
 pub struct Ace {
     pub sort: AceType,
     pub who: Who,
@@ -25,17 +24,11 @@ pub struct Ace {
 
 impl Ace {
     /// The same entry once more.
-    pub fn copy(&self, alloc: Global) -> Result<Ace, Refusal>
-        ensures found { IfOk result (λ entry. entry ≡ self.now) }
-        ensures memory { IfErr result (λ e. e ≡ OutOfMemory) }
+    pub fn copy(&self) -> Result<Ace, Refusal>
+        ensures copy { IfOk result (λ entry. entry ≡ self.now) }
+        ensures memory { IsOkUnless result Refusal.OutOfMemory }
     {
-        let who = self.who.copy(alloc)?;
-        Ok(Ace {
-            sort: self.sort,
-            who,
-            mask: self.mask,
-            flags: self.flags,
-        })
+        Ok(self.clone()?)
     }
 }
 
@@ -46,12 +39,9 @@ pub enum Holder {
     Folder,
 }
 
-/// How many entries a list may have.
-pub const MOST_ENTRIES: usize = 64;
-
-/// At most 64 entries, each with `INHERIT_ONLY` only where something inherits it. Contracts see the
-/// entries in order.
-#[derive(Debug, Drop)]
+/// At most `MOST_ENTRIES` entries, each one that a line can spell, and with `INHERIT_ONLY` only where
+/// something inherits it. Contracts see the entries in order.
+#[derive(Clone, Debug, Drop)]
 pub struct AccessList {
     entries: Vec<Ace>,
 }
@@ -60,18 +50,24 @@ impl Model for AccessList {
     ghost use Rattle.std.specs.Prelude.{List, length, ◌≤◌, IsTrue};
     ghost use Rattle.std.specs.List.{list_all};
     ghost use Rattle.album_lists.specs.declared.lists.Ace.{Ace};
-    ghost use Rattle.album_lists.specs.Entries.{is_whole, most_entries};
+    ghost use Rattle.album_stamps.specs.declared.limits.TheConstants.{MOST_ENTRIES};
+    ghost use Rattle.album_lists.specs.Entries.{is_whole};
 
     ghost Value = { List Ace };
 
     ghost view = { λ l. l.entries.items };
 
-    ghost invariant = { λ l. (length l.entries.items ≤ most_entries) × IsTrue (list_all is_whole l.entries.items) };
+    ghost invariant = { λ l. (length l.entries.items ≤ MOST_ENTRIES) × IsTrue (list_all is_whole l.entries.items) };
 }
 
 impl AccessList {
-    /// The list of these entries: `ListFull` where they are more than 64, and then `BadFlags` where
-    /// one is only inherited and nothing inherits it. Refused entries are handed back.
+    /// The list of these entries.
+    ///
+    /// # Errors
+    ///
+    /// `ListFull` where they are more than `MOST_ENTRIES`. Else `BadFlags` where one is only inherited and
+    /// nothing inherits it, or is one that no line can spell: its mask is empty, its mask or its flags
+    /// have a bit without a name, or its who does not go with its flags. The entries are handed back.
     #[tactic(auto, unfolding(crate::specs::Entries::access_list_of))]
     pub fn new(entries: Vec<Ace>) -> Result<AccessList, Refused<Vec<Ace>>>
         ensures taken { IfOk result (λ list. access_list_of entries.items ≡ Ok list) }
@@ -96,7 +92,7 @@ impl AccessList {
     /// The entries, in order.
     pub fn entries(&self) -> &[Ace]
         ensures entries { result.now ≡ self.now }
-        ensures few { length self.now ≤ most_entries }
+        ensures few { length self.now ≤ MOST_ENTRIES }
         ensures whole { IsTrue (list_all is_whole self.now) }
     {
         self.entries.as_slice()
@@ -107,51 +103,27 @@ impl AccessList {
         ensures { result ≡ fits holder self.now }
     {
         match holder {
-            Holder::Plain => are_own(self.entries.as_slice()),
+            Holder::Plain => are_never_inherited(self.entries.as_slice()),
             Holder::Folder => true,
         }
     }
 
     /// The list of a new object of this kind, made in an album with this list.
     pub fn inherit(&self, alloc: Global, holder: Holder) -> Result<AccessList, Refusal>
-        ensures found { IfOk result (λ list. list ≡ inherited holder self.now) }
-        ensures memory { IfErr result (λ e. e ≡ OutOfMemory) }
+        ensures inherited { IfOk result (λ list. list ≡ inherited holder self.now) }
+        ensures memory { IsOkUnless result Refusal.OutOfMemory }
     {
         let entries = inherited(alloc, self.entries.as_slice(), holder)?;
         Ok(AccessList { entries })
     }
 
     /// The same list once more.
-    pub fn copy(&self, alloc: Global) -> Result<AccessList, Refusal>
-        ensures found { IfOk result (λ list. list ≡ self.now) }
-        ensures memory { IfErr result (λ e. e ≡ OutOfMemory) }
+    pub fn copy(&self) -> Result<AccessList, Refusal>
+        ensures copy { IfOk result (λ list. list ≡ self.now) }
+        ensures memory { IsOkUnless result Refusal.OutOfMemory }
     {
-        let entries = copies(alloc, self.entries.as_slice())?;
-        Ok(AccessList { entries })
+        Ok(self.clone()?)
     }
-}
-
-/// The same entries once more.
-fn copies(alloc: Global, entries: &[Ace]) -> Result<Vec<Ace>, Refusal>
-    ensures found { IfOk result (λ copies. copies.items ≡ entries.now) }
-    ensures memory { IfErr result (λ e. e ≡ OutOfMemory) }
-{
-    let mut copies = Vec::new(alloc);
-    for entry in entries {
-        copies.push(entry.copy(alloc)?)?;
-    }
-    Ok(copies)
-}
-
-/// Whether something inherits the entry, if it is only inherited.
-#[tactic(auto, unfolding(crate::specs::Entries::is_whole))]
-fn is_whole(entry: &Ace) -> bool
-    ensures { result ≡ is_whole entry.now }
-{
-    let flags = entry.flags;
-    !flags.contains(AceFlags::INHERIT_ONLY)
-        || flags.contains(AceFlags::FILE_INHERIT)
-        || flags.contains(AceFlags::DIRECTORY_INHERIT)
 }
 
 fn are_whole(entries: &[Ace]) -> bool
@@ -160,18 +132,61 @@ fn are_whole(entries: &[Ace]) -> bool
     entries.iter().all(is_whole)
 }
 
-/// Whether nothing inherits the entry.
-#[tactic(auto, unfolding(crate::specs::Entries::is_own))]
-fn is_own(entry: &Ace) -> bool
-    ensures { result ≡ is_own entry.now }
+fn is_whole(entry: &Ace) -> bool
+    ensures { result ≡ is_whole entry.now }
 {
-    !entry.flags.intersects(inheritance())
+    is_spelled(entry) && is_of_use(entry)
 }
 
-fn are_own(entries: &[Ace]) -> bool
-    ensures { result ≡ list_all is_own entries.now }
+/// Whether a line can spell the entry.
+#[tactic(auto, unfolding(crate::specs::Entries::is_spelled))]
+fn is_spelled(entry: &Ace) -> bool
+    ensures { result ≡ is_spelled entry.now }
 {
-    entries.iter().all(is_own)
+    has_mask(entry) && has_flags(entry) && entry.who.goes_with(entry.flags)
+}
+
+fn has_mask(entry: &Ace) -> bool
+    ensures { result ≡ is_mask (mask_bits entry.now.mask) }
+{
+    match Mask::of(entry.mask.bits()) {
+        Ok(_) => true,
+        Err(_) => false,
+    }
+}
+
+fn has_flags(entry: &Ace) -> bool
+    ensures { result ≡ is_within (flag_bits entry.now.flags) all_flag_bits }
+{
+    match AceFlags::of(entry.flags.bits()) {
+        Ok(_) => true,
+        Err(_) => false,
+    }
+}
+
+/// Whether something inherits the entry, if it is only inherited.
+#[tactic(auto, unfolding(crate::specs::Entries::is_of_use))]
+fn is_of_use(entry: &Ace) -> bool
+    ensures { result ≡ is_of_use entry.now }
+{
+    let flags = entry.flags;
+    !flags.contains(AceFlags::INHERIT_ONLY)
+        || flags.contains(AceFlags::FILE_INHERIT)
+        || flags.contains(AceFlags::DIRECTORY_INHERIT)
+}
+
+fn are_never_inherited(entries: &[Ace]) -> bool
+    ensures { result ≡ list_all is_never_inherited entries.now }
+{
+    entries.iter().all(is_never_inherited)
+}
+
+/// Whether nothing inherits the entry.
+#[tactic(auto, unfolding(crate::specs::Entries::is_never_inherited))]
+fn is_never_inherited(entry: &Ace) -> bool
+    ensures { result ≡ is_never_inherited entry.now }
+{
+    !entry.flags.intersects(inheritance())
 }
 
 /// The flags that speak of inheritance.

@@ -1,18 +1,18 @@
 // The name of a user.
-ghost use Rattle.std.specs.Prelude.{◌≡◌, IsTrue, IfOk, IfErr};
+ghost use Rattle.std.specs.Prelude.{◌≡◌, IsTrue, IfOk, IsOkUnless};
 ghost use Rattle.std.specs.Option.{ok_or};
 ghost use Rattle.std.specs.List.{list_all};
 ghost use Rattle.album_stamps.specs.Outcome.{Makes};
-ghost use Rattle.album_stamps.specs.declared.refusals.Refusal.TheVariants.{OutOfMemory, BadWho};
+ghost use Rattle.album_stamps.specs.declared.refusals.Refusal.TheVariants.{BadWho};
 ghost use Rattle.album_lists.specs.Names.{is_name, is_name_byte, name_of};
 
-use album_stamps::Refusal;
+use album_stamps::{MOST_NAME, Refusal};
 use std::alloc::Global;
 use std::marker::Model;
 
 /// The name of a user: 1 to 64 bytes of a to z, 0 to 9, dot, hyphen and underscore. Contracts see its
 /// bytes.
-#[derive(Debug, Drop)]
+#[derive(Clone, Debug, Drop)]
 pub struct Name {
     text: String,
 }
@@ -49,12 +49,11 @@ impl Name {
     }
 
     /// The same name once more.
-    pub fn copy(&self, alloc: Global) -> Result<Name, Refusal>
-        ensures found { IfOk result (λ name. name ≡ self.now) }
-        ensures memory { IfErr result (λ e. e ≡ OutOfMemory) }
+    pub fn copy(&self) -> Result<Name, Refusal>
+        ensures copy { IfOk result (λ name. name ≡ self.now) }
+        ensures memory { IsOkUnless result Refusal.OutOfMemory }
     {
-        let text = String::from_str(alloc, self.text.as_str())?;
-        Ok(Name { text })
+        Ok(self.clone()?)
     }
 }
 
@@ -62,7 +61,7 @@ fn is_name(text: &str) -> bool
     ensures { result ≡ is_name text.now }
 {
     match text.len() {
-        1..=64 => has_name_bytes(text),
+        1..=MOST_NAME => has_name_bytes(text),
         _ => false,
     }
 }

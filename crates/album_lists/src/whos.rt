@@ -1,12 +1,12 @@
 // Whos and members, by their texts.
-ghost use Rattle.std.specs.Prelude.{◌≡◌, ◌↔◌, List, ℕ, Some, option_map, IfOk, IfErr};
+ghost use Rattle.std.specs.Prelude.{◌≡◌, ◌↔◌, List, ℕ, Some, option_map, IfOk, IsOkUnless};
 ghost use Rattle.std.specs.Option.{ok_or};
 ghost use Rattle.album_stamps.specs.Outcome.{Makes};
-ghost use Rattle.album_stamps.specs.declared.refusals.Refusal.TheVariants.{OutOfMemory, BadWho};
+ghost use Rattle.album_stamps.specs.declared.refusals.Refusal.TheVariants.{BadWho};
 ghost use Rattle.album_access.specs.declared.flags.AceFlags.{AceFlags};
 ghost use Rattle.album_lists.specs.declared.whos.Member.{Member};
 ghost use Rattle.album_lists.specs.declared.whos.Who.{Who};
-ghost use Rattle.album_lists.specs.Whos.{IsUserText, IsMemberText, IsWhoText, before, user_of, whole_number_of, group_of, member_of, special_of, who_of};
+ghost use Rattle.album_lists.specs.Whos.{IsUserText, IsMemberText, IsWhoText, before, user_of, goes_with, whole_number_of, group_of, member_of, special_of, who_of};
 
 use crate::names::Name;
 use album_access::AceFlags;
@@ -15,7 +15,7 @@ use bitflags::Flags;
 use std::alloc::Global;
 
 /// Whom an entry speaks of (RFC 7530, section 6.2.1.5).
-#[derive(Debug, Drop)]
+#[derive(Clone, Debug, Drop)]
 pub enum Who {
     /// `name@users`
     User(Name),
@@ -34,7 +34,7 @@ pub enum Who {
 }
 
 /// A member of a group.
-#[derive(Debug, Drop)]
+#[derive(Clone, Debug, Drop)]
 pub enum Member {
     /// `name@users`
     User(Name),
@@ -46,7 +46,8 @@ pub enum Member {
 pub fn whos_by_text()
     ensures users { (name : List ℕ) (text : List ℕ) → (user_of text ≡ Some name) ↔ IsUserText name text }
     ensures members { (m : Member) (text : List ℕ) → (member_of text ≡ Some m) ↔ IsMemberText m text }
-    ensures whos { (w : Who) (flags : AceFlags) (text : List ℕ) → (who_of flags text ≡ Some w) ↔ IsWhoText w flags text }
+    ensures whos { (w : Who) (flags : AceFlags) (text : List ℕ)
+        → (who_of flags text ≡ Some w) ↔ IsWhoText w flags text }
 {}
 
 /// What stands before this end.
@@ -101,14 +102,11 @@ impl Member {
     }
 
     /// The same member once more.
-    pub fn copy(&self, alloc: Global) -> Result<Member, Refusal>
-        ensures found { IfOk result (λ member. member ≡ self.now) }
-        ensures memory { IfErr result (λ e. e ≡ OutOfMemory) }
+    pub fn copy(&self) -> Result<Member, Refusal>
+        ensures copy { IfOk result (λ member. member ≡ self.now) }
+        ensures memory { IsOkUnless result Refusal.OutOfMemory }
     {
-        match self {
-            Member::User(name) => Ok(Member::User(name.copy(alloc)?)),
-            Member::Group(number) => Ok(Member::Group(*number)),
-        }
+        Ok(self.clone()?)
     }
 }
 
@@ -129,20 +127,26 @@ impl Who {
         Ok(Who::User(name))
     }
 
-    /// The same who once more.
-    pub fn copy(&self, alloc: Global) -> Result<Who, Refusal>
-        ensures found { IfOk result (λ who. who ≡ self.now) }
-        ensures memory { IfErr result (λ e. e ≡ OutOfMemory) }
+    /// Whether an entry with these flags can have the who: a group has its flag, a user hasn't, and the
+    /// others may.
+    pub(crate) fn goes_with(&self, flags: AceFlags) -> bool
+        ensures { result ≡ goes_with self.now flags }
     {
+        let is_flagged = flags.contains(AceFlags::IDENTIFIER_GROUP);
         match self {
-            Who::User(name) => Ok(Who::User(name.copy(alloc)?)),
-            Who::Group(number) => Ok(Who::Group(*number)),
-            Who::Owner => Ok(Who::Owner),
-            Who::OwnerGroup => Ok(Who::OwnerGroup),
-            Who::Everyone => Ok(Who::Everyone),
-            Who::Anonymous => Ok(Who::Anonymous),
-            Who::Authenticated => Ok(Who::Authenticated),
+            Who::User(_) => !is_flagged,
+            Who::Group(_) => is_flagged,
+            Who::Owner | Who::OwnerGroup | Who::Everyone | Who::Anonymous | Who::Authenticated =>
+                true,
         }
+    }
+
+    /// The same who once more.
+    pub fn copy(&self) -> Result<Who, Refusal>
+        ensures copy { IfOk result (λ who. who ≡ self.now) }
+        ensures memory { IsOkUnless result Refusal.OutOfMemory }
+    {
+        Ok(self.clone()?)
     }
 }
 

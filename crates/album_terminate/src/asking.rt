@@ -1,6 +1,5 @@
 // What a partition asks of the others.
-ghost use Rattle.std.specs.Prelude.{◌≡◌, IfOk, IfErr, map};
-ghost use Rattle.album_stamps.specs.declared.refusals.Refusal.TheVariants.{OutOfMemory};
+ghost use Rattle.std.specs.Prelude.{◌≡◌, IfOk, IsOkUnless, map};
 ghost use Rattle.album_terminate.specs.Asking.{check_to};
 
 use album_calls::{Body, Message, Node, Request};
@@ -15,8 +14,8 @@ pub fn checks(
     others: &[u16],
     stamp: Stamp,
 ) -> Result<Vec<Message>, Refusal>
-    ensures found { IfOk result (λ messages. messages.items ≡ map (check_to part stamp) others.now) }
-    ensures memory { IfErr result (λ e. e ≡ OutOfMemory) }
+    ensures messages { IfOk result (λ messages. messages.items ≡ map (check_to part stamp) others.now) }
+    ensures memory { IsOkUnless result Refusal.OutOfMemory }
 {
     let mut messages = Vec::new(alloc);
     for other in others {

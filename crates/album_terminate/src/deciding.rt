@@ -9,7 +9,7 @@ use album_calls::Vote;
 pub enum StampState {
     /// Nothing is kept of it.
     Unknown,
-    /// It is prepared, and undecided.
+    /// It is prepared, and neither committed nor discarded.
     Pending,
     Committed,
     Discarded,

@@ -1,4 +1,4 @@
-//! How a write that was left undecided is settled: each partition at which it is prepared asks the
+//! How a stamp that was left pending is settled: each partition at which it is prepared asks the
 //! others of its partitions how the stamp stands there, and decides by what they tell.
 #![tactic(auto)]
 

@@ -7,12 +7,12 @@ use Rattle.std.proofs.lemmas.List.Folds.{list_any-append}
 use Rattle.album_items.specs.declared.values.Value.{Value}
 use Rattle.album_versions.specs.declared.rows.Version.{Version}
 use Rattle.album_versions.specs.declared.rows.Latest.{Latest}
-use Rattle.album_versions.specs.Rows.{is_version, version_in, latest_in, has_place, with_place, raised, have_places}
+use Rattle.album_versions.specs.Rows.{is_version, version_in, latest_in, has_row, with_row, raised, have_rows}
 
 same_row : (a b : Latest) → a.item ≡ b.item → a.stamp ≡ b.stamp → a ≡ b
 same_row a b item stamp = ap (λ (n : ℕ). record { item = n; stamp = a.stamp }) item ∙ ap (λ (n : ℕ). record { item = b.item; stamp = n }) stamp
 
--- what is raised is the row at the item's place, if it has one
+-- what is raised is the item's row, if it has one
 pub raised-at : (rows : List Latest) (at item stamp : ℕ) (d row : Latest) → at < length rows → ((get_or rows at d).item == item) ≡ true → ((k : ℕ) → k < at → ((get_or rows k d).item == item) ≡ false) → row.item ≡ (get_or rows at d).item → row.stamp ≡ max (get_or rows at d).stamp stamp → set rows at row ≡ raised rows item stamp
 raised-at [] at item stamp d row within here before same greater = absurd (omega arith)
 raised-at (first ∷ rows) zero item stamp d row within here before same greater = rw here (ap (λ (r : Latest). r ∷ rows) (same_row row (record first { stamp = max first.stamp stamp }) same greater))
@@ -23,55 +23,55 @@ pub raised-nowhere : (rows : List Latest) (item stamp : ℕ) → position (λ ro
 raised-nowhere [] item stamp none = refl
 raised-nowhere (row ∷ rows) item stamp none = grind (arith, nat_tests, raised-nowhere rows item stamp)
 
-pub latest_in-raised : (rows : List Latest) (item stamp i : ℕ) → has_place rows item ≡ true → latest_in (raised rows item stamp) i ≡ (if i == item then max (latest_in rows i) stamp else latest_in rows i)
+pub latest_in-raised : (rows : List Latest) (item stamp i : ℕ) → has_row rows item ≡ true → latest_in (raised rows item stamp) i ≡ (if i == item then max (latest_in rows i) stamp else latest_in rows i)
 latest_in-raised [] item stamp i there = absurd (cc)
 latest_in-raised (row ∷ rows) item stamp i there = grind (arith, nat_tests, latest_in-raised rows item stamp i)
 
-pub has_place-raised : (rows : List Latest) (item stamp i : ℕ) → has_place (raised rows item stamp) i ≡ has_place rows i
-has_place-raised [] item stamp i = refl
-has_place-raised (row ∷ rows) item stamp i = grind (arith, nat_tests, has_place-raised rows item stamp i)
+pub has_row-raised : (rows : List Latest) (item stamp i : ℕ) → has_row (raised rows item stamp) i ≡ has_row rows i
+has_row-raised [] item stamp i = refl
+has_row-raised (row ∷ rows) item stamp i = grind (arith, nat_tests, has_row-raised rows item stamp i)
 
--- a new place is of the item, and changes no latest stamp
+-- a new row is of the item, and changes no latest stamp
 latest_in-push : (rows : List Latest) (item i : ℕ) → latest_in (rows ++ record { item = item; stamp = 0 } ∷ []) i ≡ latest_in rows i
 latest_in-push [] item i = grind (arith, nat_tests)
 latest_in-push (row ∷ rows) item i = rw (latest_in-push rows item i) refl
 
-pub latest_in-with_place : (rows : List Latest) (item i : ℕ) → latest_in (with_place rows item) i ≡ latest_in rows i
-latest_in-with_place rows item i = grind (arith, latest_in-push rows item i)
+pub latest_in-with_row : (rows : List Latest) (item i : ℕ) → latest_in (with_row rows item) i ≡ latest_in rows i
+latest_in-with_row rows item i = grind (arith, latest_in-push rows item i)
 
-pub has_place-with_place : (rows : List Latest) (item : ℕ) → has_place (with_place rows item) item ≡ true
-has_place-with_place rows item = grind (arith, nat_tests, list_any-append (λ (row : Latest). row.item == item) rows (record { item = item; stamp = 0 } ∷ []))
+pub has_row-with_row : (rows : List Latest) (item : ℕ) → has_row (with_row rows item) item ≡ true
+has_row-with_row rows item = grind (arith, nat_tests, list_any-append (λ (row : Latest). row.item == item) rows (record { item = item; stamp = 0 } ∷ []))
 
-pub has_place-kept : (rows : List Latest) (item i : ℕ) → has_place rows i ≡ true → has_place (with_place rows item) i ≡ true
-has_place-kept rows item i there = grind (arith, nat_tests, list_any-append (λ (row : Latest). row.item == i) rows (record { item = item; stamp = 0 } ∷ []))
+pub has_row-kept : (rows : List Latest) (item i : ℕ) → has_row rows i ≡ true → has_row (with_row rows item) i ≡ true
+has_row-kept rows item i there = grind (arith, nat_tests, list_any-append (λ (row : Latest). row.item == i) rows (record { item = item; stamp = 0 } ∷ []))
 
 -- where no place is lost, the item of each version still has one
-pub have_places-more : (versions : List Version) (rows more : List Latest) → ((i : ℕ) → has_place rows i ≡ true → has_place more i ≡ true) → have_places versions rows ≡ true → have_places versions more ≡ true
-have_places-more [] rows more kept all = refl
-have_places-more (version ∷ versions) rows more kept all =
+pub have_rows-more : (versions : List Version) (rows more : List Latest) → ((i : ℕ) → has_row rows i ≡ true → has_row more i ≡ true) → have_rows versions rows ≡ true → have_rows versions more ≡ true
+have_rows-more [] rows more kept all = refl
+have_rows-more (version ∷ versions) rows more kept all =
     let parts = and_parts _ _ all in
-    and_from _ _ (kept version.item parts.0) (have_places-more versions rows more kept parts.1)
+    and_from _ _ (kept version.item parts.0) (have_rows-more versions rows more kept parts.1)
 
-pub have_places-push : (versions : List Version) (version : Version) (rows : List Latest) → have_places versions rows ≡ true → has_place rows version.item ≡ true → have_places (versions ++ version ∷ []) rows ≡ true
-have_places-push [] version rows all there = and_from _ _ there refl
-have_places-push (first ∷ versions) version rows all there =
+pub have_rows-push : (versions : List Version) (version : Version) (rows : List Latest) → have_rows versions rows ≡ true → has_row rows version.item ≡ true → have_rows (versions ++ version ∷ []) rows ≡ true
+have_rows-push [] version rows all there = and_from _ _ there refl
+have_rows-push (first ∷ versions) version rows all there =
     let parts = and_parts _ _ all in
-    and_from _ _ parts.0 (have_places-push versions version rows parts.1 there)
+    and_from _ _ parts.0 (have_rows-push versions version rows parts.1 there)
 
-pub have_places-filter : (keeps : Version → Bool) (versions : List Version) (rows : List Latest) → have_places versions rows ≡ true → have_places (filter keeps versions) rows ≡ true
-have_places-filter keeps [] rows all = refl
-have_places-filter keeps (version ∷ versions) rows all = go (keeps version) (and_parts _ _ all).0 (have_places-filter keeps versions rows (and_parts _ _ all).1)
+pub have_rows-filter : (keeps : Version → Bool) (versions : List Version) (rows : List Latest) → have_rows versions rows ≡ true → have_rows (filter keeps versions) rows ≡ true
+have_rows-filter keeps [] rows all = refl
+have_rows-filter keeps (version ∷ versions) rows all = go (keeps version) (and_parts _ _ all).0 (have_rows-filter keeps versions rows (and_parts _ _ all).1)
   where
-    go : (b : Bool) → has_place rows version.item ≡ true → have_places (filter keeps versions) rows ≡ true → have_places (if b then version ∷ filter keeps versions else filter keeps versions) rows ≡ true
+    go : (b : Bool) → has_row rows version.item ≡ true → have_rows (filter keeps versions) rows ≡ true → have_rows (if b then version ∷ filter keeps versions else filter keeps versions) rows ≡ true
     go true there rest = and_from _ _ there rest
     go false there rest = rest
 
--- an item that has a version has a place
-pub has_place-version : (versions : List Version) (rows : List Latest) (item stamp : ℕ) → have_places versions rows ≡ true → is_some (version_in versions item stamp) ≡ true → has_place rows item ≡ true
-has_place-version [] rows item stamp all found = absurd (cc)
-has_place-version (version ∷ versions) rows item stamp all found = go (is_version version item stamp) refl (has_place-version versions rows item stamp (and_parts _ _ all).1) found
+-- an item that has a version has a row
+pub has_row-version : (versions : List Version) (rows : List Latest) (item stamp : ℕ) → have_rows versions rows ≡ true → is_some (version_in versions item stamp) ≡ true → has_row rows item ≡ true
+has_row-version [] rows item stamp all found = absurd (cc)
+has_row-version (version ∷ versions) rows item stamp all found = go (is_version version item stamp) refl (has_row-version versions rows item stamp (and_parts _ _ all).1) found
   where
-    go : (b : Bool) → is_version version item stamp ≡ b → (is_some (version_in versions item stamp) ≡ true → has_place rows item ≡ true) → is_some (if b then Some version.value else version_in versions item stamp) ≡ true → has_place rows item ≡ true
+    go : (b : Bool) → is_version version item stamp ≡ b → (is_some (version_in versions item stamp) ≡ true → has_row rows item ≡ true) → is_some (if b then Some version.value else version_in versions item stamp) ≡ true → has_row rows item ≡ true
     go true same later f = rw (← (eqb-true version.item item (and_parts _ _ same).0)) (and_parts _ _ all).0
     go false same later f = later f
 

@@ -12,26 +12,28 @@ is_version version item stamp = (version.item == item) && (version.stamp == stam
 -- the value of the item's first version at the stamp
 abbrev pub version_in : List Version → ℕ → ℕ → Option Value
 version_in [] item stamp = None
-version_in (version ∷ versions) item stamp = (if is_version version item stamp then Some version.value else version_in versions item stamp)
+version_in (version ∷ versions) item stamp =
+    (if is_version version item stamp then Some version.value else version_in versions item stamp)
 
--- the item's latest stamp, or 0 where the item has no place
+-- the item's latest stamp, or 0 where the item has no row
 abbrev pub latest_in : List Latest → ℕ → ℕ
 latest_in [] item = 0
 latest_in (row ∷ rows) item = (if row.item == item then row.stamp else latest_in rows item)
 
--- Has the item a place for its latest stamp?
-abbrev pub has_place : List Latest → ℕ → Bool
-has_place rows item = list_any (λ row. row.item == item) rows
+-- Has the item a row for its latest stamp?
+abbrev pub has_row : List Latest → ℕ → Bool
+has_row rows item = list_any (λ row. row.item == item) rows
 
--- the rows with a place for the item
-abbrev pub with_place : List Latest → ℕ → List Latest
-with_place rows item = (if has_place rows item then rows else rows ++ record { item = item; stamp = 0 } ∷ [])
+-- the rows with one for the item
+abbrev pub with_row : List Latest → ℕ → List Latest
+with_row rows item = (if has_row rows item then rows else rows ++ record { item = item; stamp = 0 } ∷ [])
 
 -- the rows with the item's latest stamp raised to the stamp
 abbrev pub raised : List Latest → ℕ → ℕ → List Latest
 raised [] item stamp = []
-raised (row ∷ rows) item stamp = (if row.item == item then record row { stamp = max row.stamp stamp } ∷ rows else row ∷ raised rows item stamp)
+raised (row ∷ rows) item stamp =
+    (if row.item == item then record row { stamp = max row.stamp stamp } ∷ rows else row ∷ raised rows item stamp)
 
--- Has the item of each version a place?
-abbrev pub have_places : List Version → List Latest → Bool
-have_places versions rows = list_all (λ version. has_place rows version.item) versions
+-- Has the item of each version a row?
+abbrev pub have_rows : List Version → List Latest → Bool
+have_rows versions rows = list_all (λ version. has_row rows version.item) versions

@@ -1,12 +1,12 @@
 // Versions and latest stamps, row by row.
-ghost use Rattle.std.specs.Prelude.{◌≡◌, ◌==◌, not, filter, position, length, is_some, IfErr, OnOk, OnErr, MatchResult};
+ghost use Rattle.std.specs.Prelude.{◌≡◌, ◌==◌, not, filter, position, length, is_some, OnOk, OnErr, MatchResult};
 ghost use Rattle.std.specs.Option.{option_copied};
-ghost use Rattle.album_stamps.specs.declared.refusals.Refusal.TheVariants.{OutOfMemory};
 ghost use Rattle.album_versions.specs.Best.{best_of};
-ghost use Rattle.album_versions.specs.Rows.{version_in, latest_in, raised, with_place, is_version, has_place};
+ghost use Rattle.album_versions.specs.Rows.{version_in, latest_in, raised, with_row, is_version, has_row};
 
 use album_items::{ItemId, Value};
-use album_stamps::{Refusal, Stamp};
+use album_stamps::Stamp;
+use std::alloc::AllocError;
 
 /// The value of an item that was written at a stamp.
 #[derive(Debug, Drop)]
@@ -64,7 +64,7 @@ pub fn drop_versions(versions: &mut Vec<Version>, stamp: Stamp)
     versions.retain(|version| version.stamp.value() != stamp.value());
 }
 
-/// The item's latest stamp, and the zero stamp where the item has no place.
+/// The item's latest stamp, and the zero stamp where the item has no row.
 pub fn latest_among(rows: &[Latest], item: ItemId) -> Stamp
     ensures { result ≡ latest_in rows.now item }
 {
@@ -76,27 +76,26 @@ pub fn latest_among(rows: &[Latest], item: ItemId) -> Stamp
     Stamp::zero()
 }
 
-/// Whether the item has a place for its latest stamp.
-fn has_place(rows: &[Latest], item: ItemId) -> bool
-    ensures { result ≡ has_place rows.now item }
+/// Whether the item has a row for its latest stamp.
+fn has_row(rows: &[Latest], item: ItemId) -> bool
+    ensures { result ≡ has_row rows.now item }
 {
     rows.iter().any(|row| row.item.is(item))
 }
 
-/// The place of the item's latest stamp.
-fn place_of(rows: &[Latest], item: ItemId) -> Option<usize>
+/// The index of the row of the item's latest stamp.
+fn row_index(rows: &[Latest], item: ItemId) -> Option<usize>
     ensures { result ≡ position (λ row. row.item == item) rows.now }
 {
     rows.iter().position(|row| row.item.is(item))
 }
 
-/// Makes the place of the item's latest stamp, unless it is there.
-pub fn make_place(rows: &mut Vec<Latest>, item: ItemId) -> Result<(), Refusal>
-    ensures ok { OnOk result (rows.new.items ≡ with_place rows.old.items item) }
+/// Makes the row of the item's latest stamp, unless it is there.
+pub fn make_row(rows: &mut Vec<Latest>, item: ItemId) -> Result<(), AllocError>
+    ensures ok { OnOk result (rows.new.items ≡ with_row rows.old.items item) }
     ensures err { OnErr result (rows.new.items ≡ rows.old.items) }
-    ensures memory { IfErr result (λ e. e ≡ OutOfMemory) }
 {
-    if !has_place(rows, item) {
+    if !has_row(rows, item) {
         rows.push(Latest {
             item,
             stamp: Stamp::zero(),
@@ -109,8 +108,8 @@ pub fn make_place(rows: &mut Vec<Latest>, item: ItemId) -> Result<(), Refusal>
 pub fn raise(rows: &mut [Latest], item: ItemId, stamp: Stamp)
     ensures { rows.new ≡ raised rows.old item stamp }
 {
-    if let Some(place) = place_of(rows, item) {
-        let row = &mut rows[place];
+    if let Some(index) = row_index(rows, item) {
+        let row = &mut rows[index];
         if row.stamp.value() < stamp.value() {
             row.stamp = stamp;
         }

@@ -1,13 +1,12 @@
 // The versions of items, and the latest committed stamp of each.
 ghost use Rattle.std.specs.Prelude.{◌≡◌, ◌≢◌, ◌≤◌, ℕ, Bool, List, is_some, IsTrue, IsSome, IfErr, OnOk, OnErr, All, Contains};
 ghost use Rattle.std.specs.Option.{option_copied};
-ghost use Rattle.album_stamps.specs.declared.refusals.Refusal.TheVariants.{OutOfMemory};
 ghost use Rattle.album_items.specs.declared.values.Value.{Value as ItemValue};
 ghost use Rattle.album_versions.specs.Best.{best_of};
-ghost use Rattle.album_versions.specs.Versions.{Kept, version_at, latest_of, SameVersions, Adds, Drops, Commits};
+ghost use Rattle.album_versions.specs.Versions.{VersionsState, version_at, latest_of, SameVersions, Adds, Drops, Commits};
 
 use crate::rows::{
-    Latest, Version, best_among, drop_versions, latest_among, make_place, raise, value_in,
+    Latest, Version, best_among, drop_versions, latest_among, make_row, raise, value_in,
 };
 use album_items::{ItemId, Value};
 use album_stamps::{Refusal, Refused, Stamp};
@@ -24,15 +23,15 @@ pub struct Versions {
 
 impl Model for Versions {
     ghost use Rattle.std.specs.Prelude.{IsTrue};
-    ghost use Rattle.album_versions.specs.Rows.{have_places};
-    ghost use Rattle.album_versions.specs.Versions.{Kept};
+    ghost use Rattle.album_versions.specs.Rows.{have_rows};
+    ghost use Rattle.album_versions.specs.Versions.{VersionsState};
 
-    ghost Value = { Kept };
+    ghost Value = { VersionsState };
 
     ghost view = { λ v. record { versions = v.versions.items; rows = v.rows.items } };
 
-    // The item of each version has a place for its latest stamp, so a commit takes no memory.
-    ghost invariant = { λ v. IsTrue (have_places v.versions.items v.rows.items) };
+    // The item of each version has a row for its latest stamp, so a commit takes no memory.
+    ghost invariant = { λ v. IsTrue (have_rows v.versions.items v.rows.items) };
 }
 
 impl Versions {
@@ -59,11 +58,11 @@ impl Versions {
         ensures added { OnOk result (Adds self.old self.new item stamp value) }
         ensures unchanged { OnErr result (SameVersions self.old self.new) }
         ensures given { IfErr result (λ e. e.given ≡ value) }
-        ensures memory { IfErr result (λ e. e.refusal ≡ OutOfMemory) }
+        ensures memory { IfErr result (λ e. e.refusal ≡ Refusal.OutOfMemory) }
     {
-        if let Err(refusal) = make_place(&mut self.rows, item) {
+        if let Err(_) = make_row(&mut self.rows, item) {
             return Err(Refused {
-                refusal,
+                refusal: Refusal::OutOfMemory,
                 given: value,
             });
         }
@@ -138,11 +137,11 @@ pub fn best_is_the_greatest()
 /// A law: a commit lowers no latest stamp, and the item's is at least the committed one from then
 /// on. Two commits leave the same, whichever comes first.
 pub fn latest_never_falls()
-    ensures risen { (old new : Kept) (item stamp i : ℕ) → Commits old new item stamp
+    ensures risen { (old new : VersionsState) (item stamp i : ℕ) → Commits old new item stamp
         → latest_of old i ≤ latest_of new i }
-    ensures committed { (old new : Kept) (item stamp : ℕ) → Commits old new item stamp
+    ensures committed { (old new : VersionsState) (item stamp : ℕ) → Commits old new item stamp
         → stamp ≤ latest_of new item }
-    ensures order { (kept a b c d : Kept) (i s j t : ℕ)
+    ensures order { (kept a b c d : VersionsState) (i s j t : ℕ)
         → Commits kept a i s → Commits a b j t → Commits kept c j t → Commits c d i s
         → SameVersions b d }
 {}
@@ -150,11 +149,11 @@ pub fn latest_never_falls()
 /// A law: what was added is found, and what was dropped is not. Where no item had a version at the
 /// stamp, to add one and to drop the stamp leaves what there was.
 pub fn dropped_as_if_never_added()
-    ensures found { (old new : Kept) (item stamp : ℕ) (value : ItemValue)
+    ensures found { (old new : VersionsState) (item stamp : ℕ) (value : ItemValue)
         → Adds old new item stamp value → version_at new item stamp ≡ Some value }
-    ensures gone { (old new : Kept) (stamp i : ℕ) → Drops old new stamp
+    ensures gone { (old new : VersionsState) (stamp i : ℕ) → Drops old new stamp
         → version_at new i stamp ≡ None }
-    ensures undone { (old mid new : Kept) (item stamp : ℕ) (value : ItemValue)
+    ensures undone { (old mid new : VersionsState) (item stamp : ℕ) (value : ItemValue)
         → ((i : ℕ) → version_at old i stamp ≡ None)
         → Adds old mid item stamp value → Drops mid new stamp → SameVersions old new }
 {}

@@ -12,8 +12,8 @@ loop-number-preserved c =
     let is = in_from_due (listed_in c.args.groups.now) c.in-User.user (set.contains nat_cmp c.loop-number.found) c.in-Some.number c.loop-number.invariant c.in-Some.ensures.due in
     sound_more (listed_in c.args.groups.now) c.in-User.user (set.contains nat_cmp c.loop-number.found) (set.contains nat_cmp c.insert.new.self) c.in-Some.number c.in_ok-insert.ensures.updates.0 is c.loop-number.invariant
 
-pub returns-clause-found : goal.returns-clause-found
-returns-clause-found c = λ group.
+pub returns-clause-exact : goal.returns-clause-exact
+returns-clause-exact c = λ group.
     let sound = c.loop-number.invariant group in
     let whole = found_from_in (listed_in c.args.groups.now) c.in-User.user (set.contains nat_cmp c.loop-number.found) c.in_default-next_group.ensures.none group in
     rw c.in-User.is (sound, whole)

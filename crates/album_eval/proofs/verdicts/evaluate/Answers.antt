@@ -10,9 +10,9 @@ use Rattle.album_eval.proofs.verdicts.evaluate.Goals.{then-is_set+in-Some+then-i
 pub loop-bit-preserved : goal.loop-bit-preserved
 loop-bit-preserved c =
     elim c.if-is_set.branch [
-      | then-is_set+in-Some+then-is_denied w ↦ rw (w.denial-is, w.unmentioned-is) (denied_at _ _ _ _ w.in-Some.place _ _ _ (ap (λ (n : ℕ). bit_at n c.loop-bit.bit == 1) (sym (c.bits-asked.ensures tt)) ∙ sym w.if-is_set.ensures) (sym w.in-Some.ensures.place) (sort_at _ _ w.index-entries-place.result Denied w.in-Some.ensures.within w.index-entries-place.is (w.if-is_denied.ensures.0 refl)) w.earlier.ensures c.loop-bit.invariant)
-      | then-is_set+in-Some+else-is_denied w ↦ rw (w.denial-is, w.unmentioned-is) (allowed _ _ _ _ w.in-Some.place _ _ (ap (λ (n : ℕ). bit_at n c.loop-bit.bit == 1) (sym (c.bits-asked.ensures tt)) ∙ sym w.if-is_set.ensures) (sym w.in-Some.ensures.place) (sort_not_at _ _ w.index-entries-place.result Denied w.in-Some.ensures.within w.index-entries-place.is (λ d. let e = w.if-is_denied.ensures.1 d in cc)) c.loop-bit.invariant)
-      | then-is_set+in-None w ↦ rw (w.denial-is, w.unmentioned-is) (not_mentioned _ _ _ _ _ _ (ap (λ (n : ℕ). bit_at n c.loop-bit.bit == 1) (sym (c.bits-asked.ensures tt)) ∙ sym w.if-is_set.ensures) (sym w.in-None.ensures.place) c.loop-bit.invariant)
+      | then-is_set+in-Some+then-is_denied w ↦ rw (w.denial-is, w.unmentioned-is) (denied_at _ _ _ _ w.in-Some.index _ _ _ (ap (λ (n : ℕ). bit_at n c.loop-bit.bit == 1) (sym (c.bits-asked.ensures tt)) ∙ sym w.if-is_set.ensures) (sym w.in-Some.ensures.index) (sort_at _ _ w.index-entries-index.result Denied w.in-Some.ensures.within w.index-entries-index.is (w.if-is_denied.ensures.0 refl)) w.earlier.ensures c.loop-bit.invariant)
+      | then-is_set+in-Some+else-is_denied w ↦ rw (w.denial-is, w.unmentioned-is) (allowed _ _ _ _ w.in-Some.index _ _ (ap (λ (n : ℕ). bit_at n c.loop-bit.bit == 1) (sym (c.bits-asked.ensures tt)) ∙ sym w.if-is_set.ensures) (sym w.in-Some.ensures.index) (sort_not_at _ _ w.index-entries-index.result Denied w.in-Some.ensures.within w.index-entries-index.is (λ d. let e = w.if-is_denied.ensures.1 d in cc)) c.loop-bit.invariant)
+      | then-is_set+in-None w ↦ rw (w.denial-is, w.unmentioned-is) (not_mentioned _ _ _ _ _ _ (ap (λ (n : ℕ). bit_at n c.loop-bit.bit == 1) (sym (c.bits-asked.ensures tt)) ∙ sym w.if-is_set.ensures) (sym w.in-None.ensures.index) c.loop-bit.invariant)
       | else-is_set w ↦ rw (w.denial-is, w.unmentioned-is) (skipped _ _ _ _ _ _ (ap (λ (n : ℕ). bit_at n c.loop-bit.bit == 1) (sym (c.bits-asked.ensures tt)) ∙ sym w.if-is_set.ensures) c.loop-bit.invariant)
     ]
 
