@@ -1,11 +1,7 @@
 -- What a partition does with a message: the whole table of its answers.
-use Rattle.std.specs.Prelude.{ℕ, Bool, ◌==◌, ◌&&◌, not, nat_le, List, [], ◌∷◌, ◌++◌, length, map, Option, Some, None, Result, Ok, Err, if◌then◌else◌, option_map, option_to_list}
-use Rattle.std.specs.List.{list_all}
-use Rattle.album_stamps.specs.declared.refusals.Refusal.{Refusal}
-use Rattle.album_stamps.specs.declared.refusals.Refusal.TheVariants as refusal
-use Rattle.album_items.specs.ItemIds.{place_of, kind_of}
-use Rattle.album_items.specs.Openings.{Row, no_two}
-use Rattle.album_items.specs.Values.{is_of}
+use Rattle.std.specs.Prelude.{◌≡◌, ℕ, Bool, true, false, ◌==◌, ◌&&◌, ◌||◌, List, ◌∷◌, ◌++◌, is_some, Option, Some, None, Result, Ok, Err, if◌then◌else◌, option_map, option_to_list}
+use Rattle.std.specs.Option.{option_map_or}
+use Rattle.album_items.specs.Openings.{Row}
 use Rattle.album_calls.specs.Nodes.{is_part}
 use Rattle.album_calls.specs.Same.{same_rows, same_numbers}
 use Rattle.album_calls.specs.declared.messages.Body.{Body}
@@ -19,20 +15,24 @@ use Rattle.album_calls.specs.declared.requests.Request.{Request}
 use Rattle.album_calls.specs.declared.requests.Request.TheVariants.{Prepare, Commit, Get, Check}
 use Rattle.album_calls.specs.declared.replies.Reply.{Reply}
 use Rattle.album_calls.specs.declared.replies.Reply.TheVariants as reply
-use Rattle.album_terminate.specs.Asking.{check_to}
 use Rattle.album_terminate.specs.Deciding.{decision_of}
 use Rattle.album_terminate.specs.declared.deciding.Decision.{Decision}
 use Rattle.album_terminate.specs.declared.deciding.Decision.TheVariants as decision
 use Rattle.album_terminate.specs.declared.deciding.StampState.{StampState}
 use Rattle.album_terminate.specs.declared.deciding.StampState.TheVariants as state
-use Rattle.album_partition.specs.declared.effects.Effect.{Effect}
 use Rattle.album_partition.specs.declared.marks.Mark.{Mark}
 use Rattle.album_partition.specs.declared.marks.Mark.TheVariants as mark
-use Rattle.album_partition.specs.Held.{Held, value_at, stamp_for, new_vote, heard}
 use Rattle.album_partition.specs.Marks.{state_of, is_pending, is_full, writes_at, items_at}
-use Rattle.album_partition.specs.Places.{lies_at, placed_at, others_of}
+use Rattle.album_partition.specs.Partition.{PartitionState, value_at, stamp_for}
+use Rattle.album_partition.specs.Places.{is_placed, lies_at, others_of}
+use Rattle.album_partition.specs.Proper.{is_proper}
+use Rattle.album_partition.specs.Votes.{NotedVote, new_vote, heard}
 
--- ---- what a message does: at most one mark, at most one vote noted, at most one reply
+-- what a message does: the mark that it makes, the vote that is noted, and the reply
+pub record Effect : Type 0 where
+  pub mark : Option Mark
+  pub vote : Option NotedVote
+  pub reply : Option Reply
 
 abbrev pub nothing : Effect
 nothing = record { mark = None; vote = None; reply = None }
@@ -48,35 +48,29 @@ marks_and_says mark reply = record { mark = Some mark; vote = None; reply = Some
 
 -- ---- a Prepare
 
--- some items, none twice, and at most 16
-abbrev pub are_items : List ℕ → Bool
-are_items items = not (length items == 0) && nat_le (length items) 16 && no_two (λ a b. a == b) items
-
--- the writes are exactly the items that are placed here, in their order, each with a value of its kind
-abbrev pub are_own_writes : ℕ → ℕ → List Row → List ℕ → Bool
-are_own_writes parts number writes items =
-    same_numbers (map (λ row. row.0) writes) (placed_at parts items number)
-    && list_all (λ row. is_of row.1 (kind_of row.0)) writes
-
--- a Prepare that can be followed here
-abbrev pub is_proper : Held → ℕ → List Row → List ℕ → Bool
-is_proper held stamp writes items = not (stamp == 0) && are_items items && are_own_writes held.opening.parts held.number writes items
-
 -- these are the writes and the items that are prepared at the stamp
 abbrev pub is_same : List Mark → ℕ → List Row → List ℕ → Bool
-is_same marks stamp writes items = same_rows writes (writes_at marks stamp) && same_numbers items (items_at marks stamp)
+is_same marks stamp writes items =
+    same_rows writes (writes_at marks stamp) && same_numbers items (items_at marks stamp)
 
--- by whether the partition is full, whether it prepared the same already, and the state of the stamp
+-- by whether the partition is full, whether it prepared the same already, and how the stamp stands
 abbrev pub prepare_by : Bool → Bool → StampState → ℕ → List Row → List ℕ → Effect
-prepare_by full same state.Unknown stamp writes items = if full then says (reply.Full stamp) else marks_and_says (mark.Prepared stamp writes items) (reply.Prepared stamp)
-prepare_by full same state.Pending stamp writes items = if same then says (reply.Prepared stamp) else says reply.Clash
-prepare_by full same state.Committed stamp writes items = if same then says (reply.Prepared stamp) else says reply.Clash
+prepare_by full same state.Unknown stamp writes items =
+    if full then says (reply.Full stamp)
+    else marks_and_says (mark.Prepared stamp writes items) (reply.Prepared stamp)
+prepare_by full same state.Pending stamp writes items =
+    if same then says (reply.Prepared stamp) else says reply.Clash
+prepare_by full same state.Committed stamp writes items =
+    if same then says (reply.Prepared stamp) else says reply.Clash
 prepare_by full same state.Discarded stamp writes items = says (reply.Discarded stamp)
 
-abbrev pub to_prepare : Held → ℕ → List Row → List ℕ → Effect
-to_prepare held stamp writes items =
-    if is_proper held stamp writes items
-    then prepare_by (is_full held.opening.limit held.marks) (is_same held.marks stamp writes items) (state_of held.marks stamp) stamp writes items
+abbrev pub to_prepare : PartitionState → ℕ → List Row → List ℕ → Effect
+to_prepare partition stamp writes items =
+    if is_proper partition.number partition.opening.parts stamp writes items
+    then prepare_by
+    (is_full partition.opening.limit partition.marks)
+    (is_same partition.marks stamp writes items)
+    (state_of partition.marks stamp) stamp writes items
     else says reply.Clash
 
 -- ---- a Commit
@@ -87,26 +81,35 @@ commit_by state.Pending stamp = marks_and_says (mark.Committed stamp) (reply.Com
 commit_by state.Committed stamp = says (reply.Committed stamp)
 commit_by state.Discarded stamp = says (reply.Discarded stamp)
 
-abbrev pub to_commit : Held → ℕ → Effect
-to_commit held stamp = if stamp == 0 then says reply.Clash else commit_by (state_of held.marks stamp) stamp
+abbrev pub to_commit : PartitionState → ℕ → Effect
+to_commit partition stamp =
+    if stamp == 0 then says reply.Clash else commit_by (state_of partition.marks stamp) stamp
 
 -- ---- a Check
 
 abbrev pub check_by : Bool → StampState → ℕ → Effect
-check_by full state.Unknown stamp = if full then says (reply.Full stamp) else marks_and_says (mark.Discarded stamp) (reply.Status stamp vote.Never)
+check_by full state.Unknown stamp =
+    if full then says (reply.Full stamp)
+    else marks_and_says (mark.Discarded stamp) (reply.Status stamp vote.Never)
 check_by full state.Pending stamp = says (reply.Status stamp vote.Prepared)
 check_by full state.Committed stamp = says (reply.Status stamp vote.Committed)
 check_by full state.Discarded stamp = says (reply.Status stamp vote.Never)
 
-abbrev pub to_check : Held → ℕ → Effect
-to_check held stamp = if stamp == 0 then says reply.Clash else check_by (is_full held.opening.limit held.marks) (state_of held.marks stamp) stamp
+abbrev pub to_check : PartitionState → ℕ → Effect
+to_check partition stamp =
+    if stamp == 0 then says reply.Clash
+    else check_by (is_full partition.opening.limit partition.marks) (state_of partition.marks stamp) stamp
 
 -- ---- a Get
 
-abbrev pub to_get : Held → ℕ → List ℕ → Effect
-to_get held item stamps =
-    if place_of held.opening.parts item == held.number
-    then says (reply.Version item (stamp_for held.marks item stamps) (value_at held item (stamp_for held.marks item stamps)))
+-- the item, as it is read at the stamp
+abbrev pub says_version : PartitionState → ℕ → ℕ → Effect
+says_version partition item stamp = says (reply.Version item stamp (value_at partition item stamp))
+
+abbrev pub to_get : PartitionState → ℕ → List ℕ → Effect
+to_get partition item stamps =
+    if is_placed partition.number partition.opening.parts item
+    then says_version partition item (stamp_for partition.marks item stamps)
     else says reply.Clash
 
 -- ---- a vote on a stamp that is pending here
@@ -117,81 +120,101 @@ mark_by decision.Wait stamp = None
 mark_by decision.Commit stamp = Some (mark.Committed stamp)
 mark_by decision.Discard stamp = Some (mark.Discarded stamp)
 
+-- the mark that the partition's vote Prepared makes: where it was the last that was waited for, the stamp is committed
+abbrev pub mark_with : PartitionState → ℕ → ℕ → Option Mark
+mark_with partition part stamp =
+    mark_by
+    (decision_of vote.Prepared
+    (part ∷ heard partition.votes stamp)
+    (others_of partition.number partition.opening.parts (items_at partition.marks stamp)))
+    stamp
+
 -- a vote Prepared, which one of the partitions of the items has told
-abbrev pub to_part : Held → ℕ → ℕ → Effect
-to_part held part stamp =
-    record {
-      mark = mark_by (decision_of vote.Prepared (part ∷ heard held.votes stamp) (others_of held.opening.parts held.number (items_at held.marks stamp))) stamp;
-      vote = new_vote held.votes stamp part;
-      reply = None;
-    }
+abbrev pub to_part : PartitionState → ℕ → ℕ → Effect
+to_part partition part stamp =
+    record { mark = mark_with partition part stamp; vote = new_vote partition.votes stamp part; reply = None }
 
-abbrev pub to_prepared : Held → Node → ℕ → Effect
-to_prepared held (Part part) stamp = if lies_at held.opening.parts (items_at held.marks stamp) part then to_part held part stamp else nothing
-to_prepared held (Client client) stamp = nothing
+abbrev pub to_prepared : PartitionState → Node → ℕ → Effect
+to_prepared partition (Part part) stamp =
+    if lies_at part partition.opening.parts (items_at partition.marks stamp)
+    then to_part partition part stamp
+    else nothing
+to_prepared partition (Client client) stamp = nothing
 
-abbrev pub to_vote : Held → Node → ℕ → Vote → Effect
-to_vote held from stamp vote.Prepared = to_prepared held from stamp
-to_vote held from stamp vote.Committed = marks (mark.Committed stamp)
-to_vote held from stamp vote.Never = marks (mark.Discarded stamp)
+abbrev pub to_vote : PartitionState → Node → ℕ → Vote → Effect
+to_vote partition from stamp vote.Prepared = to_prepared partition from stamp
+to_vote partition from stamp vote.Committed = marks (mark.Committed stamp)
+to_vote partition from stamp vote.Never = marks (mark.Discarded stamp)
 
--- a vote counts where the stamp is undecided
-abbrev pub to_status : Held → Node → ℕ → Vote → Effect
-to_status held from stamp vote = if is_pending (state_of held.marks stamp) then to_vote held from stamp vote else nothing
+-- a vote counts where the stamp is pending
+abbrev pub to_status : PartitionState → Node → ℕ → Vote → Effect
+to_status partition from stamp vote =
+    if is_pending (state_of partition.marks stamp) then to_vote partition from stamp vote else nothing
 
 -- ---- a message
 
-abbrev pub to_request : Held → Request → Effect
-to_request held (Prepare stamp writes items) = to_prepare held stamp writes items
-to_request held (Commit stamp) = to_commit held stamp
-to_request held (Get item stamps) = to_get held item stamps
-to_request held (Check stamp) = to_check held stamp
+abbrev pub to_request : PartitionState → Request → Effect
+to_request partition (Prepare stamp writes items) = to_prepare partition stamp writes items
+to_request partition (Commit stamp) = to_commit partition stamp
+to_request partition (Get item stamps) = to_get partition item stamps
+to_request partition (Check stamp) = to_check partition stamp
 
-abbrev pub to_reply : Held → Node → Reply → Effect
-to_reply held from (reply.Status stamp vote) = to_status held from stamp vote
-to_reply held from (reply.Prepared stamp) = nothing
-to_reply held from (reply.Committed stamp) = nothing
-to_reply held from (reply.Discarded stamp) = nothing
-to_reply held from (reply.Version item stamp value) = nothing
-to_reply held from (reply.NotPrepared stamp) = nothing
-to_reply held from reply.Clash = nothing
-to_reply held from (reply.Full stamp) = nothing
+abbrev pub to_reply : PartitionState → Node → Reply → Effect
+to_reply partition from (reply.Status stamp vote) = to_status partition from stamp vote
+to_reply partition from (reply.Prepared stamp) = nothing
+to_reply partition from (reply.Committed stamp) = nothing
+to_reply partition from (reply.Discarded stamp) = nothing
+to_reply partition from (reply.Version item stamp value) = nothing
+to_reply partition from (reply.NotPrepared stamp) = nothing
+to_reply partition from reply.Clash = nothing
+to_reply partition from (reply.Full stamp) = nothing
 
-abbrev pub to_body : Held → Node → Body → Effect
-to_body held from (body.Request request) = to_request held request
-to_body held from (body.Reply reply) = to_reply held from reply
+abbrev pub to_body : PartitionState → Node → Body → Effect
+to_body partition from (body.Request request) = to_request partition request
+to_body partition from (body.Reply reply) = to_reply partition from reply
 
 -- what a message does here: nothing where it is another's
-abbrev pub effect_of : Held → Message → Effect
-effect_of held message = if is_part message.to held.number then to_body held message.from message.body else nothing
+abbrev pub effect_of : PartitionState → Message → Effect
+effect_of partition message =
+    if is_part message.to partition.number then to_body partition message.from message.body else nothing
 
 -- the partition once that is done
-abbrev pub with_effect : Held → Effect → Held
-with_effect held effect = record held { marks = held.marks ++ option_to_list effect.mark; votes = held.votes ++ option_to_list effect.vote }
+abbrev pub with_effect : PartitionState → Effect → PartitionState
+with_effect partition effect =
+    record partition {
+      marks = partition.marks ++ option_to_list effect.mark;
+      votes = partition.votes ++ option_to_list effect.vote;
+    }
 
-abbrev pub after : Held → Message → Held
-after held message = with_effect held (effect_of held message)
+abbrev pub after : PartitionState → Message → PartitionState
+after partition message = with_effect partition (effect_of partition message)
 
 -- a reply goes to the sender, with the request's tag
-abbrev pub reply_to : Held → Message → Reply → Message
-reply_to held message reply = record { from = Part held.number; to = message.from; tag = message.tag; body = body.Reply reply }
+abbrev pub reply_to : PartitionState → Message → Reply → Message
+reply_to partition message reply =
+    record { from = Part partition.number; to = message.from; tag = message.tag; body = body.Reply reply }
 
-abbrev pub answer : Held → Message → Option Message
-answer held message = option_map (reply_to held message) (effect_of held message).reply
+abbrev pub answer : PartitionState → Message → Option Message
+answer partition message = option_map (reply_to partition message) (effect_of partition message).reply
 
--- ---- a sweep
+-- ---- what memory is wanted for
 
--- the partition tells itself that the stamp is prepared here
-abbrev pub own_vote : ℕ → ℕ → Message
-own_vote number stamp = record { from = Part number; to = Part number; tag = 0; body = body.Reply (reply.Status stamp vote.Prepared) }
+-- it tells a version, whose value is copied
+abbrev pub is_version : Reply → Bool
+is_version (reply.Version item stamp value) = true
+is_version (reply.Prepared stamp) = false
+is_version (reply.Committed stamp) = false
+is_version (reply.Discarded stamp) = false
+is_version (reply.Status stamp vote) = false
+is_version (reply.NotPrepared stamp) = false
+is_version reply.Clash = false
+is_version (reply.Full stamp) = false
 
--- what is sent: a Check to each of the others, or where there is none its own vote
-abbrev pub sent_by : ℕ → ℕ → List ℕ → List Message
-sent_by number stamp [] = own_vote number stamp ∷ []
-sent_by number stamp (other ∷ others) = map (check_to number stamp) (other ∷ others)
+-- something is kept or copied
+abbrev pub wants_memory : Effect → Bool
+wants_memory effect = is_some effect.mark || is_some effect.vote || option_map_or is_version effect.reply false
 
-abbrev pub swept : Held → ℕ → Result (List Message) Refusal
-swept held stamp =
-    if is_pending (state_of held.marks stamp)
-    then Ok (sent_by held.number stamp (others_of held.opening.parts held.number (items_at held.marks stamp)))
-    else Err refusal.NotPrepared
+-- the effect is this one, unless memory ran out: then something is kept or copied
+abbrev pub Does : {E : Type 0} → Result Effect E → Effect → Type 0
+Does (Ok effect) is = effect ≡ is
+Does (Err e) is = wants_memory is ≡ true

@@ -42,16 +42,17 @@ decides stamp mark = commits stamp mark || discards stamp mark
 
 -- ---- a stamp
 
--- its state, by whether it is committed, discarded and prepared
+-- how it stands, by whether it is committed, discarded and prepared
 abbrev pub state_by : Bool → Bool → Bool → StampState
 state_by true discarded prepared = state.Committed
 state_by false true prepared = state.Discarded
 state_by false false true = state.Pending
 state_by false false false = state.Unknown
 
--- its state
+-- how it stands
 abbrev pub state_of : List Mark → ℕ → StampState
-state_of marks stamp = state_by (list_any (commits stamp) marks) (list_any (discards stamp) marks) (list_any (prepares stamp) marks)
+state_of marks stamp =
+    state_by (list_any (commits stamp) marks) (list_any (discards stamp) marks) (list_any (prepares stamp) marks)
 
 abbrev pub is_unknown : StampState → Bool
 is_unknown state.Unknown = true
@@ -85,6 +86,14 @@ writes_at marks stamp = writes_of (find (prepares stamp) marks)
 abbrev pub items_at : List Mark → ℕ → List ℕ
 items_at marks stamp = items_of (find (prepares stamp) marks)
 
+-- One of its partitions will never prepare it: that one's marks discard it, and none before had prepared it. (Of a
+-- stamp that was pending when it was discarded, this is not so, though it is discarded too.)
+pub record IsPromisedAgainst (marks : List Mark) (stamp : ℕ) : Type 0 where
+  pub before : List Mark
+  pub later : List Mark
+  pub discarded : marks ≡ before ++ Discarded stamp ∷ later
+  pub unprepared : list_any (prepares stamp) before ≡ false
+
 -- ---- which marks follow which
 
 -- a stamp is prepared where it is unknown, committed where it is pending, and discarded where it is either
@@ -109,7 +118,8 @@ value_in rows item = lookup (λ i. i == item) rows
 
 -- the value of the item's version at a stamp: it was prepared there, and not discarded
 abbrev pub version : List Mark → ℕ → ℕ → Option Value
-version marks item stamp = if list_any (discards stamp) marks then None else value_in (writes_at marks stamp) item
+version marks item stamp =
+    if list_any (discards stamp) marks then None else value_in (writes_at marks stamp) item
 
 abbrev pub has_version : List Mark → ℕ → ℕ → Bool
 has_version marks item stamp = is_some (version marks item stamp)
@@ -138,19 +148,19 @@ prepare_in (Discarded stamp) = None
 abbrev pub prepared_stamps : List Mark → List ℕ
 prepared_stamps marks = filter_map prepare_in marks
 
--- those of them that are undecided
-abbrev pub undecided : List Mark → List ℕ
-undecided marks = filter (λ stamp. is_pending (state_of marks stamp)) (prepared_stamps marks)
+-- those of them that are pending
+abbrev pub pending_stamps : List Mark → List ℕ
+pending_stamps marks = filter (λ stamp. is_pending (state_of marks stamp)) (prepared_stamps marks)
 
--- the marks that are made, and one more for each undecided stamp, which will be decided
+-- the marks that are made, and one more for each pending stamp, which will be decided
 abbrev pub load : List Mark → ℕ
-load marks = length marks + length (undecided marks)
+load marks = length marks + length (pending_stamps marks)
 
 -- there is no room for a stamp more: for its mark, and for the one that decides it
 abbrev pub is_full : ℕ → List Mark → Bool
 is_full limit marks = nat_lt limit (load marks + 2)
 
--- these are the stamps that are undecided, rising
+-- these are the stamps that are pending, rising
 pub record ArePending (marks : List Mark) (stamps : List ℕ) : Type 0 where
-  pub undecided : (t : ℕ) → Contains stamps t ↔ (state_of marks t ≡ state.Pending)
+  pub pending : (t : ℕ) → Contains stamps t ↔ (state_of marks t ≡ state.Pending)
   pub rising : IsStrictlySortedBy nat_cmp stamps

@@ -1,21 +1,20 @@
 // The marks of a partition, in the order in which they were made.
-ghost use Rattle.std.specs.Prelude.{◌≡◌, ◌<◌, ◌≤◌, ◌+◌, ◌-◌, ◌++◌, ◌∷◌, [], true, ℕ, length, IsTrue, Some, IfOk, IfErr, OnOk, OnErr, vec_len, vec_capacity};
+ghost use Rattle.std.specs.Prelude.{◌≡◌, ◌<◌, ◌++◌, ◌∷◌, [], true, length, Some, IfOk, OnOk, OnErr};
 ghost use Rattle.std.specs.List.{slice_get};
 ghost use Rattle.std.specs.Option.{option_copied};
-ghost use Rattle.album_stamps.specs.declared.refusals.Refusal.TheVariants.{OutOfMemory};
-ghost use Rattle.album_terminate.specs.declared.deciding.StampState.TheVariants as StampState;
-ghost use Rattle.album_partition.specs.Marks.{ArePending, stamp_of, writes_of, items_of, state_of, is_pending, may_follow, is_legal, undecided};
-ghost use Rattle.album_partition.specs.Index.{IsAt, Stands, kept_mark};
+ghost use Rattle.album_stamps.specs.declared.limits.TheConstants.{MOST_MARKS};
+ghost use Rattle.album_partition.specs.Marks.{ArePending, stamp_of, writes_of, items_of, state_of, is_pending, may_follow, is_legal, pending_stamps};
+ghost use Rattle.album_partition.specs.History.{IsAt, Stands, kept_mark};
 
 use crate::marks::Mark;
 use album_items::{ItemId, Value};
-use album_stamps::{Refusal, Stamp};
+use album_stamps::Stamp;
 use album_terminate::StampState;
-use std::alloc::Global;
+use std::alloc::{AllocError, Global};
 use std::collections::BTreeMap;
 use std::marker::Model;
 
-/// How a stamp stands, and where in the history it was prepared.
+/// How a stamp stands, and at which index of the marks it was prepared.
 #[derive(Clone, Copy, Debug)]
 pub enum Standing {
     Pending(usize),
@@ -23,25 +22,27 @@ pub enum Standing {
     Discarded,
 }
 
-/// The marks, and beside them how each stamp stands and how many are undecided. Contracts see the
+/// The marks, and beside them how each stamp stands and how many are pending. Contracts see the
 /// marks.
 #[derive(Debug, Drop)]
 pub struct History {
     marks: Vec<Mark>,
-    index: BTreeMap<Stamp, Standing>,
-    undecided: usize,
+    /// Of each stamp that a mark is of, how it stands.
+    standings: BTreeMap<Stamp, Standing>,
+    /// How many stamps are pending.
+    pending: usize,
 }
 
 impl Model for History {
     ghost use Rattle.std.specs.Prelude.{List};
     ghost use Rattle.album_partition.specs.declared.marks.Mark.{Mark};
-    ghost use Rattle.album_partition.specs.Index.{IsIndexed};
+    ghost use Rattle.album_partition.specs.History.{IsHistory};
 
     ghost Value = { List Mark };
 
     ghost view = { λ h. h.marks.items };
 
-    ghost invariant = { λ h. IsIndexed h.marks.items h.index h.undecided };
+    ghost invariant = { λ h. IsHistory h.marks.items h.standings h.pending };
 }
 
 impl History {
@@ -51,8 +52,8 @@ impl History {
     {
         History {
             marks: Vec::new(alloc),
-            index: BTreeMap::new(alloc),
-            undecided: 0,
+            standings: BTreeMap::new(alloc),
+            pending: 0,
         }
     }
 
@@ -76,7 +77,14 @@ impl History {
         }
     }
 
-    /// What is prepared at a stamp that is undecided or committed.
+    /// What is kept of the stamp.
+    fn standing(&self, stamp: Stamp) -> Option<Standing>
+        ensures { Stands self.now stamp result }
+    {
+        self.standings.get(&stamp).copied()
+    }
+
+    /// What is prepared at a stamp that is pending or committed.
     pub fn writes(&self, stamp: Stamp) -> &[(ItemId, Value)]
         ensures { result.now ≡ writes_of (kept_mark self.now stamp) }
     {
@@ -86,7 +94,7 @@ impl History {
         }
     }
 
-    /// The items of the transaction of a stamp that is undecided or committed.
+    /// The items of the transaction of a stamp that is pending or committed.
     pub fn items(&self, stamp: Stamp) -> &[ItemId]
         ensures { result.now ≡ items_of (kept_mark self.now stamp) }
     {
@@ -96,81 +104,71 @@ impl History {
         }
     }
 
-    /// The mark that prepared the stamp, where it is undecided or committed.
+    /// The mark that prepared the stamp, where it is pending or committed.
     fn prepared(&self, stamp: Stamp) -> Option<&Mark>
         ensures { option_copied result ≡ kept_mark self.now stamp }
     {
         match self.standing(stamp) {
             None => None,
-            Some(Standing::Pending(place)) => mark_at(&self.marks, place),
-            Some(Standing::Committed(place)) => mark_at(&self.marks, place),
+            Some(Standing::Pending(index)) => mark_at(&self.marks, index),
+            Some(Standing::Committed(index)) => mark_at(&self.marks, index),
             Some(Standing::Discarded) => None,
         }
     }
 
-    /// What the index says of the stamp.
-    fn standing(&self, stamp: Stamp) -> Option<Standing>
-        ensures { Stands self.now stamp result }
-    {
-        self.index.get(&stamp).copied()
-    }
-
     /// Makes a mark, which may follow those before it.
-    pub fn add(&mut self, mark: Mark) -> Result<(), Refusal>
+    pub fn add(&mut self, mark: Mark) -> Result<(), AllocError>
         requires follows { may_follow self.old mark ≡ true }
-        requires room { length self.old < 1000000 }
+        requires room { length self.old < MOST_MARKS }
         ensures ok { OnOk result (self.new ≡ self.old ++ mark ∷ []) }
         ensures err { OnErr result (self.new ≡ self.old) }
-        ensures memory { IfErr result (λ e. e ≡ OutOfMemory) }
     {
         let stamp = mark.stamp();
-        let (standing, undecided) = self.after(&mark);
+        let (standing, pending) = self.after(&mark);
+        // Room first: once the stamp stands as after the mark, nothing may fail.
         self.marks.reserve(1)?;
-        self.index.insert(stamp, standing)?;
-        self.undecided = undecided;
-        push_mark(&mut self.marks, mark);
+        self.standings.insert(stamp, standing)?;
+        self.pending = pending;
+        self.marks.push_reserved(mark);
         Ok(())
     }
 
-    /// How the mark's stamp stands once the mark is made, and how many are undecided then.
+    /// How the mark's stamp stands once the mark is made, and how many are pending then.
     fn after(&self, mark: &Mark) -> (Standing, usize)
         requires follows { may_follow self.now mark.now ≡ true }
-        requires room { length self.now < 1000000 }
+        requires room { length self.now < MOST_MARKS }
         ensures standing { Stands (self.now ++ mark.now ∷ []) (stamp_of mark.now) (Some result.0) }
-        ensures undecided { result.1 ≡ length (undecided (self.now ++ mark.now ∷ [])) }
+        ensures pending { result.1 ≡ length (pending_stamps (self.now ++ mark.now ∷ [])) }
     {
         match mark {
-            Mark::Prepared(_, _, _) => (Standing::Pending(self.marks().len()), self.undecided + 1),
-            Mark::Committed(stamp) => (Standing::Committed(self.place(*stamp)), self.undecided - 1),
+            Mark::Prepared(_, _, _) => (Standing::Pending(self.marks().len()), self.pending + 1),
+            Mark::Committed(stamp) => (Standing::Committed(self.index(*stamp)), self.pending - 1),
             Mark::Discarded(stamp) => match self.state(*stamp) {
-                StampState::Pending => (Standing::Discarded, self.undecided - 1),
+                StampState::Pending => (Standing::Discarded, self.pending - 1),
                 StampState::Unknown | StampState::Committed | StampState::Discarded => {
-                    (Standing::Discarded, self.undecided)
+                    (Standing::Discarded, self.pending)
                 }
             },
         }
     }
 
-    /// Where an undecided stamp was prepared.
-    fn place(&self, stamp: Stamp) -> usize
+    /// At which index a pending stamp was prepared.
+    fn index(&self, stamp: Stamp) -> usize
         requires { state_of self.now stamp ≡ StampState.Pending }
         ensures { IsAt self.now stamp result }
     {
         match self.standing(stamp) {
-            None => 0,
-            Some(Standing::Pending(place)) => place,
-            Some(Standing::Committed(place)) => place,
-            Some(Standing::Discarded) => 0,
+            Some(Standing::Pending(index)) | Some(Standing::Committed(index)) => index,
+            None | Some(Standing::Discarded) => 0,
         }
     }
 
-    /// The stamps that are undecided, rising.
-    pub fn pending(&self, alloc: Global) -> Result<Vec<Stamp>, Refusal>
-        ensures found { IfOk result (λ stamps. ArePending self.now stamps.items) }
-        ensures memory { IfErr result (λ e. e ≡ OutOfMemory) }
+    /// The stamps that are pending, rising.
+    pub fn pending(&self, alloc: Global) -> Result<Vec<Stamp>, AllocError>
+        ensures { IfOk result (λ stamps. ArePending self.now stamps.items) }
     {
         let mut stamps = Vec::new(alloc);
-        for stamp in self.index.keys() {
+        for stamp in self.standings.keys() {
             if self.is_pending(*stamp) {
                 stamps.push(*stamp)?;
             }
@@ -184,24 +182,16 @@ impl History {
         self.state(stamp) == StampState::Pending
     }
 
-    /// How many stamps are undecided.
-    pub fn undecided(&self) -> usize
-        ensures { result ≡ length (undecided self.now) }
+    /// How many stamps are pending.
+    pub fn pending_count(&self) -> usize
+        ensures { result ≡ length (pending_stamps self.now) }
     {
-        self.undecided
+        self.pending
     }
 }
 
-fn mark_at(marks: &[Mark], place: usize) -> Option<&Mark>
-    ensures { option_copied result ≡ slice_get marks.now place }
+fn mark_at(marks: &[Mark], index: usize) -> Option<&Mark>
+    ensures { option_copied result ≡ slice_get marks.now index }
 {
-    marks.get(place)
-}
-
-/// Pushes a mark for which there is room.
-fn push_mark(marks: &mut Vec<Mark>, mark: Mark)
-    requires { vec_len marks.old < vec_capacity marks.old }
-    ensures { marks.new.items ≡ marks.old.items ++ mark ∷ [] }
-{
-    let _ = marks.push(mark);
+    marks.get(index)
 }

@@ -1,15 +1,28 @@
-// What follows of every history, and of every answer that a partition is full.
-ghost use Rattle.std.specs.Prelude.{◌≡◌, ◌≢◌, ◌≤◌, ◌++◌, ◌∷◌, ℕ, List, true, false, Some, length, filter};
+// What follows of every history, and of every answer that the table gives.
+ghost use Rattle.std.specs.Prelude.{◌≡◌, ◌≢◌, ◌↔◌, ◌≤◌, ◌++◌, ◌∷◌, ℕ, List, true, false, IsTrue, is_some, None, Some, Ok, Contains, length, filter, option_to_list};
 ghost use Rattle.std.specs.List.{list_any};
+ghost use Rattle.std.specs.List.Sorted.{IsPermutation};
+ghost use Rattle.album_items.specs.ItemIds.{place_of};
 ghost use Rattle.album_items.specs.Openings.{Row};
+ghost use Rattle.album_items.specs.declared.openings.Opening.{Opening};
+ghost use Rattle.album_items.specs.declared.values.Value.{Value};
+ghost use Rattle.album_calls.specs.Nodes.{is_part};
+ghost use Rattle.album_calls.specs.declared.messages.Body.TheVariants as Body;
 ghost use Rattle.album_calls.specs.declared.messages.Message.{Message};
+ghost use Rattle.album_calls.specs.declared.nodes.Vote.TheVariants as Vote;
+ghost use Rattle.album_calls.specs.declared.replies.Reply.{Reply as AnyReply};
 ghost use Rattle.album_calls.specs.declared.replies.Reply.TheVariants as Reply;
+ghost use Rattle.album_calls.specs.declared.requests.Request.{Request as AnyRequest};
+ghost use Rattle.album_calls.specs.declared.requests.Request.TheVariants as Request;
 ghost use Rattle.album_terminate.specs.declared.deciding.StampState.TheVariants as StampState;
 ghost use Rattle.album_partition.specs.declared.marks.Mark.{Mark};
 ghost use Rattle.album_partition.specs.declared.marks.Mark.TheVariants as Made;
-ghost use Rattle.album_partition.specs.Answers.{says, is_proper, to_prepare, to_check, effect_of};
-ghost use Rattle.album_partition.specs.Held.{Held};
-ghost use Rattle.album_partition.specs.Marks.{prepares, commits, discards, decides, state_of, may_follow, is_legal, is_full};
+ghost use Rattle.album_partition.specs.Answers.{says, to_prepare, to_check, effect_of, after, answer};
+ghost use Rattle.album_partition.specs.Laws.{IsTrueOf, IsClash, IsReplyTo, IsReadOf, IsCause};
+ghost use Rattle.album_partition.specs.Marks.{IsPromisedAgainst, prepares, commits, discards, decides, state_of, value_in, version, latest, may_follow, is_legal, load, is_full};
+ghost use Rattle.album_partition.specs.Partition.{PartitionState, IsPartition, opened};
+ghost use Rattle.album_partition.specs.Proper.{is_proper};
+ghost use Rattle.album_partition.specs.Votes.{NotedVote};
 
 /// A law: what a history never holds. Each mark may follow those before it, so a stamp is prepared
 /// and decided at most once, is committed only where it was prepared, and is not prepared once it
@@ -29,17 +42,142 @@ pub fn histories_are_orderly()
         → list_any (discards stamp) before ≡ false }
 {}
 
+/// A law: what marks that follow leave. What is committed or discarded stays so, a committed stamp
+/// keeps its versions, no latest stamp falls, and what is full stays full.
+pub fn histories_only_grow()
+    ensures committed { (before later : List Mark) (stamp : ℕ) → is_legal (before ++ later) ≡ true
+        → state_of before stamp ≡ StampState.Committed
+        → state_of (before ++ later) stamp ≡ StampState.Committed }
+    ensures discarded { (before later : List Mark) (stamp : ℕ) → is_legal (before ++ later) ≡ true
+        → state_of before stamp ≡ StampState.Discarded
+        → state_of (before ++ later) stamp ≡ StampState.Discarded }
+    ensures version { (before later : List Mark) (item stamp : ℕ) → is_legal (before ++ later) ≡ true
+        → state_of before stamp ≡ StampState.Committed
+        → version (before ++ later) item stamp ≡ version before item stamp }
+    ensures latest { (before later : List Mark) (item : ℕ) → is_legal (before ++ later) ≡ true
+        → latest before item ≤ latest (before ++ later) item }
+    ensures load { (before later : List Mark) → is_legal (before ++ later) ≡ true
+        → load before ≤ load (before ++ later) }
+    ensures full { (before later : List Mark) (limit : ℕ) → is_legal (before ++ later) ≡ true
+        → is_full limit before ≡ true → is_full limit (before ++ later) ≡ true }
+{}
+
+/// A law: where a stamp was discarded that had not been prepared, it never is, and it stays
+/// discarded. That it was so is told by a Status Never of a stamp that was unknown.
+pub fn promises_against_are_kept()
+    ensures unprepared { (marks : List Mark) (stamp : ℕ) → is_legal marks ≡ true
+        → IsPromisedAgainst marks stamp → list_any (prepares stamp) marks ≡ false }
+    ensures discarded { (marks : List Mark) (stamp : ℕ) → is_legal marks ≡ true
+        → IsPromisedAgainst marks stamp → state_of marks stamp ≡ StampState.Discarded }
+    ensures stays { (marks later : List Mark) (stamp : ℕ)
+        → IsPromisedAgainst marks stamp → IsPromisedAgainst (marks ++ later) stamp }
+    ensures told { (partition : PartitionState) (message : Message) (stamp : ℕ)
+        → state_of partition.marks stamp ≡ StampState.Unknown
+        → (effect_of partition message).reply ≡ Some (Reply.Status stamp Vote.Never)
+        → IsPromisedAgainst (after partition message).marks stamp }
+{}
+
+/// A law: a partition is one as it opens, and stays one whatever message comes. A message adds at
+/// most one mark and at most one vote, at the end.
+pub fn partitions_stay_partitions()
+    ensures opened { (number : ℕ) (opening : Opening) (partition : PartitionState)
+        → opened number opening ≡ Ok partition → IsPartition partition }
+    ensures after { (partition : PartitionState) (message : Message)
+        → IsPartition partition → IsPartition (after partition message) }
+    ensures marks { (partition : PartitionState) (message : Message)
+        → (after partition message).marks ≡ partition.marks ++ option_to_list (effect_of partition message).mark }
+    ensures votes { (partition : PartitionState) (message : Message)
+        → (after partition message).votes ≡ partition.votes ++ option_to_list (effect_of partition message).vote }
+{}
+
+/// A law: why each mark is made. A vote Prepared commits only where it is the last of all others'.
+pub fn marks_have_their_causes()
+    ensures { (partition : PartitionState) (message : Message) (mark : Mark)
+        → (effect_of partition message).mark ≡ Some mark → IsCause partition message mark }
+{}
+
+/// A law: what a reply tells of a stamp is so, once the message was received.
+pub fn replies_tell_the_state()
+    ensures { (partition : PartitionState) (message told : Message) → answer partition message ≡ Some told
+        → (reply : AnyReply) × (told.body ≡ Body.Reply reply) × IsTrueOf (after partition message).marks reply }
+{}
+
+/// A law: each request to the partition is answered, and a Clash is told only where something is
+/// wrong with it.
+pub fn requests_are_answered()
+    ensures answered { (partition : PartitionState) (message : Message) (request : AnyRequest)
+        → message.body ≡ Body.Request request → is_part message.to partition.number ≡ true
+        → is_some (answer partition message) ≡ true }
+    ensures clash { (partition : PartitionState) (message : Message)
+        → (effect_of partition message).reply ≡ Some Reply.Clash → IsClash partition message.body }
+{}
+
+/// A law: to whom a reply goes. The votes that were noted don't change it, a reply is never replied
+/// to, and a message to another node does nothing.
+pub fn replies_go_to_the_sender()
+    ensures sender { (partition : PartitionState) (message told : Message)
+        → answer partition message ≡ Some told → IsReplyTo partition message told }
+    ensures votes { (partition : PartitionState) (message : Message) (votes : List NotedVote)
+        → answer (record partition { votes = votes }) message ≡ answer partition message }
+    ensures requests { (partition : PartitionState) (message : Message) (reply : AnyReply)
+        → message.body ≡ Body.Reply reply → answer partition message ≡ None }
+    ensures others { (partition : PartitionState) (message : Message)
+        → is_part message.to partition.number ≡ false
+        → (after partition message ≡ partition) × (answer partition message ≡ None) }
+{}
+
+/// A law: what is read. Each version that is told answers a Get of just that item, is the one that
+/// was asked for, and has the value that was written. Each Get of an item that is placed here is
+/// answered so.
+pub fn gets_read_what_is_written()
+    ensures version { (partition : PartitionState) (message : Message) (item stamp : ℕ) (value : Value)
+        → (effect_of partition message).reply ≡ Some (Reply.Version item stamp value)
+        → IsReadOf partition message item stamp value }
+    ensures answered { (partition : PartitionState) (message : Message) (item : ℕ) (stamps : List ℕ)
+        → message.body ≡ Body.Request (Request.Get item stamps)
+        → is_part message.to partition.number ≡ true
+        → place_of partition.opening.parts item ≡ partition.number
+        → (stamp : ℕ) × (value : Value)
+        × ((effect_of partition message).reply ≡ Some (Reply.Version item stamp value)) }
+{}
+
+/// A law: which writes a Prepare that can be followed has. It gives a value to just those of its
+/// items that are placed at the partition, in any order.
+pub fn proper_writes_are_those_placed_here()
+    ensures placed { (number parts stamp : ℕ) (writes : List Row) (items : List ℕ) (item : ℕ)
+        → is_proper number parts stamp writes items ≡ true
+        → IsTrue (is_some (value_in writes item)) ↔ (Contains items item × (place_of parts item ≡ number)) }
+    ensures order { (number parts stamp : ℕ) (writes others : List Row) (items : List ℕ)
+        → IsPermutation writes others
+        → is_proper number parts stamp writes items ≡ is_proper number parts stamp others items }
+{}
+
 /// A law: that a partition is full it tells only where it is, and only of a stamp that is unknown
 /// there. It tells so to each Check, and to each Prepare that it could follow otherwise.
 pub fn full_has_its_cause()
-    ensures only { (held : Held) (message : Message) (stamp : ℕ)
-        → (effect_of held message).reply ≡ Some (Reply.Full stamp)
-        → (is_full held.opening.limit held.marks ≡ true) × (state_of held.marks stamp ≡ StampState.Unknown) }
-    ensures check { (held : Held) (stamp : ℕ) → stamp ≢ 0
-        → is_full held.opening.limit held.marks ≡ true → state_of held.marks stamp ≡ StampState.Unknown
-        → to_check held stamp ≡ says (Reply.Full stamp) }
-    ensures prepare { (held : Held) (stamp : ℕ) (writes : List Row) (items : List ℕ)
-        → is_proper held stamp writes items ≡ true
-        → is_full held.opening.limit held.marks ≡ true → state_of held.marks stamp ≡ StampState.Unknown
-        → to_prepare held stamp writes items ≡ says (Reply.Full stamp) }
+    ensures only { (partition : PartitionState) (message : Message) (stamp : ℕ)
+        → (effect_of partition message).reply ≡ Some (Reply.Full stamp)
+        → (is_full partition.opening.limit partition.marks ≡ true)
+        × (state_of partition.marks stamp ≡ StampState.Unknown) }
+    ensures check { (partition : PartitionState) (stamp : ℕ) → stamp ≢ 0
+        → is_full partition.opening.limit partition.marks ≡ true
+        → state_of partition.marks stamp ≡ StampState.Unknown
+        → to_check partition stamp ≡ says (Reply.Full stamp) }
+    ensures prepare { (partition : PartitionState) (stamp : ℕ) (writes : List Row) (items : List ℕ)
+        → is_proper partition.number partition.opening.parts stamp writes items ≡ true
+        → is_full partition.opening.limit partition.marks ≡ true
+        → state_of partition.marks stamp ≡ StampState.Unknown
+        → to_prepare partition stamp writes items ≡ says (Reply.Full stamp) }
+{}
+
+/// A law: where a partition is full it stays so, and a stamp that is unknown there stays unknown,
+/// whatever message comes. So a stamp for which there was no room once is never prepared there.
+pub fn full_stays()
+    ensures full { (partition : PartitionState) (message : Message) → IsPartition partition
+        → is_full partition.opening.limit partition.marks ≡ true
+        → is_full partition.opening.limit (after partition message).marks ≡ true }
+    ensures unknown { (partition : PartitionState) (message : Message) (stamp : ℕ)
+        → is_full partition.opening.limit partition.marks ≡ true
+        → state_of partition.marks stamp ≡ StampState.Unknown
+        → state_of (after partition message).marks stamp ≡ StampState.Unknown }
 {}

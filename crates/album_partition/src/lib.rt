@@ -1,22 +1,29 @@
-//! A partition: a state machine over messages. It keeps the versions of the items that are placed at
-//! it and a history of marks, answers each message by one table, and settles a write that was left
-//! undecided by asking the other partitions of its items.
+//! A partition: a state machine over messages. A message comes in; at most one mark and one vote are
+//! kept, and at most one reply goes out, by one table of answers. A write that was left half way is
+//! settled by asking the other partitions of its items.
+//!
+//! A `Partition` opens with the first values of its items. Then its caller gives it each message by
+//! `receive`, and now and then, for each stamp of `pending`, sends what `sweep` gives. What it keeps
+//! is its `history`: a list of marks that only grows.
+//!
+//! Read `marks` first, and specs/Marks.antt beside it; then `partition` and the table in
+//! `partition/answers`; then what they stand on, `stored` and `history`; and `laws` last.
 #![tactic(auto)]
 
-mod answers;
-mod effects;
 mod history;
 mod laws;
 mod marks;
-mod openings;
 mod partition;
 mod places;
 mod proper;
-mod requests;
 mod stored;
-mod sweeps;
 mod votes;
 
-pub use laws::{full_has_its_cause, histories_are_orderly};
+pub use laws::{
+    full_has_its_cause, full_stays, gets_read_what_is_written, histories_are_orderly,
+    histories_only_grow, marks_have_their_causes, partitions_stay_partitions,
+    promises_against_are_kept, proper_writes_are_those_placed_here, replies_go_to_the_sender,
+    replies_tell_the_state, requests_are_answered,
+};
 pub use marks::Mark;
 pub use partition::Partition;

@@ -1,15 +1,16 @@
 // The entries of a partition's history.
-ghost use Rattle.std.specs.Prelude.{◌≡◌, Some};
+ghost use Rattle.std.specs.Prelude.{◌≡◌, Some, IfOk};
 ghost use Rattle.album_partition.specs.Marks.{stamp_of, writes_of, items_of};
 
 use album_items::{ItemId, ItemValues, Items, Value};
 use album_stamps::Stamp;
+use std::alloc::AllocError;
 
 /// An entry of a partition's history.
 #[derive(Debug, Drop)]
 pub enum Mark {
-    /// These writes of the stamp are kept here, undecided. The items are those of the whole
-    /// transaction, at every partition.
+    /// These writes of the stamp are kept here, and can't be read yet by all. The items are those of
+    /// the whole transaction, at every partition.
     Prepared(Stamp, ItemValues, Items),
     /// The writes of the stamp can be read.
     Committed(Stamp),
@@ -18,6 +19,18 @@ pub enum Mark {
 }
 
 impl Mark {
+    /// The mark of a Prepare of these writes and items, which are copied.
+    pub(crate) fn prepared(
+        stamp: Stamp,
+        writes: &ItemValues,
+        items: &Items,
+    ) -> Result<Mark, AllocError>
+        ensures { IfOk result (λ mark. mark ≡ Mark.Prepared stamp writes.now items.now) }
+    {
+        let writes = clone_of(writes)?;
+        Ok(Mark::Prepared(stamp, writes, items.clone()?))
+    }
+
     /// The stamp that it is of.
     pub fn stamp(&self) -> Stamp
         ensures { result ≡ stamp_of self.now }
@@ -48,4 +61,10 @@ impl Mark {
             Mark::Discarded(_) => &[],
         }
     }
+}
+
+fn clone_of(writes: &ItemValues) -> Result<ItemValues, AllocError>
+    ensures { IfOk result (λ copy. copy ≡ writes.now) }
+{
+    writes.clone()
 }

@@ -1,45 +1,61 @@
 // A partition, and what it does with a message.
-ghost use Rattle.std.specs.Prelude.{◌≡◌, ◌≤◌, true, IfOk, IfErr, OnOk, OnErr, IfSome, MatchResult, Ok, Err};
+ghost use Rattle.std.specs.Prelude.{◌≡◌, ◌≤◌, true, IfOk, IfErr, OnOk, OnErr, IfSome, is_some, ◌||◌, MatchResult, IsOkUnless, Ok, Err};
 ghost use Rattle.album_stamps.specs.Outcome.{Makes};
-ghost use Rattle.album_stamps.specs.declared.refusals.Refusal.TheVariants.{OutOfMemory};
-ghost use Rattle.album_partition.specs.Answers.{to_body, with_effect, after, answer, swept};
-ghost use Rattle.album_partition.specs.Fits.{CanMake};
-ghost use Rattle.album_partition.specs.Held.{opened};
+ghost use Rattle.album_partition.specs.Answers.{with_effect, effect_of, after, answer, reply_to, wants_memory};
 ghost use Rattle.album_partition.specs.Marks.{ArePending, state_of, is_legal, load, latest};
+ghost use Rattle.album_partition.specs.Partition.{IsPartition, opened};
+ghost use Rattle.album_partition.specs.Proper.{are_proper_marks};
+ghost use Rattle.album_partition.specs.Stored.{CanFollow};
+ghost use Rattle.album_partition.specs.Sweeps.{swept};
 
-use crate::effects::Effect;
+mod answers;
+mod sweeps;
+
 use crate::marks::Mark;
-use crate::openings::may_open;
+use crate::places::{Seat, may_open};
 use crate::stored::Stored;
-use crate::votes::{Noted, push_vote};
+use crate::votes::Noted;
 use album_calls::{Body, Message, Node, Reply};
 use album_items::{ItemId, ItemValues};
-use album_stamps::{Refusal, Refused, Stamp};
+use album_stamps::{MOST_PARTS, Refusal, Refused, Stamp};
 use album_terminate::StampState;
-use std::alloc::Global;
+use answers::Effect;
+use std::alloc::{AllocError, Global};
 use std::marker::Model;
 
-/// A partition: a state machine over messages. Contracts see its place, what it opened with, its
+/// A partition: a state machine over messages. Contracts see its number, what it opened with, its
 /// marks and the votes that it noted.
 #[derive(Debug, Drop)]
 pub struct Partition {
-    pub(crate) alloc: Global,
-    pub(crate) number: u16,
-    pub(crate) parts: u16,
-    pub(crate) limit: u64,
-    pub(crate) items: ItemValues,
-    pub(crate) stored: Stored,
-    pub(crate) votes: Vec<Noted>,
+    alloc: Global,
+    seat: Seat,
+    /// How many marks the history may have.
+    limit: u64,
+    /// The items that are placed here, with the values that the service opened with.
+    items: ItemValues,
+    stored: Stored,
+    /// In the order in which they came; those on a stamp stay once it is decided.
+    votes: Vec<Noted>,
 }
 
 impl Model for Partition {
-    ghost use Rattle.album_partition.specs.Held.{Held, IsPartition};
+    ghost use Rattle.album_partition.specs.Partition.{PartitionState, IsPartition};
 
-    ghost Value = { Held };
+    ghost Value = { PartitionState };
 
-    ghost view = { λ p. record { number = p.number; opening = record { parts = p.parts; limit = p.limit; items = p.items }; marks = p.stored; votes = p.votes.items } };
+    ghost view = { λ p. record {
+      number = p.seat.number;
+      opening = record { parts = p.seat.parts; limit = p.limit; items = p.items };
+      marks = p.stored;
+      votes = p.votes.items;
+    } };
 
-    ghost invariant = { λ p. IsPartition (record { number = p.number; opening = record { parts = p.parts; limit = p.limit; items = p.items }; marks = p.stored; votes = p.votes.items }) };
+    ghost invariant = { λ p. IsPartition (record {
+      number = p.seat.number;
+      opening = record { parts = p.seat.parts; limit = p.limit; items = p.items };
+      marks = p.stored;
+      votes = p.votes.items;
+    }) };
 }
 
 impl Partition {
@@ -70,7 +86,14 @@ impl Partition {
                 given: items,
             });
         }
-        if !may_open(number, parts, items.as_slice(), limit) {
+        if parts > MOST_PARTS {
+            return Err(Refused {
+                refusal: Refusal::BadOpening,
+                given: items,
+            });
+        }
+        let seat = Seat { number, parts };
+        if !may_open(seat, items.as_slice(), limit) {
             return Err(Refused {
                 refusal: Refusal::BadOpening,
                 given: items,
@@ -78,8 +101,7 @@ impl Partition {
         }
         Ok(Partition {
             alloc,
-            number,
-            parts,
+            seat,
             limit,
             items,
             stored: Stored::new(alloc),
@@ -92,56 +114,51 @@ impl Partition {
     ///
     /// # Errors
     ///
-    /// `OutOfMemory`. Nothing changes then.
+    /// `OutOfMemory`, where something is kept or copied. Nothing changes then.
     pub fn receive(&mut self, message: &Message) -> Result<Option<Message>, Refusal>
         ensures changed { OnOk result (self.new ≡ after self.old message.now) }
         ensures answered { IfOk result (λ reply. reply ≡ answer self.old message.now) }
         ensures unchanged { OnErr result (self.new ≡ self.old) }
-        ensures memory { IfErr result (λ e. e ≡ OutOfMemory) }
+        ensures memory { IsOkUnless result Refusal.OutOfMemory }
+        ensures wanted { OnErr result (wants_memory (effect_of self.old message.now) ≡ true) }
     {
-        if !message.to().is_part(self.number) {
+        if !message.to().is_part(self.seat.number) {
             return Ok(None);
         }
         let effect = self.to_body(message.from(), message.body())?;
         match self.apply(effect)? {
             None => Ok(None),
-            Some(reply) => Ok(Some(Message::new(
-                Node::Part(self.number),
-                message.from(),
-                message.tag(),
-                Body::Reply(reply),
-            ))),
+            Some(reply) => Ok(Some(self.reply_to(message, reply))),
         }
     }
 
-    /// What is to be sent for a stamp that is undecided here: a Check to each other partition of its
+    /// What is to be sent for a stamp that is pending here: a Check to each other partition of its
     /// items, in rising order, or where there is none, this partition's own vote to itself.
     ///
     /// # Errors
     ///
-    /// `NotPrepared` where the stamp is not undecided here. Else `OutOfMemory`.
+    /// `NotPrepared` where the stamp is not pending here. Else `OutOfMemory`.
     pub fn sweep(&self, stamp: Stamp) -> Result<Vec<Message>, Refusal>
         ensures { Makes (λ messages. messages.items) result (swept self.now stamp) }
     {
         match self.state(stamp) {
             StampState::Pending => self.ask_others(stamp),
-            StampState::Unknown => Err(Refusal::NotPrepared),
-            StampState::Committed => Err(Refusal::NotPrepared),
-            StampState::Discarded => Err(Refusal::NotPrepared),
+            StampState::Unknown | StampState::Committed | StampState::Discarded => {
+                Err(Refusal::NotPrepared)
+            }
         }
     }
 
-    /// The stamps that are undecided here, rising.
+    /// The stamps that are pending here, rising.
     ///
     /// # Errors
     ///
     /// `OutOfMemory`.
     pub fn pending(&self) -> Result<Vec<Stamp>, Refusal>
-        ensures found { IfOk result (λ stamps. ArePending self.now.marks stamps.items) }
-        ensures memory { IfErr result (λ e. e ≡ OutOfMemory) }
+        ensures stamps { IfOk result (λ stamps. ArePending self.now.marks stamps.items) }
+        ensures memory { IsOkUnless result Refusal.OutOfMemory }
     {
-        let stamps = self.stored.history().pending(self.alloc)?;
-        Ok(stamps)
+        Ok(self.stored.pending(self.alloc)?)
     }
 
     /// The latest committed stamp of the item.
@@ -155,7 +172,7 @@ impl Partition {
     pub fn state(&self, stamp: Stamp) -> StampState
         ensures { result ≡ state_of self.now.marks stamp }
     {
-        self.stored.history().state(stamp)
+        self.stored.state(stamp)
     }
 
     /// The marks that were made, in order.
@@ -163,34 +180,41 @@ impl Partition {
         ensures marks { result.now ≡ self.now.marks }
         ensures legal { is_legal result.now ≡ true }
         ensures room { load result.now ≤ self.now.opening.limit }
+        ensures proper { are_proper_marks self.now.number self.now.opening.parts result.now ≡ true }
+        ensures partition { IsPartition self.now }
     {
-        self.stored.history().marks()
+        self.stored.marks()
     }
 }
 
 impl Partition {
-    fn to_body(&self, from: Node, body: &Body) -> Result<Effect, Refusal>
-        ensures found { IfOk result (λ effect. effect ≡ to_body self.now from body.now) }
-        ensures memory { IfErr result (λ e. e ≡ OutOfMemory) }
-    {
-        match body {
-            Body::Request(request) => self.to_request(request),
-            Body::Reply(reply) => self.to_reply(from, reply),
-        }
-    }
-
-    /// Keeps what the effect adds.
-    fn apply(&mut self, effect: Effect) -> Result<Option<Reply>, Refusal>
-        requires { IfSome effect.mark (CanMake self.old) }
+    /// Keeps what the effect adds, and gives its reply.
+    fn apply(&mut self, effect: Effect) -> Result<Option<Reply>, AllocError>
+        requires follows { IfSome effect.mark (CanFollow self.old.marks) }
+        requires partition { IsPartition (with_effect self.old effect) }
         ensures ok { OnOk result (self.new ≡ with_effect self.old effect) }
         ensures reply { IfOk result (λ reply. reply ≡ effect.reply) }
         ensures err { OnErr result (self.new ≡ self.old) }
-        ensures memory { IfErr result (λ e. e ≡ OutOfMemory) }
+        ensures wanted { OnErr result ((is_some effect.mark || is_some effect.vote) ≡ true) }
     {
         let Effect { mark, vote, reply } = effect;
-        self.votes.reserve(1)?;
-        self.stored.add(mark)?;
-        push_vote(&mut self.votes, vote);
+        match vote {
+            None => self.stored.add(mark)?,
+            Some(vote) => {
+                // Room first: once the mark is made, nothing may fail.
+                self.votes.reserve(1)?;
+                self.stored.add(mark)?;
+                self.votes.push_reserved(vote);
+            }
+        }
         Ok(reply)
+    }
+
+    /// The reply goes to the sender, with the request's tag.
+    fn reply_to(&self, message: &Message, reply: Reply) -> Message
+        ensures { result ≡ reply_to self.now message.now reply }
+    {
+        let number = Node::Part(self.seat.number);
+        Message::new(number, message.from(), message.tag(), Body::Reply(reply))
     }
 }

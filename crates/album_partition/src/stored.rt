@@ -1,27 +1,26 @@
 // The marks of a partition, and the versions that they make.
-ghost use Rattle.std.specs.Prelude.{◌≡◌, ◌<◌, ◌==◌, ◌++◌, ◌∷◌, [], ℕ, true, length, map, None, Some, IsSome, IfSome, option_to_list, IfErr, OnOk, OnErr, All};
+ghost use Rattle.std.specs.Prelude.{◌≡◌, ◌≤◌, ◌++◌, ◌∷◌, [], ℕ, true, is_some, option_to_list, length, None, Some, IsSome, IfSome, IfOk, OnOk, OnErr, All};
 ghost use Rattle.std.specs.Option.{option_copied};
-ghost use Rattle.album_stamps.specs.declared.refusals.Refusal.TheVariants.{OutOfMemory};
-ghost use Rattle.album_items.specs.Openings.{no_two};
-ghost use Rattle.album_versions.specs.Versions.{version_at, SameVersions, Adds, Drops};
+ghost use Rattle.album_stamps.specs.declared.limits.TheConstants.{MOST_MARKS};
+ghost use Rattle.album_items.specs.Openings.{has_single_rows};
+ghost use Rattle.album_versions.specs.Versions.{version_at, SameVersions, Adds};
 ghost use Rattle.album_versions.specs.Best.{best_of};
-ghost use Rattle.album_partition.specs.declared.marks.Mark.TheVariants as Mark;
-ghost use Rattle.album_partition.specs.Marks.{may_follow, writes_of, version, has_version, latest};
-ghost use Rattle.album_partition.specs.Keeping.{HasAdded, HasCommitted};
-ghost use Rattle.album_partition.specs.Fits.{CanFollow};
+ghost use Rattle.album_partition.specs.History.{kept_mark};
+ghost use Rattle.album_partition.specs.Marks.{ArePending, writes_of, items_of, state_of, is_legal, load, version, has_version, latest};
+ghost use Rattle.album_partition.specs.Stored.{CanFollow, HasAdded, HasCommitted};
 
 use crate::history::History;
 use crate::marks::Mark;
 use album_items::{ItemId, ItemValues, Items, Value};
 use album_stamps::{Refusal, Stamp};
+use album_terminate::StampState;
 use album_versions::Versions;
-use std::alloc::Global;
+use std::alloc::{AllocError, Global};
 use std::marker::Model;
 
 /// The marks, and beside them the versions that they make. Contracts see the marks.
 #[derive(Debug, Drop)]
 pub struct Stored {
-    alloc: Global,
     history: History,
     versions: Versions,
 }
@@ -29,7 +28,7 @@ pub struct Stored {
 impl Model for Stored {
     ghost use Rattle.std.specs.Prelude.{List};
     ghost use Rattle.album_partition.specs.declared.marks.Mark.{Mark};
-    ghost use Rattle.album_partition.specs.Keeping.{IsStored};
+    ghost use Rattle.album_partition.specs.Stored.{IsStored};
 
     ghost Value = { List Mark };
 
@@ -44,17 +43,54 @@ impl Stored {
         ensures { result ≡ [] }
     {
         Stored {
-            alloc,
             history: History::new(alloc),
             versions: Versions::new(alloc),
         }
     }
 
-    /// The history of the marks.
-    pub fn history(&self) -> &History
-        ensures { result.now ≡ self.now }
+    /// The marks, in order. Each may follow those before it.
+    pub fn marks(&self) -> &[Mark]
+        ensures marks { result.now ≡ self.now }
+        ensures legal { is_legal self.now ≡ true }
     {
-        &self.history
+        self.history.marks()
+    }
+
+    /// How the stamp stands.
+    pub fn state(&self, stamp: Stamp) -> StampState
+        ensures { result ≡ state_of self.now stamp }
+    {
+        self.history.state(stamp)
+    }
+
+    /// What is prepared at a stamp that is pending or committed.
+    pub fn writes(&self, stamp: Stamp) -> &[(ItemId, Value)]
+        ensures { result.now ≡ writes_of (kept_mark self.now stamp) }
+    {
+        self.history.writes(stamp)
+    }
+
+    /// The items of the transaction of a stamp that is pending or committed.
+    pub fn items(&self, stamp: Stamp) -> &[ItemId]
+        ensures { result.now ≡ items_of (kept_mark self.now stamp) }
+    {
+        self.history.items(stamp)
+    }
+
+    /// The stamps that are pending, rising.
+    pub fn pending(&self, alloc: Global) -> Result<Vec<Stamp>, AllocError>
+        ensures { IfOk result (λ stamps. ArePending self.now stamps.items) }
+    {
+        self.history.pending(alloc)
+    }
+
+    /// How many marks there are, and one more for each stamp that is pending.
+    #[tactic(auto, using(crate::proofs::LoadLemmas::pending_few))]
+    pub fn load(&self) -> u64
+        requires { length self.now ≤ MOST_MARKS }
+        ensures { result ≡ load self.now }
+    {
+        self.history.marks().len() as u64 + self.history.pending_count() as u64
     }
 
     /// The latest committed stamp of the item.
@@ -79,11 +115,11 @@ impl Stored {
     }
 
     /// Makes the mark, if there is one.
-    pub fn add(&mut self, mark: Option<Mark>) -> Result<(), Refusal>
+    pub fn add(&mut self, mark: Option<Mark>) -> Result<(), AllocError>
         requires { IfSome mark (CanFollow self.old) }
         ensures ok { OnOk result (self.new ≡ self.old ++ option_to_list mark) }
         ensures err { OnErr result (self.new ≡ self.old) }
-        ensures memory { IfErr result (λ e. e ≡ OutOfMemory) }
+        ensures wanted { OnErr result (is_some mark ≡ true) }
     {
         match mark {
             None => Ok(()),
@@ -92,13 +128,10 @@ impl Stored {
     }
 
     /// Makes a mark, which may follow those before it. What it prepares, it prepares once.
-    fn make(&mut self, mark: Mark) -> Result<(), Refusal>
-        requires follows { may_follow self.old mark ≡ true }
-        requires room { length self.old < 1000000 }
-        requires once { no_two (λ a b. a == b) (map (λ row. row.0) (writes_of (Some mark))) ≡ true }
+    fn make(&mut self, mark: Mark) -> Result<(), AllocError>
+        requires { CanFollow self.old mark }
         ensures ok { OnOk result (self.new ≡ self.old ++ mark ∷ []) }
         ensures err { OnErr result (self.new ≡ self.old) }
-        ensures memory { IfErr result (λ e. e ≡ OutOfMemory) }
     {
         match mark {
             Mark::Prepared(stamp, writes, items) => self.prepare(stamp, writes, items),
@@ -107,40 +140,35 @@ impl Stored {
         }
     }
 
-    fn prepare(&mut self, stamp: Stamp, writes: ItemValues, items: Items) -> Result<(), Refusal>
-        requires follows { may_follow self.old (Mark.Prepared stamp writes items) ≡ true }
-        requires room { length self.old < 1000000 }
-        requires once { no_two (λ a b. a == b) (map (λ row. row.0) writes) ≡ true }
+    fn prepare(&mut self, stamp: Stamp, writes: ItemValues, items: Items) -> Result<(), AllocError>
+        requires { CanFollow self.old (Mark.Prepared stamp writes items) }
         ensures ok { OnOk result (self.new ≡ self.old ++ Mark.Prepared stamp writes items ∷ []) }
         ensures err { OnErr result (self.new ≡ self.old) }
-        ensures memory { IfErr result (λ e. e ≡ OutOfMemory) }
     {
-        add_rows(self.alloc, &mut self.versions, stamp, writes.as_slice())?;
-        if let Err(refusal) = self.history.add(Mark::Prepared(stamp, writes, items)) {
+        // Before the mark, which takes the writes: the stamp is unknown, so its versions can go again.
+        add_rows(&mut self.versions, stamp, writes.as_slice())?;
+        if let Err(error) = self.history.add(Mark::Prepared(stamp, writes, items)) {
             self.versions.drop_stamp(stamp);
-            return Err(refusal);
+            return Err(error);
         }
         Ok(())
     }
 
-    fn commit(&mut self, stamp: Stamp) -> Result<(), Refusal>
-        requires follows { may_follow self.old (Mark.Committed stamp) ≡ true }
-        requires room { length self.old < 1000000 }
+    fn commit(&mut self, stamp: Stamp) -> Result<(), AllocError>
+        requires { CanFollow self.old (Mark.Committed stamp) }
         ensures ok { OnOk result (self.new ≡ self.old ++ Mark.Committed stamp ∷ []) }
         ensures err { OnErr result (self.new ≡ self.old) }
-        ensures memory { IfErr result (λ e. e ≡ OutOfMemory) }
     {
+        // First what may fail: to raise a latest stamp takes no memory.
         self.history.add(Mark::Committed(stamp))?;
         commit_rows(&mut self.versions, stamp, self.history.writes(stamp));
         Ok(())
     }
 
-    fn discard(&mut self, stamp: Stamp) -> Result<(), Refusal>
-        requires follows { may_follow self.old (Mark.Discarded stamp) ≡ true }
-        requires room { length self.old < 1000000 }
+    fn discard(&mut self, stamp: Stamp) -> Result<(), AllocError>
+        requires { CanFollow self.old (Mark.Discarded stamp) }
         ensures ok { OnOk result (self.new ≡ self.old ++ Mark.Discarded stamp ∷ []) }
         ensures err { OnErr result (self.new ≡ self.old) }
-        ensures memory { IfErr result (λ e. e ≡ OutOfMemory) }
     {
         self.history.add(Mark::Discarded(stamp))?;
         self.versions.drop_stamp(stamp);
@@ -150,40 +178,40 @@ impl Stored {
 
 /// Adds the rows as versions at a stamp, or none of them.
 fn add_rows(
-    alloc: Global,
     versions: &mut Versions,
     stamp: Stamp,
     rows: &[(ItemId, Value)],
-) -> Result<(), Refusal>
+) -> Result<(), AllocError>
     requires fresh { (i : ℕ) → version_at versions.old i stamp ≡ None }
-    requires once { no_two (λ a b. a == b) (map (λ row. row.0) rows.now) ≡ true }
+    requires once { has_single_rows rows.now ≡ true }
     ensures ok { OnOk result (HasAdded versions.old versions.new stamp rows.now) }
     ensures err { OnErr result (SameVersions versions.old versions.new) }
-    ensures memory { IfErr result (λ e. e ≡ OutOfMemory) }
 {
     for row in rows {
-        if let Err(refusal) = add_row(alloc, versions, stamp, row) {
+        if let Err(error) = add_row(versions, stamp, row) {
             versions.drop_stamp(stamp);
-            return Err(refusal);
+            return Err(error);
         }
     }
     Ok(())
 }
 
-fn add_row(
-    alloc: Global,
-    versions: &mut Versions,
-    stamp: Stamp,
-    row: &(ItemId, Value),
-) -> Result<(), Refusal>
+fn add_row(versions: &mut Versions, stamp: Stamp, row: &(ItemId, Value)) -> Result<(), AllocError>
     requires { version_at versions.old row.now.0 stamp ≡ None }
     ensures ok { OnOk result (Adds versions.old versions.new row.now.0 stamp row.now.1) }
     ensures err { OnErr result (SameVersions versions.old versions.new) }
-    ensures memory { IfErr result (λ e. e ≡ OutOfMemory) }
 {
-    let value = row.1.copy(alloc)?;
-    versions.add(row.0, stamp, value)?;
-    Ok(())
+    let value = clone_of(&row.1)?;
+    match versions.add(row.0, stamp, value) {
+        Ok(()) => Ok(()),
+        Err(_) => Err(AllocError),
+    }
+}
+
+fn clone_of(value: &Value) -> Result<Value, AllocError>
+    ensures { IfOk result (λ copy. copy ≡ value.now) }
+{
+    value.clone()
 }
 
 /// Commits the versions of the rows at a stamp.

@@ -1,6 +1,6 @@
 use Rattle.std.proofs.Common.{◌∙◌, List, [], ◌∷◌, ◌++◌, ap}
 use Rattle.album_partition.specs.declared.marks.Mark.{Mark}
-use Rattle.album_partition.proofs.Indexing.{seen, made}
+use Rattle.album_partition.proofs.HistoryLemmas.{seen, made}
 use Rattle.album_partition.proofs.history.History.add.Goals as goal
 
 pub invariant_of-self-2 : goal.invariant_of-self-2
@@ -8,5 +8,5 @@ invariant_of-self-2 c =
     made c.args.self.now _ _ _ _ _ _ _ _ (seen c.self.view_is c.self.invariant) c.requires.follows c.after-standing.ensures.standing
     c.stamp-stamp.ensures
     c.in_ok-insert.ensures.updates.0
-    c.after-standing.ensures.undecided
-    (c.push_mark.ensures ∙ ap (λ (ms : List Mark). ms ++ c.args.mark ∷ []) (c.reserve.ensures.items ∙ c.self.view_is))
+    c.after-standing.ensures.pending
+    (c.push_reserved.ensures.items ∙ ap (λ (ms : List Mark). ms ++ c.args.mark ∷ []) (c.reserve.ensures.items ∙ c.self.view_is))

@@ -1,0 +1,226 @@
+-- What a message can do, read off the table of answers once: `acts` is what the laws and PartitionLemmas cite.
+use Rattle.std.proofs.Common.{◌≡◌, ◌⊎◌, ℕ, Bool, true, false, ◌==◌, List, refl, inl, inr, if◌then◌else◌}
+use Rattle.std.proofs.lemmas.Bool.Decides.{Decides-eqb}
+use Rattle.album_items.specs.ItemIds.{place_of}
+use Rattle.album_items.specs.Openings.{Row}
+use Rattle.album_calls.specs.Nodes.{is_part}
+use Rattle.album_calls.specs.declared.messages.Body.{Body}
+use Rattle.album_calls.specs.declared.messages.Body.TheVariants as body
+use Rattle.album_calls.specs.declared.messages.Message.{Message}
+use Rattle.album_calls.specs.declared.nodes.Node.{Node}
+use Rattle.album_calls.specs.declared.nodes.Node.TheVariants.{Part, Client}
+use Rattle.album_calls.specs.declared.nodes.Vote.{Vote}
+use Rattle.album_calls.specs.declared.nodes.Vote.TheVariants as vote
+use Rattle.album_calls.specs.declared.requests.Request.TheVariants.{Prepare, Commit, Get, Check}
+use Rattle.album_calls.specs.declared.replies.Reply.{Reply}
+use Rattle.album_calls.specs.declared.replies.Reply.TheVariants as reply
+use Rattle.album_terminate.specs.declared.deciding.StampState.{StampState}
+use Rattle.album_terminate.specs.declared.deciding.StampState.TheVariants as state
+use Rattle.album_partition.specs.declared.marks.Mark.TheVariants.{Prepared, Committed, Discarded}
+use Rattle.album_partition.specs.Answers.{Effect, nothing, says, marks, marks_and_says, is_same, prepare_by, to_prepare, commit_by, to_commit, check_by, to_check, to_get, says_version, to_part, to_prepared, to_vote, to_status, to_body, effect_of}
+use Rattle.album_partition.specs.Laws.{IsClash}
+use Rattle.album_partition.specs.Marks.{state_of, is_pending, is_full, items_at}
+use Rattle.album_partition.specs.Partition.{PartitionState, value_at, stamp_for}
+use Rattle.album_partition.specs.Places.{is_placed, lies_at}
+use Rattle.album_partition.specs.Proper.{is_proper}
+use Rattle.album_partition.proofs.StateLemmas.{is_pending_tells}
+
+-- ---- what is so where a reply is all
+
+abbrev pub IsSaid : PartitionState → Body → Reply → Type 0
+IsSaid p b (reply.Prepared t) = (state_of p.marks t ≡ state.Pending) ⊎ (state_of p.marks t ≡ state.Committed)
+IsSaid p b (reply.Committed t) = state_of p.marks t ≡ state.Committed
+IsSaid p b (reply.Discarded t) = state_of p.marks t ≡ state.Discarded
+IsSaid p b (reply.Status t vote.Prepared) = state_of p.marks t ≡ state.Pending
+IsSaid p b (reply.Status t vote.Committed) = state_of p.marks t ≡ state.Committed
+IsSaid p b (reply.Status t vote.Never) = state_of p.marks t ≡ state.Discarded
+IsSaid p b (reply.NotPrepared t) = state_of p.marks t ≡ state.Unknown
+IsSaid p b (reply.Full t) = (is_full p.opening.limit p.marks ≡ true) × (state_of p.marks t ≡ state.Unknown)
+IsSaid p b (reply.Version item t value) =
+    (stamps : List ℕ) × (b ≡ body.Request (Get item stamps)) × (t ≡ stamp_for p.marks item stamps) × (value ≡ value_at p item t)
+IsSaid p b reply.Clash = IsClash p b
+
+-- ---- each way in which a message can act
+
+-- a Prepare that is followed
+pub record IsPrepared (p : PartitionState) (b : Body) (e : Effect) : Type 0 where
+  pub t : ℕ
+  pub ws : List Row
+  pub is : List ℕ
+  pub asked : b ≡ body.Request (Prepare t ws is)
+  pub done : e ≡ marks_and_says (Prepared t ws is) (reply.Prepared t)
+  pub proper : is_proper p.number p.opening.parts t ws is ≡ true
+  pub room : is_full p.opening.limit p.marks ≡ false
+  pub unknown : state_of p.marks t ≡ state.Unknown
+
+-- a Commit of a pending stamp
+pub record IsCommitted (p : PartitionState) (b : Body) (e : Effect) : Type 0 where
+  pub t : ℕ
+  pub asked : b ≡ body.Request (Commit t)
+  pub done : e ≡ marks_and_says (Committed t) (reply.Committed t)
+  pub some : (t == 0) ≡ false
+  pub pending : state_of p.marks t ≡ state.Pending
+
+-- a Check of an unknown stamp
+pub record IsRefused (p : PartitionState) (b : Body) (e : Effect) : Type 0 where
+  pub t : ℕ
+  pub asked : b ≡ body.Request (Check t)
+  pub done : e ≡ marks_and_says (Discarded t) (reply.Status t vote.Never)
+  pub some : (t == 0) ≡ false
+  pub room : is_full p.opening.limit p.marks ≡ false
+  pub unknown : state_of p.marks t ≡ state.Unknown
+
+-- a vote Committed, or Never, on a pending stamp
+pub record IsVotedCommitted (p : PartitionState) (b : Body) (e : Effect) : Type 0 where
+  pub t : ℕ
+  pub told : b ≡ body.Reply (reply.Status t vote.Committed)
+  pub done : e ≡ marks (Committed t)
+  pub pending : state_of p.marks t ≡ state.Pending
+
+pub record IsVotedNever (p : PartitionState) (b : Body) (e : Effect) : Type 0 where
+  pub t : ℕ
+  pub told : b ≡ body.Reply (reply.Status t vote.Never)
+  pub done : e ≡ marks (Discarded t)
+  pub pending : state_of p.marks t ≡ state.Pending
+
+-- a vote Prepared of one of the partitions of a pending stamp's items
+pub record IsVotedPrepared (p : PartitionState) (from : Node) (b : Body) (e : Effect) : Type 0 where
+  pub t : ℕ
+  pub part : ℕ
+  pub sender : from ≡ Part part
+  pub told : b ≡ body.Reply (reply.Status t vote.Prepared)
+  pub done : e ≡ to_part p part t
+  pub due : lies_at part p.opening.parts (items_at p.marks t) ≡ true
+  pub pending : state_of p.marks t ≡ state.Pending
+
+pub data Acts (p : PartitionState) (from : Node) (b : Body) (e : Effect) : Type 0 where
+  idle : e ≡ nothing → Acts p from b e
+  said : (r : Reply) → e ≡ says r → IsSaid p b r → Acts p from b e
+  prepared : IsPrepared p b e → Acts p from b e
+  committed : IsCommitted p b e → Acts p from b e
+  refused : IsRefused p b e → Acts p from b e
+  voted_committed : IsVotedCommitted p b e → Acts p from b e
+  voted_never : IsVotedNever p b e → Acts p from b e
+  voted_prepared : IsVotedPrepared p from b e → Acts p from b e
+
+-- ---- row by row
+
+prepare_acts : (p : PartitionState) (from : Node) (t : ℕ) (ws : List Row) (is : List ℕ)
+    → is_proper p.number p.opening.parts t ws is ≡ true
+    → (full : Bool) → is_full p.opening.limit p.marks ≡ full
+    → (same : Bool) → is_same p.marks t ws is ≡ same
+    → (s : StampState) → state_of p.marks t ≡ s
+    → Acts p from (body.Request (Prepare t ws is)) (prepare_by full same s t ws is)
+prepare_acts p from t ws is proper true f same g state.Unknown e = said (reply.Full t) refl (f, e)
+prepare_acts p from t ws is proper false f same g state.Unknown e =
+    prepared (record { t = t; ws = ws; is = is; asked = refl; done = refl; proper = proper; room = f; unknown = e })
+prepare_acts p from t ws is proper full f true g state.Pending e = said (reply.Prepared t) refl (inl e)
+prepare_acts p from t ws is proper full f false g state.Pending e = said reply.Clash refl (inr (g, inl e))
+prepare_acts p from t ws is proper full f true g state.Committed e = said (reply.Prepared t) refl (inr e)
+prepare_acts p from t ws is proper full f false g state.Committed e = said reply.Clash refl (inr (g, inr e))
+prepare_acts p from t ws is proper full f same g state.Discarded e = said (reply.Discarded t) refl e
+
+to_prepare_acts : (p : PartitionState) (from : Node) (t : ℕ) (ws : List Row) (is : List ℕ)
+    → Acts p from (body.Request (Prepare t ws is)) (to_prepare p t ws is)
+to_prepare_acts p from t ws is = go (is_proper p.number p.opening.parts t ws is) refl
+  where
+    go : (b : Bool) → is_proper p.number p.opening.parts t ws is ≡ b
+        → Acts p from (body.Request (Prepare t ws is))
+        (if b then prepare_by (is_full p.opening.limit p.marks) (is_same p.marks t ws is) (state_of p.marks t) t ws is else says reply.Clash)
+    go true e = prepare_acts p from t ws is e (is_full p.opening.limit p.marks) refl (is_same p.marks t ws is) refl (state_of p.marks t) refl
+    go false e = said reply.Clash refl (inl e)
+
+commit_acts : (p : PartitionState) (from : Node) (t : ℕ) → (t == 0) ≡ false
+    → (s : StampState) → state_of p.marks t ≡ s → Acts p from (body.Request (Commit t)) (commit_by s t)
+commit_acts p from t some state.Unknown e = said (reply.NotPrepared t) refl e
+commit_acts p from t some state.Pending e = committed (record { t = t; asked = refl; done = refl; some = some; pending = e })
+commit_acts p from t some state.Committed e = said (reply.Committed t) refl e
+commit_acts p from t some state.Discarded e = said (reply.Discarded t) refl e
+
+to_commit_acts : (p : PartitionState) (from : Node) (t : ℕ) → Acts p from (body.Request (Commit t)) (to_commit p t)
+to_commit_acts p from t = go (t == 0) refl
+  where
+    go : (b : Bool) → (t == 0) ≡ b → Acts p from (body.Request (Commit t)) (if b then says reply.Clash else commit_by (state_of p.marks t) t)
+    go true e = said reply.Clash refl ((Decides-eqb t 0).0 e)
+    go false e = commit_acts p from t e (state_of p.marks t) refl
+
+check_acts : (p : PartitionState) (from : Node) (t : ℕ) → (t == 0) ≡ false
+    → (full : Bool) → is_full p.opening.limit p.marks ≡ full
+    → (s : StampState) → state_of p.marks t ≡ s → Acts p from (body.Request (Check t)) (check_by full s t)
+check_acts p from t some true f state.Unknown e = said (reply.Full t) refl (f, e)
+check_acts p from t some false f state.Unknown e = refused (record { t = t; asked = refl; done = refl; some = some; room = f; unknown = e })
+check_acts p from t some full f state.Pending e = said (reply.Status t vote.Prepared) refl e
+check_acts p from t some full f state.Committed e = said (reply.Status t vote.Committed) refl e
+check_acts p from t some full f state.Discarded e = said (reply.Status t vote.Never) refl e
+
+to_check_acts : (p : PartitionState) (from : Node) (t : ℕ) → Acts p from (body.Request (Check t)) (to_check p t)
+to_check_acts p from t = go (t == 0) refl
+  where
+    go : (b : Bool) → (t == 0) ≡ b
+        → Acts p from (body.Request (Check t)) (if b then says reply.Clash else check_by (is_full p.opening.limit p.marks) (state_of p.marks t) t)
+    go true e = said reply.Clash refl ((Decides-eqb t 0).0 e)
+    go false e = check_acts p from t e (is_full p.opening.limit p.marks) refl (state_of p.marks t) refl
+
+to_get_acts : (p : PartitionState) (from : Node) (item : ℕ) (stamps : List ℕ) → Acts p from (body.Request (Get item stamps)) (to_get p item stamps)
+to_get_acts p from item stamps = go (is_placed p.number p.opening.parts item) refl (stamp_for p.marks item stamps) refl
+  where
+    go : (b : Bool) → is_placed p.number p.opening.parts item ≡ b → (t : ℕ) → t ≡ stamp_for p.marks item stamps
+        → Acts p from (body.Request (Get item stamps)) (if b then says_version p item t else says reply.Clash)
+    go true here t e = said (reply.Version item t (value_at p item t)) refl (stamps, refl, e, refl)
+    go false here t e =
+        said reply.Clash refl
+        (λ (placed : place_of p.opening.parts item ≡ p.number). absurd (let there = (Decides-eqb (place_of p.opening.parts item) p.number).1 placed in cc))
+
+prepared_acts : (p : PartitionState) (from : Node) (t : ℕ) → state_of p.marks t ≡ state.Pending
+    → Acts p from (body.Reply (reply.Status t vote.Prepared)) (to_prepared p from t)
+prepared_acts p (Client client) t pending = idle refl
+prepared_acts p (Part part) t pending = go (lies_at part p.opening.parts (items_at p.marks t)) refl
+  where
+    go : (b : Bool) → lies_at part p.opening.parts (items_at p.marks t) ≡ b
+        → Acts p (Part part) (body.Reply (reply.Status t vote.Prepared)) (if b then to_part p part t else nothing)
+    go true e = voted_prepared (record { t = t; part = part; sender = refl; told = refl; done = refl; due = e; pending = pending })
+    go false e = idle refl
+
+vote_acts : (p : PartitionState) (from : Node) (t : ℕ) (v : Vote) → state_of p.marks t ≡ state.Pending
+    → Acts p from (body.Reply (reply.Status t v)) (to_vote p from t v)
+vote_acts p from t vote.Prepared pending = prepared_acts p from t pending
+vote_acts p from t vote.Committed pending = voted_committed (record { t = t; told = refl; done = refl; pending = pending })
+vote_acts p from t vote.Never pending = voted_never (record { t = t; told = refl; done = refl; pending = pending })
+
+status_acts : (p : PartitionState) (from : Node) (t : ℕ) (v : Vote) → Acts p from (body.Reply (reply.Status t v)) (to_status p from t v)
+status_acts p from t v = go (is_pending (state_of p.marks t)) refl
+  where
+    go : (b : Bool) → is_pending (state_of p.marks t) ≡ b → Acts p from (body.Reply (reply.Status t v)) (if b then to_vote p from t v else nothing)
+    go true e = vote_acts p from t v (is_pending_tells (state_of p.marks t) e)
+    go false e = idle refl
+
+-- ---- the whole table
+
+pub acts : (p : PartitionState) (from : Node) (b : Body) → Acts p from b (to_body p from b)
+acts p from (body.Request (Prepare t ws is)) = to_prepare_acts p from t ws is
+acts p from (body.Request (Commit t)) = to_commit_acts p from t
+acts p from (body.Request (Get item stamps)) = to_get_acts p from item stamps
+acts p from (body.Request (Check t)) = to_check_acts p from t
+acts p from (body.Reply (reply.Status t v)) = status_acts p from t v
+acts p from (body.Reply (reply.Prepared t)) = idle refl
+acts p from (body.Reply (reply.Committed t)) = idle refl
+acts p from (body.Reply (reply.Discarded t)) = idle refl
+acts p from (body.Reply (reply.Version i t v)) = idle refl
+acts p from (body.Reply (reply.NotPrepared t)) = idle refl
+acts p from (body.Reply reply.Clash) = idle refl
+acts p from (body.Reply (reply.Full t)) = idle refl
+
+-- a message to another node does nothing
+pub acts_here : (p : PartitionState) (message : Message) → Acts p message.from message.body (effect_of p message)
+acts_here p message = go (is_part message.to p.number)
+  where
+    go : (b : Bool) → Acts p message.from message.body (if b then to_body p message.from message.body else nothing)
+    go true = acts p message.from message.body
+    go false = idle refl
+
+-- ---- a Prepare of an unknown stamp, for `Partition::to_prepare`
+
+pub unknown_prepared : (p : PartitionState) (t : ℕ) (ws : List Row) (is : List ℕ)
+    → is_proper p.number p.opening.parts t ws is ≡ true → state_of p.marks t ≡ state.Unknown
+    → prepare_by (is_full p.opening.limit p.marks) (is_same p.marks t ws is) state.Unknown t ws is ≡ to_prepare p t ws is
+unknown_prepared p t ws is proper unknown = rw (proper, unknown) refl

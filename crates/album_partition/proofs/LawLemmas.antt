@@ -1,0 +1,458 @@
+-- What follows of the table of answers. Each lemma that is `pub` is a law's, by its name; all but the last few go
+-- through the ways in which a message can act (`acts_here`).
+use Rattle.std.proofs.Common.{◌≡◌, ◌≢◌, ⊎_elim, inl, inr, ℕ, ◌≤◌, Bool, true, false, ◌==◌, ◌||◌, is_some, List, [], ◌∷◌, ◌++◌, option_map, option_to_list, Option, Some, None, refl, sym, ap, ◌∙◌, subst, if◌then◌else◌}
+use Rattle.std.specs.List.{list_any}
+use Rattle.std.proofs.lemmas.Bool.Decides.{Decides-eqb}
+use Rattle.std.proofs.lemmas.List.{append-nil}
+use Rattle.std.proofs.lemmas.List.Elements.{All-contains}
+use Rattle.album_items.specs.ItemIds.{place_of}
+use Rattle.album_items.specs.Openings.{Row}
+use Rattle.album_items.specs.declared.values.Value.{Value}
+use Rattle.album_calls.specs.Nodes.{is_part}
+use Rattle.album_calls.specs.declared.messages.Body.{Body}
+use Rattle.album_calls.specs.declared.messages.Body.TheVariants as body
+use Rattle.album_calls.specs.declared.messages.Message.{Message}
+use Rattle.album_calls.specs.declared.nodes.Node.{Node}
+use Rattle.album_calls.specs.declared.nodes.Node.TheVariants.{Part, Client}
+use Rattle.album_calls.specs.declared.nodes.Vote.{Vote}
+use Rattle.album_calls.specs.declared.nodes.Vote.TheVariants as vote
+use Rattle.album_calls.specs.declared.requests.Request.{Request}
+use Rattle.album_calls.specs.declared.requests.Request.TheVariants.{Prepare, Commit, Get, Check}
+use Rattle.album_calls.specs.declared.replies.Reply.{Reply}
+use Rattle.album_calls.specs.declared.replies.Reply.TheVariants as reply
+use Rattle.album_terminate.specs.Deciding.{have_told}
+use Rattle.album_terminate.specs.declared.deciding.Decision.TheVariants as decision
+use Rattle.album_terminate.specs.declared.deciding.StampState.{StampState}
+use Rattle.album_terminate.specs.declared.deciding.StampState.TheVariants as state
+use Rattle.album_terminate.proofs.Telling.{have_told_tells}
+use Rattle.album_versions.specs.Best.{best_of}
+use Rattle.album_versions.proofs.Greatest.{best_of-passes, Contains-best_of, All-best_of}
+use Rattle.album_partition.specs.declared.marks.Mark.{Mark}
+use Rattle.album_partition.specs.declared.marks.Mark.TheVariants.{Prepared, Committed, Discarded}
+use Rattle.album_partition.specs.Answers.{Effect, nothing, says, says_version, marks, marks_and_says, mark_by, is_same, prepare_by, commit_by, check_by, to_prepare, to_check, to_part, to_vote, to_status, to_request, to_body, effect_of, with_effect, after, reply_to, answer}
+use Rattle.album_partition.specs.Laws.{IsTrueOf, IsClash, IsReplyTo, IsLatest, IsBest, IsReadAt, IsValueOf, IsReadOf, IsChecked, IsCause}
+use Rattle.album_partition.specs.Marks.{IsPromisedAgainst, stamp_of, commits, state_of, is_pending, is_full, items_at, version, has_version, committed_stamps, latest}
+use Rattle.album_partition.specs.Partition.{PartitionState, IsPartition, value_at, stamp_for}
+use Rattle.album_partition.specs.Places.{is_placed, lies_at, others_of}
+use Rattle.album_partition.specs.Proper.{is_proper}
+use Rattle.album_partition.specs.Votes.{NotedVote, heard}
+use Rattle.album_partition.proofs.AnswerLemmas.{IsSaid, Acts, idle, said, prepared, committed, refused, voted_committed, voted_never, voted_prepared, acts_here}
+use Rattle.album_partition.proofs.GrowthLemmas.{full_still}
+use Rattle.album_partition.proofs.ListLemmas.{any_from_contains, contains_from_any}
+use Rattle.album_partition.proofs.PartitionLemmas.{same_partition, stays_after}
+use Rattle.album_partition.proofs.StateLemmas.{state_push_other, unknown_tells, committed_tells, prepared_is_pending, committed_is_committed, discarded_is_discarded}
+
+-- ---- what a reply tells
+
+said_true : (p : PartitionState) (b : Body) (r : Reply) → IsSaid p b r → IsTrueOf p.marks r
+said_true p b (reply.Prepared t) h = h
+said_true p b (reply.Committed t) h = h
+said_true p b (reply.Discarded t) h = h
+said_true p b (reply.Version i t v) h = tt
+said_true p b (reply.Status t vote.Prepared) h = h
+said_true p b (reply.Status t vote.Committed) h = h
+said_true p b (reply.Status t vote.Never) h = h
+said_true p b (reply.NotPrepared t) h = h
+said_true p b reply.Clash h = tt
+said_true p b (reply.Full t) h = h.1
+
+-- what an effect that is known says
+tells : (p : PartitionState) (e known : Effect) (r told : Reply) → e ≡ known → known.reply ≡ Some told
+    → IsTrueOf (p.marks ++ option_to_list known.mark) told → e.reply ≡ Some r → IsTrueOf (with_effect p e).marks r
+tells p e known r told is says_it h f =
+    let same : told ≡ r = (let g : known.reply ≡ Some r = subst (λ (x : Effect). x.reply ≡ Some r) is f in cc) in
+    subst (λ (x : Effect). IsTrueOf (with_effect p x).marks r) (sym is) (subst (IsTrueOf (p.marks ++ option_to_list known.mark)) same h)
+
+silent : (e known : Effect) (r : Reply) {X : Type 0} → e ≡ known → known.reply ≡ None → e.reply ≡ Some r → X
+silent e known r is none f = absurd (let g : known.reply ≡ Some r = subst (λ (x : Effect). x.reply ≡ Some r) is f in cc)
+
+true_by : (p : PartitionState) (from : Node) (b : Body) (e : Effect) → Acts p from b e → (r : Reply) → e.reply ≡ Some r → IsTrueOf (with_effect p e).marks r
+true_by p from b e (idle is) r f = silent e nothing r is refl f
+true_by p from b e (said told is h) r f =
+    tells p e (says told) r told is refl (subst (λ (ms : List Mark). IsTrueOf ms told) (sym (append-nil p.marks)) (said_true p b told h)) f
+true_by p from b e (prepared a) r f =
+    tells p e (marks_and_says (Prepared a.t a.ws a.is) (reply.Prepared a.t)) r (reply.Prepared a.t) a.done refl
+    (inl (prepared_is_pending p.marks a.t a.ws a.is a.unknown)) f
+true_by p from b e (committed a) r f =
+    tells p e (marks_and_says (Committed a.t) (reply.Committed a.t)) r (reply.Committed a.t) a.done refl (committed_is_committed p.marks a.t) f
+true_by p from b e (refused a) r f =
+    tells p e (marks_and_says (Discarded a.t) (reply.Status a.t vote.Never)) r (reply.Status a.t vote.Never) a.done refl
+    (discarded_is_discarded p.marks a.t (unknown_tells _ _ _ a.unknown).0) f
+true_by p from b e (voted_committed a) r f = silent e (marks (Committed a.t)) r a.done refl f
+true_by p from b e (voted_never a) r f = silent e (marks (Discarded a.t)) r a.done refl f
+true_by p from b e (voted_prepared a) r f = silent e (to_part p a.part a.t) r a.done refl f
+
+-- what is answered is the reply, sent back
+answered_by : (p : PartitionState) (m told : Message) (o : Option Reply) → option_map (reply_to p m) o ≡ Some told
+    → (r : Reply) × (o ≡ Some r) × (told ≡ reply_to p m r)
+answered_by p m told None e = absurd (cc)
+answered_by p m told (Some r) e = (r, refl, cc)
+
+pub replies_are_true : (p : PartitionState) (m told : Message) → answer p m ≡ Some told
+    → (r : Reply) × (told.body ≡ body.Reply r) × IsTrueOf (after p m).marks r
+replies_are_true p m told e =
+    let found = answered_by p m told (effect_of p m).reply e in
+    (found.0, ap (λ (x : Message). x.body) found.2, true_by p m.from m.body (effect_of p m) (acts_here p m) found.0 found.1)
+
+-- ---- to whom it goes
+
+pub to_the_sender : (p : PartitionState) (m told : Message) → answer p m ≡ Some told → IsReplyTo p m told
+to_the_sender p m told e =
+    let found = answered_by p m told (effect_of p m).reply e in
+    record { sender = ap (λ (x : Message). x.from) found.2; getter = ap (λ (x : Message). x.to) found.2; tag = ap (λ (x : Message). x.tag) found.2 }
+
+status_silent : (p : PartitionState) (from : Node) (t : ℕ) (v : Vote) → (to_status p from t v).reply ≡ None
+status_silent p from t v = go (is_pending (state_of p.marks t)) from v
+  where
+    part : (b : Bool) (q : ℕ) → (if b then to_part p q t else nothing).reply ≡ None
+    part true q = refl
+    part false q = refl
+
+    go : (b : Bool) (from : Node) (v : Vote) → (if b then to_vote p from t v else nothing).reply ≡ None
+    go true (Part q) vote.Prepared = part (lies_at q p.opening.parts (items_at p.marks t)) q
+    go true (Client c) vote.Prepared = refl
+    go true from vote.Committed = refl
+    go true from vote.Never = refl
+    go false from v = refl
+
+replies_silent : (p : PartitionState) (from : Node) (r : Reply) → (to_body p from (body.Reply r)).reply ≡ None
+replies_silent p from (reply.Status t v) = status_silent p from t v
+replies_silent p from (reply.Prepared t) = refl
+replies_silent p from (reply.Committed t) = refl
+replies_silent p from (reply.Discarded t) = refl
+replies_silent p from (reply.Version i t v) = refl
+replies_silent p from (reply.NotPrepared t) = refl
+replies_silent p from reply.Clash = refl
+replies_silent p from (reply.Full t) = refl
+
+same_request : (p : PartitionState) (votes : List NotedVote) (from : Node) (q : Request)
+    → (to_body (record p { votes = votes }) from (body.Request q)).reply ≡ (to_body p from (body.Request q)).reply
+same_request p votes from (Prepare t ws is) = refl
+same_request p votes from (Commit t) = refl
+same_request p votes from (Get item stamps) = refl
+same_request p votes from (Check t) = refl
+
+same_reply : (p : PartitionState) (votes : List NotedVote) (from : Node) (b : Body) → (to_body (record p { votes = votes }) from b).reply ≡ (to_body p from b).reply
+same_reply p votes from (body.Request q) = same_request p votes from q
+same_reply p votes from (body.Reply r) = replies_silent (record p { votes = votes }) from r ∙ sym (replies_silent p from r)
+
+pub votes_do_not_matter : (p : PartitionState) (m : Message) (votes : List NotedVote) → answer (record p { votes = votes }) m ≡ answer p m
+votes_do_not_matter p m votes = ap (option_map (reply_to p m)) (go (is_part m.to p.number))
+  where
+    go : (b : Bool) → (if b then to_body (record p { votes = votes }) m.from m.body else nothing).reply ≡ (if b then to_body p m.from m.body else nothing).reply
+    go true = same_reply p votes m.from m.body
+    go false = refl
+
+pub replies_are_not_answered : (p : PartitionState) (m : Message) (r : Reply) → m.body ≡ body.Reply r → answer p m ≡ None
+replies_are_not_answered p m r e = ap (option_map (reply_to p m)) (go (is_part m.to p.number))
+  where
+    go : (b : Bool) → (if b then to_body p m.from m.body else nothing).reply ≡ None
+    go true = ap (λ (x : Body). (to_body p m.from x).reply) e ∙ replies_silent p m.from r
+    go false = refl
+
+pub others_do_nothing : (p : PartitionState) (m : Message) → is_part m.to p.number ≡ false → (after p m ≡ p) × (answer p m ≡ None)
+others_do_nothing p m e = (rw e (same_partition p), rw e refl)
+
+-- ---- why a mark is made
+
+-- what an effect that is known marks
+marks_by : (p : PartitionState) (m : Message) (e known : Effect) (made mark : Mark) → e ≡ known → known.mark ≡ Some made
+    → IsCause p m made → e.mark ≡ Some mark → IsCause p m mark
+marks_by p m e known made mark is marked h f =
+    subst (IsCause p m) (let g : known.mark ≡ Some mark = subst (λ (x : Effect). x.mark ≡ Some mark) is f in cc) h
+
+unmarked : (e known : Effect) (mark : Mark) {X : Type 0} → e ≡ known → known.mark ≡ None → e.mark ≡ Some mark → X
+unmarked e known mark is none f = absurd (let g : known.mark ≡ Some mark = subst (λ (x : Effect). x.mark ≡ Some mark) is f in cc)
+
+last_vote : (p : PartitionState) (m : Message) (part t : ℕ) (mark : Mark)
+    → m.from ≡ Part part → m.body ≡ body.Reply (reply.Status t vote.Prepared)
+    → lies_at part p.opening.parts (items_at p.marks t) ≡ true → state_of p.marks t ≡ state.Pending
+    → (b : Bool) → have_told (part ∷ heard p.votes t) (others_of p.number p.opening.parts (items_at p.marks t)) ≡ b
+    → mark_by (if b then decision.Commit else decision.Wait) t ≡ Some mark → IsCause p m mark
+last_vote p m part t mark sender told due pending true all f =
+    subst (IsCause p m) (let same : Committed t ≡ mark = cc in same) (
+      pending,
+      inr (inr (record {
+        part = part;
+        sender = sender;
+        told = told;
+        due = due;
+        others = (have_told_tells (part ∷ heard p.votes t) (others_of p.number p.opening.parts (items_at p.marks t))).0 all;
+      })),
+    )
+last_vote p m part t mark sender told due pending false all f = absurd (cc)
+
+cause_by : (p : PartitionState) (m : Message) (e : Effect) → Acts p m.from m.body e → (mark : Mark) → e.mark ≡ Some mark → IsCause p m mark
+cause_by p m e (idle is) mark f = unmarked e nothing mark is refl f
+cause_by p m e (said told is h) mark f = unmarked e (says told) mark is refl f
+cause_by p m e (prepared a) mark f =
+    marks_by p m e (marks_and_says (Prepared a.t a.ws a.is) (reply.Prepared a.t)) (Prepared a.t a.ws a.is) mark a.done refl
+    (record { asked = a.asked; unknown = a.unknown; proper = a.proper; room = a.room }) f
+cause_by p m e (committed a) mark f =
+    marks_by p m e (marks_and_says (Committed a.t) (reply.Committed a.t)) (Committed a.t) mark a.done refl (a.pending, inl a.asked) f
+cause_by p m e (refused a) mark f =
+    marks_by p m e (marks_and_says (Discarded a.t) (reply.Status a.t vote.Never)) (Discarded a.t) mark a.done refl
+    (inl (record { asked = a.asked; unknown = a.unknown; room = a.room })) f
+cause_by p m e (voted_committed a) mark f = marks_by p m e (marks (Committed a.t)) (Committed a.t) mark a.done refl (a.pending, inr (inl a.told)) f
+cause_by p m e (voted_never a) mark f = marks_by p m e (marks (Discarded a.t)) (Discarded a.t) mark a.done refl (inr (a.pending, a.told)) f
+cause_by p m e (voted_prepared a) mark f =
+    last_vote p m a.part a.t mark a.sender a.told a.due a.pending
+    (have_told (a.part ∷ heard p.votes a.t) (others_of p.number p.opening.parts (items_at p.marks a.t))) refl
+    (subst (λ (x : Effect). x.mark ≡ Some mark) a.done f)
+
+pub marks_are_caused : (p : PartitionState) (m : Message) (mark : Mark) → (effect_of p m).mark ≡ Some mark → IsCause p m mark
+marks_are_caused p m mark f = cause_by p m (effect_of p m) (acts_here p m) mark f
+
+-- ---- a promise against a stamp
+
+promised_by : (p : PartitionState) (from : Node) (b : Body) (e : Effect) (t : ℕ) → Acts p from b e → state_of p.marks t ≡ state.Unknown
+    → e.reply ≡ Some (reply.Status t vote.Never) → IsPromisedAgainst (with_effect p e).marks t
+promised_by p from b e t (idle is) unknown f = silent e nothing (reply.Status t vote.Never) is refl f
+promised_by p from b e t (said told is h) unknown f =
+    absurd (
+    let same : told ≡ reply.Status t vote.Never = (let g : Some told ≡ Some (reply.Status t vote.Never) = subst (λ (x : Effect). x.reply ≡ Some (reply.Status t vote.Never)) is f in cc) in
+    let gone : state_of p.marks t ≡ state.Discarded = subst (IsSaid p b) same h in
+    cc)
+promised_by p from b e t (prepared a) unknown f =
+    absurd (let g : Some (reply.Prepared a.t) ≡ Some (reply.Status t vote.Never) = subst (λ (x : Effect). x.reply ≡ Some (reply.Status t vote.Never)) a.done f in cc)
+promised_by p from b e t (committed a) unknown f =
+    absurd (let g : Some (reply.Committed a.t) ≡ Some (reply.Status t vote.Never) = subst (λ (x : Effect). x.reply ≡ Some (reply.Status t vote.Never)) a.done f in cc)
+promised_by p from b e t (refused a) unknown f =
+    let same : a.t ≡ t = (let g : Some (reply.Status a.t vote.Never) ≡ Some (reply.Status t vote.Never) = subst (λ (x : Effect). x.reply ≡ Some (reply.Status t vote.Never)) a.done f in cc) in
+    record {
+      before = p.marks;
+      later = [];
+      discarded = ap (λ (x : Effect). p.marks ++ option_to_list x.mark) a.done ∙ ap (λ (u : ℕ). p.marks ++ Discarded u ∷ []) same;
+      unprepared = (unknown_tells _ _ _ unknown).2;
+    }
+promised_by p from b e t (voted_committed a) unknown f = silent e (marks (Committed a.t)) (reply.Status t vote.Never) a.done refl f
+promised_by p from b e t (voted_never a) unknown f = silent e (marks (Discarded a.t)) (reply.Status t vote.Never) a.done refl f
+promised_by p from b e t (voted_prepared a) unknown f = silent e (to_part p a.part a.t) (reply.Status t vote.Never) a.done refl f
+
+pub never_is_a_promise : (p : PartitionState) (m : Message) (t : ℕ) → state_of p.marks t ≡ state.Unknown
+    → (effect_of p m).reply ≡ Some (reply.Status t vote.Never) → IsPromisedAgainst (after p m).marks t
+never_is_a_promise p m t unknown f = promised_by p m.from m.body (effect_of p m) t (acts_here p m) unknown f
+
+-- ---- where there is no room
+
+full_by : (p : PartitionState) (from : Node) (b : Body) (e : Effect) (t : ℕ) → Acts p from b e → e.reply ≡ Some (reply.Full t)
+    → (is_full p.opening.limit p.marks ≡ true) × (state_of p.marks t ≡ state.Unknown)
+full_by p from b e t (idle is) f = silent e nothing (reply.Full t) is refl f
+full_by p from b e t (said told is h) f =
+    let same : told ≡ reply.Full t = (let g : Some told ≡ Some (reply.Full t) = subst (λ (x : Effect). x.reply ≡ Some (reply.Full t)) is f in cc) in
+    subst (IsSaid p b) same h
+full_by p from b e t (prepared a) f =
+    absurd (let g : Some (reply.Prepared a.t) ≡ Some (reply.Full t) = subst (λ (x : Effect). x.reply ≡ Some (reply.Full t)) a.done f in cc)
+full_by p from b e t (committed a) f =
+    absurd (let g : Some (reply.Committed a.t) ≡ Some (reply.Full t) = subst (λ (x : Effect). x.reply ≡ Some (reply.Full t)) a.done f in cc)
+full_by p from b e t (refused a) f =
+    absurd (let g : Some (reply.Status a.t vote.Never) ≡ Some (reply.Full t) = subst (λ (x : Effect). x.reply ≡ Some (reply.Full t)) a.done f in cc)
+full_by p from b e t (voted_committed a) f = silent e (marks (Committed a.t)) (reply.Full t) a.done refl f
+full_by p from b e t (voted_never a) f = silent e (marks (Discarded a.t)) (reply.Full t) a.done refl f
+full_by p from b e t (voted_prepared a) f = silent e (to_part p a.part a.t) (reply.Full t) a.done refl f
+
+pub full_only : (p : PartitionState) (m : Message) (t : ℕ) → (effect_of p m).reply ≡ Some (reply.Full t)
+    → (is_full p.opening.limit p.marks ≡ true) × (state_of p.marks t ≡ state.Unknown)
+full_only p m t f = full_by p m.from m.body (effect_of p m) t (acts_here p m) f
+
+other : (t : ℕ) → t ≢ 0 → (t == 0) ≡ false
+other t h = go (t == 0) refl
+  where
+    go : (b : Bool) → (t == 0) ≡ b → (t == 0) ≡ false
+    go true e = absurd (h ((Decides-eqb t 0).0 e))
+    go false e = e
+
+pub full_check : (p : PartitionState) (t : ℕ) → t ≢ 0 → is_full p.opening.limit p.marks ≡ true → state_of p.marks t ≡ state.Unknown
+    → to_check p t ≡ says (reply.Full t)
+full_check p t some full unknown = rw (other t some, full, unknown) refl
+
+pub full_prepare : (p : PartitionState) (t : ℕ) (ws : List Row) (is : List ℕ)
+    → is_proper p.number p.opening.parts t ws is ≡ true → is_full p.opening.limit p.marks ≡ true → state_of p.marks t ≡ state.Unknown
+    → to_prepare p t ws is ≡ says (reply.Full t)
+full_prepare p t ws is proper full unknown = rw (proper, full, unknown) refl
+
+-- it stays so
+pub still_full : (p : PartitionState) (m : Message) → IsPartition p → is_full p.opening.limit p.marks ≡ true
+    → is_full p.opening.limit (after p m).marks ≡ true
+still_full p m h full = full_still p.marks (option_to_list (effect_of p m).mark) p.opening.limit (stays_after p m h).legal full
+
+-- a mark is of a stamp that is pending, where there is no room for another's
+pending_cause : (p : PartitionState) (m : Message) (mark : Mark) → is_full p.opening.limit p.marks ≡ true → IsCause p m mark
+    → state_of p.marks (stamp_of mark) ≡ state.Pending
+pending_cause p m (Prepared t ws is) full cause = absurd (let room = cause.room in cc)
+pending_cause p m (Committed t) full cause = cause.0
+pending_cause p m (Discarded t) full cause = ⊎_elim (λ (a : IsChecked p m t). absurd (let room = a.room in cc)) (λ b. b.0) cause
+
+pub still_unknown : (p : PartitionState) (m : Message) (t : ℕ) → is_full p.opening.limit p.marks ≡ true → state_of p.marks t ≡ state.Unknown
+    → state_of (after p m).marks t ≡ state.Unknown
+still_unknown p m t full unknown = go (effect_of p m).mark refl
+  where
+    go : (o : Option Mark) → (effect_of p m).mark ≡ o → state_of (p.marks ++ option_to_list o) t ≡ state.Unknown
+    go None e = rw (append-nil p.marks) unknown
+    go (Some mark) e = state_push_other p.marks mark t (apart (stamp_of mark == t) refl) ∙ unknown
+      where
+        pending : state_of p.marks (stamp_of mark) ≡ state.Pending
+        pending = pending_cause p m mark full (marks_are_caused p m mark e)
+
+        apart : (b : Bool) → (stamp_of mark == t) ≡ b → (stamp_of mark == t) ≡ false
+        apart false f = f
+        apart true f = absurd (let now : state_of p.marks t ≡ state.Pending = subst (λ (u : ℕ). state_of p.marks u ≡ state.Pending) ((Decides-eqb (stamp_of mark) t).0 f) pending in cc)
+
+-- ---- what is read
+
+-- the committed stamps are those that marks commit
+committed_is : (marks : List Mark) (t : ℕ) → list_any (λ s. s == t) (committed_stamps marks) ≡ list_any (commits t) marks
+committed_is [] t = refl
+committed_is (Prepared s ws is ∷ marks) t = committed_is marks t
+committed_is (Discarded s ∷ marks) t = committed_is marks t
+committed_is (Committed s ∷ marks) t = ap (λ (b : Bool). (s == t) || b) (committed_is marks t)
+
+state_committed : (marks : List Mark) (t : ℕ) → list_any (commits t) marks ≡ true → state_of marks t ≡ state.Committed
+state_committed marks t e = rw e refl
+
+read_latest : (marks : List Mark) (item : ℕ) → IsLatest marks item (latest marks item)
+read_latest marks item =
+    record {
+      committed = λ some. state_committed marks (latest marks item)
+          (sym (committed_is marks (latest marks item)) ∙ any_from_contains (committed_stamps marks) (latest marks item) (Contains-best_of (has_version marks item) (committed_stamps marks) some));
+      there = λ some. best_of-passes (has_version marks item) (committed_stamps marks) some;
+      greatest = λ t done there.
+          All-contains (λ n. has_version marks item n ≡ true → n ≤ latest marks item) (committed_stamps marks) t
+          (All-best_of (has_version marks item) (committed_stamps marks))
+          (contains_from_any (committed_stamps marks) t (committed_is marks t ∙ committed_tells _ _ _ done))
+          there;
+    }
+
+read_best : (marks : List Mark) (item : ℕ) (stamps : List ℕ) → IsBest marks item stamps (best_of (has_version marks item) stamps)
+read_best marks item stamps =
+    record {
+      given = λ some. Contains-best_of (has_version marks item) stamps some;
+      there = λ some. best_of-passes (has_version marks item) stamps some;
+      greatest = All-best_of (has_version marks item) stamps;
+    }
+
+read_at : (marks : List Mark) (item : ℕ) (stamps : List ℕ) → IsReadAt marks item stamps (stamp_for marks item stamps)
+read_at marks item [] = read_latest marks item
+read_at marks item (t ∷ stamps) = read_best marks item (t ∷ stamps)
+
+has_read : (marks : List Mark) (item : ℕ) (stamps : List ℕ) → stamp_for marks item stamps ≢ 0 → has_version marks item (stamp_for marks item stamps) ≡ true
+has_read marks item [] some = (read_latest marks item).there some
+has_read marks item (t ∷ stamps) some = (read_best marks item (t ∷ stamps)).there some
+
+value_read : (p : PartitionState) (item t : ℕ) → (t ≢ 0 → has_version p.marks item t ≡ true) → IsValueOf p item t (value_at p item t)
+value_read p item t there =
+    record {
+      written = λ some. written some (version p.marks item t) refl (there some);
+      opening = λ zero. rw zero refl;
+    }
+  where
+    written : t ≢ 0 → (v : Option Value) → version p.marks item t ≡ v → is_some v ≡ true → version p.marks item t ≡ Some (value_at p item t)
+    written some None e f = absurd (cc)
+    written some (Some v) e f = e ∙ ap Some (sym (rw (other t some, e) refl))
+
+read_by : (p : PartitionState) (m : Message) (e : Effect) (item t : ℕ) (v : Value) → Acts p m.from m.body e
+    → e.reply ≡ Some (reply.Version item t v) → IsReadOf p m item t v
+read_by p m e item t v (idle is) f = silent e nothing (reply.Version item t v) is refl f
+read_by p m e item t v (said told is h) f =
+    let same : told ≡ reply.Version item t v = (let g : Some told ≡ Some (reply.Version item t v) = subst (λ (x : Effect). x.reply ≡ Some (reply.Version item t v)) is f in cc) in
+    read_of (subst (IsSaid p m.body) same h)
+  where
+    read_of : IsSaid p m.body (reply.Version item t v) → IsReadOf p m item t v
+    read_of (stamps, asked, at, value) =
+        record {
+          stamps = stamps;
+          asked = asked;
+          stamp_is = subst (IsReadAt p.marks item stamps) (sym at) (read_at p.marks item stamps);
+          value_is = subst (IsValueOf p item t) (sym value)
+              (value_read p item t (λ (some : t ≢ 0). subst (λ (u : ℕ). has_version p.marks item u ≡ true) (sym at) (has_read p.marks item stamps (λ zero. some (at ∙ zero)))));
+        }
+read_by p m e item t v (prepared a) f =
+    absurd (let g : Some (reply.Prepared a.t) ≡ Some (reply.Version item t v) = subst (λ (x : Effect). x.reply ≡ Some (reply.Version item t v)) a.done f in cc)
+read_by p m e item t v (committed a) f =
+    absurd (let g : Some (reply.Committed a.t) ≡ Some (reply.Version item t v) = subst (λ (x : Effect). x.reply ≡ Some (reply.Version item t v)) a.done f in cc)
+read_by p m e item t v (refused a) f =
+    absurd (let g : Some (reply.Status a.t vote.Never) ≡ Some (reply.Version item t v) = subst (λ (x : Effect). x.reply ≡ Some (reply.Version item t v)) a.done f in cc)
+read_by p m e item t v (voted_committed a) f = silent e (marks (Committed a.t)) (reply.Version item t v) a.done refl f
+read_by p m e item t v (voted_never a) f = silent e (marks (Discarded a.t)) (reply.Version item t v) a.done refl f
+read_by p m e item t v (voted_prepared a) f = silent e (to_part p a.part a.t) (reply.Version item t v) a.done refl f
+
+pub version_is_read : (p : PartitionState) (m : Message) (item t : ℕ) (v : Value) → (effect_of p m).reply ≡ Some (reply.Version item t v) → IsReadOf p m item t v
+version_is_read p m item t v f = read_by p m (effect_of p m) item t v (acts_here p m) f
+
+pub get_is_answered : (p : PartitionState) (m : Message) (item : ℕ) (stamps : List ℕ)
+    → m.body ≡ body.Request (Get item stamps) → is_part m.to p.number ≡ true → place_of p.opening.parts item ≡ p.number
+    → (t : ℕ) × (v : Value) × ((effect_of p m).reply ≡ Some (reply.Version item t v))
+get_is_answered p m item stamps asked here placed = (
+  stamp_for p.marks item stamps,
+  value_at p item (stamp_for p.marks item stamps),
+  ap (λ (b : Bool). (if b then to_body p m.from m.body else nothing).reply) here
+      ∙ ap (λ (x : Body). (to_body p m.from x).reply) asked
+      ∙ ap (λ (b : Bool). (if b then says_version p item (stamp_for p.marks item stamps) else says reply.Clash).reply) ((Decides-eqb (place_of p.opening.parts item) p.number).1 placed),
+)
+
+-- ---- a Clash, and that each request is answered
+
+clash_by : (p : PartitionState) (from : Node) (b : Body) (e : Effect) → Acts p from b e → e.reply ≡ Some reply.Clash → IsClash p b
+clash_by p from b e (idle is) f = silent e nothing reply.Clash is refl f
+clash_by p from b e (said told is h) f =
+    let same : told ≡ reply.Clash = (let g : Some told ≡ Some reply.Clash = subst (λ (x : Effect). x.reply ≡ Some reply.Clash) is f in cc) in
+    subst (IsSaid p b) same h
+clash_by p from b e (prepared a) f =
+    absurd (let g : Some (reply.Prepared a.t) ≡ Some reply.Clash = subst (λ (x : Effect). x.reply ≡ Some reply.Clash) a.done f in cc)
+clash_by p from b e (committed a) f =
+    absurd (let g : Some (reply.Committed a.t) ≡ Some reply.Clash = subst (λ (x : Effect). x.reply ≡ Some reply.Clash) a.done f in cc)
+clash_by p from b e (refused a) f =
+    absurd (let g : Some (reply.Status a.t vote.Never) ≡ Some reply.Clash = subst (λ (x : Effect). x.reply ≡ Some reply.Clash) a.done f in cc)
+clash_by p from b e (voted_committed a) f = silent e (marks (Committed a.t)) reply.Clash a.done refl f
+clash_by p from b e (voted_never a) f = silent e (marks (Discarded a.t)) reply.Clash a.done refl f
+clash_by p from b e (voted_prepared a) f = silent e (to_part p a.part a.t) reply.Clash a.done refl f
+
+pub clash_only : (p : PartitionState) (m : Message) → (effect_of p m).reply ≡ Some reply.Clash → IsClash p m.body
+clash_only p m f = clash_by p m.from m.body (effect_of p m) (acts_here p m) f
+
+prepare_replies : (full same : Bool) (s : StampState) (t : ℕ) (ws : List Row) (is : List ℕ) → is_some (prepare_by full same s t ws is).reply ≡ true
+prepare_replies true same state.Unknown t ws is = refl
+prepare_replies false same state.Unknown t ws is = refl
+prepare_replies full true state.Pending t ws is = refl
+prepare_replies full false state.Pending t ws is = refl
+prepare_replies full true state.Committed t ws is = refl
+prepare_replies full false state.Committed t ws is = refl
+prepare_replies full same state.Discarded t ws is = refl
+
+commit_replies : (s : StampState) (t : ℕ) → is_some (commit_by s t).reply ≡ true
+commit_replies state.Unknown t = refl
+commit_replies state.Pending t = refl
+commit_replies state.Committed t = refl
+commit_replies state.Discarded t = refl
+
+check_replies : (full : Bool) (s : StampState) (t : ℕ) → is_some (check_by full s t).reply ≡ true
+check_replies true state.Unknown t = refl
+check_replies false state.Unknown t = refl
+check_replies full state.Pending t = refl
+check_replies full state.Committed t = refl
+check_replies full state.Discarded t = refl
+
+-- one of two effects that reply replies
+either : (b : Bool) (d e : Effect) → is_some d.reply ≡ true → is_some e.reply ≡ true → is_some (if b then d else e).reply ≡ true
+either true d e f g = f
+either false d e f g = g
+
+request_replies : (p : PartitionState) (q : Request) → is_some (to_request p q).reply ≡ true
+request_replies p (Prepare t ws is) =
+    either (is_proper p.number p.opening.parts t ws is) (prepare_by (is_full p.opening.limit p.marks) (is_same p.marks t ws is) (state_of p.marks t) t ws is) (says reply.Clash)
+    (prepare_replies (is_full p.opening.limit p.marks) (is_same p.marks t ws is) (state_of p.marks t) t ws is) refl
+request_replies p (Commit t) = either (t == 0) (says reply.Clash) (commit_by (state_of p.marks t) t) refl (commit_replies (state_of p.marks t) t)
+request_replies p (Get item stamps) = either (is_placed p.number p.opening.parts item) (says_version p item (stamp_for p.marks item stamps)) (says reply.Clash) refl refl
+request_replies p (Check t) =
+    either (t == 0) (says reply.Clash) (check_by (is_full p.opening.limit p.marks) (state_of p.marks t) t) refl (check_replies (is_full p.opening.limit p.marks) (state_of p.marks t) t)
+
+pub requests_are_answered : (p : PartitionState) (m : Message) (q : Request) → m.body ≡ body.Request q → is_part m.to p.number ≡ true → is_some (answer p m) ≡ true
+requests_are_answered p m q asked here =
+    mapped (effect_of p m).reply
+    ∙ ap (λ (b : Bool). is_some (if b then to_body p m.from m.body else nothing).reply) here
+    ∙ ap (λ (x : Body). is_some (to_body p m.from x).reply) asked
+    ∙ request_replies p q
+  where
+    mapped : (o : Option Reply) → is_some (option_map (reply_to p m) o) ≡ is_some o
+    mapped None = refl
+    mapped (Some r) = refl

@@ -1,0 +1,107 @@
+-- How many stamps are pending, and so how full a history is, as one mark more is made.
+use Rattle.std.proofs.Common.{◌≡◌, ℕ, ◌≤◌, ◌+◌, Bool, true, false, ◌==◌, cond, List, [], ◌∷◌, ◌++◌, length, filter, refl, sym, ap, ◌∙◌, subst, arith}
+use Rattle.std.proofs.lemmas.Bool.Decides.{Decides-eqb}
+use Rattle.std.proofs.lemmas.List.{length-append}
+use Rattle.std.proofs.lemmas.List.Sums.{length-filter, count_by-le-length}
+use Rattle.std.proofs.lemmas.List.Elements.{filter-append, filter_map-append, filter_agree}
+use Rattle.album_items.specs.Openings.{Row}
+use Rattle.album_terminate.specs.declared.deciding.StampState.TheVariants as state
+use Rattle.album_partition.specs.declared.marks.Mark.{Mark}
+use Rattle.album_partition.specs.declared.marks.Mark.TheVariants.{Prepared, Committed, Discarded}
+use Rattle.album_partition.specs.Marks.{stamp_of, state_of, is_pending, prepare_in, prepared_stamps, pending_stamps, is_legal}
+use Rattle.album_partition.proofs.LegalLemmas.{times, times_none, times_once}
+use Rattle.album_partition.proofs.StateLemmas.{state_push_other, unknown_tells, pending_tells, prepared_is_pending, committed_is_committed, discarded_is_discarded}
+
+-- two tests that tell all numbers but one alike, and that one is among the numbers so many times
+filter_but : (p q : ℕ → Bool) (t : ℕ) → p t ≡ true → q t ≡ false → ((s : ℕ) → (s == t) ≡ false → p s ≡ q s) → (xs : List ℕ) → length (filter p xs) ≡ length (filter q xs) + times t xs
+filter_but p q t there gone alike [] = refl
+filter_but p q t there gone alike (x ∷ xs) = go (x == t) refl (filter_but p q t there gone alike xs)
+  where
+    same : (x == t) ≡ true → x ≡ t
+    same e = (Decides-eqb x t).0 e
+
+    test : (b : Bool) → p x ≡ b → q x ≡ b → length (filter p xs) ≡ length (filter q xs) + times t xs → length (cond (p x) (x ∷ filter p xs) (filter p xs)) ≡ length (cond (q x) (x ∷ filter q xs) (filter q xs)) + times t xs
+    test true f g h = rw (f, g) (omega arith)
+    test false f g h = rw (f, g) h
+
+    go : (b : Bool) → (x == t) ≡ b → length (filter p xs) ≡ length (filter q xs) + times t xs → length (cond (p x) (x ∷ filter p xs) (filter p xs)) ≡ length (cond (q x) (x ∷ filter q xs) (filter q xs)) + length (cond (x == t) (x ∷ filter (λ s. s == t) xs) (filter (λ s. s == t) xs))
+    go true e h = rw (e, subst (λ u. p u ≡ true) (sym (same e)) there, subst (λ u. q u ≡ false) (sym (same e)) gone) (omega arith)
+    go false e h = rw e (test (q x) (alike x e) refl h)
+
+pending_push : (marks : List Mark) (mark : Mark) → length (pending_stamps (marks ++ mark ∷ [])) ≡ length (filter (λ s. is_pending (state_of (marks ++ mark ∷ []) s)) (prepared_stamps marks)) + length (filter (λ s. is_pending (state_of (marks ++ mark ∷ []) s)) (prepared_stamps (mark ∷ [])))
+pending_push marks mark =
+    ap (λ (xs : List ℕ). length (filter (λ s. is_pending (state_of (marks ++ mark ∷ []) s)) xs)) (filter_map-append prepare_in marks (mark ∷ []))
+    ∙ ap length (filter-append (λ s. is_pending (state_of (marks ++ mark ∷ []) s)) (prepared_stamps marks) (prepared_stamps (mark ∷ [])))
+    ∙ length-append (filter (λ s. is_pending (state_of (marks ++ mark ∷ []) s)) (prepared_stamps marks)) (filter (λ s. is_pending (state_of (marks ++ mark ∷ []) s)) (prepared_stamps (mark ∷ [])))
+
+-- the other stamps stay as they are
+apart_from : (marks : List Mark) (mark : Mark) (t s : ℕ) → stamp_of mark ≡ t → (s == t) ≡ false → (stamp_of mark == s) ≡ false
+apart_from marks mark t s is e = go (stamp_of mark == s) refl
+  where
+    go : (b : Bool) → (stamp_of mark == s) ≡ b → (stamp_of mark == s) ≡ false
+    go false f = f
+    go true f = absurd (let same : s ≡ t = sym ((Decides-eqb (stamp_of mark) s).0 f) ∙ is in let here : (s == t) ≡ true = (Decides-eqb s t).1 same in (cc))
+
+others_stay : (marks : List Mark) (mark : Mark) (s : ℕ) → (s == stamp_of mark) ≡ false → is_pending (state_of (marks ++ mark ∷ []) s) ≡ is_pending (state_of marks s)
+others_stay marks mark s e = ap is_pending (state_push_other marks mark s (apart_from marks mark (stamp_of mark) s refl e))
+
+-- one pending_stamps stamp more
+pub prepared_counts : (marks : List Mark) (t : ℕ) (ws : List Row) (is : List ℕ) → state_of marks t ≡ state.Unknown → length (pending_stamps (marks ++ Prepared t ws is ∷ [])) ≡ length (pending_stamps marks) + 1
+prepared_counts marks t ws is unknown =
+    let told = unknown_tells _ _ _ unknown in
+    let now = ap is_pending (prepared_is_pending marks t ws is unknown) in
+    let none = times_none t marks told.2 in
+    let before = filter_but (λ s. is_pending (state_of (marks ++ Prepared t ws is ∷ []) s)) (λ s. is_pending (state_of marks s)) t now (ap is_pending unknown) (λ s e. others_stay marks (Prepared t ws is) s e) (prepared_stamps marks) in
+    let one : length (filter (λ s. is_pending (state_of (marks ++ Prepared t ws is ∷ []) s)) (t ∷ [])) ≡ 1 = rw now refl in
+    let pushed = pending_push marks (Prepared t ws is) in
+    omega arith
+
+-- one fewer
+pub committed_counts : (marks : List Mark) (t : ℕ) → is_legal marks ≡ true → state_of marks t ≡ state.Pending → length (pending_stamps (marks ++ Committed t ∷ [])) + 1 ≡ length (pending_stamps marks)
+committed_counts marks t legal pending =
+    let told = pending_tells _ _ _ pending in
+    let once = times_once t marks legal told.2 in
+    let before = filter_but (λ s. is_pending (state_of marks s)) (λ s. is_pending (state_of (marks ++ Committed t ∷ []) s)) t (ap is_pending pending) (ap is_pending (committed_is_committed marks t)) (λ s e. sym (others_stay marks (Committed t) s e)) (prepared_stamps marks) in
+    let pushed = pending_push marks (Committed t) in
+    omega arith
+
+pub discarded_counts : (marks : List Mark) (t : ℕ) → is_legal marks ≡ true → state_of marks t ≡ state.Pending → length (pending_stamps (marks ++ Discarded t ∷ [])) + 1 ≡ length (pending_stamps marks)
+discarded_counts marks t legal pending =
+    let told = pending_tells _ _ _ pending in
+    let once = times_once t marks legal told.2 in
+    let before = filter_but (λ s. is_pending (state_of marks s)) (λ s. is_pending (state_of (marks ++ Discarded t ∷ []) s)) t (ap is_pending pending) (ap is_pending (discarded_is_discarded marks t told.0)) (λ s e. sym (others_stay marks (Discarded t) s e)) (prepared_stamps marks) in
+    let pushed = pending_push marks (Discarded t) in
+    omega arith
+
+-- as many
+pub refused_counts : (marks : List Mark) (t : ℕ) → state_of marks t ≡ state.Unknown → length (pending_stamps (marks ++ Discarded t ∷ [])) ≡ length (pending_stamps marks)
+refused_counts marks t unknown =
+    let told = unknown_tells _ _ _ unknown in
+    let same = filter_agree (λ s. is_pending (state_of (marks ++ Discarded t ∷ []) s)) (λ s. is_pending (state_of marks s)) alike (prepared_stamps marks) in
+    let pushed = pending_push marks (Discarded t) in
+    (let counted = ap length same in omega arith)
+  where
+    at : (s : ℕ) → (b : Bool) → (s == t) ≡ b → is_pending (state_of (marks ++ Discarded t ∷ []) s) ≡ is_pending (state_of marks s)
+    at s false e = others_stay marks (Discarded t) s e
+    at s true e =
+        let is = (Decides-eqb s t).0 e in
+        let told = unknown_tells _ _ _ unknown in
+        subst (λ u. is_pending (state_of (marks ++ Discarded t ∷ []) u) ≡ is_pending (state_of marks u)) (sym is) (ap is_pending (discarded_is_discarded marks t told.0) ∙ sym (ap is_pending unknown))
+
+    alike : (s : ℕ) → is_pending (state_of (marks ++ Discarded t ∷ []) s) ≡ is_pending (state_of marks s)
+    alike s = at s (s == t) refl
+
+-- ---- there are no more pending_stamps stamps than marks
+
+prepared_few : (marks : List Mark) → length (prepared_stamps marks) ≤ length marks
+prepared_few [] = omega arith
+prepared_few (Prepared t ws is ∷ marks) = (let few = prepared_few marks in omega arith)
+prepared_few (Committed t ∷ marks) = (let few = prepared_few marks in omega arith)
+prepared_few (Discarded t ∷ marks) = (let few = prepared_few marks in omega arith)
+
+pub pending_few : (marks : List Mark) → length (pending_stamps marks) ≤ length marks
+pending_few marks =
+    let few = prepared_few marks in
+    let is = length-filter (λ s. is_pending (state_of marks s)) (prepared_stamps marks) in
+    let fewer = count_by-le-length (λ s. is_pending (state_of marks s)) (prepared_stamps marks) in
+    omega arith

@@ -1,0 +1,126 @@
+-- What follows of the table of answers: what each reply, each version that is read and each mark tells.
+use Rattle.std.specs.Prelude.{◌≡◌, ◌≢◌, ℕ, ◌≤◌, true, false, All, Contains, ◌⊎◌, List, [], ◌∷◌, Some}
+use Rattle.std.specs.Option.{unwrap_or}
+use Rattle.album_items.specs.ItemIds.{place_of}
+use Rattle.album_items.specs.Openings.{Row}
+use Rattle.album_items.specs.declared.values.Value.{Value}
+use Rattle.album_items.specs.declared.values.Value.TheVariants.{Missing}
+use Rattle.album_calls.specs.declared.messages.Body.{Body}
+use Rattle.album_calls.specs.declared.messages.Body.TheVariants as body
+use Rattle.album_calls.specs.declared.messages.Message.{Message}
+use Rattle.album_calls.specs.declared.nodes.Node.TheVariants.{Part}
+use Rattle.album_calls.specs.declared.nodes.Vote.TheVariants as vote
+use Rattle.album_calls.specs.declared.requests.Request.TheVariants.{Prepare, Commit, Get, Check}
+use Rattle.album_calls.specs.declared.replies.Reply.{Reply}
+use Rattle.album_calls.specs.declared.replies.Reply.TheVariants as reply
+use Rattle.album_terminate.specs.declared.deciding.StampState.TheVariants as state
+use Rattle.album_partition.specs.declared.marks.Mark.{Mark}
+use Rattle.album_partition.specs.declared.marks.Mark.TheVariants.{Prepared, Committed, Discarded}
+use Rattle.album_partition.specs.Answers.{is_same}
+use Rattle.album_partition.specs.Marks.{state_of, is_full, items_at, value_in, version, has_version}
+use Rattle.album_partition.specs.Partition.{PartitionState}
+use Rattle.album_partition.specs.Places.{lies_at, others_of}
+use Rattle.album_partition.specs.Proper.{is_proper}
+use Rattle.album_partition.specs.Votes.{heard}
+
+-- ---- what a reply tells
+
+-- The stamp stands as the reply says. (Of a version and of a Clash this says nothing.)
+abbrev pub IsTrueOf : List Mark → Reply → Type 0
+IsTrueOf marks (reply.Prepared stamp) =
+    (state_of marks stamp ≡ state.Pending) ⊎ (state_of marks stamp ≡ state.Committed)
+IsTrueOf marks (reply.Committed stamp) = state_of marks stamp ≡ state.Committed
+IsTrueOf marks (reply.Discarded stamp) = state_of marks stamp ≡ state.Discarded
+IsTrueOf marks (reply.Status stamp vote.Prepared) = state_of marks stamp ≡ state.Pending
+IsTrueOf marks (reply.Status stamp vote.Committed) = state_of marks stamp ≡ state.Committed
+IsTrueOf marks (reply.Status stamp vote.Never) = state_of marks stamp ≡ state.Discarded
+IsTrueOf marks (reply.NotPrepared stamp) = state_of marks stamp ≡ state.Unknown
+IsTrueOf marks (reply.Full stamp) = state_of marks stamp ≡ state.Unknown
+IsTrueOf marks (reply.Version item stamp value) = Unit {0}
+IsTrueOf marks reply.Clash = Unit {0}
+
+-- What makes a request clash: a stamp that is 0, a Prepare that can't be followed or is not the one that was
+-- prepared, an item that is placed elsewhere.
+abbrev pub IsClash : PartitionState → Body → Type 0
+IsClash partition (body.Request (Prepare stamp writes items)) =
+    (is_proper partition.number partition.opening.parts stamp writes items ≡ false)
+    ⊎ ((is_same partition.marks stamp writes items ≡ false)
+    × ((state_of partition.marks stamp ≡ state.Pending) ⊎ (state_of partition.marks stamp ≡ state.Committed)))
+IsClash partition (body.Request (Commit stamp)) = stamp ≡ 0
+IsClash partition (body.Request (Get item stamps)) = place_of partition.opening.parts item ≢ partition.number
+IsClash partition (body.Request (Check stamp)) = stamp ≡ 0
+IsClash partition (body.Reply reply) = ⊥
+
+-- the message goes from the partition to whom the other came from, under its tag
+pub record IsReplyTo (partition : PartitionState) (message told : Message) : Type 0 where
+  pub sender : told.from ≡ Part partition.number
+  pub getter : told.to ≡ message.from
+  pub tag : told.tag ≡ message.tag
+
+-- ---- what is read of an item
+
+-- with no stamps given: the greatest committed stamp at which the item has a version, or 0 where there is none
+pub record IsLatest (marks : List Mark) (item stamp : ℕ) : Type 0 where
+  pub committed : stamp ≢ 0 → state_of marks stamp ≡ state.Committed
+  pub there : stamp ≢ 0 → has_version marks item stamp ≡ true
+  pub greatest : (t : ℕ) → state_of marks t ≡ state.Committed → has_version marks item t ≡ true → t ≤ stamp
+
+-- with stamps given: the greatest of them at which the item has a version, or 0 where there is none
+pub record IsBest (marks : List Mark) (item : ℕ) (stamps : List ℕ) (stamp : ℕ) : Type 0 where
+  pub given : stamp ≢ 0 → Contains stamps stamp
+  pub there : stamp ≢ 0 → has_version marks item stamp ≡ true
+  pub greatest : All (λ t. has_version marks item t ≡ true → t ≤ stamp) stamps
+
+abbrev pub IsReadAt : List Mark → ℕ → List ℕ → ℕ → Type 0
+IsReadAt marks item [] stamp = IsLatest marks item stamp
+IsReadAt marks item (t ∷ stamps) stamp = IsBest marks item (t ∷ stamps) stamp
+
+-- the value is that of the item's version, and at 0 the one that the opening gives it, or Missing
+pub record IsValueOf (partition : PartitionState) (item stamp : ℕ) (value : Value) : Type 0 where
+  pub written : stamp ≢ 0 → version partition.marks item stamp ≡ Some value
+  pub opening : stamp ≡ 0 → value ≡ unwrap_or (value_in partition.opening.items item) Missing
+
+-- the version answers the message
+pub record IsReadOf
+    (partition : PartitionState) (message : Message) (item stamp : ℕ) (value : Value) : Type 0 where
+  pub stamps : List ℕ
+  pub asked : message.body ≡ body.Request (Get item stamps)
+  pub stamp_is : IsReadAt partition.marks item stamps stamp
+  pub value_is : IsValueOf partition item stamp value
+
+-- ---- why a mark is made
+
+-- a Prepare of an unknown stamp with these writes and items, which can be followed, and for which there is room
+pub record IsAsked
+    (partition : PartitionState) (message : Message) (stamp : ℕ) (writes : List Row) (items : List ℕ) : Type 0 where
+  pub asked : message.body ≡ body.Request (Prepare stamp writes items)
+  pub unknown : state_of partition.marks stamp ≡ state.Unknown
+  pub proper : is_proper partition.number partition.opening.parts stamp writes items ≡ true
+  pub room : is_full partition.opening.limit partition.marks ≡ false
+
+-- a Check of an unknown stamp, for whose mark there is room
+pub record IsChecked (partition : PartitionState) (message : Message) (stamp : ℕ) : Type 0 where
+  pub asked : message.body ≡ body.Request (Check stamp)
+  pub unknown : state_of partition.marks stamp ≡ state.Unknown
+  pub room : is_full partition.opening.limit partition.marks ≡ false
+
+-- one of the partitions of the stamp's items votes Prepared, and all others but this one were heard already
+pub record IsLastVote (partition : PartitionState) (message : Message) (stamp : ℕ) : Type 0 where
+  pub part : ℕ
+  pub sender : message.from ≡ Part part
+  pub told : message.body ≡ body.Reply (reply.Status stamp vote.Prepared)
+  pub due : lies_at part partition.opening.parts (items_at partition.marks stamp) ≡ true
+  pub others : All (Contains (part ∷ heard partition.votes stamp))
+      (others_of partition.number partition.opening.parts (items_at partition.marks stamp))
+
+-- what has to be so where a message makes the mark
+abbrev pub IsCause : PartitionState → Message → Mark → Type 0
+IsCause partition message (Prepared stamp writes items) = IsAsked partition message stamp writes items
+IsCause partition message (Committed stamp) =
+    (state_of partition.marks stamp ≡ state.Pending)
+    × ((message.body ≡ body.Request (Commit stamp))
+    ⊎ ((message.body ≡ body.Reply (reply.Status stamp vote.Committed)) ⊎ IsLastVote partition message stamp))
+IsCause partition message (Discarded stamp) =
+    IsChecked partition message stamp
+    ⊎ ((state_of partition.marks stamp ≡ state.Pending)
+    × (message.body ≡ body.Reply (reply.Status stamp vote.Never)))

@@ -1,0 +1,52 @@
+-- Which Prepares a partition can follow.
+use Rattle.std.specs.Prelude.{ℕ, Bool, ◌==◌, ◌&&◌, not, nat_le, List, length}
+use Rattle.std.specs.List.{list_all, list_any}
+use Rattle.album_stamps.specs.declared.limits.TheConstants.{MOST_TRANSACTION_ITEMS}
+use Rattle.album_stamps.specs.Distinct.{are_single}
+use Rattle.album_items.specs.ItemIds.{kind_of}
+use Rattle.album_items.specs.Openings.{Row, has_single_rows}
+use Rattle.album_items.specs.Values.{is_of}
+use Rattle.album_partition.specs.declared.marks.Mark.{Mark}
+use Rattle.album_partition.specs.declared.marks.Mark.TheVariants.{Prepared, Committed, Discarded}
+use Rattle.album_partition.specs.Places.{placed_at}
+
+-- some items, none twice, and not too many
+abbrev pub are_items : List ℕ → Bool
+are_items items =
+    not (length items == 0) && nat_le (length items) MOST_TRANSACTION_ITEMS && are_single items
+
+-- one of the rows is the item's
+abbrev pub has_row : List Row → ℕ → Bool
+has_row rows item = list_any (λ row. row.0 == item) rows
+
+-- the row's item is one of the items
+abbrev pub is_among : List ℕ → Row → Bool
+is_among items row = list_any (λ item. item == row.0) items
+
+-- the rows are of these items, of each just one, in any order
+abbrev pub are_rows_of : List ℕ → List Row → Bool
+are_rows_of items rows =
+    has_single_rows rows && list_all (is_among items) rows && list_all (has_row rows) items
+
+-- the value is of its item's kind, or is missing
+abbrev pub has_right_kind : Row → Bool
+has_right_kind row = is_of row.1 (kind_of row.0)
+
+-- the writes are of just those items that are placed at the partition, and each value is of its item's kind
+abbrev pub are_own_writes : ℕ → ℕ → List Row → List ℕ → Bool
+are_own_writes number parts writes items =
+    are_rows_of (placed_at number parts items) writes && list_all has_right_kind writes
+
+-- a Prepare that the partition can follow
+abbrev pub is_proper : ℕ → ℕ → ℕ → List Row → List ℕ → Bool
+is_proper number parts stamp writes items =
+    not (stamp == 0) && are_items items && are_own_writes number parts writes items
+
+-- no mark is of the stamp 0, and one that prepares is of a Prepare that could be followed
+abbrev pub is_proper_mark : ℕ → ℕ → Mark → Bool
+is_proper_mark number parts (Prepared stamp writes items) = is_proper number parts stamp writes items
+is_proper_mark number parts (Committed stamp) = not (stamp == 0)
+is_proper_mark number parts (Discarded stamp) = not (stamp == 0)
+
+abbrev pub are_proper_marks : ℕ → ℕ → List Mark → Bool
+are_proper_marks number parts marks = list_all (is_proper_mark number parts) marks

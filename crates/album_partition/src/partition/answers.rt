@@ -1,0 +1,374 @@
+// The table of answers: what a partition does with each message, decided before anything is kept.
+ghost use Rattle.std.specs.Prelude.{◌≡◌, true, Bool, IfOk, if◌then◌else◌};
+ghost use Rattle.std.specs.Option.{option_copied, unwrap_or};
+ghost use Rattle.album_partition.specs.Answers.{Does, nothing, says, marks, marks_and_says, prepare_by, commit_by, check_by, mark_by, is_same, says_version, to_body, to_request, to_prepare, to_commit, to_check, to_get, to_reply, to_status, to_vote, to_prepared, to_part, mark_with};
+ghost use Rattle.album_partition.specs.History.{is_kept};
+ghost use Rattle.album_partition.specs.Marks.{state_of, is_full, value_in};
+ghost use Rattle.album_partition.specs.Partition.{value_at, stamp_for};
+ghost use Rattle.album_partition.specs.Proper.{is_proper};
+
+use crate::marks::Mark;
+use crate::partition::Partition;
+use crate::proper::is_proper;
+use crate::votes::{Noted, heard_with, new_vote};
+use album_calls::{Body, Node, Reply, Request, Stamps, Vote, same_items, same_values};
+use album_items::{ItemId, ItemValues, Items, Value};
+use album_stamps::Stamp;
+use album_terminate::{Decision, StampState, decide};
+use std::alloc::AllocError;
+use std::marker::Model;
+
+/// What a message does at a partition: the mark that it makes, the vote that is noted, and the reply.
+#[derive(Debug, Drop)]
+pub(super) struct Effect {
+    pub(super) mark: Option<Mark>,
+    pub(super) vote: Option<Noted>,
+    pub(super) reply: Option<Reply>,
+}
+
+impl Model for Effect {
+    ghost use Rattle.album_partition.specs.Answers.{Effect as EffectOf};
+
+    ghost Value = { EffectOf };
+
+    ghost view = { λ e. record { mark = e.mark; vote = e.vote; reply = e.reply } };
+}
+
+impl Effect {
+    fn nothing() -> Effect
+        ensures { result ≡ nothing }
+    {
+        Effect {
+            mark: None,
+            vote: None,
+            reply: None,
+        }
+    }
+
+    fn says(reply: Reply) -> Effect
+        ensures { result ≡ says reply }
+    {
+        Effect {
+            mark: None,
+            vote: None,
+            reply: Some(reply),
+        }
+    }
+
+    fn marks(mark: Mark) -> Effect
+        ensures { result ≡ marks mark }
+    {
+        Effect {
+            mark: Some(mark),
+            vote: None,
+            reply: None,
+        }
+    }
+
+    fn marks_and_says(mark: Mark, reply: Reply) -> Effect
+        ensures { result ≡ marks_and_says mark reply }
+    {
+        Effect {
+            mark: Some(mark),
+            vote: None,
+            reply: Some(reply),
+        }
+    }
+}
+
+impl Partition {
+    /// What the message does that this node sends.
+    pub(super) fn to_body(&self, from: Node, body: &Body) -> Result<Effect, AllocError>
+        ensures { Does result (to_body self.now from body.now) }
+    {
+        match body {
+            Body::Request(request) => self.to_request(request),
+            Body::Reply(reply) => self.to_reply(from, reply),
+        }
+    }
+
+    fn to_request(&self, request: &Request) -> Result<Effect, AllocError>
+        ensures { Does result (to_request self.now request.now) }
+    {
+        match request {
+            Request::Prepare(stamp, writes, items) => self.to_prepare(*stamp, writes, items),
+            Request::Commit(stamp) => Ok(self.to_commit(*stamp)),
+            Request::Get(item, stamps) => self.to_get(*item, stamps),
+            Request::Check(stamp) => Ok(self.to_check(*stamp)),
+        }
+    }
+
+    fn to_prepare(
+        &self,
+        stamp: Stamp,
+        writes: &ItemValues,
+        items: &Items,
+    ) -> Result<Effect, AllocError>
+        ensures { Does result (to_prepare self.now stamp writes.now items.now) }
+    {
+        if !self.is_proper(stamp, writes, items) {
+            return Ok(Effect::says(Reply::Clash));
+        }
+        match self.state(stamp) {
+            StampState::Unknown => self.prepare(stamp, writes, items),
+            StampState::Pending | StampState::Committed => {
+                Ok(self.prepare_again(stamp, writes, items))
+            }
+            StampState::Discarded => Ok(Effect::says(Reply::Discarded(stamp))),
+        }
+    }
+
+    /// Whether the Prepare can be followed here.
+    fn is_proper(&self, stamp: Stamp, writes: &ItemValues, items: &Items) -> bool
+        ensures { result ≡ is_proper self.now.number self.now.opening.parts stamp writes.now items.now }
+    {
+        is_proper(self.seat, stamp, writes.as_slice(), items.as_slice())
+    }
+
+    /// A stamp that is unknown here is prepared, if there is room.
+    fn prepare(
+        &self,
+        stamp: Stamp,
+        writes: &ItemValues,
+        items: &Items,
+    ) -> Result<Effect, AllocError>
+        ensures { (same : Bool) → Does result (prepare_by
+            (is_full self.now.opening.limit self.now.marks) same StampState.Unknown stamp writes.now items.now) }
+    {
+        if self.is_full() {
+            return Ok(Effect::says(Reply::Full(stamp)));
+        }
+        let mark = Mark::prepared(stamp, writes, items)?;
+        Ok(Effect::marks_and_says(mark, Reply::Prepared(stamp)))
+    }
+
+    /// A stamp that is prepared here already, and is pending or committed.
+    fn prepare_again(&self, stamp: Stamp, writes: &ItemValues, items: &Items) -> Effect
+        requires { is_kept (state_of self.now.marks stamp) ≡ true }
+        ensures { result ≡ (if is_same self.now.marks stamp writes.now items.now
+            then says (Reply.Prepared stamp) else says Reply.Clash) }
+    {
+        let stored = &self.stored;
+        if same_values(writes.as_slice(), stored.writes(stamp))
+            && same_items(items.as_slice(), stored.items(stamp))
+        {
+            Effect::says(Reply::Prepared(stamp))
+        } else {
+            Effect::says(Reply::Clash)
+        }
+    }
+
+    /// Whether there is no room for a stamp more.
+    fn is_full(&self) -> bool
+        ensures { result ≡ is_full self.now.opening.limit self.now.marks }
+    {
+        self.limit < self.stored.load() + 2
+    }
+
+    fn to_commit(&self, stamp: Stamp) -> Effect
+        ensures { result ≡ to_commit self.now stamp }
+    {
+        if stamp.value() == 0 {
+            return Effect::says(Reply::Clash);
+        }
+        commit_by(self.state(stamp), stamp)
+    }
+
+    fn to_check(&self, stamp: Stamp) -> Effect
+        ensures { result ≡ to_check self.now stamp }
+    {
+        if stamp.value() == 0 {
+            return Effect::says(Reply::Clash);
+        }
+        check_by(self.is_full(), self.state(stamp), stamp)
+    }
+
+    fn to_get(&self, item: ItemId, stamps: &Stamps) -> Result<Effect, AllocError>
+        ensures { Does result (to_get self.now item stamps.now) }
+    {
+        if !self.seat.has(item) {
+            return Ok(Effect::says(Reply::Clash));
+        }
+        let stamp = self.stamp_for(item, stamps.as_slice());
+        self.says_version(item, stamp)
+    }
+
+    /// At which stamp the item is read.
+    fn stamp_for(&self, item: ItemId, stamps: &[Stamp]) -> Stamp
+        ensures { result ≡ stamp_for self.now.marks item stamps.now }
+    {
+        if stamps.is_empty() {
+            self.stored.latest(item)
+        } else {
+            self.stored.best(item, stamps)
+        }
+    }
+
+    /// The item, as it is read at the stamp.
+    fn says_version(&self, item: ItemId, stamp: Stamp) -> Result<Effect, AllocError>
+        ensures { Does result (says_version self.now item stamp) }
+    {
+        let value = clone_or_missing(self.value_at(item, stamp))?;
+        Ok(Effect::says(Reply::Version(item, stamp, value)))
+    }
+
+    /// The item's value at the stamp: at the zero stamp that of the opening.
+    fn value_at(&self, item: ItemId, stamp: Stamp) -> Option<&Value>
+        ensures { unwrap_or (option_copied result) Value.Missing ≡ value_at self.now item stamp }
+    {
+        if stamp.value() == 0 {
+            first_value(self.items.as_slice(), item)
+        } else {
+            self.stored.value(item, stamp)
+        }
+    }
+
+    /// A vote is the one reply that a partition takes.
+    fn to_reply(&self, from: Node, reply: &Reply) -> Result<Effect, AllocError>
+        ensures { Does result (to_reply self.now from reply.now) }
+    {
+        match reply {
+            Reply::Status(stamp, vote) => self.to_status(from, *stamp, *vote),
+            Reply::Prepared(_)
+            | Reply::Committed(_)
+            | Reply::Discarded(_)
+            | Reply::Version(_, _, _)
+            | Reply::NotPrepared(_)
+            | Reply::Clash
+            | Reply::Full(_) => Ok(Effect::nothing()),
+        }
+    }
+
+    /// A vote counts where the stamp is pending here.
+    fn to_status(&self, from: Node, stamp: Stamp, vote: Vote) -> Result<Effect, AllocError>
+        ensures { Does result (to_status self.now from stamp vote) }
+    {
+        match self.state(stamp) {
+            StampState::Pending => self.to_vote(from, stamp, vote),
+            StampState::Unknown | StampState::Committed | StampState::Discarded => {
+                Ok(Effect::nothing())
+            }
+        }
+    }
+
+    fn to_vote(&self, from: Node, stamp: Stamp, vote: Vote) -> Result<Effect, AllocError>
+        requires { state_of self.now.marks stamp ≡ StampState.Pending }
+        ensures { Does result (to_vote self.now from stamp vote) }
+    {
+        match vote {
+            Vote::Prepared => self.to_prepared(from, stamp),
+            Vote::Committed => Ok(Effect::marks(Mark::Committed(stamp))),
+            Vote::Never => Ok(Effect::marks(Mark::Discarded(stamp))),
+        }
+    }
+
+    /// A vote Prepared counts where one of the partitions of the items tells it.
+    fn to_prepared(&self, from: Node, stamp: Stamp) -> Result<Effect, AllocError>
+        requires { state_of self.now.marks stamp ≡ StampState.Pending }
+        ensures { Does result (to_prepared self.now from stamp) }
+    {
+        match from {
+            Node::Part(part) if self.seat.lies_at(part, self.stored.items(stamp)) => {
+                self.to_part(part, stamp)
+            }
+            Node::Part(_) | Node::Client(_) => Ok(Effect::nothing()),
+        }
+    }
+
+    /// The partition's vote is noted, and settles the stamp if it was the last that was waited for.
+    fn to_part(&self, part: u16, stamp: Stamp) -> Result<Effect, AllocError>
+        requires { state_of self.now.marks stamp ≡ StampState.Pending }
+        ensures { Does result (to_part self.now part stamp) }
+    {
+        // A vote that was heard already changes nothing: had all been heard, the stamp would not be
+        // pending. So it takes no memory either.
+        let Some(vote) = new_vote(&self.votes, stamp, part) else {
+            return Ok(Effect::nothing());
+        };
+        let mark = self.mark_with(part, stamp)?;
+        Ok(Effect {
+            mark,
+            vote: Some(vote),
+            reply: None,
+        })
+    }
+
+    /// The mark that the partition's vote makes.
+    fn mark_with(&self, part: u16, stamp: Stamp) -> Result<Option<Mark>, AllocError>
+        requires { state_of self.now.marks stamp ≡ StampState.Pending }
+        ensures { IfOk result (λ mark. mark ≡ mark_with self.now part stamp) }
+    {
+        let others = self.seat.others_of(self.alloc, self.stored.items(stamp))?;
+        let heard = heard_with(self.alloc, part, &self.votes, stamp)?;
+        let decision = decide(Vote::Prepared, &heard, &others);
+        Ok(mark_by(decision, stamp))
+    }
+}
+
+/// A Commit of a stamp that stands so.
+fn commit_by(state: StampState, stamp: Stamp) -> Effect
+    ensures { result ≡ commit_by state stamp }
+{
+    match state {
+        StampState::Unknown => Effect::says(Reply::NotPrepared(stamp)),
+        StampState::Pending => {
+            Effect::marks_and_says(Mark::Committed(stamp), Reply::Committed(stamp))
+        }
+        StampState::Committed => Effect::says(Reply::Committed(stamp)),
+        StampState::Discarded => Effect::says(Reply::Discarded(stamp)),
+    }
+}
+
+/// A Check of a stamp that stands so. A stamp that is unknown is discarded, so that it never is
+/// prepared here once this was told.
+fn check_by(full: bool, state: StampState, stamp: Stamp) -> Effect
+    ensures { result ≡ check_by full state stamp }
+{
+    match state {
+        StampState::Unknown if full => Effect::says(Reply::Full(stamp)),
+        StampState::Unknown => {
+            let never = Reply::Status(stamp, Vote::Never);
+            Effect::marks_and_says(Mark::Discarded(stamp), never)
+        }
+        StampState::Pending => Effect::says(Reply::Status(stamp, Vote::Prepared)),
+        StampState::Committed => Effect::says(Reply::Status(stamp, Vote::Committed)),
+        StampState::Discarded => Effect::says(Reply::Status(stamp, Vote::Never)),
+    }
+}
+
+/// The value once more, or that the item is missing.
+fn clone_or_missing(value: Option<&Value>) -> Result<Value, AllocError>
+    ensures { IfOk result (λ copy. copy ≡ unwrap_or (option_copied value.entry) Value.Missing) }
+{
+    match value {
+        None => Ok(Value::Missing),
+        Some(value) => value.clone(),
+    }
+}
+
+/// The item's first value.
+fn first_value(items: &[(ItemId, Value)], item: ItemId) -> Option<&Value>
+    ensures { option_copied result ≡ value_in items.now item }
+{
+    match items {
+        [] => None,
+        [row, rest @ ..] => {
+            if row.0.is(item) {
+                Some(&row.1)
+            } else {
+                first_value(rest, item)
+            }
+        }
+    }
+}
+
+/// The mark by which the stamp is decided.
+fn mark_by(decision: Decision, stamp: Stamp) -> Option<Mark>
+    ensures { result ≡ mark_by decision stamp }
+{
+    match decision {
+        Decision::Wait => None,
+        Decision::Commit => Some(Mark::Committed(stamp)),
+        Decision::Discard => Some(Mark::Discarded(stamp)),
+    }
+}
