@@ -1,19 +1,31 @@
-//! A read of items in two rounds, as in RAMP-Small (Bailis and others, SIGMOD 2014): the first round
-//! asks each item's partition for its latest version, and the second asks each again with the stamps
-//! of all the answers.
+//! A read of items in two rounds, as in RAMP-Small (Bailis and others, SIGMOD 2014).
+//!
+//! What comes in: a client's items, and then the messages that reach it. What goes out: the first
+//! round's messages, which ask each item's partition for its latest version; with the last answer
+//! to these the second round's, which ask each again with the stamps of all the answers; and with
+//! the last answer to those what was read.
+//!
+//! Read `reading` first, then `round`, which does its work on what `asker`, `versions` and `answers` say.
+//! What a message does is told by specs/Rounds.antt, over specs/Answers.antt.
 #![tactic(auto)]
 
-mod founds;
-mod laws;
+// What a round is made of.
+mod answers;
+mod asker;
+mod stamp_sets;
+mod versions;
+
+// The read.
 mod reading;
 mod round;
 mod snapshot;
-mod stamp_sets;
-mod telling;
+
+// What holds of it.
+mod laws;
 
 pub use laws::{
-    a_round_is_what_it_was_told, second_round_asks_with_each_stamp,
-    what_was_read_is_the_first_answers,
+    a_message_counts_or_is_other, a_read_has_two_rounds, a_round_is_what_it_was_told,
+    second_round_asks_with_each_stamp, what_was_read_is_the_first_answers,
 };
 pub use reading::{Reading, Step};
 pub use snapshot::Snapshot;

@@ -1,31 +1,30 @@
 // A read of items under way.
-ghost use Rattle.std.specs.Prelude.{◌≡◌, ◌≢◌, ℕ, ◌+◌, ◌<◌, ◌≤◌, ◌^◌, ◌++◌, nat_lt, IsTrue, List, [], ◌∷◌, IfOk, IfErr, length, map, if◌then◌else◌};
-ghost use Rattle.album_stamps.specs.declared.refusals.Refusal.TheVariants.{OutOfMemory, TooManyItems};
+ghost use Rattle.std.specs.Prelude.{◌≡◌, ◌≢◌, ℕ, ◌+◌, ◌<◌, ◌≤◌, ◌^◌, ◌++◌, nat_lt, IsTrue, List, [], ◌∷◌, IsOkAnd, IfOk, IfErr, IsOkUnless, length, if◌then◌else◌};
+ghost use Rattle.album_stamps.specs.Distinct.{are_single};
+ghost use Rattle.album_reader.specs.Ends.{step_by};
+ghost use Rattle.album_reader.specs.Rounds.{StaysOpen};
+ghost use Rattle.album_reader.specs.Steps.{step_of};
 
-use crate::round::{End, Fresh, Round};
+use crate::asker::Asker;
+use crate::round::{End, Round};
 use crate::snapshot::Snapshot;
 use album_calls::Message;
 use album_items::Items;
-use album_stamps::{ClientNo, Refusal, Refused};
+use album_stamps::{ClientNo, MOST_PARTS, MOST_READ_ITEMS, Refusal, Refused};
 use std::alloc::Global;
 use std::marker::Model;
-
-// How many items one read may have.
-const MOST_ITEMS: usize = 512;
 
 /// A read of items under way. Contracts see its items, client, tag and number of partitions, the
 /// stamps that it asks with in its second round, and of each item the first answer.
 #[derive(Debug, Drop)]
 pub struct Reading {
-    alloc: Global,
     round: Round,
 }
 
 impl Model for Reading {
-    ghost use Rattle.album_reader.specs.declared.round.Round.{Round};
-    ghost use Rattle.album_reader.specs.Rounds.{IsOpen};
+    ghost use Rattle.album_reader.specs.Rounds.{RoundState, IsOpen};
 
-    ghost Value = { Round };
+    ghost Value = { RoundState };
 
     ghost view = { λ a. a.round };
 
@@ -44,10 +43,9 @@ pub enum Step {
 }
 
 impl Reading {
-    ghost use Rattle.album_reader.specs.Rounds.{most_items, has_single_items, first_round, get_of, told, told_turn, stepped, IsOpen};
-    ghost use Rattle.album_reader.specs.Rounds.Turn.{Waits};
     ghost use Rattle.album_reader.specs.Others.{IsOther};
-    ghost use Rattle.album_reader.specs.Steps.{turn_of};
+    ghost use Rattle.album_reader.specs.Rounds.{first_round, gets_of, stepped, after_replies, outcome};
+    ghost use Rattle.album_reader.specs.Rounds.Step.{Same};
 
     /// Asks each item's partition for its latest version.
     ///
@@ -63,30 +61,33 @@ impl Reading {
         parts: u16,
     ) -> Result<(Reading, Vec<Message>), Refused<Items>>
         requires low { 1 ≤ parts }
-        requires high { parts ≤ 16 }
+        requires high { parts ≤ MOST_PARTS }
         requires some { items ≢ [] }
-        requires single { IsTrue (has_single_items items) }
+        requires single { IsTrue (are_single items) }
         requires low_tag { 1 ≤ tag }
         requires high_tag { tag + 1 < 2 ^ 64 }
-        ensures reading { IfOk result (λ r. r.0 ≡ first_round parts client tag items) }
-        ensures messages { IfOk result (λ r. r.1.items ≡ map (get_of parts client tag []) items) }
-        ensures few { IfOk result (λ _. length items ≤ most_items) }
-        ensures refusal { IfErr result (λ e. e.refusal ≡ (if nat_lt most_items (length items) then TooManyItems else OutOfMemory)) }
+        ensures reading { IfOk result
+            (λ r. r.0 ≡ first_round (record { client = client; tag = tag; parts = parts }) items) }
+        ensures messages { IfOk result
+            (λ r. r.1.items ≡ gets_of (record { client = client; tag = tag; parts = parts }) [] items) }
+        ensures few { IfOk result (λ _. length items ≤ MOST_READ_ITEMS) }
+        ensures refusal { IfErr result (λ e. e.refusal
+            ≡ (if nat_lt MOST_READ_ITEMS (length items) then Refusal.TooManyItems else Refusal.OutOfMemory)) }
         ensures given { IfErr result (λ e. e.given ≡ items) }
     {
-        if items.as_slice().len() > MOST_ITEMS {
-            let refusal = Refusal::TooManyItems;
+        if items.as_slice().len() > MOST_READ_ITEMS {
             return Err(Refused {
-                refusal,
+                refusal: Refusal::TooManyItems,
                 given: items,
             });
         }
-        let round = Round::first(alloc, items, client, tag, parts)?;
-        match round.gets(alloc) {
-            Ok(messages) => Ok((Reading { alloc, round }, messages)),
-            Err(refusal) => Err(Refused {
-                refusal,
-                given: round.items,
+        let round = Round::first(alloc, Asker::new(client, tag, parts), items)?;
+        // Only memory can refuse from here on.
+        match round.gets() {
+            Ok(messages) => Ok((Reading { round }, messages)),
+            Err(_) => Err(Refused {
+                refusal: Refusal::OutOfMemory,
+                given: round.into_items(),
             }),
         }
     }
@@ -98,21 +99,28 @@ impl Reading {
     ///
     /// `OutOfMemory`, with the reading handed back unchanged: give it the message again.
     pub fn on_reply(self, message: &Message) -> Result<Step, Refused<Reading>>
-        ensures step { IfOk result (λ step. turn_of step ≡ stepped self message.now) }
+        ensures step { IfOk result (λ step. step_of step ≡ stepped self message.now) }
 
         // Where the reading is what a list of replies tells, the step is what these and the message
         // tell: the round is over once each item has an answer among them.
-        ensures all_given { IfOk result (λ step. (given : List Message) → self ≡ told self given
-            → turn_of step ≡ told_turn self (given ++ message.now ∷ [])) }
+        ensures all_given { IfOk result (λ step. (replies : List Message)
+            → self ≡ after_replies self replies
+            → step_of step ≡ outcome (after_replies self (replies ++ message.now ∷ []))) }
 
-        // Nothing else counts.
-        ensures other { IsOther self message.now → IfOk result (λ step. turn_of step ≡ Waits self) }
+        // Nothing else counts, and what doesn't count is never refused.
+        ensures other { IsOther self message.now → IsOkAnd result (λ step. step_of step ≡ Same self) }
 
-        ensures memory { IfErr result (λ e. e.refusal ≡ OutOfMemory) }
+        ensures memory { IfErr result (λ e. e.refusal ≡ Refusal.OutOfMemory) }
         ensures given { IfErr result (λ e. e.given ≡ self) }
     {
-        let Reading { alloc, round } = self;
-        Reading::take(alloc, round, message)
+        let Reading { mut round } = self;
+        match round.take(message) {
+            Ok(last) => Ok(Step::of(round, last)),
+            Err(_) => Err(Refused {
+                refusal: Refusal::OutOfMemory,
+                given: Reading { round },
+            }),
+        }
     }
 
     /// The same reading once more.
@@ -121,41 +129,24 @@ impl Reading {
     ///
     /// `OutOfMemory`.
     pub fn copy(&self) -> Result<Reading, Refusal>
-        ensures found { IfOk result (λ reading. reading ≡ self.now) }
-        ensures memory { IfErr result (λ e. e ≡ OutOfMemory) }
+        ensures copy { IfOk result (λ reading. reading ≡ self.now) }
+        ensures memory { IsOkUnless result Refusal.OutOfMemory }
     {
-        let round = self.round.copy(self.alloc)?;
-        Ok(Reading {
-            alloc: self.alloc,
-            round,
-        })
+        let round = self.round.clone()?;
+        Ok(Reading { round })
     }
+}
 
-    /// What comes of a message in a round that is not over.
-    fn take(alloc: Global, mut round: Round, message: &Message) -> Result<Step, Refused<Reading>>
-        requires { IsOpen round }
-        ensures step { IfOk result (λ step. turn_of step ≡ stepped round message.now) }
-        ensures memory { IfErr result (λ e. e.refusal ≡ OutOfMemory) }
-        ensures given { IfErr result (λ e. e.given ≡ round) }
+impl Step {
+    /// The step of a round that ends so, if it does.
+    fn of(round: Round, last: Option<End>) -> Step
+        requires { StaysOpen (step_by round last) }
+        ensures { step_of result ≡ step_by round last }
     {
-        let Fresh { at, found } = match round.fresh(alloc, message) {
-            Ok(Some(fresh)) => fresh,
-            Ok(None) => return Ok(Step::Same(Reading { alloc, round })),
-            Err(refusal) => {
-                let given = Reading { alloc, round };
-                return Err(Refused { refusal, given });
-            }
-        };
-        round.founds.put(at, Some(found));
-        match round.end(alloc) {
-            Ok(End::Open) => Ok(Step::Same(Reading { alloc, round })),
-            Ok(End::Next(round, messages)) => Ok(Step::Next(Reading { alloc, round }, messages)),
-            Ok(End::Done(snapshot)) => Ok(Step::Done(snapshot)),
-            Err(refusal) => {
-                round.founds.put(at, None);
-                let given = Reading { alloc, round };
-                Err(Refused { refusal, given })
-            }
+        match last {
+            None => Step::Same(Reading { round }),
+            Some(End::Next(next, messages)) => Step::Next(Reading { round: next }, messages),
+            Some(End::Done(snapshot)) => Step::Done(snapshot),
         }
     }
 }

@@ -1,0 +1,141 @@
+-- How rounds end, for the law that a read has two of them.
+use Rattle.std.proofs.Common.{◌≡◌, ◌≢◌, ℕ, ◌+◌, Bool, true, false, List, Option, Some, None, refl, sym, ap, ◌∙◌, subst, if◌then◌else◌, arith, [], ◌∷◌, ◌++◌, is_some}
+use Rattle.std.specs.Prelude.{option_and_then}
+use Rattle.std.specs.Option.{option_map_or}
+use Rattle.std.proofs.lemmas.Bool.{and_parts, eqb-true}
+use Rattle.album_calls.specs.declared.messages.Message.{Message}
+use Rattle.album_reader.specs.Answers.{Asker, Answer, body_version, is_answer, if_answer, answer_in, whole, all_answers}
+use Rattle.album_reader.specs.StampSets.{stamps_of}
+use Rattle.album_reader.specs.Others.IsOther.{OtherTag}
+use Rattle.album_reader.specs.Rounds.{RoundState, Step, second_round, next_asker, gets_of, new_answer, with_answer, end_by, end_of, outcome, stepped, after_replies}
+use Rattle.album_reader.specs.Rounds.Step.{Same, Next, Done}
+use Rattle.album_reader.proofs.FirstAnswers.{stepped-after_replies}
+use Rattle.album_reader.proofs.Others.{new_answer-other}
+
+-- what is true of the round as it is, and of its end, is true of the step
+step-cases :
+    (P : Step → Type 0) (round : RoundState) (message : Message) → P (Same round)
+    → ((answer : Answer) → P (Same (with_answer round answer)))
+    → ((answer : Answer) (answers : List Answer) → P (end_of (with_answer round answer) answers))
+    → P (stepped round message)
+step-cases P round message same put last = go (new_answer round message)
+  where
+    go : (o : Option Answer) → P (option_map_or (λ (a : Answer). outcome (with_answer round a)) o (Same round))
+    go None = same
+    go (Some answer) = here (whole (with_answer round answer).answers)
+      where
+        here :
+            (all : Option (List Answer))
+            → P (option_map_or (end_of (with_answer round answer)) all (Same (with_answer round answer)))
+        here None = put answer
+        here (Some answers) = last answer answers
+
+-- the step is no end of the read
+abbrev IsNotDone : Step → Type 0
+IsNotDone (Same round) = Unit {0}
+IsNotDone (Next round gets) = Unit {0}
+IsNotDone (Done answers) = ⊥
+
+-- the step asks no more
+abbrev AsksNoMore : Step → Type 0
+AsksNoMore (Same round) = Unit {0}
+AsksNoMore (Next round gets) = ⊥
+AsksNoMore (Done answers) = Unit {0}
+
+pub first-not_done :
+    (round : RoundState) (message : Message) (answers : List Answer)
+    → round.stamps ≡ None → stepped round message ≢ Done answers
+first-not_done round message answers first e =
+    subst IsNotDone e (step-cases IsNotDone round message tt (λ a. tt)
+    (λ a all. subst (λ (o : Option (List ℕ)). IsNotDone (end_by o (with_answer round a) all)) (sym first) tt))
+
+pub second-asks_no_more :
+    (round next : RoundState) (stamps : List ℕ) (message : Message) (gets : List Message)
+    → round.stamps ≡ Some stamps → stepped round message ≢ Next next gets
+second-asks_no_more round next stamps message gets second e =
+    subst AsksNoMore e (step-cases AsksNoMore round message tt (λ a. tt)
+    (λ a all. subst (λ (o : Option (List ℕ)). AsksNoMore (end_by o (with_answer round a) all)) (sym second) tt))
+
+-- what comes of the last reply, where it is no waiting
+ended :
+    (round : RoundState) (replies : List Message) (message : Message) (step : Step)
+    → ((next : RoundState) → step ≢ Same next)
+    → stepped (after_replies round replies) message ≡ step
+    → outcome (after_replies round (replies ++ message ∷ [])) ≡ step
+ended round replies message step ends e =
+    go (is_some (all_answers round.asker replies round.items)) (sym (stepped-after_replies round replies message) ∙ e)
+  where
+    next : RoundState
+    next = after_replies round (replies ++ message ∷ [])
+
+    go : (b : Bool) → (if b then Same next else outcome next) ≡ step → outcome next ≡ step
+    go true f = absurd (ends next (sym f))
+    go false f = f
+
+pub next-asks_all :
+    (round next : RoundState) (replies : List Message) (message : Message) (gets : List Message) (answers : List Answer)
+    → all_answers round.asker (replies ++ message ∷ []) round.items ≡ Some answers
+    → stepped (after_replies round replies) message ≡ Next next gets
+    → gets ≡ gets_of (next_asker round.asker) (stamps_of answers) round.items
+next-asks_all round next replies message gets answers whole_too e =
+    by round.stamps (
+    sym (ap (λ (o : Option (List Answer)). option_map_or (end_of now) o (Same now)) whole_too)
+    ∙ ended round replies message (Next next gets) (λ n f. absurd (cc)) e
+    )
+  where
+    now : RoundState
+    now = after_replies round (replies ++ message ∷ [])
+
+    by : (o : Option (List ℕ)) → end_by o now answers ≡ Next next gets → gets ≡ gets_of (next_asker round.asker) (stamps_of answers) round.items
+    by None f = ap gets_in (sym f)
+      where
+        gets_in : Step → List Message
+        gets_in (Same r) = gets
+        gets_in (Next r messages) = messages
+        gets_in (Done all) = gets
+    by (Some stamps) f = absurd (cc)
+
+pub done-is_read :
+    (round : RoundState) (replies : List Message) (message : Message) (answers : List Answer)
+    → stepped (after_replies round replies) message ≡ Done answers
+    → all_answers round.asker (replies ++ message ∷ []) round.items ≡ Some answers
+done-is_read round replies message answers e =
+    go (all_answers round.asker (replies ++ message ∷ []) round.items) refl
+    (ended round replies message (Done answers) (λ n f. absurd (cc)) e)
+  where
+    now : RoundState
+    now = after_replies round (replies ++ message ∷ [])
+
+    by : (o : Option (List ℕ)) (all : List Answer) → end_by o now all ≡ Done answers → all ≡ answers
+    by None all f = absurd (cc)
+    by (Some stamps) all f = cc
+
+    go :
+        (o : Option (List Answer)) → all_answers round.asker (replies ++ message ∷ []) round.items ≡ o
+        → option_map_or (end_of now) o (Same now) ≡ Done answers → o ≡ Some answers
+    go None f g = absurd (cc)
+    go (Some all) f g = ap (λ (found : List Answer). Some found) (by round.stamps all g)
+
+-- an answer has the asker's tag
+answer_in-tag :
+    (asker : Asker) (message : Message) (answer : Answer)
+    → answer_in asker message ≡ Some answer → message.tag ≡ asker.tag
+answer_in-tag asker message answer e = go (body_version message.body) e
+  where
+    go : (o : Option Answer) → option_and_then (if_answer asker message) o ≡ Some answer → message.tag ≡ asker.tag
+    go None f = absurd (cc)
+    go (Some version) f = here (is_answer asker message version.item) refl f
+      where
+        here :
+            (b : Bool) → is_answer asker message version.item ≡ b
+            → (if b then Some version else None) ≡ Some answer → message.tag ≡ asker.tag
+        here true g h = eqb-true message.tag asker.tag (and_parts _ _ (and_parts _ _ g).0).0
+        here false g h = absurd (cc)
+
+pub new_answer-late :
+    (round : RoundState) (stamps : List ℕ) (message : Message) (answer : Answer)
+    → answer_in round.asker message ≡ Some answer → new_answer (second_round round stamps) message ≡ None
+new_answer-late round stamps message answer e =
+    new_answer-other (second_round round stamps) message
+    (OtherTag (λ (same : message.tag ≡ round.asker.tag + 1).
+    let tag = answer_in-tag round.asker message answer e in omega (arith, tag)))

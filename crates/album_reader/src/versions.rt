@@ -1,0 +1,55 @@
+// The version that a message tells.
+ghost use Rattle.std.specs.Prelude.{◌≡◌, Option, option_map, IfOk};
+ghost use Rattle.album_reader.specs.Answers.{reply_version, body_version};
+ghost use Rattle.album_reader.specs.Ends.{answer_of};
+
+use crate::answers::Answer;
+use album_calls::{Body, Reply};
+use album_items::{ItemId, Value};
+use album_stamps::Stamp;
+use std::alloc::AllocError;
+
+/// The version of an item, as it stands in a message.
+#[derive(Clone, Copy)]
+pub struct VersionIn<'a> {
+    pub item: ItemId,
+    pub stamp: Stamp,
+    pub value: &'a Value,
+}
+
+impl VersionIn<'_> {
+    /// The version as an answer, with the value copied.
+    pub fn answer(&self) -> Result<Answer, AllocError>
+        ensures { IfOk result (λ answer. answer ≡ answer_of self.now) }
+    {
+        Ok(Answer {
+            item: self.item,
+            stamp: self.stamp,
+            value: self.value.clone()?,
+        })
+    }
+}
+
+/// The version that the body tells, if it tells one.
+pub fn body_version(body: &Body) -> Option<VersionIn>
+    ensures { option_map answer_of result ≡ body_version body.now }
+{
+    match body {
+        Body::Request(_) => None,
+        Body::Reply(reply) => reply_version(reply),
+    }
+}
+
+fn reply_version(reply: &Reply) -> Option<VersionIn>
+    ensures { option_map answer_of result ≡ reply_version reply.now }
+{
+    match reply {
+        Reply::Version(item, stamp, value) => Some(VersionIn {
+            item: *item,
+            stamp: *stamp,
+            value,
+        }),
+        Reply::Prepared(_) | Reply::Committed(_) | Reply::Discarded(_) => None,
+        Reply::Status(_, _) | Reply::NotPrepared(_) | Reply::Clash | Reply::Full(_) => None,
+    }
+}
