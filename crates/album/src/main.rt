@@ -2,11 +2,12 @@
 #![tactic(auto)]
 
 use album_server::{Fault, judge};
+use clap::error::ErrorKind;
 use clap::{ArgMatches, Command, Error};
 use std::alloc::{AllocError, Global};
-use std::env;
-use std::io::Write;
+use std::io::{Read, Write};
 use std::process::ExitCode;
+use std::{env, io};
 
 /// How many reads a run may make.
 const TURNS: u64 = 4_294_967_296;
@@ -39,6 +40,39 @@ It is answered by one of these lines, `at` being the index of the entry that den
   {"answer":"denied","at":"end"}
   {"name":"BadMask","refused":5}"#;
 
+const NO_TEXT: &str = r#"error: invalid UTF-8 was detected in one or more arguments
+
+Usage: album <COMMAND>
+
+For more information, try '--help'."#;
+
+fn main(rt: HostRuntime) -> ExitCode {
+    let args = match env::args(&rt) {
+        Ok(args) => args,
+        Err(error) => return refuse_words(&rt, &error),
+    };
+    let Ok(words) = args.collect::<Vec<String>>(rt.alloc()) else {
+        return ended(&rt, Err(Fault::Memory));
+    };
+    let matches = match matches(rt.alloc(), &words) {
+        Ok(matches) => matches,
+        Err(error) => return explain(&rt, &error),
+    };
+    match matches.subcommand_name() {
+        Some("judge") => ended(
+            &rt,
+            judge_lines(rt.alloc(), &mut rt.stdin(), &mut rt.stdout()),
+        ),
+        // No other command line has matched.
+        _ => ExitCode::from(2),
+    }
+}
+
+fn matches<'a>(alloc: Global, words: &'a [String]) -> Result<ArgMatches<'a>, Error> {
+    let command: Command<'a> = command(alloc)?;
+    command.try_get_matches_from(words)
+}
+
 fn command<'a>(alloc: Global) -> Result<Command<'a>, AllocError> {
     let judge = Command::new(alloc, "judge")
         .about(JUDGE_ABOUT)
@@ -49,38 +83,44 @@ fn command<'a>(alloc: Global) -> Result<Command<'a>, AllocError> {
         .subcommand(judge)
 }
 
-fn matches<'a>(alloc: Global, words: &'a [String]) -> Result<ArgMatches<'a>, Error> {
-    let command: Command<'a> = command(alloc)?;
-    command.try_get_matches_from(words)
+/// Answers the lines of the reader, to its end.
+fn judge_lines<R: Read, W: Write>(
+    alloc: Global,
+    reader: &mut R,
+    writer: &mut W,
+) -> Result<(), Fault> {
+    judge(alloc, reader, writer, TURNS)?;
+    writer.flush().map_err(|_| Fault::Writing)
 }
 
-/// Tells a fault on standard error. Nothing can be done where that fails too.
-fn fail(rt: &impl Eprint, fault: Fault) -> ExitCode {
-    let _ = eprintln!(rt; "album: {fault}");
-    ExitCode::from(1)
+/// The status of a run, with its fault on standard error. Nothing can be done where that fails too.
+fn ended(rt: &impl Eprint, outcome: Result<(), Fault>) -> ExitCode {
+    match outcome {
+        Ok(()) => ExitCode::SUCCESS,
+        Err(fault) => {
+            let _ = eprintln!(rt; "album: {fault}");
+            ExitCode::from(1)
+        }
+    }
 }
 
-fn main(rt: HostRuntime) -> ExitCode {
-    let Ok(args) = env::args(&rt) else {
-        let _ = eprintln!(rt; "error: an argument is not text");
+/// The words could not be read: there was no memory for them, or one is no text.
+fn refuse_words(rt: &impl Eprint, error: &io::Error) -> ExitCode {
+    if error.kind() == io::ErrorKind::OutOfMemory {
+        return ended(rt, Err(Fault::Memory));
+    }
+    let _ = eprintln!(rt; "{NO_TEXT}");
+    ExitCode::from(2)
+}
+
+/// Prints the help that was asked for, or why the command line is refused.
+fn explain<R: Print + Eprint>(rt: &R, error: &Error) -> ExitCode {
+    if error.kind() == ErrorKind::OutOfMemory {
+        return ended(rt, Err(Fault::Memory));
+    }
+    let printed = error.print(rt);
+    if error.use_stderr() {
         return ExitCode::from(2);
-    };
-    let Ok(words) = args.collect::<Vec<String>>(rt.alloc()) else {
-        return fail(&rt, Fault::Memory);
-    };
-    let parsed = matches(rt.alloc(), &words);
-    if let Err(error) = parsed {
-        let _ = error.print(&rt);
-        return ExitCode::from(if error.use_stderr() { 2 } else { 0 });
     }
-    let mut reader = rt.stdin();
-    let mut writer = rt.stdout();
-    match judge(rt.alloc(), &mut reader, &mut writer, TURNS) {
-        Ok(()) => {}
-        Err(fault) => return fail(&rt, fault),
-    }
-    if writer.flush().is_err() {
-        return fail(&rt, Fault::Writing);
-    }
-    ExitCode::SUCCESS
+    ended(rt, printed.map_err(|_| Fault::Writing))
 }

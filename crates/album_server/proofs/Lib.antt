@@ -1,4 +1,5 @@
 pub mod Parts
-pub mod Outputs
+pub mod Texts
+pub mod Exchanging
 pub mod Turns
 pub mod Judging

@@ -8,7 +8,7 @@ use Rattle.album_eval.specs.Matching.{Case}
 use Rattle.album_eval.specs.Verdict.{IsVerdict}
 use Rattle.album_eval.specs.declared.verdicts.Verdict.{Verdict}
 use Rattle.album_wire.specs.Lines.{Line, is_blank}
-use Rattle.album_wire.specs.Judge.{Listing, Question, judge_of}
+use Rattle.album_wire.specs.JudgeLine.{Listing, Question, judge_of}
 use Rattle.album_wire.specs.Output.{verdict_line, refusal_line}
 
 -- what the groups of a line list: nobody in a group that isn't there
@@ -38,12 +38,14 @@ IsReply (Err refusal) text = text ≡ refusal_line refusal
 
 -- Nothing for a blank line; for another its reply, or that memory ran out on it.
 abbrev pub IsAnswer : Line → List ℕ → Type 0
-IsAnswer line text = MatchBool (is_blank line) (text ≡ []) (IsReply (read_of line) text ⊎ (text ≡ refusal_line OutOfMemory))
+IsAnswer line text =
+    MatchBool (is_blank line) (text ≡ []) (IsReply (read_of line) text ⊎ (text ≡ refusal_line OutOfMemory))
 
 -- the answers to these lines, in their order, and nothing else
 abbrev pub Answers : List Line → List ℕ → Type 0
 Answers [] text = text ≡ []
-Answers (line ∷ lines) text = (first : List ℕ) × (others : List ℕ) × IsAnswer line first × Answers lines others × (text ≡ first ++ others)
+Answers (line ∷ lines) text =
+    (first : List ℕ) × (others : List ℕ) × IsAnswer line first × Answers lines others × (text ≡ first ++ others)
 
 -- what a call made of the line, unless memory ran out
 abbrev pub Judges : Result Question Refusal → Result Verdict Refusal → Type 0

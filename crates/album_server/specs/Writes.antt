@@ -1,22 +1,49 @@
--- What a writer gained.
-use Rattle.std.specs.Prelude.{◌≡◌, ℕ, List, [], ◌++◌, Option, Some}
+-- What an engine did: which bytes its reader gave, and which text its writer gained for them.
+use Rattle.std.specs.Prelude.{◌≡◌, ◌≢◌, ◌≤◌, ◌*◌, ℕ, List, [], ◌++◌, length, Option}
 use Rattle.std.specs.Io.KnownBytes.{Appends, Consumes}
-use Rattle.album_wire.specs.Lines.{Line, cut}
-use Rattle.album_server.specs.Answers.{Answers}
+use Rattle.album_wire.specs.Lines.{Line, ended, lines_of}
+use Rattle.album_server.specs.declared.engine.TheConstants.{PIECE}
+use Rattle.album_server.specs.declared.fault.Fault.{Fault}
+use Rattle.album_server.specs.declared.fault.Fault.TheVariants.{Reading, Writing, Memory}
 
--- the writer gained the answers to these lines
-abbrev pub WritesAll : List Line → Option (List ℕ) → Option (List ℕ) → Type 0
-WritesAll lines old new = (text : List ℕ) × Answers lines text × Appends old new text
+-- the reader gave at most so many pieces
+abbrev pub HasRead : ℕ → Option (List ℕ) → Option (List ℕ) → Type 0
+HasRead turns remaining left = (given : List ℕ) × Consumes remaining left given × (length given ≤ turns * PIECE)
 
--- the writer gained a prefix of answers to these lines
-abbrev pub WritesPrefix : List Line → Option (List ℕ) → Option (List ℕ) → Type 0
-WritesPrefix lines old new = (text : List ℕ) × (rest : List ℕ) × Answers lines (text ++ rest) × Appends old new text
+-- the writer gained a text of which this holds
+abbrev pub Writes : (List ℕ → Type 0) → Option (List ℕ) → Option (List ℕ) → Type 0
+Writes P old new = (text : List ℕ) × P text × Appends old new text
 
--- the writer gained a prefix of the text
-abbrev pub WritesPart : List ℕ → Option (List ℕ) → Option (List ℕ) → Type 0
-WritesPart text old new = (front : List ℕ) × (rest : List ℕ) × (text ≡ front ++ rest) × Appends old new front
+-- the reader gave some bytes, and the writer gained a text that goes with them
+abbrev pub Exchanges : (List ℕ → List ℕ → Type 0)
+    → Option (List ℕ) → Option (List ℕ) → Option (List ℕ) → Option (List ℕ) → Type 0
+Exchanges R remaining left old new =
+    (given : List ℕ) × Consumes remaining left given × Writes (R given) old new
 
--- So far the reader gave some bytes, and the writer gained the answers to the lines that end in them.
-abbrev pub HasWritten : Option (List ℕ) → Option (List ℕ) → Line → Option (List ℕ) → Option (List ℕ) → Type 0
-HasWritten remaining left unfinished old new =
-    (given : List ℕ) × Consumes remaining left given × (unfinished ≡ (cut (Some []) given).1) × WritesAll (cut (Some []) given).0 old new
+-- a prefix of a text of which this holds
+abbrev pub IsPrefixOf : (List ℕ → Type 0) → List ℕ → Type 0
+IsPrefixOf P text = (rest : List ℕ) × P (text ++ rest)
+
+-- one that lacks something of it
+abbrev pub IsCutShort : (List ℕ → Type 0) → List ℕ → Type 0
+IsCutShort P text = (rest : List ℕ) × (rest ≢ []) × P (text ++ rest)
+
+-- ---- an engine writes what answers its lines: `answers` says which texts answer a list of lines
+
+-- whole answers to the first of these lines, but not to all
+abbrev pub AnswersFirst : (List Line → List ℕ → Type 0) → List Line → List ℕ → Type 0
+AnswersFirst answers lines text =
+    (done : List Line) × (later : List Line) × (later ≢ []) × (lines ≡ done ++ later) × answers done text
+
+-- What a fault leaves of the answers to these lines. Writing: an answer is cut short. Memory: those that are there are
+-- whole, and one is not there. No fault of reading comes of answering.
+abbrev pub IsLeftBy : Fault → (List Line → List ℕ → Type 0) → List Line → List ℕ → Type 0
+IsLeftBy Reading answers lines text = ⊥
+IsLeftBy Writing answers lines text = IsCutShort (answers lines) text
+IsLeftBy Memory answers lines text = AnswersFirst answers lines text
+
+-- What a fault leaves of the answers to what was read. Reading: each line that has ended is answered, and nothing else.
+abbrev pub IsEndedBy : Fault → (List Line → List ℕ → Type 0) → List ℕ → List ℕ → Type 0
+IsEndedBy Reading answers given text = answers (ended given) text
+IsEndedBy Writing answers given text = IsCutShort (answers (lines_of given)) text
+IsEndedBy Memory answers given text = AnswersFirst answers (lines_of given) text

@@ -1,8 +1,9 @@
-// The engine that answers judge lines.
-ghost use Rattle.std.specs.Prelude.{◌≡◌, List, ℕ, Err, OnOk, OnErr, IfSome};
+// The engine that answers judge lines: read a piece, answer the lines that end in it, and at the end the last line.
+ghost use Rattle.std.specs.Prelude.{◌≡◌, List, ℕ, Err, OnOk, OnErr, IfErr, IfSome};
 ghost use Rattle.std.specs.Io.KnownBytes.{IsAtEnd};
 ghost use Rattle.album_wire.specs.Lines.{lines_of, last};
-ghost use Rattle.album_server.specs.Writes.{WritesAll, WritesPrefix};
+ghost use Rattle.album_server.specs.Answers.{Answers};
+ghost use Rattle.album_server.specs.Writes.{HasRead, Writes, Exchanges, IsPrefixOf, IsLeftBy, IsEndedBy};
 
 use crate::answers::write_answers;
 use crate::fault::Fault;
@@ -12,17 +13,6 @@ use std::io::{Read, Write};
 
 /// How many bytes a read may give.
 const PIECE: usize = 4096;
-
-/// Answers the last line, where the input does not end in a newline.
-fn finish<W: Write>(alloc: Global, lines: Lines, writer: &mut W) -> Result<(), Fault>
-    ensures ok { OnOk result (WritesAll (last lines) (W.contents writer.old) (W.contents writer.new)) }
-    ensures err { OnErr result (WritesPrefix (last lines) (W.contents writer.old) (W.contents writer.new)) }
-{
-    match lines.end() {
-        None => Ok(()),
-        Some(line) => write_answers(alloc, writer, &[line]),
-    }
-}
 
 /// Answers each line that is read by one line, in order; a line of spaces, tabs and carriage returns
 /// alone is skipped. Where `turns` reads did not come to the end, that is the fault `Reading`.
@@ -34,12 +24,20 @@ pub fn judge<R: Read, W: Write>(
 ) -> Result<(), Fault>
     // Without a fault all was read, and just the answers to its lines are written.
     ensures ok { OnOk result (IfSome (R.remaining reader.old) (λ input.
-        WritesAll (lines_of input) (W.contents writer.old) (W.contents writer.new))) }
+        Writes (Answers (lines_of input)) (W.contents writer.old) (W.contents writer.new))) }
     ensures whole { OnOk result (IsAtEnd (R.remaining reader.new)) }
 
     // On a fault, a prefix of them is.
     ensures err { OnErr result (IfSome (R.remaining reader.old) (λ input.
-        WritesPrefix (lines_of input) (W.contents writer.old) (W.contents writer.new))) }
+        Writes (IsPrefixOf (Answers (lines_of input))) (W.contents writer.old) (W.contents writer.new))) }
+
+    // What is written then answers what was read. Reading: each line that has ended, and nothing else.
+    // Writing: an answer is cut short. Memory: each answer is whole, and one is not there.
+    ensures fault { IfErr result (λ fault. Exchanges (IsEndedBy fault Answers)
+        (R.remaining reader.old) (R.remaining reader.new) (W.contents writer.old) (W.contents writer.new)) }
+
+    // A turn reads one piece at most.
+    ensures few { HasRead turns (R.remaining reader.old) (R.remaining reader.new) }
 
     // No turn, no read.
     ensures none { turns ≡ 0 → result ≡ Err Fault.Reading }
@@ -47,7 +45,7 @@ pub fn judge<R: Read, W: Write>(
 {
     let mut lines = Lines::new(alloc);
     let mut piece = [0u8; PIECE];
-    for _ in 0..turns {
+    for _turn in 0..turns {
         let Ok(len) = reader.read(&mut piece) else {
             return Err(Fault::Reading);
         };
@@ -58,4 +56,16 @@ pub fn judge<R: Read, W: Write>(
         write_answers(alloc, writer, &ended)?;
     }
     Err(Fault::Reading)
+}
+
+/// Answers the last line, where the input does not end in a newline.
+fn finish<W: Write>(alloc: Global, lines: Lines, writer: &mut W) -> Result<(), Fault>
+    ensures ok { OnOk result (Writes (Answers (last lines)) (W.contents writer.old) (W.contents writer.new)) }
+    ensures fault { IfErr result (λ fault.
+        Writes (IsLeftBy fault Answers (last lines)) (W.contents writer.old) (W.contents writer.new)) }
+{
+    match lines.end() {
+        None => Ok(()),
+        Some(line) => write_answers(alloc, writer, &[line]),
+    }
 }

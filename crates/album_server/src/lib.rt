@@ -1,4 +1,7 @@
 //! The engine from a reader of lines to a writer of answers.
+//!
+//! A reader and a writer come in, whatever they are, and what was written goes with what was read. Read
+//! `engine` first; `answers` makes the text of one line, by `judged`, and `writing` writes it.
 #![tactic(auto)]
 
 mod answers;

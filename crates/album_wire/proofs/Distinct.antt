@@ -1,4 +1,4 @@
--- Numbers that differ, and that differ from those seen before.
+-- Numbers that differ, and that differ from those seen before. For `are_single`; `first_new` is a step of its loop.
 use Rattle.std.proofs.Common.{◌≡◌, ◌==◌, ◌&&◌, ◌||◌, ◌+◌, ◌<◌, ℕ, suc, List, [], ◌∷◌, length, get_or, drop, map, Bool, true, false, not, cond, refl, sym, ap, ◌∙◌, add-one, drop-cons}
 use Rattle.std.specs.List.{list_any}
 use Rattle.std.specs.Ordering.{nat_cmp}
@@ -7,12 +7,13 @@ use Rattle.std.specs.Cmp.{Equal-is}
 use Rattle.std.proofs.lemmas.Bool.Decides.{Decides-eqb}
 use Rattle.std.proofs.lemmas.Map.Lookups.{exact_unsigned}
 use Rattle.std.proofs.lemmas.Cmp.{nat_cmp_total, eq_by_cmp_equiv}
-use Rattle.album_wire.specs.Judge.{are_distinct, numbers, spelled_group}
+use Rattle.album_stamps.specs.Distinct.{are_single}
+use Rattle.album_wire.specs.JudgeShape.{numbers, spelled_group}
 use Rattle.album_wire.specs.declared.judge_shape.GroupShape.{GroupShape}
 
 -- they differ, and none of them is seen
 abbrev pub are_new : (ℕ → Bool) → List ℕ → Bool
-are_new seen ns = are_distinct ns && not (list_any seen ns)
+are_new seen ns = are_single ns && not (list_any seen ns)
 
 any_same : (f g : ℕ → Bool) → ((n : ℕ) → f n ≡ g n) → (ns : List ℕ) → list_any f ns ≡ list_any g ns
 any_same f g same [] = refl
@@ -28,8 +29,8 @@ any_either f g (n ∷ ns) = rw (any_either f g ns) (go (f n) (g n) (list_any f n
     go false true false d = refl
     go false false c d = refl
 
-pub none_seen : (ns : List ℕ) (f : ℕ → Bool) → ((n : ℕ) → f n ≡ false) → are_new f ns ≡ are_distinct ns
-none_seen ns f none = rw (any_same f (λ n. false) none ns, never ns) (go (are_distinct ns))
+pub none_seen : (ns : List ℕ) (f : ℕ → Bool) → ((n : ℕ) → f n ≡ false) → are_new f ns ≡ are_single ns
+none_seen ns f none = rw (any_same f (λ n. false) none ns, never ns) (go (are_single ns))
   where
     never : (ms : List ℕ) → list_any (λ n. false) ms ≡ false
     never [] = refl
@@ -52,10 +53,24 @@ same_key k q = go (is_at (nat_cmp k) q) refl (q == k) refl
     go true e false t = sym ((Decides-eqb q k).1 (sym (exact_unsigned k q ((Equal-is (nat_cmp k q)).0 e)))) ∙ t
     go false e true t = sym e ∙ at_self q k ((Decides-eqb q k).0 t)
 
+-- `==` doesn't tell its sides apart
+same_back : (k q : ℕ) → (q == k) ≡ (k == q)
+same_back k q = go (q == k) refl (k == q) refl
+  where
+    go : (b : Bool) → (q == k) ≡ b → (c : Bool) → (k == q) ≡ c → b ≡ c
+    go true e true t = refl
+    go false e false t = refl
+    go true e false t = sym ((Decides-eqb k q).1 (sym ((Decides-eqb q k).0 e))) ∙ t
+    go false e true t = sym e ∙ (Decides-eqb q k).1 (sym ((Decides-eqb k q).0 t))
+
 -- the first is new, and the others are where it is seen too
-pub first_new : (old new : ℕ → Bool) (k : ℕ) (ns : List ℕ) → ((q : ℕ) → new q ≡ cond (is_at (nat_cmp k) q) true (old q)) → old k ≡ false → are_new old (k ∷ ns) ≡ are_new new ns
-first_new old new k ns updates unseen = rw (any_same new (λ q. (q == k) || old q) (λ q. updates q ∙ rw (same_key k q) (either (q == k) (old q))) ns, any_either (λ q. q == k) old ns, unseen)
-    (go (list_any (λ m. m == k) ns) (are_distinct ns) (list_any old ns))
+pub first_new : (old new : ℕ → Bool) (k : ℕ) (ns : List ℕ)
+    → ((q : ℕ) → new q ≡ cond (is_at (nat_cmp k) q) true (old q))
+    → old k ≡ false
+    → are_new old (k ∷ ns) ≡ are_new new ns
+first_new old new k ns updates unseen =
+    rw (any_same new (λ q. (k == q) || old q) (λ q. updates q ∙ rw (same_key k q, same_back k q) (either (k == q) (old q))) ns, any_either (λ q. k == q) old ns, unseen)
+    (go (list_any (λ m. k == m) ns) (are_single ns) (list_any old ns))
   where
     either : (a b : Bool) → cond a true b ≡ (a || b)
     either true b = refl
@@ -67,9 +82,13 @@ first_new old new k ns updates unseen = rw (any_same new (λ q. (q == k) || old 
     go false d o = refl
 
 -- the group at an index, and those behind it
-pub numbers_from : (gs : List GroupShape) (i : ℕ) (g : GroupShape) → i < length gs → g ≡ get_or gs i g → numbers (map spelled_group (drop i gs)) ≡ g.number ∷ numbers (map spelled_group (drop (i + 1) gs))
+pub numbers_from : (gs : List GroupShape) (i : ℕ) (g : GroupShape)
+    → i < length gs
+    → g ≡ get_or gs i g
+    → numbers (map spelled_group (drop i gs)) ≡ g.number ∷ numbers (map spelled_group (drop (i + 1) gs))
 numbers_from gs i g below is =
-    let first : drop i gs ≡ g ∷ drop (i + 1) gs = drop-cons gs i g below ∙ rw (add-one) (ap (λ x. x ∷ drop (suc i) gs) (sym is)) in
+    let first : drop i gs ≡ g ∷ drop (i + 1) gs =
+    drop-cons gs i g below ∙ rw (add-one) (ap (λ x. x ∷ drop (suc i) gs) (sym is)) in
     ap (λ xs. numbers (map spelled_group xs)) first
 
 -- what `insert` answers

@@ -1,7 +1,11 @@
 pub mod Cuts
-pub mod Members
 pub mod Newlines
+pub mod Members
 pub mod Lists
 pub mod Distinct
 pub mod Wide
+pub mod Steps
+pub mod Json
+pub mod Entries
+pub mod Questions
 pub mod Texts

@@ -1,4 +1,5 @@
--- The items and members of a `Value`, beside those of the value that contracts see, and the value of a line.
+-- The items and members of a `Value`, beside those of the value that contracts see, and the value of a line. For `data`,
+-- `has_only_names` and `sized_list`.
 use Rattle.std.proofs.Common.{◌≡◌, ℕ, suc, List, [], ◌∷◌, length, map, Bool, true, false, cond, bytes_eq, Some, None, Ok, Err, String, Global, string_bytes, Bor, refl, ap}
 use Rattle.std.specs.List.{list_any, list_all}
 use Rattle.std.specs.Map.{keys_of}
@@ -13,12 +14,15 @@ use Rattle.serde_json.specs.declared.value.Value.{Value}
 use Rattle.album_stamps.specs.declared.refusals.Refusal.TheVariants.{BadLine}
 use Rattle.album_wire.specs.Fields.{data_of, has_only, is_among}
 
-among : (names : List (Bor (List ℕ))) (k : List ℕ) → list_any (λ n. bytes_eq n.now k) names ≡ is_among (map (λ n. n.now) names) k
+among : (names : List (Bor (List ℕ))) (k : List ℕ)
+    → list_any (λ n. bytes_eq n.now k) names ≡ is_among (map (λ n. n.now) names) k
 among [] k = refl
 among (n ∷ ns) k = rw (among ns k) refl
 
 -- the test of each key is the test of the members
-pub all_keys : (names : List (Bor (List ℕ))) (es : List (String Global × Value)) → list_all (λ k. list_any (λ n. bytes_eq n.now (string_bytes k)) names) (keys_of es) ≡ has_only (map (λ n. n.now) names) (members_view es)
+pub all_keys : (names : List (Bor (List ℕ))) (es : List (String Global × Value))
+    → list_all (λ k. list_any (λ n. bytes_eq n.now (string_bytes k)) names) (keys_of es)
+    ≡ has_only (map (λ n. n.now) names) (members_view es)
 all_keys names [] = refl
 all_keys names (e ∷ es) = rw (among names (string_bytes e.0), all_keys names es) refl
 

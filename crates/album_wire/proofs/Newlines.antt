@@ -1,4 +1,4 @@
--- The first newline of a text.
+-- The first newline of a text. For `first_line`; `parts_at` is its main lemma.
 use Rattle.std.proofs.Common.{◌≡◌, Some, None, ℕ, suc, ◌+◌, ◌<◌, List, [], ◌∷◌, ◌++◌, length, take, drop, get_or, Bool, true, false, cond, nat_lt, not, IsTrue, refl, subst, arith}
 use Rattle.std.specs.Prelude.{◌==◌}
 use Rattle.std.specs.List.{list_all, position, position_or_len, prefix_len}
@@ -38,7 +38,9 @@ none_before text at is = by_test (nat_lt _ (length text)) is
     by_test false none = cc
 
 -- the first newline stands between what is before it and what is behind it
-pub parts_at : (text : List ℕ) (at : ℕ) → position is_newline text ≡ Some at → text ≡ take at text ++ 10 ∷ drop (at + 1) text
+pub parts_at : (text : List ℕ) (at : ℕ)
+    → position is_newline text ≡ Some at
+    → text ≡ take at text ++ 10 ∷ drop (at + 1) text
 parts_at text at is = by_test (nat_lt _ (length text)) refl is
   where
     by_test : (e : Bool) → nat_lt (newline_at text) (length text) ≡ e → cond e (Some (newline_at text)) None ≡ Some at

@@ -1,4 +1,4 @@
--- No number of more than 32 bits is a mask, or flags.
+-- No number of more than 32 bits is a mask, or flags. For `mask` and `flags`.
 use Rattle.std.proofs.Common.{◌≡◌, ◌≤◌, ◌<◌, ◌^◌, ◌==◌, ◌&&◌, ℕ, Bool, true, false, not, cond, bit_and, Result, Err, refl, arith}
 use Rattle.std.proofs.lemmas.Bool.Decides.{Decides-eqb}
 use Rattle.std.proofs.lemmas.Nat.{and_le_r}
@@ -12,7 +12,9 @@ wide n all above = go (is_within n all) refl
   where
     go : (b : Bool) → is_within n all ≡ b → b ≡ false
     go false e = refl
-    go true e = let same = (Decides-eqb (bit_and n all) n).0 e in let small = and_le_r n all in absurd (omega (arith, same, small, above))
+    go true e =
+        let same =
+        (Decides-eqb (bit_and n all) n).0 e in let small = and_le_r n all in absurd (omega (arith, same, small, above))
 
 pub wide_mask : (n : ℕ) → 2 ^ 32 ≤ n → mask_of n ≡ Err BadMask
 wide_mask n above = rw (wide n all_mask_bits (omega (arith, above))) (go (not (n == 0)) _)

@@ -1,20 +1,22 @@
 -- The lines of a text that comes in pieces.
-use Rattle.std.specs.Prelude.{ℕ, List, [], ◌∷◌, ◌++◌, length, Bool, false, ◌||◌, ◌==◌, nat_lt, not, if◌then◌else◌, Option, Some, None}
+use Rattle.std.specs.Prelude.{ℕ, ◌≤◌, List, [], ◌∷◌, ◌++◌, length, Bool, false, ◌||◌, ◌==◌, nat_lt, not, if◌then◌else◌, Option, Some, None}
 use Rattle.std.specs.List.{list_all}
-use Rattle.album_wire.specs.declared.cutting.LineIn.{LineIn}
-use Rattle.album_wire.specs.declared.cutting.LineIn.TheVariants.{Text, TooLong}
+use Rattle.std.specs.Option.{ForSome}
+use Rattle.album_stamps.specs.declared.limits.TheConstants.{MOST_LINE}
+use Rattle.album_wire.specs.declared.lines.LineIn.{LineIn}
+use Rattle.album_wire.specs.declared.lines.LineIn.TheVariants.{Text, TooLong}
 
 -- a line without its newline, or None where it is too long
 abbrev pub Line : Type 0
 Line = Option (List ℕ)
 
--- the most bytes that a line has
-abbrev pub limit : ℕ
-limit = 65536
-
 -- the line of these bytes
 abbrev pub kept : List ℕ → Line
-kept bytes = if nat_lt limit (length bytes) then None else Some bytes
+kept bytes = if nat_lt MOST_LINE (length bytes) then None else Some bytes
+
+-- it has no more bytes than a line may have
+abbrev pub IsShort : Line → Type 0
+IsShort line = ForSome line (λ bytes. length bytes ≤ MOST_LINE)
 
 -- the line with a byte more
 abbrev pub longer : Line → ℕ → Line
@@ -24,7 +26,9 @@ longer (Some bytes) byte = kept (bytes ++ byte ∷ [])
 -- the lines that end in a text, of which the first began before it, and what has come of the next
 abbrev pub cut : Line → List ℕ → List Line × Line
 cut line [] = ([], line)
-cut line (byte ∷ text) = if byte == 10 then (line ∷ (cut (Some []) text).0, (cut (Some []) text).1) else cut (longer line byte) text
+cut line (byte ∷ text) =
+    if byte == 10 then (line ∷ (cut (Some []) text).0, (cut (Some []) text).1)
+    else cut (longer line byte) text
 
 -- the lines before, and then those of a cut
 abbrev pub continued : List Line → List Line × Line → List Line × Line
@@ -36,9 +40,16 @@ last None = None ∷ []
 last (Some []) = []
 last (Some (byte ∷ bytes)) = Some (byte ∷ bytes) ∷ []
 
+-- the lines that end in a text from its start, and what has come of the next
+abbrev pub ended : List ℕ → List Line
+ended text = (cut (Some []) text).0
+
+abbrev pub begun : List ℕ → Line
+begun text = (cut (Some []) text).1
+
 -- the lines of a whole text
 abbrev pub lines_of : List ℕ → List Line
-lines_of text = (cut (Some []) text).0 ++ last (cut (Some []) text).1
+lines_of text = ended text ++ last (begun text)
 
 -- no byte is a newline
 abbrev pub has_no_newline : List ℕ → Bool

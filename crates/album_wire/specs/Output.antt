@@ -13,7 +13,9 @@ line_text d = compact_text d ++ 10 ∷ []
 
 -- a refusal as a JSON value: its name and its number
 abbrev pub refusal_data : Refusal → Data
-refusal_data r = object (member (codes "name") (string (name_of r)) (member (codes "refused") (number (unsigned (number_of r))) no_members))
+refusal_data r = object (
+    member (codes "name") (string (name_of r)) (
+    member (codes "refused") (number (unsigned (number_of r))) no_members))
 
 -- the line of a refusal
 unfoldable pub refusal_line : Refusal → List ℕ
@@ -21,7 +23,9 @@ refusal_line r = line_text (refusal_data r)
 
 -- a verdict as a JSON value
 abbrev pub denied_data : Data → Data
-denied_data at = object (member (codes "answer") (string (codes "denied")) (member (codes "at") at no_members))
+denied_data at = object (
+    member (codes "answer") (string (codes "denied")) (
+    member (codes "at") at no_members))
 
 abbrev pub verdict_data : Verdict → Data
 verdict_data Granted = object (member (codes "answer") (string (codes "granted")) no_members)

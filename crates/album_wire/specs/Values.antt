@@ -3,18 +3,19 @@ use Rattle.std.specs.Prelude.{ℕ, List, [], ◌∷◌, nat_lt, length, if◌the
 use Rattle.std.specs.Option.{ok_or}
 use Rattle.album_stamps.specs.declared.refusals.Refusal.{Refusal}
 use Rattle.album_stamps.specs.declared.refusals.Refusal.TheVariants.{BadWho, ListFull}
+use Rattle.album_stamps.specs.declared.limits.TheConstants.{MOST_ENTRIES, MOST_MEMBERS}
 use Rattle.album_stamps.specs.Outcome.{◌>>=◌}
 use Rattle.album_access.specs.Bits.{mask_of, flags_of}
 use Rattle.album_lists.specs.Whos.{who_of, member_of}
-use Rattle.album_lists.specs.Entries.{most_entries, access_list_of}
+use Rattle.album_lists.specs.Entries.{access_list_of}
 use Rattle.album_lists.specs.declared.lists.Ace.{Ace}
 use Rattle.album_lists.specs.declared.whos.Member.{Member}
 use Rattle.album_wire.specs.Shapes.{SpelledEntry}
 
 -- each of a list read, or the first refusal
-abbrev pub all_of : {A B : Type 0} → (A → Result B Refusal) → List A → Result (List B) Refusal
-all_of read [] = Ok []
-all_of read (x ∷ xs) = read x >>= λ first. all_of read xs >>= λ others. Ok (first ∷ others)
+abbrev pub each_of : {A B : Type 0} → (A → Result B Refusal) → List A → Result (List B) Refusal
+each_of read [] = Ok []
+each_of read (x ∷ xs) = read x >>= λ first. each_of read xs >>= λ others. Ok (first ∷ others)
 
 -- a list of at most so many
 abbrev pub at_most : {A : Type 0} → ℕ → List A → Result (List A) Refusal
@@ -30,15 +31,11 @@ entry_read e = do
 
 -- an access list: how many entries, then each of them, then whether all are whole
 unfoldable pub entries_read : List SpelledEntry → Result (List Ace) Refusal
-entries_read es = at_most most_entries es >>= all_of entry_read >>= access_list_of
-
--- how many members a group may have
-abbrev pub most_members : ℕ
-most_members = 128
+entries_read es = at_most MOST_ENTRIES es >>= each_of entry_read >>= access_list_of
 
 -- the members of a group: how many, then each of them
 abbrev pub member_read : List ℕ → Result Member Refusal
 member_read text = ok_or (member_of text) BadWho
 
 unfoldable pub members_read : List (List ℕ) → Result (List Member) Refusal
-members_read texts = at_most most_members texts >>= all_of member_read
+members_read texts = at_most MOST_MEMBERS texts >>= each_of member_read

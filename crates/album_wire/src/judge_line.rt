@@ -1,9 +1,10 @@
-// Judge lines.
-ghost use Rattle.std.specs.Prelude.{◌≡◌, List, ℕ, map};
+// Judge lines: a JSON object of the shape of one, whose lists, whos and mask are some.
+ghost use Rattle.std.specs.Prelude.{◌≡◌, ◌↔◌, List, ℕ, Ok, map};
 ghost use Rattle.album_stamps.specs.Outcome.{Gives};
 ghost use Rattle.album_wire.specs.Shapes.{spelled_entry};
-ghost use Rattle.album_wire.specs.Values.{all_of};
-ghost use Rattle.album_wire.specs.Judge.{spelled_group, spelled_judge, listing, listing_of, question, question_of, carried_list_of, judge_of};
+ghost use Rattle.album_wire.specs.Values.{each_of};
+ghost use Rattle.album_wire.specs.JudgeShape.{spelled_group, spelled_judge};
+ghost use Rattle.album_wire.specs.JudgeLine.{Question, listing, listing_of, question, question_of, carried_list_of, judge_of, IsJudgeLine};
 
 use crate::fields::data;
 use crate::judge_shape::{GroupShape, JudgeShape, judge_shape};
@@ -35,40 +36,23 @@ pub struct JudgeLine {
     pub mask: Mask,
 }
 
-/// The list, where the object may carry it.
-fn carried_list(alloc: Global, holder: Holder, shapes: &[EntryShape]) -> Result<AccessList, Refusal>
-    ensures { Gives (λ list. list) result (carried_list_of holder (map spelled_entry shapes.now)) }
+/// Reads a judge line: what it asks, or the first test that it fails.
+#[tactic(auto, unfolding(crate::specs::JudgeLine::judge_of))]
+pub fn read_judge(alloc: Global, bytes: &[u8]) -> Result<JudgeLine, Refusal>
+    ensures { Gives question result (judge_of bytes.now) }
 {
-    let list = access_list(alloc, shapes)?;
-    if !list.fits(holder) {
-        return Err(Refusal::BadFlags);
-    }
-    Ok(list)
+    let value = data(alloc, bytes)?;
+    let shape = judge_shape(alloc, &value)?;
+    values_of(alloc, &shape)
 }
 
-#[tactic(auto, unfolding(crate::specs::Judge::listing_of))]
-fn listed_group(alloc: Global, shape: &GroupShape) -> Result<Group, Refusal>
-    ensures { Gives listing result (listing_of (spelled_group shape.now)) }
-{
-    let members = members(alloc, &shape.members)?;
-    Ok(Group {
-        number: shape.number,
-        members,
-    })
-}
-
-fn each_group(alloc: Global, shapes: &[GroupShape]) -> Result<Vec<Group>, Refusal>
-    ensures { Gives (λ groups. map listing groups.items) result (all_of listing_of (map spelled_group shapes.now)) }
-{
-    let mut groups = Vec::new(alloc);
-    for shape in shapes {
-        groups.push(listed_group(alloc, shape)?)?;
-    }
-    Ok(groups)
-}
+/// A law: what is read of a line is the question that it spells, and of a line that spells none, nothing is.
+pub fn questions_by_line()
+    ensures { (q : Question) (bytes : List ℕ) → (judge_of bytes ≡ Ok q) ↔ IsJudgeLine q bytes }
+{}
 
 /// The values of a line that has its shape, in the order of the fields.
-#[tactic(auto, unfolding(crate::specs::Judge::question_of))]
+#[tactic(auto, unfolding(crate::specs::JudgeLine::question_of))]
 fn values_of(alloc: Global, shape: &JudgeShape) -> Result<JudgeLine, Refusal>
     ensures { Gives question result (question_of (spelled_judge shape.now)) }
 {
@@ -88,12 +72,34 @@ fn values_of(alloc: Global, shape: &JudgeShape) -> Result<JudgeLine, Refusal>
     })
 }
 
-/// Reads a judge line: what it spells, or the first test that it fails.
-#[tactic(auto, unfolding(crate::specs::Judge::judge_of))]
-pub fn read_judge(alloc: Global, bytes: &[u8]) -> Result<JudgeLine, Refusal>
-    ensures { Gives question result (judge_of bytes.now) }
+/// The list, where the object may carry it.
+fn carried_list(alloc: Global, holder: Holder, shapes: &[EntryShape]) -> Result<AccessList, Refusal>
+    ensures { Gives (λ list. list) result (carried_list_of holder (map spelled_entry shapes.now)) }
 {
-    let value = data(alloc, bytes)?;
-    let shape = judge_shape(alloc, &value)?;
-    values_of(alloc, &shape)
+    let list = access_list(alloc, shapes)?;
+    if !list.fits(holder) {
+        return Err(Refusal::BadFlags);
+    }
+    Ok(list)
+}
+
+fn each_group(alloc: Global, shapes: &[GroupShape]) -> Result<Vec<Group>, Refusal>
+    ensures { Gives (λ groups. map listing groups.items) result (each_of listing_of (map spelled_group shapes.now)) }
+{
+    let mut groups = Vec::new(alloc);
+    for shape in shapes {
+        groups.push(listed_group(alloc, shape)?)?;
+    }
+    Ok(groups)
+}
+
+#[tactic(auto, unfolding(crate::specs::JudgeLine::listing_of))]
+fn listed_group(alloc: Global, shape: &GroupShape) -> Result<Group, Refusal>
+    ensures { Gives listing result (listing_of (spelled_group shape.now)) }
+{
+    let members = members(alloc, &shape.members)?;
+    Ok(Group {
+        number: shape.number,
+        members,
+    })
 }

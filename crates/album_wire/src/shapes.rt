@@ -1,4 +1,4 @@
-// The shapes that several kinds of lines have in common.
+// The shapes of lists in a line: entries = [[type, who, mask, flags], ..], texts = [text, ..].
 ghost use Rattle.std.specs.Prelude.{◌≡◌, List, ℕ, map};
 ghost use Rattle.serde_json.specs.View.{view, items_view};
 ghost use Rattle.album_stamps.specs.Outcome.{Gives};
@@ -20,16 +20,21 @@ pub(crate) struct EntryShape<'a> {
     pub(crate) flags: u64,
 }
 
-fn sort(word: &str) -> Option<AceType>
-    ensures { result ≡ sort_of word.now }
+/// A list of entries.
+pub(crate) fn entry_shapes(alloc: Global, value: &Value) -> Result<Vec<EntryShape<'_>>, Refusal>
+    ensures { Gives (λ shapes. map spelled_entry shapes.items) result (entry_shapes_of (view value.now)) }
 {
-    match word {
-        "allow" => Some(AceType::Allowed),
-        "deny" => Some(AceType::Denied),
-        "audit" => Some(AceType::Audit),
-        "alarm" => Some(AceType::Alarm),
-        _ => None,
+    each_entry_shape(alloc, list(value)?)
+}
+
+fn each_entry_shape(alloc: Global, values: &[Value]) -> Result<Vec<EntryShape<'_>>, Refusal>
+    ensures { Gives (λ shapes. map spelled_entry shapes.items) result (each entry_shape_of (items_view values.now)) }
+{
+    let mut shapes = Vec::new(alloc);
+    for value in values {
+        shapes.push(entry_shape(value)?)?;
     }
+    Ok(shapes)
 }
 
 #[tactic(auto, unfolding(crate::specs::Shapes::entry_shape_of))]
@@ -49,14 +54,23 @@ fn entry_shape(value: &Value) -> Result<EntryShape<'_>, Refusal>
     })
 }
 
-fn each_entry_shape(alloc: Global, values: &[Value]) -> Result<Vec<EntryShape<'_>>, Refusal>
-    ensures { Gives (λ shapes. map spelled_entry shapes.items) result (each entry_shape_of (items_view values.now)) }
+fn sort(word: &str) -> Option<AceType>
+    ensures { result ≡ sort_of word.now }
 {
-    let mut shapes = Vec::new(alloc);
-    for value in values {
-        shapes.push(entry_shape(value)?)?;
+    match word {
+        "allow" => Some(AceType::Allowed),
+        "deny" => Some(AceType::Denied),
+        "audit" => Some(AceType::Audit),
+        "alarm" => Some(AceType::Alarm),
+        _ => None,
     }
-    Ok(shapes)
+}
+
+/// A list of texts.
+pub(crate) fn texts(alloc: Global, value: &Value) -> Result<Vec<&str>, Refusal>
+    ensures { Gives (λ texts. map (λ t. t.now) texts.items) result (texts_of (view value.now)) }
+{
+    each_text(alloc, list(value)?)
 }
 
 fn each_text(alloc: Global, values: &[Value]) -> Result<Vec<&str>, Refusal>
@@ -67,18 +81,4 @@ fn each_text(alloc: Global, values: &[Value]) -> Result<Vec<&str>, Refusal>
         texts.push(text(value)?)?;
     }
     Ok(texts)
-}
-
-/// A list of entries.
-pub(crate) fn entry_shapes(alloc: Global, value: &Value) -> Result<Vec<EntryShape<'_>>, Refusal>
-    ensures { Gives (λ shapes. map spelled_entry shapes.items) result (entry_shapes_of (view value.now)) }
-{
-    each_entry_shape(alloc, list(value)?)
-}
-
-/// A list of texts.
-pub(crate) fn texts(alloc: Global, value: &Value) -> Result<Vec<&str>, Refusal>
-    ensures { Gives (λ texts. map (λ t. t.now) texts.items) result (texts_of (view value.now)) }
-{
-    each_text(alloc, list(value)?)
 }

@@ -1,18 +1,53 @@
-// Values of what has its shape.
+// Values of what has its shape: an access list of entries, members of texts, a mask of a number.
 ghost use Rattle.std.specs.Prelude.{◌≡◌, List, ℕ, map};
 ghost use Rattle.album_stamps.specs.Outcome.{Gives};
 ghost use Rattle.album_access.specs.Bits.{mask_of, flags_of};
 ghost use Rattle.album_wire.specs.Shapes.{SpelledEntry, spelled_entry};
-ghost use Rattle.album_wire.specs.Values.{all_of, entry_read, entries_read, member_read, members_read};
+ghost use Rattle.album_wire.specs.Values.{each_of, entry_read, entries_read, member_read, members_read};
 
 use crate::shapes::EntryShape;
 use album_access::{AceFlags, Mask};
-use album_lists::{AccessList, Ace, MOST_ENTRIES, Member, Who};
-use album_stamps::Refusal;
+use album_lists::{AccessList, Ace, Member, Who};
+use album_stamps::{MOST_ENTRIES, MOST_MEMBERS, Refusal};
 use std::alloc::Global;
 
-/// How many members a group may have.
-const MOST_MEMBERS: usize = 128;
+/// The access list of these entries.
+#[tactic(auto, unfolding(crate::specs::Values::entries_read))]
+pub(crate) fn access_list(alloc: Global, shapes: &[EntryShape]) -> Result<AccessList, Refusal>
+    ensures { Gives (λ list. list) result (entries_read (map spelled_entry shapes.now)) }
+{
+    if shapes.len() > MOST_ENTRIES {
+        return Err(Refusal::ListFull);
+    }
+    let entries = each_entry(alloc, shapes)?;
+    let list = AccessList::new(entries)?;
+    Ok(list)
+}
+
+fn each_entry(alloc: Global, shapes: &[EntryShape]) -> Result<Vec<Ace>, Refusal>
+    ensures { Gives (λ entries. entries.items) result (each_of entry_read (map spelled_entry shapes.now)) }
+{
+    let mut entries = Vec::new(alloc);
+    for shape in shapes {
+        entries.push(entry(alloc, shape)?)?;
+    }
+    Ok(entries)
+}
+
+#[tactic(auto, unfolding(crate::specs::Values::entry_read))]
+fn entry(alloc: Global, shape: &EntryShape) -> Result<Ace, Refusal>
+    ensures { Gives (λ e. e) result (entry_read (spelled_entry shape.now)) }
+{
+    let mask = mask(shape.mask)?;
+    let flags = flags(shape.flags)?;
+    let who = Who::read(alloc, shape.who, flags)?;
+    Ok(Ace {
+        sort: shape.sort,
+        who,
+        mask,
+        flags,
+    })
+}
 
 /// The mask of this number. Beyond 32 bits no number is one.
 pub(crate) fn mask(number: u64) -> Result<Mask, Refusal>
@@ -34,54 +69,6 @@ fn flags(number: u64) -> Result<AceFlags, Refusal>
     }
 }
 
-#[tactic(auto, unfolding(crate::specs::Values::entry_read))]
-fn entry(alloc: Global, shape: &EntryShape) -> Result<Ace, Refusal>
-    ensures { Gives (λ e. e) result (entry_read (spelled_entry shape.now)) }
-{
-    let mask = mask(shape.mask)?;
-    let flags = flags(shape.flags)?;
-    let who = Who::read(alloc, shape.who, flags)?;
-    Ok(Ace {
-        sort: shape.sort,
-        who,
-        mask,
-        flags,
-    })
-}
-
-fn each_entry(alloc: Global, shapes: &[EntryShape]) -> Result<Vec<Ace>, Refusal>
-    ensures { Gives (λ entries. entries.items) result (all_of entry_read (map spelled_entry shapes.now)) }
-{
-    let mut entries = Vec::new(alloc);
-    for shape in shapes {
-        entries.push(entry(alloc, shape)?)?;
-    }
-    Ok(entries)
-}
-
-/// The access list of these entries.
-#[tactic(auto, unfolding(crate::specs::Values::entries_read))]
-pub(crate) fn access_list(alloc: Global, shapes: &[EntryShape]) -> Result<AccessList, Refusal>
-    ensures { Gives (λ list. list) result (entries_read (map spelled_entry shapes.now)) }
-{
-    if shapes.len() > MOST_ENTRIES {
-        return Err(Refusal::ListFull);
-    }
-    let entries = each_entry(alloc, shapes)?;
-    let list = AccessList::new(entries)?;
-    Ok(list)
-}
-
-fn each_member(alloc: Global, texts: &[&str]) -> Result<Vec<Member>, Refusal>
-    ensures { Gives (λ members. members.items) result (all_of member_read (map (λ t. t.now) texts.now)) }
-{
-    let mut members = Vec::new(alloc);
-    for text in texts {
-        members.push(Member::read(alloc, text)?)?;
-    }
-    Ok(members)
-}
-
 /// The members that these texts are.
 #[tactic(auto, unfolding(crate::specs::Values::members_read))]
 pub(crate) fn members(alloc: Global, texts: &[&str]) -> Result<Vec<Member>, Refusal>
@@ -91,4 +78,14 @@ pub(crate) fn members(alloc: Global, texts: &[&str]) -> Result<Vec<Member>, Refu
         return Err(Refusal::ListFull);
     }
     each_member(alloc, texts)
+}
+
+fn each_member(alloc: Global, texts: &[&str]) -> Result<Vec<Member>, Refusal>
+    ensures { Gives (λ members. members.items) result (each_of member_read (map (λ t. t.now) texts.now)) }
+{
+    let mut members = Vec::new(alloc);
+    for text in texts {
+        members.push(Member::read(alloc, text)?)?;
+    }
+    Ok(members)
 }

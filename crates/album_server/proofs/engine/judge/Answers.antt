@@ -1,29 +1,94 @@
-use Rattle.std.proofs.Common.{◌≡◌, [], take, ap, arith}
-use Rattle.album_server.proofs.Outputs.{on_err, on_ok_weaker, on_err_weaker}
-use Rattle.album_server.proofs.Turns.{front_so_far, writes_next, front_of_next, writes_rest, front_of_rest}
+use Rattle.std.proofs.Common.{◌≡◌, ◌≢◌, ◌≤◌, [], length, take, refl, ap, arith}
+use Rattle.std.proofs.lemmas.List.{length-take}
+use Rattle.std.proofs.lemmas.Result.{IfErr-weaker, on_ok_weaker, err_from_is_err_and}
+use Rattle.album_server.specs.declared.engine.TheConstants.{PIECE}
+use Rattle.album_server.proofs.Turns.{has_read_more, prefix_so_far, turn_done, turn_left, turn_uncut, prefix_of_turn, last_done, last_left, prefix_of_last}
 use Rattle.album_server.proofs.engine.judge.Goals as goal
 
+-- a read failed
 pub returns-in_default-clause-err : goal.returns-in_default-clause-err
-returns-in_default-clause-err g c = front_so_far _ _ _ _ _ c.loop.invariant.0
+returns-in_default-clause-err g c = prefix_so_far _ _ _ _ _ _ c.loop-turn.invariant.answered
 
-pub returns-clause-err : goal.returns-clause-err
-returns-clause-err g c = front_so_far _ _ _ _ _ c.loop.invariant.0
-
+-- the reader is at its end
 pub returns-then-len-eq0-clause-ok : goal.returns-then-len-eq0-clause-ok
 returns-then-len-eq0-clause-ok g c =
     let none : take c.in-Ok.len c.read.new.buf ≡ [] = ap (λ n. take n c.read.new.buf) c.if-len-eq0.true in
-    on_ok_weaker c.finish.result _ _ (λ w. writes_rest _ _ _ c.loop.lines _ _ _ (take c.in-Ok.len c.read.new.buf) none c.loop.invariant.0 c.in-Ok.ensures.bytes.0 (c.in-Ok.ensures.bytes.1 c.if-len-eq0.true (omega arith)) w) c.finish.ensures.ok
+    let end = c.in-Ok.ensures.bytes.1 c.if-len-eq0.true (omega arith) in
+    on_ok_weaker c.finish.result
+    (λ w. last_done _ _ _ none _ _ _ _ _ _ c.loop-turn.invariant.answered c.in-Ok.ensures.bytes.0 end w)
+    c.finish.ensures.ok
 
 pub returns-then-len-eq0-clause-err : goal.returns-then-len-eq0-clause-err
 returns-then-len-eq0-clause-err g c =
     let none : take c.in-Ok.len c.read.new.buf ≡ [] = ap (λ n. take n c.read.new.buf) c.if-len-eq0.true in
-    on_err_weaker c.finish.result _ _ (λ w. front_of_rest _ _ _ c.loop.lines _ _ _ (take c.in-Ok.len c.read.new.buf) none c.loop.invariant.0 c.in-Ok.ensures.bytes.0 (c.in-Ok.ensures.bytes.1 c.if-len-eq0.true (omega arith)) w) c.finish.ensures.err
+    let end = c.in-Ok.ensures.bytes.1 c.if-len-eq0.true (omega arith) in
+    IfErr-weaker c.finish.result _ _
+    (λ fault w. prefix_of_last _ _ _ none _ _ _ _ _ _ c.loop-turn.invariant.answered c.in-Ok.ensures.bytes.0 fault end w)
+    c.finish.ensures.fault
 
+pub returns-then-len-eq0-clause-fault : goal.returns-then-len-eq0-clause-fault
+returns-then-len-eq0-clause-fault g c =
+    let none : take c.in-Ok.len c.read.new.buf ≡ [] = ap (λ n. take n c.read.new.buf) c.if-len-eq0.true in
+    IfErr-weaker c.finish.result _ _
+    (λ fault w. last_left _ _ _ none _ _ _ _ _ _ c.loop-turn.invariant.answered c.in-Ok.ensures.bytes.0 fault w)
+    c.finish.ensures.fault
+
+-- no memory for the lines
 pub returns-in_err-ended-clause-err : goal.returns-in_err-ended-clause-err
-returns-in_err-ended-clause-err g c = on_err c.from_residual.result _ (front_so_far _ _ _ _ _ c.loop.invariant.0)
+returns-in_err-ended-clause-err g c =
+    let p = err_from_is_err_and c.from_residual.result c.from_residual.ensures.1 in
+    rw p.1 (prefix_so_far _ _ _ _ _ _ c.loop-turn.invariant.answered)
 
+pub returns-in_err-ended-clause-fault : goal.returns-in_err-ended-clause-fault
+returns-in_err-ended-clause-fault g c =
+    let p = err_from_is_err_and c.from_residual.result c.from_residual.ensures.1 in
+    let some : take c.in-Ok.len c.read.new.buf ≢ [] =
+    λ none. absurd (omega (arith, ap length none, length-take c.in-Ok.len c.read.new.buf, c.in-Ok.ensures.bound)) in
+    rw (p.1, p.2) (turn_uncut _ _ _ _ _ refl _ _ _ _ _ some c.loop-turn.invariant.answered c.in-Ok.ensures.bytes.0)
+
+pub returns-in_err-ended-clause-few : goal.returns-in_err-ended-clause-few
+returns-in_err-ended-clause-few g c =
+    let short : length (take c.in-Ok.len c.read.new.buf) ≤ PIECE =
+    omega (arith, length-take c.in-Ok.len c.read.new.buf) in
+    has_read_more _ _ _ _ _ _ _ _ _ c.loop-turn.invariant.answered c.in-Ok.ensures.bytes.0 short c.loop-turn-test.true
+
+-- an answer is not written
 pub returns-in_err-write_answers-clause-err : goal.returns-in_err-write_answers-clause-err
-returns-in_err-write_answers-clause-err g c = on_err c.from_residual-in_err-write_answers.result _ (front_of_next _ _ _ c.loop.lines _ _ _ _ _ _ c.loop.invariant.0 c.in-Ok.ensures.bytes.0 c.in_ok-ended.ensures.lines (rw c.deref.ensures.value at c.in_err-write_answers.ensures.err))
+returns-in_err-write_answers-clause-err g c =
+    let p =
+    err_from_is_err_and c.from_residual-in_err-write_answers.result c.from_residual-in_err-write_answers.ensures.1 in
+    let left = rw c.deref.ensures.value at c.in_err-write_answers.ensures.fault in
+    rw p.1
+    (prefix_of_turn _ _ _ _ _ c.in_ok-ended.ensures.lines c.in_err-write_answers.field-0.0 _ _ _ _ _ _
+    c.loop-turn.invariant.answered c.in-Ok.ensures.bytes.0 left)
 
-pub loop-preserved : goal.loop-preserved
-loop-preserved g c = (writes_next _ _ _ c.loop.lines _ _ _ _ _ _ c.loop.invariant.0 c.in-Ok.ensures.bytes.0 c.in_ok-ended.ensures.lines (rw c.deref.ensures.value at c.in_ok-write_answers.ensures.ok), λ none. absurd (omega (arith, none, c.loop-test.true)))
+pub returns-in_err-write_answers-clause-fault : goal.returns-in_err-write_answers-clause-fault
+returns-in_err-write_answers-clause-fault g c =
+    let p =
+    err_from_is_err_and c.from_residual-in_err-write_answers.result c.from_residual-in_err-write_answers.ensures.1 in
+    let left = rw c.deref.ensures.value at c.in_err-write_answers.ensures.fault in
+    rw (p.1, p.2)
+    (turn_left _ _ _ _ _ c.in_ok-ended.ensures.lines c.in_err-write_answers.field-0.0 _ _ _ _ _ _
+    c.loop-turn.invariant.answered c.in-Ok.ensures.bytes.0 left)
+
+pub returns-in_err-write_answers-clause-few : goal.returns-in_err-write_answers-clause-few
+returns-in_err-write_answers-clause-few g c =
+    let short : length (take c.in-Ok.len c.read.new.buf) ≤ PIECE =
+    omega (arith, length-take c.in-Ok.len c.read.new.buf) in
+    has_read_more _ _ _ _ _ _ _ _ _ c.loop-turn.invariant.answered c.in-Ok.ensures.bytes.0 short c.loop-turn-test.true
+
+-- the next turn
+pub loop-turn-preserved : goal.loop-turn-preserved
+loop-turn-preserved g c =
+    let short : length (take c.in-Ok.len c.read.new.buf) ≤ PIECE =
+    omega (arith, length-take c.in-Ok.len c.read.new.buf) in
+    record {
+      answered =
+          turn_done _ _ _ _ _ c.in_ok-ended.ensures.lines _ _ _ _ _ _ short c.loop-turn.invariant.answered c.in-Ok.ensures.bytes.0
+          (rw c.deref.ensures.value at c.in_ok-write_answers.ensures.ok);
+      unread = λ none. absurd (omega (arith, none, c.loop-turn-test.true));
+    }
+
+-- the turns ran out
+pub returns-clause-err : goal.returns-clause-err
+returns-clause-err g c = prefix_so_far _ _ _ _ _ _ c.loop-turn.invariant.answered

@@ -1,5 +1,5 @@
 use Rattle.std.proofs.Common.{map}
-use Rattle.album_wire.specs.Judge.{listing}
+use Rattle.album_wire.specs.JudgeLine.{listing}
 use Rattle.album_server.proofs.Judging.{groups_begin, groups_step}
 use Rattle.album_server.proofs.judged.group_map.Goals as goal
 

@@ -6,4 +6,5 @@ use Rattle.album_wire.proofs.Lists.{with_front}
 use Rattle.album_wire.proofs.shapes.each_entry_shape.Given as goal
 
 abbrev pub invariant-loop-value : goal.invariant-loop-value
-invariant-loop-value l = with_front (map spelled_entry l.shapes.items) (each entry_shape_of (items_view (drop l.value-index l.values))) ≡ each entry_shape_of (items_view l.values)
+invariant-loop-value l =
+    with_front (map spelled_entry l.shapes.items) (each entry_shape_of (items_view (drop l.value-index l.values))) ≡ each entry_shape_of (items_view l.values)

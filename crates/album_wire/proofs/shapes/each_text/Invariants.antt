@@ -5,4 +5,5 @@ use Rattle.album_wire.proofs.Lists.{with_front}
 use Rattle.album_wire.proofs.shapes.each_text.Given as goal
 
 abbrev pub invariant-loop-value : goal.invariant-loop-value
-invariant-loop-value l = with_front (map (λ t. t.now) l.texts.items) (each text_of (items_view (drop l.value-index l.values))) ≡ each text_of (items_view l.values)
+invariant-loop-value l =
+    with_front (map (λ t. t.now) l.texts.items) (each text_of (items_view (drop l.value-index l.values))) ≡ each text_of (items_view l.values)

@@ -1,9 +1,0 @@
-use Rattle.std.proofs.Common.{◌≡◌, drop, map}
-use Rattle.std.specs.Ordering.{nat_cmp}
-use Rattle.std.specs.BTreeSet as set
-use Rattle.album_wire.specs.Judge.{are_distinct, numbers, spelled_group}
-use Rattle.album_wire.proofs.Distinct.{are_new}
-use Rattle.album_wire.proofs.judge_shape.are_distinct.Given as goal
-
-abbrev pub invariant-loop-group : goal.invariant-loop-group
-invariant-loop-group l = are_new (set.contains nat_cmp l.seen) (numbers (map spelled_group (drop l.group-index l.groups))) ≡ are_distinct (numbers (map spelled_group l.groups))
