@@ -1,0 +1,13 @@
+//! Tests of partitions and reads, driven by tables of messages that are spelled as short texts.
+#![tactic(auto)]
+
+#[cfg(test)]
+mod messages;
+#[cfg(test)]
+mod partition;
+#[cfg(test)]
+mod reader;
+#[cfg(test)]
+mod terminate;
+#[cfg(test)]
+mod values;

@@ -1,0 +1,52 @@
+// Values for the tests of partitions and reads.
+use album_access::{AceFlags, AceType, Mask};
+use album_items::{Album, Content, Head, ItemId, Items, Kind, Picture, Title, Value};
+use album_lists::{AccessList, Ace, Name, Who};
+use album_stamps::Refusal;
+use bytes::Bytes;
+use std::alloc::Global;
+
+/// A head of amy's with the list of this number.
+fn head(alloc: Global, list: u64) -> Result<Head, Refusal> {
+    Ok(Head {
+        owner: Name::of(alloc, "amy")?,
+        group: 0,
+        list,
+    })
+}
+
+/// A picture of amy's under the list of this number.
+pub fn picture(alloc: Global, list: u64) -> Result<Value, Refusal> {
+    let content = Content::of(Bytes::new())?;
+    Ok(Value::Picture(Picture {
+        title: Title::of(alloc, "Sea")?,
+        content,
+        head: head(alloc, list)?,
+        home: 0,
+    }))
+}
+
+/// An album of amy's.
+pub fn album(alloc: Global) -> Result<Value, Refusal> {
+    let mut children = Vec::new(alloc);
+    children.push(ItemId::new(Kind::Picture, 4))?;
+    Ok(Value::Album(Album {
+        title: Title::of(alloc, "Trip")?,
+        head: head(alloc, 2)?,
+        home: Some(3),
+        children: Items::of(children),
+    }))
+}
+
+/// A list of one entry.
+pub fn list(alloc: Global) -> Result<Value, Refusal> {
+    let flags = AceFlags::of(0)?;
+    let mut entries = Vec::new(alloc);
+    entries.push(Ace {
+        sort: AceType::Denied,
+        who: Who::read(alloc, "amy@users", flags)?,
+        mask: Mask::of(4)?,
+        flags,
+    })?;
+    Ok(Value::List(AccessList::new(entries)?))
+}

@@ -1,0 +1,157 @@
+// Items, their texts and their values (docs/FORMATS.md, "Limits", and docs/PROTOCOL.md, "Stamps and items").
+use crate::lists::list_of;
+use album_access::AceType;
+use album_items::{
+    Album, Content, Group, Head, ItemId, Items, Kind, Members, Picture, Title, Value, place,
+    read_item,
+};
+use album_lists::{Member, Name};
+use album_stamps::{MOST_CONTENT, MOST_TITLE, Refusal};
+use bytes::Bytes;
+use std::alloc::Global;
+
+/// The item's text is this one, and is read as the item.
+fn has_text(alloc: Global, item: ItemId, expected: &str) -> Result<bool, Refusal> {
+    let text = item.text(alloc)?;
+    Ok(text.as_str() == expected && read_item(expected) == Some(item))
+}
+
+#[test]
+fn items(rt: HostRuntime) {
+    let list = ItemId::new(Kind::List, u64::MAX);
+
+    let refused = read_item("list/05").is_none() && read_item("lists/5").is_none();
+    let placed = place(list, 16) == 1 && place(ItemId::new(Kind::Group, 4), 3) == 1;
+
+    assert_eq!(rt;
+        has_text(rt.alloc(), list, "list/18446744073709551615"),
+        Ok(true)
+    );
+    assert!(rt; refused && placed);
+}
+
+/// A title of so many letters.
+pub fn title(alloc: Global, len: usize) -> Result<Title, Refusal> {
+    let mut text = String::new(alloc);
+    for _ in 0..len {
+        text.push_str("x")?;
+    }
+    Title::of(alloc, text.as_str())
+}
+
+/// The length of a copy of a title of so many letters.
+fn title_len(alloc: Global, len: usize) -> Result<usize, Refusal> {
+    let copy = title(alloc, len)?.copy()?;
+    Ok(copy.as_str().len())
+}
+
+/// The length of the title of this text.
+fn text_len(alloc: Global, text: &str) -> Result<usize, Refusal> {
+    let title = Title::of(alloc, text)?;
+    Ok(title.as_str().len())
+}
+
+fn bytes(alloc: Global, len: usize) -> Result<Bytes, Refusal> {
+    Ok(Bytes::from_vec(vec![in alloc; 7u8; len]?)?)
+}
+
+/// The length of a copy of a content of so many bytes.
+fn content_len(alloc: Global, len: usize) -> Result<usize, Refusal> {
+    let content = Content::of(bytes(alloc, len)?)?;
+    let copy = content.copy()?;
+    Ok(copy.as_slice().len())
+}
+
+#[test]
+fn titles(rt: HostRuntime) {
+    let alloc = rt.alloc();
+    assert_eq!(rt; title_len(alloc, MOST_TITLE), Ok(200));
+    assert_eq!(rt; title_len(alloc, 201), Err(Refusal::BadText));
+    assert_eq!(rt; text_len(alloc, "a\u{7f}"), Err(Refusal::BadText));
+    assert_eq!(rt; text_len(alloc, "a\u{85}"), Ok(3));
+    assert_eq!(rt; text_len(alloc, ""), Ok(0));
+}
+
+#[test]
+fn contents(rt: HostRuntime) {
+    let alloc = rt.alloc();
+    assert_eq!(rt; content_len(alloc, MOST_CONTENT), Ok(4096));
+    assert_eq!(rt; content_len(alloc, 4097), Err(Refusal::BadText));
+}
+
+/// A head of amy's with the list of this number.
+fn head(alloc: Global, list: u64) -> Result<Head, Refusal> {
+    Ok(Head {
+        owner: Name::of(alloc, "amy")?,
+        group: 0,
+        list,
+    })
+}
+
+/// A picture of amy's under the list of this number.
+pub fn picture(alloc: Global, list: u64) -> Result<Value, Refusal> {
+    let content = Content::of(Bytes::new())?;
+    Ok(Value::Picture(Picture {
+        title: title(alloc, 3)?,
+        content,
+        head: head(alloc, list)?,
+        home: 0,
+    }))
+}
+
+fn group(alloc: Global) -> Result<Value, Refusal> {
+    let mut members = Vec::new(alloc);
+    members.push(Member::read(alloc, "9@groups")?)?;
+    Ok(Value::Group(Group {
+        head: head(alloc, 1)?,
+        members: Members::of(members),
+    }))
+}
+
+/// An album of amy's.
+fn album(alloc: Global) -> Result<Value, Refusal> {
+    let mut children = Vec::new(alloc);
+    children.push(ItemId::new(Kind::Picture, 4))?;
+    Ok(Value::Album(Album {
+        title: title(alloc, 2)?,
+        head: head(alloc, 2)?,
+        home: Some(3),
+        children: Items::of(children),
+    }))
+}
+
+fn list(alloc: Global) -> Result<Value, Refusal> {
+    let list = list_of(alloc, &[(AceType::Denied, "amy@users", 4, 0)])?;
+    Ok(Value::List(list))
+}
+
+/// The number of an album's first child, of the group that is a group's member, or of a list's entries.
+fn first_number(value: &Value) -> Option<u64> {
+    match value {
+        Value::Album(album) => album
+            .children
+            .as_slice()
+            .first()
+            .map(|child| child.number()),
+        Value::Group(group) => match group.members.as_slice() {
+            [Member::Group(number)] => Some(*number),
+            _ => None,
+        },
+        Value::List(list) => Some(list.entries().len() as u64),
+        _ => None,
+    }
+}
+
+/// The first number of a copy of what was made.
+fn copied_number(made: Result<Value, Refusal>) -> Result<Option<u64>, Refusal> {
+    let copy = made?.copy()?;
+    Ok(first_number(&copy))
+}
+
+#[test]
+fn copies(rt: HostRuntime) {
+    let alloc = rt.alloc();
+    assert_eq!(rt; copied_number(group(alloc)), Ok(Some(9)));
+    assert_eq!(rt; copied_number(album(alloc)), Ok(Some(4)));
+    assert_eq!(rt; copied_number(list(alloc)), Ok(Some(1)));
+}

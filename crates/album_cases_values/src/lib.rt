@@ -1,0 +1,15 @@
+//! Tests of what stands below partitions and lines: stamps, lists, verdicts, items and versions.
+#![tactic(auto)]
+
+#[cfg(test)]
+mod eval;
+#[cfg(test)]
+mod items;
+#[cfg(test)]
+mod lists;
+#[cfg(test)]
+mod openings;
+#[cfg(test)]
+mod stamps;
+#[cfg(test)]
+mod versions;
