@@ -4,7 +4,7 @@ use Rattle.std.specs.List.{list_any, slice_get, find}
 use Rattle.std.specs.Ordering.{nat_cmp}
 use Rattle.std.specs.BTreeMap as map
 use Rattle.std.specs.BTreeMap.{BTreeMap}
-use Rattle.std.proofs.lemmas.Bool.{or_cases, and_parts}
+use Rattle.std.proofs.lemmas.Bool.{or_cases, and_parts, not-true}
 use Rattle.std.proofs.lemmas.Slice.Eq.{bytes_eq-Decides}
 use Rattle.std.proofs.lemmas.List.Elements.{Contains-append_right}
 use Rattle.std.proofs.lemmas.List.Folds.{list_any_at}
@@ -16,10 +16,6 @@ use Rattle.std.specs.BTreeMap.{is_at}
 use Rattle.album_lists.specs.declared.whos.Member.{Member}
 use Rattle.album_lists.specs.declared.whos.Member.TheVariants.{User, Group}
 use Rattle.album_eval.specs.Groups.{IsIn, by_name, by_group, is_named, is_due, listed_in, members_of}
-
-not_true : (a : Bool) → not a ≡ true → a ≡ false
-not_true false e = refl
-not_true true e = absurd (cc)
 
 -- a member that passes
 pub member_from_any : {X : Type 0} (p : X → Bool) (xs : List X) → list_any p xs ≡ true → (x : X) × Contains xs x × (p x ≡ true)
@@ -46,7 +42,7 @@ in_from_due listed user found group sound due =
 
 pub not_found_from_due : (listed : ℕ → List Member) (user : List ℕ) (found : ℕ → Bool) (group : ℕ) → is_due user found group (listed group) ≡ true → found group ≡ false
 unfolding is_due
-not_found_from_due listed user found group due = not_true (found group) (and_parts (not (found group)) (list_any (is_named user found) (listed group)) due).0
+not_found_from_due listed user found group due = not-true (found group) (and_parts (not (found group)) (list_any (is_named user found) (listed group)) due).0
 
 -- where nothing is due, each group with the user in it is found
 found_from_any : (user : List ℕ) (found : ℕ → Bool) (group : ℕ) (members : List Member) → is_due user found group members ≡ false → list_any (is_named user found) members ≡ true → found group ≡ true

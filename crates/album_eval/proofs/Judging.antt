@@ -13,7 +13,7 @@ use Rattle.album_access.specs.declared.types.AceType.TheVariants.{Allowed, Denie
 use Rattle.album_lists.specs.declared.lists.Ace.{Ace}
 use Rattle.album_eval.specs.declared.verdicts.Verdict.TheVariants.{Granted, DeniedBy, DeniedAtEnd}
 use Rattle.album_eval.specs.Matching.{Case, is_match}
-use Rattle.album_eval.specs.Verdict.{first_mention, mentions, decides, IsSortAt, Denies, IsVerdict}
+use Rattle.album_eval.specs.Verdict.{first_mention, mentions, allows_or_denies, IsSortAt, Denies, IsVerdict}
 
 -- the least denial among the bits below n, and whether one of them is never mentioned
 pub record Judged (case : Case) (entries : List Ace) (mask : Mask) (n : ℕ) (denial : Option ℕ) (open' : Bool) : Type 0 where
@@ -75,8 +75,8 @@ verdict_denied case entries mask i open' small j = (j.denies, λ k d. j.least d.
 pub verdict_at_end : (case : Case) (entries : List Ace) (mask : Mask) → mask_bits mask < 2 ^ 32 → Judged case entries mask 32 None true → IsVerdict case entries mask DeniedAtEnd
 verdict_at_end case entries mask small j = (λ k d. j.least d.bit k (asked_small mask d.bit small d.asked) d.asked d.first d.denied, (j.unmentioned refl).0, (j.unmentioned refl).1, (j.unmentioned refl).2)
 
--- an entry that decides allows or denies
-allows : (s : AceType) → decides s ≡ true → (s ≡ Denied → ⊥) → s ≡ Allowed
+-- an entry of such a type allows or denies
+allows : (s : AceType) → allows_or_denies s ≡ true → (s ≡ Denied → ⊥) → s ≡ Allowed
 allows Allowed e h = refl
 allows Denied e h = absurd (h refl)
 allows Audit e h = absurd (cc)
@@ -87,14 +87,14 @@ unfolding first_mention
 within_mention case bit [] k e = absurd (cc)
 within_mention case bit (x ∷ xs) k e = (at_mention case bit (x ∷ xs) k x e).0
 
-decides_there : (case : Case) (bit : ℕ) (entry : Ace) → mentions case bit entry ≡ true → decides entry.sort ≡ true
+decides_there : (case : Case) (bit : ℕ) (entry : Ace) → mentions case bit entry ≡ true → allows_or_denies entry.sort ≡ true
 unfolding mentions
-decides_there case bit entry e = (and_parts (is_match case entry) (decides entry.sort) (and_parts (is_match case entry && decides entry.sort) (has_bit entry.mask bit) e).0).1
+decides_there case bit entry e = (and_parts (is_match case entry) (allows_or_denies entry.sort) (and_parts (is_match case entry && allows_or_denies entry.sort) (has_bit entry.mask bit) e).0).1
 
 bit_granted : (case : Case) (bit : ℕ) (entries : List Ace) (o : Option ℕ) → first_mention case bit entries ≡ o → IsSome o → ((k : ℕ) → o ≡ Some k → IsSortAt Denied entries k → ⊥) → IsSomeAnd o (IsSortAt Allowed entries)
 bit_granted case bit entries None e is h = absurd (cc)
 bit_granted case bit entries (Some k) e is h =
-    elim (slice_get_cases entries k).1 [ inl p ↦ (let there : decides p.0.sort ≡ true = decides_there case bit p.0 (rw p.3 at ((at_mention case bit entries k p.0 e).1)) in rw p.2 (allows p.0.sort there (λ d. h k refl (rw p.2 d)))) | inr p ↦ (let l = within_mention case bit entries k e in absurd (omega (arith, p.0, l))) ]
+    elim (slice_get_cases entries k).1 [ inl p ↦ (let there : allows_or_denies p.0.sort ≡ true = decides_there case bit p.0 (rw p.3 at ((at_mention case bit entries k p.0 e).1)) in rw p.2 (allows p.0.sort there (λ d. h k refl (rw p.2 d)))) | inr p ↦ (let l = within_mention case bit entries k e in absurd (omega (arith, p.0, l))) ]
 
 pub verdict_granted : (case : Case) (entries : List Ace) (mask : Mask) → mask_bits mask < 2 ^ 32 → Judged case entries mask 32 None false → IsVerdict case entries mask Granted
 verdict_granted case entries mask small j = λ bit asks. bit_granted case bit entries (first_mention case bit entries) refl (j.mentioned refl bit (asked_small mask bit small asks) asks) (λ k at d. j.least bit k (asked_small mask bit small asks) asks at d)

@@ -12,15 +12,15 @@ use Rattle.album_eval.specs.declared.verdicts.Verdict.TheVariants.{Granted, Deni
 use Rattle.album_eval.specs.Matching.{Case, is_match}
 
 -- entries of these types decide; the others are only noted
-abbrev pub decides : AceType → Bool
-decides Allowed = true
-decides Denied = true
-decides Audit = false
-decides Alarm = false
+abbrev pub allows_or_denies : AceType → Bool
+allows_or_denies Allowed = true
+allows_or_denies Denied = true
+allows_or_denies Audit = false
+allows_or_denies Alarm = false
 
--- a matching entry that decides, and whose mask has the bit
+-- a matching entry that allows or denies, and whose mask has the bit
 unfoldable pub mentions : Case → ℕ → Ace → Bool
-mentions case bit entry = is_match case entry && decides entry.sort && has_bit entry.mask bit
+mentions case bit entry = is_match case entry && allows_or_denies entry.sort && has_bit entry.mask bit
 
 -- the first mention of a bit: the least index of such an entry, if there is one
 unfoldable pub first_mention : Case → ℕ → List Ace → Option ℕ

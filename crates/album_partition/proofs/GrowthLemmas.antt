@@ -9,7 +9,7 @@ use Rattle.album_terminate.specs.declared.deciding.StampState.{StampState}
 use Rattle.album_terminate.specs.declared.deciding.StampState.TheVariants as state
 use Rattle.album_partition.specs.declared.marks.Mark.{Mark}
 use Rattle.album_partition.specs.declared.marks.Mark.TheVariants.{Prepared, Committed, Discarded}
-use Rattle.album_partition.specs.Marks.{IsPromisedAgainst, stamp_of, prepares, commits, state_of, is_unknown, is_pending, version, has_version, latest, may_follow, is_legal, load, is_full}
+use Rattle.album_partition.specs.Marks.{IsPromisedAgainst, mark_stamp, prepares, commits, state_of, is_unknown, is_pending, version, has_version, latest, may_follow, is_legal, load, is_full}
 use Rattle.album_partition.proofs.LegalLemmas.{along, along_legal, legal_parts}
 use Rattle.album_partition.proofs.LoadLemmas.{prepared_counts, committed_counts, discarded_counts, refused_counts}
 use Rattle.album_partition.proofs.StateLemmas.{any_push_no, prepares_no, state_push_other, unknown_tells, pending_tells, is_unknown_tells, is_pending_tells, discarded_is_discarded}
@@ -19,22 +19,22 @@ use Rattle.album_partition.proofs.StoredLemmas.{version_push_other, latest_prepa
 
 -- no mark of it can follow
 apart : (marks : List Mark) (mark : Mark) (t : ℕ) → is_unknown (state_of marks t) || is_pending (state_of marks t) ≡ false
-    → may_follow marks mark ≡ true → (stamp_of mark == t) ≡ false
-apart marks mark t decided may = go (stamp_of mark == t) refl
+    → may_follow marks mark ≡ true → (mark_stamp mark == t) ≡ false
+apart marks mark t decided may = go (mark_stamp mark == t) refl
   where
-    closed : (m : Mark) → stamp_of m ≡ t → may_follow marks m ≡ true → is_unknown (state_of marks t) || is_pending (state_of marks t) ≡ true
+    closed : (m : Mark) → mark_stamp m ≡ t → may_follow marks m ≡ true → is_unknown (state_of marks t) || is_pending (state_of marks t) ≡ true
     closed (Prepared s ws is) same may = subst (λ (u : ℕ). is_unknown (state_of marks u) || is_pending (state_of marks u) ≡ true) same (rw may refl)
     closed (Committed s) same may = subst (λ (u : ℕ). is_unknown (state_of marks u) || is_pending (state_of marks u) ≡ true) same (rw (is_pending_tells (state_of marks s) may) refl)
     closed (Discarded s) same may = subst (λ (u : ℕ). is_unknown (state_of marks u) || is_pending (state_of marks u) ≡ true) same may
 
-    go : (b : Bool) → (stamp_of mark == t) ≡ b → (stamp_of mark == t) ≡ false
+    go : (b : Bool) → (mark_stamp mark == t) ≡ b → (mark_stamp mark == t) ≡ false
     go false e = e
-    go true e = absurd (let still = closed mark ((Decides-eqb (stamp_of mark) t).0 e) may in cc)
+    go true e = absurd (let still = closed mark ((Decides-eqb (mark_stamp mark) t).0 e) may in cc)
 
-committed_apart : (marks : List Mark) (mark : Mark) (t : ℕ) → state_of marks t ≡ state.Committed → may_follow marks mark ≡ true → (stamp_of mark == t) ≡ false
+committed_apart : (marks : List Mark) (mark : Mark) (t : ℕ) → state_of marks t ≡ state.Committed → may_follow marks mark ≡ true → (mark_stamp mark == t) ≡ false
 committed_apart marks mark t done may = apart marks mark t (rw done refl) may
 
-discarded_apart : (marks : List Mark) (mark : Mark) (t : ℕ) → state_of marks t ≡ state.Discarded → may_follow marks mark ≡ true → (stamp_of mark == t) ≡ false
+discarded_apart : (marks : List Mark) (mark : Mark) (t : ℕ) → state_of marks t ≡ state.Discarded → may_follow marks mark ≡ true → (mark_stamp mark == t) ≡ false
 discarded_apart marks mark t gone may = apart marks mark t (rw gone refl) may
 
 pub committed_stays : (before later : List Mark) (t : ℕ) → is_legal (before ++ later) ≡ true

@@ -17,7 +17,7 @@ use Rattle.album_partition.specs.declared.history.Standing.{Standing}
 use Rattle.album_partition.specs.declared.history.Standing.TheVariants as standing
 use Rattle.album_partition.specs.declared.marks.Mark.{Mark}
 use Rattle.album_partition.specs.declared.marks.Mark.TheVariants.{Prepared, Committed, Discarded}
-use Rattle.album_partition.specs.Marks.{stamp_of, prepares, commits, state_of, is_unknown, is_pending, may_follow, pending_stamps, ArePending}
+use Rattle.album_partition.specs.Marks.{mark_stamp, prepares, commits, state_of, is_unknown, is_pending, may_follow, pending_stamps, ArePending}
 use Rattle.album_partition.specs.History.{IsAt, Stands, IsHistory, kept_by, kept_mark}
 use Rattle.album_partition.proofs.LegalLemmas.{is_legal-push}
 use Rattle.album_partition.proofs.ListLemmas.{kept_in, kept_out}
@@ -63,7 +63,7 @@ at_push marks mark t n other at =
     }
 
 -- what the index says of another stamp is so still
-pub stands_push_other : (marks : List Mark) (mark : Mark) (t : ℕ) (found : Option Standing) → (stamp_of mark == t) ≡ false → Stands marks t found → Stands (marks ++ mark ∷ []) t found
+pub stands_push_other : (marks : List Mark) (mark : Mark) (t : ℕ) (found : Option Standing) → (mark_stamp mark == t) ≡ false → Stands marks t found → Stands (marks ++ mark ∷ []) t found
 stands_push_other marks mark t None apart h = state_push_other marks mark t apart ∙ h
 stands_push_other marks mark t (Some (standing.Pending n)) apart h = (state_push_other marks mark t apart ∙ h.0, at_push marks mark t n (prepares_no mark t apart) h.1)
 stands_push_other marks mark t (Some (standing.Committed n)) apart h = (state_push_other marks mark t apart ∙ h.0, at_push marks mark t n (prepares_no mark t apart) h.1)
@@ -98,19 +98,19 @@ key_tells s t =
 pub indexed_push : (marks : List Mark) (mark : Mark) (index later : BTreeMap ℕ Standing) (count next : ℕ) (found : Standing)
     → IsHistory marks index count
     → may_follow marks mark ≡ true
-    → Stands (marks ++ mark ∷ []) (stamp_of mark) (Some found)
-    → ((q : ℕ) → get nat_cmp later q ≡ cond (is_at (nat_cmp (stamp_of mark)) q) (Some found) (get nat_cmp index q))
+    → Stands (marks ++ mark ∷ []) (mark_stamp mark) (Some found)
+    → ((q : ℕ) → get nat_cmp later q ≡ cond (is_at (nat_cmp (mark_stamp mark)) q) (Some found) (get nat_cmp index q))
     → next ≡ length (pending_stamps (marks ++ mark ∷ []))
     → IsHistory (marks ++ mark ∷ []) later next
 indexed_push marks mark index later count next found h may own updated counted =
     record {
       legal = is_legal-push marks mark h.legal may;
-      stands = λ t. subst (Stands (marks ++ mark ∷ []) t) (sym (updated t)) (subst (λ (b : Bool). Stands (marks ++ mark ∷ []) t (cond b (Some found) (get nat_cmp index t))) (sym (key_tells (stamp_of mark) t)) (go t (stamp_of mark == t) refl));
+      stands = λ t. subst (Stands (marks ++ mark ∷ []) t) (sym (updated t)) (subst (λ (b : Bool). Stands (marks ++ mark ∷ []) t (cond b (Some found) (get nat_cmp index t))) (sym (key_tells (mark_stamp mark) t)) (go t (mark_stamp mark == t) refl));
       count = counted;
     }
   where
-    go : (t : ℕ) (b : Bool) → (stamp_of mark == t) ≡ b → Stands (marks ++ mark ∷ []) t (cond b (Some found) (get nat_cmp index t))
-    go t true e = subst (λ s. Stands (marks ++ mark ∷ []) s (Some found)) ((Decides-eqb (stamp_of mark) t).0 e) own
+    go : (t : ℕ) (b : Bool) → (mark_stamp mark == t) ≡ b → Stands (marks ++ mark ∷ []) t (cond b (Some found) (get nat_cmp index t))
+    go t true e = subst (λ s. Stands (marks ++ mark ∷ []) s (Some found)) ((Decides-eqb (mark_stamp mark) t).0 e) own
     go t false e = stands_push_other marks mark t (get nat_cmp index t) e (h.stands t)
 
 -- ---- what is known of a mark that may follow
@@ -130,14 +130,14 @@ not_committed marks t n found stands is pending = absurd (let h = subst (Stands 
 
 -- ---- after a mark that may follow
 
-pub after_prepared : (marks : List Mark) (mark : Mark) (t : ℕ) (ws : List Row) (is : List ℕ) (n : ℕ) → may_follow marks mark ≡ true → mark ≡ Prepared t ws is → n ≡ length marks → Stands (marks ++ mark ∷ []) (stamp_of mark) (Some (standing.Pending n))
+pub after_prepared : (marks : List Mark) (mark : Mark) (t : ℕ) (ws : List Row) (is : List ℕ) (n : ℕ) → may_follow marks mark ≡ true → mark ≡ Prepared t ws is → n ≡ length marks → Stands (marks ++ mark ∷ []) (mark_stamp mark) (Some (standing.Pending n))
 after_prepared marks mark t ws is n may same at =
     rw (same, at) (stands_prepared marks t ws is (is_unknown_tells (state_of marks t) (rw same at may)))
 
-pub after_committed : (marks : List Mark) (mark : Mark) (t n : ℕ) → mark ≡ Committed t → IsAt marks t n → Stands (marks ++ mark ∷ []) (stamp_of mark) (Some (standing.Committed n))
+pub after_committed : (marks : List Mark) (mark : Mark) (t n : ℕ) → mark ≡ Committed t → IsAt marks t n → Stands (marks ++ mark ∷ []) (mark_stamp mark) (Some (standing.Committed n))
 after_committed marks mark t n same at = rw same (stands_committed marks t n at)
 
-pub after_discarded : (marks : List Mark) (mark : Mark) (t : ℕ) → may_follow marks mark ≡ true → mark ≡ Discarded t → Stands (marks ++ mark ∷ []) (stamp_of mark) (Some standing.Discarded)
+pub after_discarded : (marks : List Mark) (mark : Mark) (t : ℕ) → may_follow marks mark ≡ true → mark ≡ Discarded t → Stands (marks ++ mark ∷ []) (mark_stamp mark) (Some standing.Discarded)
 after_discarded marks mark t may same = rw same (stands_discarded marks t (uncommitted (state_of marks t) refl (rw same at may)))
   where
     uncommitted : (s : StampState) → state_of marks t ≡ s → is_unknown s || is_pending s ≡ true → list_any (commits t) marks ≡ false
@@ -190,8 +190,8 @@ not_pending state.Pending h e = ⊎_elim (λ (f : state.Pending ≡ state.Unknow
 pub made : (marks items : List Mark) (mark : Mark) (key : ℕ) (index later : BTreeMap ℕ Standing) (count next : ℕ) (found : Standing)
     → IsHistory marks index count
     → may_follow marks mark ≡ true
-    → Stands (marks ++ mark ∷ []) (stamp_of mark) (Some found)
-    → key ≡ stamp_of mark
+    → Stands (marks ++ mark ∷ []) (mark_stamp mark) (Some found)
+    → key ≡ mark_stamp mark
     → ((q : ℕ) → get nat_cmp later q ≡ cond (is_at (nat_cmp key) q) (Some found) (get nat_cmp index q))
     → next ≡ length (pending_stamps (marks ++ mark ∷ []))
     → items ≡ marks ++ mark ∷ []

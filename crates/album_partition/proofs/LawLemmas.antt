@@ -31,7 +31,7 @@ use Rattle.album_partition.specs.declared.marks.Mark.{Mark}
 use Rattle.album_partition.specs.declared.marks.Mark.TheVariants.{Prepared, Committed, Discarded}
 use Rattle.album_partition.specs.Answers.{Effect, nothing, says, says_version, marks, marks_and_says, mark_by, is_same, prepare_by, commit_by, check_by, to_prepare, to_check, to_part, to_vote, to_status, to_request, to_body, effect_of, with_effect, after, reply_to, answer}
 use Rattle.album_partition.specs.Laws.{IsTrueOf, IsClash, IsReplyTo, IsLatest, IsBest, IsReadAt, IsValueOf, IsReadOf, IsChecked, IsCause}
-use Rattle.album_partition.specs.Marks.{IsPromisedAgainst, stamp_of, commits, state_of, is_pending, is_full, items_at, version, has_version, committed_stamps, latest}
+use Rattle.album_partition.specs.Marks.{IsPromisedAgainst, mark_stamp, commits, state_of, is_pending, is_full, items_at, version, has_version, committed_stamps, latest}
 use Rattle.album_partition.specs.Partition.{PartitionState, IsPartition, value_at, stamp_for}
 use Rattle.album_partition.specs.Places.{is_placed, lies_at, others_of}
 use Rattle.album_partition.specs.Proper.{is_proper}
@@ -99,7 +99,7 @@ replies_are_true p m told e =
 pub to_the_sender : (p : PartitionState) (m told : Message) → answer p m ≡ Some told → IsReplyTo p m told
 to_the_sender p m told e =
     let found = answered_by p m told (effect_of p m).reply e in
-    record { sender = ap (λ (x : Message). x.from) found.2; getter = ap (λ (x : Message). x.to) found.2; tag = ap (λ (x : Message). x.tag) found.2 }
+    record { sender = ap (λ (x : Message). x.from) found.2; receiver = ap (λ (x : Message). x.to) found.2; tag = ap (λ (x : Message). x.tag) found.2 }
 
 status_silent : (p : PartitionState) (from : Node) (t : ℕ) (v : Vote) → (to_status p from t v).reply ≡ None
 status_silent p from t v = go (is_pending (state_of p.marks t)) from v
@@ -278,7 +278,7 @@ still_full p m h full = full_still p.marks (option_to_list (effect_of p m).mark)
 
 -- a mark is of a stamp that is pending, where there is no room for another's
 pending_cause : (p : PartitionState) (m : Message) (mark : Mark) → is_full p.opening.limit p.marks ≡ true → IsCause p m mark
-    → state_of p.marks (stamp_of mark) ≡ state.Pending
+    → state_of p.marks (mark_stamp mark) ≡ state.Pending
 pending_cause p m (Prepared t ws is) full cause = absurd (let room = cause.room in cc)
 pending_cause p m (Committed t) full cause = cause.0
 pending_cause p m (Discarded t) full cause = ⊎_elim (λ (a : IsChecked p m t). absurd (let room = a.room in cc)) (λ b. b.0) cause
@@ -289,14 +289,14 @@ still_unknown p m t full unknown = go (effect_of p m).mark refl
   where
     go : (o : Option Mark) → (effect_of p m).mark ≡ o → state_of (p.marks ++ option_to_list o) t ≡ state.Unknown
     go None e = rw (append-nil p.marks) unknown
-    go (Some mark) e = state_push_other p.marks mark t (apart (stamp_of mark == t) refl) ∙ unknown
+    go (Some mark) e = state_push_other p.marks mark t (apart (mark_stamp mark == t) refl) ∙ unknown
       where
-        pending : state_of p.marks (stamp_of mark) ≡ state.Pending
+        pending : state_of p.marks (mark_stamp mark) ≡ state.Pending
         pending = pending_cause p m mark full (marks_are_caused p m mark e)
 
-        apart : (b : Bool) → (stamp_of mark == t) ≡ b → (stamp_of mark == t) ≡ false
+        apart : (b : Bool) → (mark_stamp mark == t) ≡ b → (mark_stamp mark == t) ≡ false
         apart false f = f
-        apart true f = absurd (let now : state_of p.marks t ≡ state.Pending = subst (λ (u : ℕ). state_of p.marks u ≡ state.Pending) ((Decides-eqb (stamp_of mark) t).0 f) pending in cc)
+        apart true f = absurd (let now : state_of p.marks t ≡ state.Pending = subst (λ (u : ℕ). state_of p.marks u ≡ state.Pending) ((Decides-eqb (mark_stamp mark) t).0 f) pending in cc)
 
 -- ---- what is read
 

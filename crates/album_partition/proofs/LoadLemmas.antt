@@ -8,7 +8,7 @@ use Rattle.album_items.specs.Openings.{Row}
 use Rattle.album_terminate.specs.declared.deciding.StampState.TheVariants as state
 use Rattle.album_partition.specs.declared.marks.Mark.{Mark}
 use Rattle.album_partition.specs.declared.marks.Mark.TheVariants.{Prepared, Committed, Discarded}
-use Rattle.album_partition.specs.Marks.{stamp_of, state_of, is_pending, prepare_in, prepared_stamps, pending_stamps, is_legal}
+use Rattle.album_partition.specs.Marks.{mark_stamp, state_of, is_pending, prepare_in, prepared_stamps, pending_stamps, is_legal}
 use Rattle.album_partition.proofs.LegalLemmas.{times, times_none, times_once}
 use Rattle.album_partition.proofs.StateLemmas.{state_push_other, unknown_tells, pending_tells, prepared_is_pending, committed_is_committed, discarded_is_discarded}
 
@@ -35,15 +35,15 @@ pending_push marks mark =
     ∙ length-append (filter (λ s. is_pending (state_of (marks ++ mark ∷ []) s)) (prepared_stamps marks)) (filter (λ s. is_pending (state_of (marks ++ mark ∷ []) s)) (prepared_stamps (mark ∷ [])))
 
 -- the other stamps stay as they are
-apart_from : (marks : List Mark) (mark : Mark) (t s : ℕ) → stamp_of mark ≡ t → (s == t) ≡ false → (stamp_of mark == s) ≡ false
-apart_from marks mark t s is e = go (stamp_of mark == s) refl
+apart_from : (marks : List Mark) (mark : Mark) (t s : ℕ) → mark_stamp mark ≡ t → (s == t) ≡ false → (mark_stamp mark == s) ≡ false
+apart_from marks mark t s is e = go (mark_stamp mark == s) refl
   where
-    go : (b : Bool) → (stamp_of mark == s) ≡ b → (stamp_of mark == s) ≡ false
+    go : (b : Bool) → (mark_stamp mark == s) ≡ b → (mark_stamp mark == s) ≡ false
     go false f = f
-    go true f = absurd (let same : s ≡ t = sym ((Decides-eqb (stamp_of mark) s).0 f) ∙ is in let here : (s == t) ≡ true = (Decides-eqb s t).1 same in (cc))
+    go true f = absurd (let same : s ≡ t = sym ((Decides-eqb (mark_stamp mark) s).0 f) ∙ is in let here : (s == t) ≡ true = (Decides-eqb s t).1 same in (cc))
 
-others_stay : (marks : List Mark) (mark : Mark) (s : ℕ) → (s == stamp_of mark) ≡ false → is_pending (state_of (marks ++ mark ∷ []) s) ≡ is_pending (state_of marks s)
-others_stay marks mark s e = ap is_pending (state_push_other marks mark s (apart_from marks mark (stamp_of mark) s refl e))
+others_stay : (marks : List Mark) (mark : Mark) (s : ℕ) → (s == mark_stamp mark) ≡ false → is_pending (state_of (marks ++ mark ∷ []) s) ≡ is_pending (state_of marks s)
+others_stay marks mark s e = ap is_pending (state_push_other marks mark s (apart_from marks mark (mark_stamp mark) s refl e))
 
 -- one pending_stamps stamp more
 pub prepared_counts : (marks : List Mark) (t : ℕ) (ws : List Row) (is : List ℕ) → state_of marks t ≡ state.Unknown → length (pending_stamps (marks ++ Prepared t ws is ∷ [])) ≡ length (pending_stamps marks) + 1

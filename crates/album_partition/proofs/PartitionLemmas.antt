@@ -19,7 +19,7 @@ use Rattle.album_terminate.specs.declared.deciding.StampState.TheVariants as sta
 use Rattle.album_partition.specs.declared.marks.Mark.{Mark}
 use Rattle.album_partition.specs.declared.marks.Mark.TheVariants.{Prepared, Committed, Discarded}
 use Rattle.album_partition.specs.Answers.{Effect, mark_by, mark_with, nothing, marks, to_part, to_body, effect_of, with_effect, after}
-use Rattle.album_partition.specs.Marks.{stamp_of, prepares, writes_of, state_of, may_follow, is_full, load, pending_stamps, items_at}
+use Rattle.album_partition.specs.Marks.{mark_stamp, prepares, mark_writes, state_of, may_follow, is_full, load, pending_stamps, items_at}
 use Rattle.album_partition.specs.Partition.{PartitionState, IsPartition, opened, may_open}
 use Rattle.album_partition.specs.Places.{lies_at, others_of, placed_at}
 use Rattle.album_partition.specs.Proper.{are_items, are_rows_of, are_own_writes, is_proper, is_proper_mark}
@@ -101,7 +101,7 @@ can_store p mark h fits =
     let one : length (p.marks ++ mark ∷ []) ≡ length p.marks + 1 = length-push p.marks mark in
     record { follows = fits.follows; room = omega arith; once = once mark fits.proper }
   where
-    once : (m : Mark) → is_proper_mark p.number p.opening.parts m ≡ true → has_single_rows (writes_of (Some m)) ≡ true
+    once : (m : Mark) → is_proper_mark p.number p.opening.parts m ≡ true → has_single_rows (mark_writes (Some m)) ≡ true
     once (Committed t) e = refl
     once (Discarded t) e = refl
     once (Prepared t ws is) e =
@@ -112,7 +112,7 @@ can_store p mark h fits =
 
 -- ---- no pending stamp is 0
 
-proper_stamp : (number parts : ℕ) (mark : Mark) → is_proper_mark number parts mark ≡ true → (stamp_of mark == 0) ≡ false
+proper_stamp : (number parts : ℕ) (mark : Mark) → is_proper_mark number parts mark ≡ true → (mark_stamp mark == 0) ≡ false
 proper_stamp number parts (Committed t) e = not-true (t == 0) e
 proper_stamp number parts (Discarded t) e = not-true (t == 0) e
 proper_stamp number parts (Prepared t ws is) e =
@@ -123,7 +123,7 @@ some_stamp p t h pending =
     let found = list_all-any (is_proper_mark p.number p.opening.parts) (prepares t) p.marks h.proper (pending_tells _ _ _ pending).2 in
     subst (λ (u : ℕ). (u == 0) ≡ false) (prepares_is t found.0 found.2) (proper_stamp p.number p.opening.parts found.0 found.1)
   where
-    prepares_is : (t : ℕ) (mark : Mark) → prepares t mark ≡ true → stamp_of mark ≡ t
+    prepares_is : (t : ℕ) (mark : Mark) → prepares t mark ≡ true → mark_stamp mark ≡ t
     prepares_is t (Prepared s ws is) e = (Decides-eqb s t).0 e
     prepares_is t (Committed s) e = absurd (cc)
     prepares_is t (Discarded s) e = absurd (cc)

@@ -10,7 +10,7 @@ use Rattle.album_terminate.specs.declared.deciding.StampState.TheVariants as sta
 use Rattle.album_items.specs.Openings.{Row}
 use Rattle.album_partition.specs.declared.marks.Mark.{Mark}
 use Rattle.album_partition.specs.declared.marks.Mark.TheVariants.{Prepared, Committed, Discarded}
-use Rattle.album_partition.specs.Marks.{stamp_of, prepares, commits, discards, state_by, state_of, is_unknown, is_pending}
+use Rattle.album_partition.specs.Marks.{mark_stamp, prepares, commits, discards, state_by, state_of, is_unknown, is_pending}
 
 pub same_stamp : (t : ℕ) → (t == t) ≡ true
 same_stamp t = (Decides-eqb t t).1 refl
@@ -24,17 +24,17 @@ pub any_push_no : {X : Type 0} (f : X → Bool) (xs : List X) (x : X) → f x �
 any_push_no f xs x apart = any_push f xs x ∙ ap (λ b. list_any f xs || b) apart ∙ or-false (list_any f xs)
 
 -- a mark does nothing to another stamp
-pub prepares_no : (mark : Mark) (t : ℕ) → (stamp_of mark == t) ≡ false → prepares t mark ≡ false
+pub prepares_no : (mark : Mark) (t : ℕ) → (mark_stamp mark == t) ≡ false → prepares t mark ≡ false
 prepares_no (Prepared s ws is) t apart = apart
 prepares_no (Committed s) t apart = refl
 prepares_no (Discarded s) t apart = refl
 
-pub commits_no : (mark : Mark) (t : ℕ) → (stamp_of mark == t) ≡ false → commits t mark ≡ false
+pub commits_no : (mark : Mark) (t : ℕ) → (mark_stamp mark == t) ≡ false → commits t mark ≡ false
 commits_no (Prepared s ws is) t apart = refl
 commits_no (Committed s) t apart = apart
 commits_no (Discarded s) t apart = refl
 
-pub discards_no : (mark : Mark) (t : ℕ) → (stamp_of mark == t) ≡ false → discards t mark ≡ false
+pub discards_no : (mark : Mark) (t : ℕ) → (mark_stamp mark == t) ≡ false → discards t mark ≡ false
 discards_no (Prepared s ws is) t apart = refl
 discards_no (Committed s) t apart = refl
 discards_no (Discarded s) t apart = apart
@@ -47,7 +47,7 @@ pub state_push : (marks : List Mark) (mark : Mark) (t : ℕ) → state_of (marks
 state_push marks mark t = state_by_same (any_push (commits t) marks mark) (any_push (discards t) marks mark) (any_push (prepares t) marks mark)
 
 -- that of another stamp stays
-pub state_push_other : (marks : List Mark) (mark : Mark) (t : ℕ) → (stamp_of mark == t) ≡ false → state_of (marks ++ mark ∷ []) t ≡ state_of marks t
+pub state_push_other : (marks : List Mark) (mark : Mark) (t : ℕ) → (mark_stamp mark == t) ≡ false → state_of (marks ++ mark ∷ []) t ≡ state_of marks t
 state_push_other marks mark t apart =
     state_by_same (any_push_no (commits t) marks mark (commits_no mark t apart)) (any_push_no (discards t) marks mark (discards_no mark t apart)) (any_push_no (prepares t) marks mark (prepares_no mark t apart))
 

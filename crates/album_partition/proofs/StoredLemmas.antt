@@ -7,7 +7,7 @@ use Rattle.std.proofs.lemmas.List.{take_more, append-nil}
 use Rattle.std.proofs.lemmas.Bool.Decides.{Decides-eqb}
 use Rattle.album_items.specs.Openings.{Row, same_item, has_single_rows}
 use Rattle.album_versions.specs.Versions.{VersionsState, version_at, latest_of, Adds, Commits, Drops}
-use Rattle.album_partition.specs.Marks.{value_in, stamp_of, prepares, commits, discards, state_of, writes_of, writes_at, version, has_version, commit_in, committed_stamps, latest, is_unknown, is_pending, may_follow}
+use Rattle.album_partition.specs.Marks.{value_in, mark_stamp, prepares, commits, discards, state_of, mark_writes, writes_at, version, has_version, commit_in, committed_stamps, latest, is_unknown, is_pending, may_follow}
 use Rattle.album_partition.specs.Stored.{HasAdded, HasCommitted, IsStored}
 use Rattle.album_partition.proofs.ListLemmas.{same_or_not, turned}
 use Rattle.album_partition.proofs.StateLemmas.{or_none, any_push, any_push_no, find_push_no, find_push_first, prepares_no, discards_no, unknown_tells, pending_tells, same_stamp, find_none, is_unknown_tells, is_pending_tells, committed_is_committed}
@@ -177,11 +177,11 @@ uncommitted t (Committed s ∷ marks) e = go (s == t) e (uncommitted t marks)
 
 -- ---- versions
 
-version_by : {a b : Bool} {m n : Option Mark} (i : ℕ) → a ≡ b → m ≡ n → (if a then None else value_in (writes_of m) i) ≡ (if b then None else value_in (writes_of n) i)
+version_by : {a b : Bool} {m n : Option Mark} (i : ℕ) → a ≡ b → m ≡ n → (if a then None else value_in (mark_writes m) i) ≡ (if b then None else value_in (mark_writes n) i)
 version_by i e f = rw (e, f) refl
 
 -- those of another stamp stay
-pub version_push_other : (marks : List Mark) (mark : Mark) (i s : ℕ) → (stamp_of mark == s) ≡ false → version (marks ++ mark ∷ []) i s ≡ version marks i s
+pub version_push_other : (marks : List Mark) (mark : Mark) (i s : ℕ) → (mark_stamp mark == s) ≡ false → version (marks ++ mark ∷ []) i s ≡ version marks i s
 version_push_other marks mark i s apart = version_by i (any_push_no (discards s) marks mark (discards_no mark s apart)) (find_push_no (prepares s) marks mark (prepares_no mark s apart))
 
 pub version_prepared : (marks : List Mark) (t : ℕ) (ws : List Row) (is : List ℕ) → state_of marks t ≡ state.Unknown → (i s : ℕ) → version (marks ++ Prepared t ws is ∷ []) i s ≡ (if s == t then value_in ws i else version marks i s)
@@ -214,10 +214,10 @@ version_discarded marks t i s = same_or_not s t here apart
 -- ---- latest stamps
 
 -- a mark that commits nothing, of a stamp that is not committed
-latest_push : (marks : List Mark) (mark : Mark) (i : ℕ) → commit_in mark ≡ None → list_any (commits (stamp_of mark)) marks ≡ false → latest (marks ++ mark ∷ []) i ≡ latest marks i
+latest_push : (marks : List Mark) (mark : Mark) (i : ℕ) → commit_in mark ≡ None → list_any (commits (mark_stamp mark)) marks ≡ false → latest (marks ++ mark ∷ []) i ≡ latest marks i
 latest_push marks mark i other none =
     ap (best_of (has_version (marks ++ mark ∷ []) i)) (filter_map-append commit_in marks (mark ∷ []) ∙ stays)
-    ∙ best_of-but (has_version (marks ++ mark ∷ []) i) (has_version marks i) (stamp_of mark) (λ s e. ap is_some (version_push_other marks mark i s (turned s (stamp_of mark) e))) (committed_stamps marks) (uncommitted (stamp_of mark) marks none)
+    ∙ best_of-but (has_version (marks ++ mark ∷ []) i) (has_version marks i) (mark_stamp mark) (λ s e. ap is_some (version_push_other marks mark i s (turned s (mark_stamp mark) e))) (committed_stamps marks) (uncommitted (mark_stamp mark) marks none)
   where
     stays : committed_stamps marks ++ filter_map commit_in (mark ∷ []) ≡ committed_stamps marks
     stays = rw other (append-nil (committed_stamps marks))
@@ -299,20 +299,20 @@ refused_kept history marks later old mid new t ws is seen h may added drops same
 
 -- ---- what is committed
 
-kept_rows : (marks : List Mark) (t : ℕ) (mark : Option Mark) → mark ≡ kept_mark (marks ++ Committed t ∷ []) t → writes_of mark ≡ writes_at marks t
-kept_rows marks t mark is = ap writes_of (is ∙ ap (λ s. kept_by s (find (prepares t) (marks ++ Committed t ∷ []))) (committed_is_committed marks t) ∙ find_push_no (prepares t) marks (Committed t) refl)
+kept_rows : (marks : List Mark) (t : ℕ) (mark : Option Mark) → mark ≡ kept_mark (marks ++ Committed t ∷ []) t → mark_writes mark ≡ writes_at marks t
+kept_rows marks t mark is = ap mark_writes (is ∙ ap (λ s. kept_by s (find (prepares t) (marks ++ Committed t ∷ []))) (committed_is_committed marks t) ∙ find_push_no (prepares t) marks (Committed t) refl)
 
 there : (marks : List Mark) (t : ℕ) → state_of marks t ≡ state.Pending → (i : ℕ) → version marks i t ≡ value_in (writes_at marks t) i
 there marks t pending i = rw (pending_tells _ _ _ pending).1 refl
 
-pub commit_ready : (history marks later : List Mark) (kept : VersionsState) (t : ℕ) (mark : Option Mark) (rows : List Row) → history ≡ marks → IsStored history kept → may_follow marks (Committed t) ≡ true → later ≡ history ++ Committed t ∷ [] → mark ≡ kept_mark later t → rows ≡ writes_of mark → (k : ℕ) (d : Row) → k < length rows → is_some (version_at kept (get_or rows k d).0 t) ≡ true
+pub commit_ready : (history marks later : List Mark) (kept : VersionsState) (t : ℕ) (mark : Option Mark) (rows : List Row) → history ≡ marks → IsStored history kept → may_follow marks (Committed t) ≡ true → later ≡ history ++ Committed t ∷ [] → mark ≡ kept_mark later t → rows ≡ mark_writes mark → (k : ℕ) (d : Row) → k < length rows → is_some (version_at kept (get_or rows k d).0 t) ≡ true
 commit_ready history marks later kept t mark rows seen h may made is told k d less =
     let pending : state_of history t ≡ state.Pending = subst (λ (ms : List Mark). state_of ms t ≡ state.Pending) (sym seen) (is_pending_tells (state_of marks t) may) in
     let same : rows ≡ writes_at history t = told ∙ kept_rows history t mark (is ∙ ap (λ (ms : List Mark). kept_mark ms t) made) in
     ap is_some (h.versions (get_or rows k d).0 t ∙ there history t pending (get_or rows k d).0)
     ∙ subst (λ (rs : List Row). is_some (value_in rs (get_or rows k d).0) ≡ true) same (rows_have rows k d less)
 
-pub committed_kept : (history marks later : List Mark) (old new : VersionsState) (t : ℕ) (mark : Option Mark) (rows : List Row) → history ≡ marks → IsStored history old → may_follow marks (Committed t) ≡ true → later ≡ history ++ Committed t ∷ [] → mark ≡ kept_mark later t → rows ≡ writes_of mark → HasCommitted old new t rows → IsStored later new
+pub committed_kept : (history marks later : List Mark) (old new : VersionsState) (t : ℕ) (mark : Option Mark) (rows : List Row) → history ≡ marks → IsStored history old → may_follow marks (Committed t) ≡ true → later ≡ history ++ Committed t ∷ [] → mark ≡ kept_mark later t → rows ≡ mark_writes mark → HasCommitted old new t rows → IsStored later new
 committed_kept history marks later old new t mark rows seen h may made is told done =
     let pending : state_of history t ≡ state.Pending = subst (λ (ms : List Mark). state_of ms t ≡ state.Pending) (sym seen) (is_pending_tells (state_of marks t) may) in
     let same : rows ≡ writes_at history t = told ∙ kept_rows history t mark (is ∙ ap (λ (ms : List Mark). kept_mark ms t) made) in

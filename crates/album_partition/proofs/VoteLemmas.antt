@@ -10,7 +10,7 @@ use Rattle.album_terminate.specs.Deciding.{have_told}
 use Rattle.album_terminate.specs.declared.deciding.StampState.TheVariants as state
 use Rattle.album_partition.specs.declared.marks.Mark.{Mark}
 use Rattle.album_partition.specs.declared.marks.Mark.TheVariants.{Prepared, Committed, Discarded}
-use Rattle.album_partition.specs.Marks.{stamp_of, prepares, commits, state_of, is_unknown, is_pending, may_follow, items_of, items_at}
+use Rattle.album_partition.specs.Marks.{mark_stamp, prepares, commits, state_of, is_unknown, is_pending, may_follow, mark_items, items_at}
 use Rattle.album_partition.specs.Places.{lies_at, others_of}
 use Rattle.album_partition.specs.Votes.{NotedVote, has_vote, heard, same_vote, is_due, AreVotes}
 use Rattle.album_partition.proofs.ListLemmas.{no_two-push, list_all-push, list_all-weaker, list_all-any}
@@ -20,7 +20,7 @@ use Rattle.album_partition.proofs.StateLemmas.{any_push, find_push_no, find_none
 
 -- the items that are prepared at a stamp stay
 pub items_stay : (marks : List Mark) (mark : Mark) (t : ℕ) → list_any (prepares t) marks ≡ true → items_at (marks ++ mark ∷ []) t ≡ items_at marks t
-items_stay marks mark t e = ap items_of (find-append (prepares t) marks (mark ∷ []) ∙ there (prepares t) marks e (find (prepares t) (mark ∷ [])))
+items_stay marks mark t e = ap mark_items (find-append (prepares t) marks (mark ∷ []) ∙ there (prepares t) marks e (find (prepares t) (mark ∷ [])))
   where
     there : (f : Mark → Bool) (ms : List Mark) → list_any f ms ≡ true → (later : Option Mark) → option_or (find f ms) later ≡ find f ms
     there f [] e later = absurd (cc)
@@ -48,7 +48,7 @@ voted_is_prepared parts marks votes t due e =
     subst (λ (u : ℕ). list_any (prepares u) marks ≡ true) ((Decides-eqb h.0.stamp t).0 h.2) (due_is_prepared parts marks h.0 h.1)
 
 -- a mark of the stamp leaves it pending only where it prepares it
-still_pending : (marks : List Mark) (mark : Mark) → may_follow marks mark ≡ true → state_of (marks ++ mark ∷ []) (stamp_of mark) ≡ state.Pending → state_of marks (stamp_of mark) ≡ state.Unknown
+still_pending : (marks : List Mark) (mark : Mark) → may_follow marks mark ≡ true → state_of (marks ++ mark ∷ []) (mark_stamp mark) ≡ state.Pending → state_of marks (mark_stamp mark) ≡ state.Unknown
 still_pending marks (Prepared t ws is) may e = is_unknown_tells (state_of marks t) may
 still_pending marks (Committed t) may e = absurd (let done = committed_is_committed marks t in cc)
 still_pending marks (Discarded t) may e = absurd (let gone = discarded_is_discarded marks t (uncommitted (list_any (commits t) marks) refl) in cc)
@@ -63,20 +63,20 @@ votes_with_mark number parts marks votes mark may h =
     record {
       once = h.once;
       due = list_all-weaker (is_due parts marks) (is_due parts (marks ++ mark ∷ [])) (due-push parts marks mark) votes h.due;
-      open_still = λ t pending voted. go t (stamp_of mark == t) refl pending voted;
+      open_still = λ t pending voted. go t (mark_stamp mark == t) refl pending voted;
     }
   where
-    go : (t : ℕ) (b : Bool) → (stamp_of mark == t) ≡ b → state_of (marks ++ mark ∷ []) t ≡ state.Pending
+    go : (t : ℕ) (b : Bool) → (mark_stamp mark == t) ≡ b → state_of (marks ++ mark ∷ []) t ≡ state.Pending
         → list_any (λ vote. vote.stamp == t) votes ≡ true
         → have_told (heard votes t) (others_of number parts (items_at (marks ++ mark ∷ []) t)) ≡ false
     go t true e pending voted =
-        let same : stamp_of mark ≡ t = (Decides-eqb (stamp_of mark) t).0 e in
+        let same : mark_stamp mark ≡ t = (Decides-eqb (mark_stamp mark) t).0 e in
         let unknown = still_pending marks mark may (subst (λ (u : ℕ). state_of (marks ++ mark ∷ []) u ≡ state.Pending) (sym same) pending) in
         let none = (unknown_tells _ _ _ unknown).2 in
         let some = subst (λ (u : ℕ). list_any (prepares u) marks ≡ true) (sym same) (voted_is_prepared parts marks votes t h.due voted) in
         absurd (cc)
     go t false e pending voted =
-        let items : items_at (marks ++ mark ∷ []) t ≡ items_at marks t = ap items_of (find_push_no (prepares t) marks mark (prepares_no mark t e)) in
+        let items : items_at (marks ++ mark ∷ []) t ≡ items_at marks t = ap mark_items (find_push_no (prepares t) marks mark (prepares_no mark t e)) in
         rw items (h.open_still t (sym (state_push_other marks mark t e) ∙ pending) voted)
 
 -- ---- one vote more

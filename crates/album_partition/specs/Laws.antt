@@ -54,7 +54,7 @@ IsClash partition (body.Reply reply) = ⊥
 -- the message goes from the partition to whom the other came from, under its tag
 pub record IsReplyTo (partition : PartitionState) (message told : Message) : Type 0 where
   pub sender : told.from ≡ Part partition.number
-  pub getter : told.to ≡ message.from
+  pub receiver : told.to ≡ message.from
   pub tag : told.tag ≡ message.tag
 
 -- ---- what is read of an item

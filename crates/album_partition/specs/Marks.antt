@@ -15,10 +15,10 @@ use Rattle.album_partition.specs.declared.marks.Mark.TheVariants.{Prepared, Comm
 -- ---- one mark
 
 -- the stamp that it is of
-abbrev pub stamp_of : Mark → ℕ
-stamp_of (Prepared stamp writes items) = stamp
-stamp_of (Committed stamp) = stamp
-stamp_of (Discarded stamp) = stamp
+abbrev pub mark_stamp : Mark → ℕ
+mark_stamp (Prepared stamp writes items) = stamp
+mark_stamp (Committed stamp) = stamp
+mark_stamp (Discarded stamp) = stamp
 
 -- does it prepare, commit or discard the stamp?
 abbrev pub prepares : ℕ → Mark → Bool
@@ -67,24 +67,24 @@ is_pending state.Committed = false
 is_pending state.Discarded = false
 
 -- what a mark prepared, and of which items its transaction is
-abbrev pub writes_of : Option Mark → List Row
-writes_of None = []
-writes_of (Some (Prepared stamp writes items)) = writes
-writes_of (Some (Committed stamp)) = []
-writes_of (Some (Discarded stamp)) = []
+abbrev pub mark_writes : Option Mark → List Row
+mark_writes None = []
+mark_writes (Some (Prepared stamp writes items)) = writes
+mark_writes (Some (Committed stamp)) = []
+mark_writes (Some (Discarded stamp)) = []
 
-abbrev pub items_of : Option Mark → List ℕ
-items_of None = []
-items_of (Some (Prepared stamp writes items)) = items
-items_of (Some (Committed stamp)) = []
-items_of (Some (Discarded stamp)) = []
+abbrev pub mark_items : Option Mark → List ℕ
+mark_items None = []
+mark_items (Some (Prepared stamp writes items)) = items
+mark_items (Some (Committed stamp)) = []
+mark_items (Some (Discarded stamp)) = []
 
 -- the writes that are prepared at a stamp, and the items of its transaction
 abbrev pub writes_at : List Mark → ℕ → List Row
-writes_at marks stamp = writes_of (find (prepares stamp) marks)
+writes_at marks stamp = mark_writes (find (prepares stamp) marks)
 
 abbrev pub items_at : List Mark → ℕ → List ℕ
-items_at marks stamp = items_of (find (prepares stamp) marks)
+items_at marks stamp = mark_items (find (prepares stamp) marks)
 
 -- One of its partitions will never prepare it: that one's marks discard it, and none before had prepared it. (Of a
 -- stamp that was pending when it was discarded, this is not so, though it is discarded too.)

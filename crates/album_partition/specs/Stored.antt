@@ -4,7 +4,7 @@ use Rattle.album_stamps.specs.declared.limits.TheConstants.{MOST_MARKS}
 use Rattle.album_items.specs.Openings.{Row, has_single_rows}
 use Rattle.album_versions.specs.Versions.{VersionsState, version_at, latest_of}
 use Rattle.album_partition.specs.declared.marks.Mark.{Mark}
-use Rattle.album_partition.specs.Marks.{may_follow, writes_of, value_in, version, latest}
+use Rattle.album_partition.specs.Marks.{may_follow, mark_writes, value_in, version, latest}
 
 -- each item has just the versions and the latest stamp that the marks tell
 pub record IsStored (marks : List Mark) (kept : VersionsState) : Type 0 where
@@ -15,7 +15,7 @@ pub record IsStored (marks : List Mark) (kept : VersionsState) : Type 0 where
 pub record CanFollow (marks : List Mark) (mark : Mark) : Type 0 where
   pub follows : may_follow marks mark ≡ true
   pub room : length marks < MOST_MARKS
-  pub once : has_single_rows (writes_of (Some mark)) ≡ true
+  pub once : has_single_rows (mark_writes (Some mark)) ≡ true
 
 -- at one stamp each item has the version that the rows give it, and nothing else changed
 pub record HasAdded (old new : VersionsState) (stamp : ℕ) (rows : List Row) : Type 0 where

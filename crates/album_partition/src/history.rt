@@ -3,7 +3,7 @@ ghost use Rattle.std.specs.Prelude.{◌≡◌, ◌<◌, ◌++◌, ◌∷◌, [],
 ghost use Rattle.std.specs.List.{slice_get};
 ghost use Rattle.std.specs.Option.{option_copied};
 ghost use Rattle.album_stamps.specs.declared.limits.TheConstants.{MOST_MARKS};
-ghost use Rattle.album_partition.specs.Marks.{ArePending, stamp_of, writes_of, items_of, state_of, is_pending, may_follow, is_legal, pending_stamps};
+ghost use Rattle.album_partition.specs.Marks.{ArePending, mark_stamp, mark_writes, mark_items, state_of, is_pending, may_follow, is_legal, pending_stamps};
 ghost use Rattle.album_partition.specs.History.{IsAt, Stands, kept_mark};
 
 use crate::marks::Mark;
@@ -86,7 +86,7 @@ impl History {
 
     /// What is prepared at a stamp that is pending or committed.
     pub fn writes(&self, stamp: Stamp) -> &[(ItemId, Value)]
-        ensures { result.now ≡ writes_of (kept_mark self.now stamp) }
+        ensures { result.now ≡ mark_writes (kept_mark self.now stamp) }
     {
         match self.prepared(stamp) {
             None => &[],
@@ -96,7 +96,7 @@ impl History {
 
     /// The items of the transaction of a stamp that is pending or committed.
     pub fn items(&self, stamp: Stamp) -> &[ItemId]
-        ensures { result.now ≡ items_of (kept_mark self.now stamp) }
+        ensures { result.now ≡ mark_items (kept_mark self.now stamp) }
     {
         match self.prepared(stamp) {
             None => &[],
@@ -137,7 +137,7 @@ impl History {
     fn after(&self, mark: &Mark) -> (Standing, usize)
         requires follows { may_follow self.now mark.now ≡ true }
         requires room { length self.now < MOST_MARKS }
-        ensures standing { Stands (self.now ++ mark.now ∷ []) (stamp_of mark.now) (Some result.0) }
+        ensures standing { Stands (self.now ++ mark.now ∷ []) (mark_stamp mark.now) (Some result.0) }
         ensures pending { result.1 ≡ length (pending_stamps (self.now ++ mark.now ∷ [])) }
     {
         match mark {

@@ -1,6 +1,6 @@
 // The entries of a partition's history.
 ghost use Rattle.std.specs.Prelude.{◌≡◌, Some, IfOk};
-ghost use Rattle.album_partition.specs.Marks.{stamp_of, writes_of, items_of};
+ghost use Rattle.album_partition.specs.Marks.{mark_stamp, mark_writes, mark_items};
 
 use album_items::{ItemId, ItemValues, Items, Value};
 use album_stamps::Stamp;
@@ -33,7 +33,7 @@ impl Mark {
 
     /// The stamp that it is of.
     pub fn stamp(&self) -> Stamp
-        ensures { result ≡ stamp_of self.now }
+        ensures { result ≡ mark_stamp self.now }
     {
         match self {
             Mark::Prepared(stamp, _, _) | Mark::Committed(stamp) | Mark::Discarded(stamp) => *stamp,
@@ -42,7 +42,7 @@ impl Mark {
 
     /// What it prepares.
     pub fn writes(&self) -> &[(ItemId, Value)]
-        ensures { result.now ≡ writes_of (Some self.now) }
+        ensures { result.now ≡ mark_writes (Some self.now) }
     {
         match self {
             Mark::Prepared(_, writes, _) => writes.as_slice(),
@@ -53,7 +53,7 @@ impl Mark {
 
     /// The items of the transaction that it prepares.
     pub fn items(&self) -> &[ItemId]
-        ensures { result.now ≡ items_of (Some self.now) }
+        ensures { result.now ≡ mark_items (Some self.now) }
     {
         match self {
             Mark::Prepared(_, _, items) => items.as_slice(),

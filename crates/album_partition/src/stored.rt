@@ -6,7 +6,7 @@ ghost use Rattle.album_items.specs.Openings.{has_single_rows};
 ghost use Rattle.album_versions.specs.Versions.{version_at, SameVersions, Adds};
 ghost use Rattle.album_versions.specs.Best.{best_of};
 ghost use Rattle.album_partition.specs.History.{kept_mark};
-ghost use Rattle.album_partition.specs.Marks.{ArePending, writes_of, items_of, state_of, is_legal, load, version, has_version, latest};
+ghost use Rattle.album_partition.specs.Marks.{ArePending, mark_writes, mark_items, state_of, is_legal, load, version, has_version, latest};
 ghost use Rattle.album_partition.specs.Stored.{CanFollow, HasAdded, HasCommitted};
 
 use crate::history::History;
@@ -65,14 +65,14 @@ impl Stored {
 
     /// What is prepared at a stamp that is pending or committed.
     pub fn writes(&self, stamp: Stamp) -> &[(ItemId, Value)]
-        ensures { result.now ≡ writes_of (kept_mark self.now stamp) }
+        ensures { result.now ≡ mark_writes (kept_mark self.now stamp) }
     {
         self.history.writes(stamp)
     }
 
     /// The items of the transaction of a stamp that is pending or committed.
     pub fn items(&self, stamp: Stamp) -> &[ItemId]
-        ensures { result.now ≡ items_of (kept_mark self.now stamp) }
+        ensures { result.now ≡ mark_items (kept_mark self.now stamp) }
     {
         self.history.items(stamp)
     }

@@ -1,10 +1,11 @@
 -- Numbers that differ, and that differ from those seen before. For `are_single`; `first_new` is a step of its loop.
-use Rattle.std.proofs.Common.{◌≡◌, ◌==◌, ◌&&◌, ◌||◌, ◌+◌, ◌<◌, ℕ, suc, List, [], ◌∷◌, length, get_or, drop, map, Bool, true, false, not, cond, refl, sym, ap, ◌∙◌, add-one, drop-cons}
+use Rattle.std.proofs.Common.{◌≡◌, ◌==◌, ◌&&◌, ◌||◌, ◌+◌, ◌<◌, ℕ, suc, List, [], ◌∷◌, length, get_or, drop, map, Bool, true, false, not, cond, Decides, refl, sym, ap, ◌∙◌, add-one, drop-cons}
 use Rattle.std.specs.List.{list_any}
 use Rattle.std.specs.Ordering.{nat_cmp}
 use Rattle.std.specs.BTreeMap.{is_at}
 use Rattle.std.specs.Cmp.{Equal-is}
-use Rattle.std.proofs.lemmas.Bool.Decides.{Decides-eqb}
+use Rattle.std.proofs.Math.Bool.{and-true}
+use Rattle.std.proofs.lemmas.Bool.Decides.{Decides-eqb, same_from_decides}
 use Rattle.std.proofs.lemmas.Map.Lookups.{exact_unsigned}
 use Rattle.std.proofs.lemmas.Cmp.{nat_cmp_total, eq_by_cmp_equiv}
 use Rattle.album_stamps.specs.Distinct.{are_single}
@@ -30,38 +31,28 @@ any_either f g (n ∷ ns) = rw (any_either f g ns) (go (f n) (g n) (list_any f n
     go false false c d = refl
 
 pub none_seen : (ns : List ℕ) (f : ℕ → Bool) → ((n : ℕ) → f n ≡ false) → are_new f ns ≡ are_single ns
-none_seen ns f none = rw (any_same f (λ n. false) none ns, never ns) (go (are_single ns))
+none_seen ns f none = rw (any_same f (λ n. false) none ns, never ns) (and-true (are_single ns))
   where
     never : (ms : List ℕ) → list_any (λ n. false) ms ≡ false
     never [] = refl
     never (m ∷ ms) = never ms
 
-    go : (b : Bool) → (b && true) ≡ b
-    go true = refl
-    go false = refl
-
-at_self : (q k : ℕ) → q ≡ k → is_at (nat_cmp k) q ≡ true
-at_self q k e = rw e ((eq_by_cmp_equiv nat_cmp_total).refl k)
-
 -- the order and `==` tell the same keys apart
 pub same_key : (k q : ℕ) → is_at (nat_cmp k) q ≡ (q == k)
-same_key k q = go (is_at (nat_cmp k) q) refl (q == k) refl
+same_key k q = same_from_decides (is_at (nat_cmp k) q) (q == k) by_order (Decides-eqb q k)
   where
-    go : (b : Bool) → is_at (nat_cmp k) q ≡ b → (c : Bool) → (q == k) ≡ c → b ≡ c
-    go true e true t = refl
-    go false e false t = refl
-    go true e false t = sym ((Decides-eqb q k).1 (sym (exact_unsigned k q ((Equal-is (nat_cmp k q)).0 e)))) ∙ t
-    go false e true t = sym e ∙ at_self q k ((Decides-eqb q k).0 t)
+    by_order : Decides (is_at (nat_cmp k) q) (q ≡ k)
+    by_order = (
+      λ e. sym (exact_unsigned k q ((Equal-is (nat_cmp k q)).0 e)),
+      λ e. rw e ((eq_by_cmp_equiv nat_cmp_total).refl k),
+    )
 
 -- `==` doesn't tell its sides apart
 same_back : (k q : ℕ) → (q == k) ≡ (k == q)
-same_back k q = go (q == k) refl (k == q) refl
+same_back k q = same_from_decides (q == k) (k == q) (Decides-eqb q k) back
   where
-    go : (b : Bool) → (q == k) ≡ b → (c : Bool) → (k == q) ≡ c → b ≡ c
-    go true e true t = refl
-    go false e false t = refl
-    go true e false t = sym ((Decides-eqb k q).1 (sym ((Decides-eqb q k).0 e))) ∙ t
-    go false e true t = sym e ∙ (Decides-eqb q k).1 (sym ((Decides-eqb k q).0 t))
+    back : Decides (k == q) (q ≡ k)
+    back = (λ e. sym ((Decides-eqb k q).0 e), λ e. (Decides-eqb k q).1 (sym e))
 
 -- the first is new, and the others are where it is seen too
 pub first_new : (old new : ℕ → Bool) (k : ℕ) (ns : List ℕ)

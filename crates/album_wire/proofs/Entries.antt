@@ -26,7 +26,7 @@ use Rattle.album_lists.proofs.Spelling.{who_spelled, spelled_who, member_spelled
 use Rattle.album_wire.specs.Shapes.{SpelledEntry, sort_of, entry_shape_of, entry_shapes_of, texts_of}
 use Rattle.album_wire.specs.JudgeLine.{carried, carried_list_of}
 use Rattle.album_wire.specs.Values.{each_of, at_most, entry_read, entries_read, member_read, members_read}
-use Rattle.album_wire.specs.Spelling.{whole, list, type_word, entry_data, IsText, IsEntry, IsAccessList, AreMembers}
+use Rattle.album_wire.specs.Spelling.{whole_data, list_data, type_word, entry_data, IsText, IsEntry, IsAccessList, AreMembers}
 use Rattle.album_wire.proofs.Steps.{step_taken, value_there, each_read, read_each, each_of_read, read_each_of, zip_through, zip_between}
 use Rattle.album_wire.proofs.Json.{text_read, whole_read, list_read, four, sized_read, same_four}
 
@@ -60,10 +60,10 @@ read_sort Alarm = refl
 
 -- what an entry's shape is spelled by
 abbrev pub shape_data : SpelledEntry → Data
-shape_data s = list (string (type_word s.sort) ∷ string s.who ∷ whole s.mask ∷ whole s.flags ∷ [])
+shape_data s = list_data (string (type_word s.sort) ∷ string s.who ∷ whole_data s.mask ∷ whole_data s.flags ∷ [])
 
-shape_of_four : (a b c d : Data) (s : SpelledEntry) → entry_shape_of (list (a ∷ b ∷ c ∷ d ∷ [])) ≡ Ok s
-    → list (a ∷ b ∷ c ∷ d ∷ []) ≡ shape_data s
+shape_of_four : (a b c d : Data) (s : SpelledEntry) → entry_shape_of (list_data (a ∷ b ∷ c ∷ d ∷ [])) ≡ Ok s
+    → list_data (a ∷ b ∷ c ∷ d ∷ []) ≡ shape_data s
 unfolding entry_shape_of
 shape_of_four a b c d s h =
     let sort = step_taken (text_of a >>= λ word. ok_or (sort_of word) BadRequest) _ s h in
@@ -84,7 +84,7 @@ shape_read d s h =
     let sized = step_taken (sized 4 d) _ s h in
     let items = sized_read 4 d sized.0 sized.1 in
     let parts = four items.0 items.2 in
-    let is : d ≡ list (parts.0 ∷ parts.1 ∷ parts.2 ∷ parts.3 ∷ []) = items.1 ∙ ap array parts.4 in
+    let is : d ≡ list_data (parts.0 ∷ parts.1 ∷ parts.2 ∷ parts.3 ∷ []) = items.1 ∙ ap array parts.4 in
     is ∙ shape_of_four parts.0 parts.1 parts.2 parts.3 s (ap entry_shape_of (sym is) ∙ h)
 
 pub read_shape : (s : SpelledEntry) → entry_shape_of (shape_data s) ≡ Ok s
@@ -139,7 +139,7 @@ entry_spelled entry s d h shape =
     let is_mask' = mask_read s.mask mask.0 mask.1 in
     let is_flags = flags_read s.flags flags.0 flags.1 in
     let items : shape_data s ≡ entry_data parts s.who =
-    same_four _ _ _ _ _ _ _ _ refl refl (ap whole is_mask'.0) (ap whole is_flags.0) in
+    same_four _ _ _ _ _ _ _ _ refl refl (ap whole_data is_mask'.0) (ap whole_data is_flags.0) in
     let spelled : IsEntry parts d = record {
       who_text = s.who;
       items = shape_read d s shape ∙ items;

@@ -16,7 +16,7 @@ use Rattle.serde_json.specs.Find.{get, as_object, get_member}
 use Rattle.serde_json.specs.View.{items_of}
 use Rattle.album_stamps.specs.declared.refusals.Refusal.TheVariants.{BadRequest}
 use Rattle.album_wire.specs.Fields.{guard, is_among, has_only, only_of, sized, text_of, whole_of, list_of}
-use Rattle.album_wire.specs.Spelling.{whole, list, HasOnly}
+use Rattle.album_wire.specs.Spelling.{whole_data, list_data, HasOnly}
 use Rattle.album_wire.proofs.Steps.{step_taken, test_passed}
 
 pub text_read : (d : Data) (text : List ℕ) → text_of d ≡ Ok text → d ≡ string text
@@ -27,7 +27,7 @@ text_read (string s) text h = cc
 text_read (array ds) text h = cc
 text_read (object ms) text h = cc
 
-pub whole_read : (d : Data) (n : ℕ) → whole_of d ≡ Ok n → d ≡ whole n
+pub whole_read : (d : Data) (n : ℕ) → whole_of d ≡ Ok n → d ≡ whole_data n
 whole_read null n h = cc
 whole_read (boolean b) n h = cc
 whole_read (number (unsigned m)) n h = cc
@@ -69,11 +69,11 @@ sized_read n d b h =
     let step = step_taken (list_of d) (λ items. guard (items_len items == n)) b h in
     (step.0, list_read d step.0 step.1, eqb-true _ _ (test_passed _ b step.2))
 
-pub same_two : (a b c d : Data) → a ≡ c → b ≡ d → list (a ∷ b ∷ []) ≡ list (c ∷ d ∷ [])
+pub same_two : (a b c d : Data) → a ≡ c → b ≡ d → list_data (a ∷ b ∷ []) ≡ list_data (c ∷ d ∷ [])
 same_two a b c d p q = cc
 
 pub same_four : (a b c d e f g h : Data) → a ≡ e → b ≡ f → c ≡ g → d ≡ h
-    → list (a ∷ b ∷ c ∷ d ∷ []) ≡ list (e ∷ f ∷ g ∷ h ∷ [])
+    → list_data (a ∷ b ∷ c ∷ d ∷ []) ≡ list_data (e ∷ f ∷ g ∷ h ∷ [])
 same_four a b c d e f g h i j k l = cc
 
 -- ---- the names in an object

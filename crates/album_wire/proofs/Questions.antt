@@ -24,7 +24,7 @@ use Rattle.album_eval.proofs.Principals.{principal_spelled, spelled_principal}
 use Rattle.album_wire.specs.Fields.{guard, sized, only_of, field_of, text_of, whole_of, list_of, each, data_of}
 use Rattle.album_wire.specs.Shapes.{entry_shapes_of, texts_of}
 use Rattle.album_wire.specs.Values.{each_of, members_read}
-use Rattle.album_wire.specs.Spelling.{whole, list, IsJson, IsText, HasOnly}
+use Rattle.album_wire.specs.Spelling.{whole_data, list_data, IsJson, IsText, HasOnly}
 use Rattle.album_wire.specs.JudgeShape.{SpelledGroup, SpelledJudge, judge_keys, group_shape_of, numbers, groups_shape_of, holder_of, kind_shape_of, judge_shape_of}
 use Rattle.album_wire.specs.JudgeLine.{Listing, Question, IsKindText, IsGroup, AreGroups, IsQuestion, IsJudgeLine, carried_list_of, listing_of, question_of, judge_of}
 use Rattle.album_wire.proofs.Steps.{step_taken, same_value, value_there, test_passed, each_read, read_each, each_of_read, read_each_of, zip_through, zip_between}
@@ -77,31 +77,31 @@ kind_read (Some d) k is = rw is.1 (rw (read_holder k is.0 is.2) refl)
 -- ---- the groups
 
 -- a group as its members are spelled by this value
-group_of_two : (a b : Data) (s : SpelledGroup) → group_shape_of (list (a ∷ b ∷ [])) ≡ Ok s
-    → (list (a ∷ b ∷ []) ≡ list (whole s.number ∷ b ∷ [])) × (texts_of b ≡ Ok s.members)
+group_of_two : (a b : Data) (s : SpelledGroup) → group_shape_of (list_data (a ∷ b ∷ [])) ≡ Ok s
+    → (list_data (a ∷ b ∷ []) ≡ list_data (whole_data s.number ∷ b ∷ [])) × (texts_of b ≡ Ok s.members)
 unfolding group_shape_of
 group_of_two a b s h =
     let number = step_taken (whole_of a) _ s h in
     let members = step_taken (texts_of b) _ s number.2 in
     let parts : SpelledGroup = record { number = number.0; members = members.0 } in
     let same : parts ≡ s = cc in
-    let first : a ≡ whole s.number = whole_read a number.0 number.1 ∙ ap (λ (g : SpelledGroup). whole g.number) same in
+    let first : a ≡ whole_data s.number = whole_read a number.0 number.1 ∙ ap (λ (g : SpelledGroup). whole_data g.number) same in
     let texts : texts_of b ≡ Ok s.members = members.1 ∙ ap (λ (g : SpelledGroup). Ok g.members) same in
     (same_two a b _ _ first refl, texts)
 
 group_read : (d : Data) (s : SpelledGroup) → group_shape_of d ≡ Ok s
-    → (members : Data) × (d ≡ list (whole s.number ∷ members ∷ [])) × (texts_of members ≡ Ok s.members)
+    → (members : Data) × (d ≡ list_data (whole_data s.number ∷ members ∷ [])) × (texts_of members ≡ Ok s.members)
 unfolding group_shape_of
 group_read d s h =
     let sized = step_taken (sized 2 d) _ s h in
     let items = sized_read 2 d sized.0 sized.1 in
     let parts = two items.0 items.2 in
-    let is : d ≡ list (parts.0 ∷ parts.1 ∷ []) = items.1 ∙ ap array parts.2 in
+    let is : d ≡ list_data (parts.0 ∷ parts.1 ∷ []) = items.1 ∙ ap array parts.2 in
     let rest = group_of_two parts.0 parts.1 s (ap group_shape_of (sym is) ∙ h) in
     (parts.1, is ∙ rest.0, rest.1)
 
 read_group : (s : SpelledGroup) (members : Data) → texts_of members ≡ Ok s.members
-    → group_shape_of (list (whole s.number ∷ members ∷ [])) ≡ Ok s
+    → group_shape_of (list_data (whole_data s.number ∷ members ∷ [])) ≡ Ok s
 unfolding group_shape_of
 read_group s members texts = rw texts refl
 
@@ -124,7 +124,7 @@ group_spelled l s d h g =
     let shape = group_read d s g in
     record {
       members_data = shape.0;
-      items = shape.1 ∙ same_two _ _ _ _ (ap whole read.0) refl;
+      items = shape.1 ∙ same_two _ _ _ _ (ap whole_data read.0) refl;
       members = members_spelled l.members s.members shape.0 shape.2 read.1;
     }
 
@@ -201,7 +201,7 @@ groups_read (Some d) groups is =
 
 -- ---- the members of the object
 
-whole_field : (name : List ℕ) (d : Data) (n : ℕ) → (field_of name d >>= whole_of) ≡ Ok n → get name d ≡ Some (whole n)
+whole_field : (name : List ℕ) (d : Data) (n : ℕ) → (field_of name d >>= whole_of) ≡ Ok n → get name d ≡ Some (whole_data n)
 whole_field name d n h =
     let value = step_taken (field_of name d) whole_of n h in
     value_there _ BadRequest value.0 value.1 ∙ ap Some (whole_read value.0 n value.2)
@@ -219,11 +219,11 @@ record IsShape (s : SpelledJudge) (d : Data) : Type 0 where
   entries_there : get (codes "entries") d ≡ Some entries_data
   entries : entry_shapes_of entries_data ≡ Ok s.entries
   kind : kind_shape_of (get (codes "kind") d) ≡ Ok s.holder
-  group : get (codes "group") d ≡ Some (whole s.head_group)
+  group : get (codes "group") d ≡ Some (whole_data s.head_group)
   groups : groups_shape_of (get (codes "groups") d) ≡ Ok s.groups
   owner : get (codes "owner") d ≡ Some (string s.owner)
   who : get (codes "who") d ≡ Some (string s.who)
-  mask : get (codes "mask") d ≡ Some (whole s.mask)
+  mask : get (codes "mask") d ≡ Some (whole_data s.mask)
 
 shape_spelled : (s : SpelledJudge) (d : Data) → judge_shape_of d ≡ Ok s → IsShape s d
 unfolding judge_shape_of
@@ -323,11 +323,11 @@ question_spelled q s d shape is =
           there _ shape.entries_data _ shape.entries_there (access_list_spelled q.holder q.list s.entries shape.entries_data shape.entries
           (rw (← is.holder) is.list));
       kind = kind_spelled _ q.holder (shape.kind ∙ ap Ok is.holder);
-      group = shape.group ∙ ap (λ n. Some (whole n)) is.head_group;
+      group = shape.group ∙ ap (λ n. Some (whole_data n)) is.head_group;
       groups = groups_spelled _ s.groups q.groups shape.groups is.groups;
       owner = there _ (string s.owner) _ shape.owner (s.owner, refl, user_spelled q.owner s.owner is.owner);
       who = there _ (string s.who) _ shape.who (s.who, refl, principal_spelled q.who s.who is.who);
-      mask = shape.mask ∙ ap (λ n. Some (whole n)) mask.0;
+      mask = shape.mask ∙ ap (λ n. Some (whole_data n)) mask.0;
       has_mask = mask.1;
     }
 

@@ -19,7 +19,7 @@ use Rattle.album_eval.specs.declared.facts.Principal.{Principal}
 use Rattle.album_wire.specs.Fields.{data_of}
 use Rattle.album_wire.specs.Shapes.{SpelledEntry}
 use Rattle.album_wire.specs.Values.{each_of, entries_read, members_read}
-use Rattle.album_wire.specs.Spelling.{IsJson, HasOnly, IsText, IsList, IsAccessList, AreMembers, whole, list}
+use Rattle.album_wire.specs.Spelling.{IsJson, HasOnly, IsText, IsList, IsAccessList, AreMembers, whole_data, list_data}
 use Rattle.album_wire.specs.JudgeShape.{SpelledGroup, SpelledJudge, judge_keys, judge_shape_of}
 use Rattle.album_wire.specs.declared.judge_line.Group.{Group}
 use Rattle.album_wire.specs.declared.judge_line.JudgeLine.{JudgeLine}
@@ -63,7 +63,7 @@ IsKindText Folder text = text ≡ codes "album"
 -- [number, members]
 pub record IsGroup (group : Listing) (d : Data) : Type 0 where
   pub members_data : Data
-  pub items : d ≡ list (whole group.number ∷ members_data ∷ [])
+  pub items : d ≡ list_data (whole_data group.number ∷ members_data ∷ [])
   pub members : AreMembers group.members members_data
 
 -- a list of groups, no number twice
@@ -76,11 +76,11 @@ pub record IsQuestion (q : Question) (d : Data) : Type 0 where
   pub names : HasOnly judge_keys d
   pub entries : IsSomeAnd (get (codes "entries") d) (IsAccessList q.holder q.list)
   pub kind : MatchOption (get (codes "kind") d) (q.holder ≡ Plain) (IsText (IsKindText q.holder))
-  pub group : get (codes "group") d ≡ Some (whole q.head_group)
+  pub group : get (codes "group") d ≡ Some (whole_data q.head_group)
   pub groups : MatchOption (get (codes "groups") d) (q.groups ≡ []) (AreGroups q.groups)
   pub owner : IsSomeAnd (get (codes "owner") d) (IsText (IsUserText q.owner))
   pub who : IsSomeAnd (get (codes "who") d) (IsText (IsPrincipalText q.who))
-  pub mask : get (codes "mask") d ≡ Some (whole (mask_bits q.mask))
+  pub mask : get (codes "mask") d ≡ Some (whole_data (mask_bits q.mask))
   pub has_mask : IsTrue (is_mask (mask_bits q.mask))
 
 -- the bytes of a line that asks this

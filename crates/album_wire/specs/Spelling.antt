@@ -24,12 +24,12 @@ pub record IsJson (d : Data) (bytes : List ℕ) : Type 0 where
   pub value : read bytes ≡ Some d
 
 -- a whole number
-abbrev pub whole : ℕ → Data
-whole n = number (unsigned n)
+abbrev pub whole_data : ℕ → Data
+whole_data n = number (unsigned n)
 
 -- [..]
-abbrev pub list : List Data → Data
-list ds = array (items_of ds)
+abbrev pub list_data : List Data → Data
+list_data ds = array (items_of ds)
 
 -- an object with no member of another name than these
 pub record HasOnly (names : List (List ℕ)) (d : Data) : Type 0 where
@@ -43,7 +43,7 @@ IsText P d = (text : List ℕ) × (d ≡ string text) × P text
 
 -- a list whose items spell these values, one each, in their order
 abbrev pub IsList : {A : Type 0} → (A → Data → Type 0) → List A → Data → Type 0
-IsList Is xs d = (ds : List Data) × (d ≡ list ds) × AllZip Is xs ds
+IsList Is xs d = (ds : List Data) × (d ≡ list_data ds) × AllZip Is xs ds
 
 -- ---- entries
 
@@ -56,11 +56,11 @@ type_word Alarm = codes "alarm"
 
 -- [type, who, mask, flags]
 abbrev pub entry_data : Ace → List ℕ → Data
-entry_data entry who = list (
+entry_data entry who = list_data (
     string (type_word entry.sort)
     ∷ string who
-    ∷ whole (mask_bits entry.mask)
-    ∷ whole (flag_bits entry.flags)
+    ∷ whole_data (mask_bits entry.mask)
+    ∷ whole_data (flag_bits entry.flags)
     ∷ [])
 
 -- the mask and the flags have the bits of their tables, and the who is one that goes with the flags
