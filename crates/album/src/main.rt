@@ -52,14 +52,14 @@ fn main(rt: HostRuntime) -> ExitCode {
         Err(error) => return refuse_words(&rt, &error),
     };
     let Ok(words) = args.collect::<Vec<String>>(rt.alloc()) else {
-        return ended(&rt, Err(Fault::Memory));
+        return status(&rt, Err(Fault::Memory));
     };
-    let matches = match matches(rt.alloc(), &words) {
+    let matches = match parse(rt.alloc(), &words) {
         Ok(matches) => matches,
         Err(error) => return explain(&rt, &error),
     };
     match matches.subcommand_name() {
-        Some("judge") => ended(
+        Some("judge") => status(
             &rt,
             judge_lines(rt.alloc(), &mut rt.stdin(), &mut rt.stdout()),
         ),
@@ -68,7 +68,7 @@ fn main(rt: HostRuntime) -> ExitCode {
     }
 }
 
-fn matches<'a>(alloc: Global, words: &'a [String]) -> Result<ArgMatches<'a>, Error> {
+fn parse<'a>(alloc: Global, words: &'a [String]) -> Result<ArgMatches<'a>, Error> {
     let command: Command<'a> = command(alloc)?;
     command.try_get_matches_from(words)
 }
@@ -94,7 +94,7 @@ fn judge_lines<R: Read, W: Write>(
 }
 
 /// The status of a run, with its fault on standard error. Nothing can be done where that fails too.
-fn ended(rt: &impl Eprint, outcome: Result<(), Fault>) -> ExitCode {
+fn status(rt: &impl Eprint, outcome: Result<(), Fault>) -> ExitCode {
     match outcome {
         Ok(()) => ExitCode::SUCCESS,
         Err(fault) => {
@@ -107,7 +107,7 @@ fn ended(rt: &impl Eprint, outcome: Result<(), Fault>) -> ExitCode {
 /// The words could not be read: there was no memory for them, or one is no text.
 fn refuse_words(rt: &impl Eprint, error: &io::Error) -> ExitCode {
     if error.kind() == io::ErrorKind::OutOfMemory {
-        return ended(rt, Err(Fault::Memory));
+        return status(rt, Err(Fault::Memory));
     }
     let _ = eprintln!(rt; "{NO_TEXT}");
     ExitCode::from(2)
@@ -116,11 +116,11 @@ fn refuse_words(rt: &impl Eprint, error: &io::Error) -> ExitCode {
 /// Prints the help that was asked for, or why the command line is refused.
 fn explain<R: Print + Eprint>(rt: &R, error: &Error) -> ExitCode {
     if error.kind() == ErrorKind::OutOfMemory {
-        return ended(rt, Err(Fault::Memory));
+        return status(rt, Err(Fault::Memory));
     }
     let printed = error.print(rt);
     if error.use_stderr() {
         return ExitCode::from(2);
     }
-    ended(rt, printed.map_err(|_| Fault::Writing))
+    status(rt, printed.map_err(|_| Fault::Writing))
 }

@@ -664,13 +664,19 @@ fn copy_told(alloc: Global, message: &Message) -> Result<String, Refusal> {
     Ok(format!(in alloc; "{}; ", text.as_str())?)
 }
 
+/// The text of a copy of the reply, if there is one.
+fn reply_copy_told(alloc: Global, reply: &Option<Message>) -> Result<String, Refusal> {
+    match reply {
+        None => Ok(String::new(alloc)),
+        Some(reply) => copy_told(alloc, reply),
+    }
+}
+
 /// The text of a copy of the message, and of a copy of the reply to it.
 fn exchanged(alloc: Global, message: &Message, reply: &Option<Message>) -> Result<String, Refusal> {
-    let mut text = copy_told(alloc, message)?;
-    if let Some(reply) = reply {
-        text.push_str(copy_told(alloc, reply)?.as_str())?;
-    }
-    Ok(text)
+    let sent = copy_told(alloc, message)?;
+    let replied = reply_copy_told(alloc, reply)?;
+    Ok(format!(in alloc; "{}{}", sent.as_str(), replied.as_str())?)
 }
 
 /// What is exchanged with the partition, copied.

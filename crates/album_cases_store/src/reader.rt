@@ -64,11 +64,16 @@ fn round(
 ) -> Result<Step, Refusal> {
     let mut step = Step::Same(reading);
     for message in messages {
-        if let Some(reply) = deliver(partitions, message)? {
-            step = given(step, &reply)?;
-        }
+        step = exchanged(partitions, step, message)?;
     }
     Ok(step)
+}
+
+fn exchanged(partitions: &mut [Partition], step: Step, message: &Message) -> Result<Step, Refusal> {
+    match deliver(partitions, message)? {
+        None => Ok(step),
+        Some(reply) => given(step, &reply),
+    }
 }
 
 fn given(step: Step, reply: &Message) -> Result<Step, Refusal> {

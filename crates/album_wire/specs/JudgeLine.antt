@@ -20,7 +20,7 @@ use Rattle.album_wire.specs.Fields.{data_of}
 use Rattle.album_wire.specs.Shapes.{SpelledEntry}
 use Rattle.album_wire.specs.Values.{each_of, entries_read, members_read}
 use Rattle.album_wire.specs.Spelling.{IsJson, HasOnly, IsText, IsList, IsAccessList, AreMembers, whole_data, list_data}
-use Rattle.album_wire.specs.JudgeShape.{SpelledGroup, SpelledJudge, judge_keys, judge_shape_of}
+use Rattle.album_wire.specs.JudgeShape.{SpelledGroup, SpelledJudge, judge_shape_of}
 use Rattle.album_wire.specs.declared.judge_line.Group.{Group}
 use Rattle.album_wire.specs.declared.judge_line.JudgeLine.{JudgeLine}
 
@@ -71,9 +71,14 @@ pub record AreGroups (groups : List Listing) (d : Data) : Type 0 where
   pub each : IsList IsGroup groups d
   pub apart : AllPairs (λ a b. a ≢ b) (map (λ group. group.number) groups)
 
+-- the members that may stand in a line
+abbrev pub member_names : List (List ℕ)
+member_names =
+    codes "entries" ∷ codes "kind" ∷ codes "group" ∷ codes "groups" ∷ codes "owner" ∷ codes "who" ∷ codes "mask" ∷ []
+
 -- An object, member by member. Where `kind` is left out it is a picture, and where `groups` is there are none.
 pub record IsQuestion (q : Question) (d : Data) : Type 0 where
-  pub names : HasOnly judge_keys d
+  pub names : HasOnly member_names d
   pub entries : IsSomeAnd (get (codes "entries") d) (IsAccessList q.holder q.list)
   pub kind : MatchOption (get (codes "kind") d) (q.holder ≡ Plain) (IsText (IsKindText q.holder))
   pub group : get (codes "group") d ≡ Some (whole_data q.head_group)

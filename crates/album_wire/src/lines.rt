@@ -83,7 +83,7 @@ impl Lines {
         }
     }
 
-    // The lines that end in a text are put behind those that are there, and what has come of the next is given.
+    /// The lines that end in a text are put behind those that are there, and what has come of the next is given.
     fn later_lines(alloc: Global, lines: &mut Vec<LineIn>, text: &[u8]) -> Result<Lines, AllocError>
         ensures { IfOk result (λ next.
             (map said lines.new.items, next)
@@ -100,7 +100,7 @@ impl Lines {
         Ok(next)
     }
 
-    // The unfinished line goes on, with no newline in the part.
+    /// The unfinished line goes on, with no newline in the part.
     fn add(&mut self, part: &[u8]) -> Result<(), AllocError>
         ensures ok { OnOk result (self.new ≡ fold longer self.old part.now) }
         ensures short { IfSome self.new (λ bytes. length bytes ≤ MOST_LINE) }
@@ -117,7 +117,7 @@ impl Lines {
         Ok(())
     }
 
-    // The unfinished line ends, and the next begins.
+    /// The unfinished line ends, and the next begins.
     fn take(&mut self) -> LineIn
         ensures line { said result ≡ self.old }
         ensures empty { self.new ≡ Some [] }
@@ -126,7 +126,7 @@ impl Lines {
     }
 }
 
-// The text before the first newline, and the text behind it.
+/// The text before the first newline, and the text behind it.
 fn first_line(text: &[u8]) -> Option<(&[u8], &[u8])>
     ensures found { IfSome result (λ parts. text.now ≡ parts.0.now ++ 10 ∷ parts.1.now) }
     ensures first { IfSome result (λ parts. IsTrue (has_no_newline parts.0.now)) }
