@@ -1,1 +1,3 @@
-pub mod ItemTexts
+mod ItemTexts
+mod Marked
+mod Fitting

@@ -1,5 +1,5 @@
 -- Which states the service may open with.
-use Rattle.std.specs.Prelude.{ℕ, List, [], Bool, true, false, not, ◌&&◌, ◌||◌, ◌==◌, nat_le, length}
+use Rattle.std.specs.Prelude.{ℕ, List, [], Bool, true, false, not, ◌&&◌, ◌||◌, ◌==◌, nat_le, length, Option, Some, None}
 use Rattle.std.specs.List.{list_all}
 use Rattle.std.specs.Option.{option_map_or}
 use Rattle.album_lists.specs.Entries.{fits}
@@ -94,6 +94,14 @@ fits_holder held (value.Album album) = true
 fits_holder held (value.List entries) = fits held entries
 fits_holder held (value.Group group) = true
 
+-- the number of the list of a picture or a group
+abbrev pub plain_list : Value → Option ℕ
+plain_list value.Missing = None
+plain_list (value.Picture picture) = Some picture.head.list
+plain_list (value.Album album) = None
+plain_list (value.List entries) = None
+plain_list (value.Group group) = Some group.head.list
+
 -- where the second is the list that the head of the first names, it fits
 abbrev pub suits : Row → Row → Bool
 suits a b =
@@ -102,12 +110,16 @@ suits a b =
 -- ---- an opening
 
 -- 1 to 16 partitions
-abbrev pub has_parts : Opening → Bool
-has_parts opening = nat_le 1 opening.parts && nat_le opening.parts MOST_PARTS
+abbrev pub has_parts : ℕ → Bool
+has_parts parts = nat_le 1 parts && nat_le parts MOST_PARTS
 
 -- the history of a partition has room for 2 to 1,000,000 marks
-abbrev pub has_limit : Opening → Bool
-has_limit opening = nat_le LEAST_MARKS opening.limit && nat_le opening.limit MOST_MARKS
+abbrev pub has_limit : ℕ → Bool
+has_limit limit = nat_le LEAST_MARKS limit && nat_le limit MOST_MARKS
+
+-- lists are judged by policy 1 or by policy 2
+abbrev pub has_policy : ℕ → Bool
+has_policy policy = policy == 1 || policy == 2
 
 -- at most 4,096 items
 abbrev pub has_few_items : List Row → Bool
@@ -128,6 +140,6 @@ has_fit_lists rows = list_all (λ row. list_all (suits row) rows) rows
 -- all that an opening must be
 abbrev pub is_opening : Opening → Bool
 is_opening opening =
-    (has_parts opening && has_limit opening && has_few_items opening.items)
+    (has_parts opening.parts && has_limit opening.limit && has_policy opening.policy && has_few_items opening.items)
     && list_all is_right_row opening.items
     && (has_single_rows opening.items && has_own_lists opening.items && has_fit_lists opening.items)

@@ -3,14 +3,15 @@ ghost use Rattle.std.specs.Prelude.{◌≡◌, IfOk, IsOkUnless};
 
 use crate::item_ids::ItemId;
 use crate::values::Value;
-use album_lists::Member;
+use album_lists::{Member, SharedList};
 use album_stamps::Refusal;
+use std::alloc::AllocError;
 use std::marker::Model;
 
 /// Items, as the children of an album. Contracts see them in order.
-#[derive(Clone, Debug, Drop)]
+#[derive(Debug, Drop)]
 pub struct Items {
-    items: Vec<ItemId>,
+    items: SharedList<ItemId>,
 }
 
 impl Model for Items {
@@ -18,7 +19,17 @@ impl Model for Items {
 
     ghost Value = { List ℕ };
 
-    ghost view = { λ a. a.items.items };
+    ghost view = { λ a. a.items };
+}
+
+// By hand, since the search doesn't find a derived clone of what holds items equal.
+impl Clone for Items {
+    ghost is_clone = { λ items copy. copy ≡ items };
+
+    fn clone(&self) -> Result<Items, AllocError> {
+        let items = self.items.clone()?;
+        Ok(Items { items })
+    }
 }
 
 impl Items {
@@ -26,7 +37,9 @@ impl Items {
     pub fn of(items: Vec<ItemId>) -> Items
         ensures { result ≡ items.items }
     {
-        Items { items }
+        Items {
+            items: SharedList::of(items),
+        }
     }
 
     /// The items, in order.
@@ -34,6 +47,14 @@ impl Items {
         ensures { result.now ≡ self.now }
     {
         self.items.as_slice()
+    }
+
+    /// Lets the copies that are made from now on share the items.
+    pub fn share(&mut self) -> Result<(), Refusal>
+        ensures same { self.new ≡ self.old }
+        ensures memory { IsOkUnless result Refusal.OutOfMemory }
+    {
+        Ok(self.items.share()?)
     }
 
     /// The same items once more.
@@ -46,9 +67,9 @@ impl Items {
 }
 
 /// The members of a group. Contracts see them in order.
-#[derive(Clone, Debug, Drop)]
+#[derive(Debug, Drop)]
 pub struct Members {
-    members: Vec<Member>,
+    members: SharedList<Member>,
 }
 
 impl Model for Members {
@@ -57,7 +78,17 @@ impl Model for Members {
 
     ghost Value = { List Member };
 
-    ghost view = { λ m. m.members.items };
+    ghost view = { λ m. m.members };
+}
+
+// By hand, since the search doesn't find a derived clone of what holds members equal.
+impl Clone for Members {
+    ghost is_clone = { λ members copy. copy ≡ members };
+
+    fn clone(&self) -> Result<Members, AllocError> {
+        let members = self.members.clone()?;
+        Ok(Members { members })
+    }
 }
 
 impl Members {
@@ -65,7 +96,9 @@ impl Members {
     pub fn of(members: Vec<Member>) -> Members
         ensures { result ≡ members.items }
     {
-        Members { members }
+        Members {
+            members: SharedList::of(members),
+        }
     }
 
     /// The members, in order.
@@ -73,6 +106,14 @@ impl Members {
         ensures { result.now ≡ self.now }
     {
         self.members.as_slice()
+    }
+
+    /// Lets the copies that are made from now on share the members.
+    pub fn share(&mut self) -> Result<(), Refusal>
+        ensures same { self.new ≡ self.old }
+        ensures memory { IsOkUnless result Refusal.OutOfMemory }
+    {
+        Ok(self.members.share()?)
     }
 
     /// The same members once more.
@@ -121,6 +162,14 @@ impl ItemValues {
         self.rows
     }
 
+    /// Lets the copies that are made from now on share what each value holds, as `Value::share` does.
+    pub fn share(&mut self) -> Result<(), Refusal>
+        ensures same { self.new ≡ self.old }
+        ensures memory { IsOkUnless result Refusal.OutOfMemory }
+    {
+        share_each(self.rows.as_mut_slice())
+    }
+
     /// The same items with the same values once more.
     pub fn copy(&self) -> Result<ItemValues, Refusal>
         ensures copy { IfOk result (λ rows. rows ≡ self.now) }
@@ -128,4 +177,14 @@ impl ItemValues {
     {
         Ok(self.clone()?)
     }
+}
+
+fn share_each(rows: &mut [(ItemId, Value)]) -> Result<(), Refusal>
+    ensures same { rows.new ≡ rows.old }
+    ensures memory { IsOkUnless result Refusal.OutOfMemory }
+{
+    for index in 0..rows.len() {
+        rows[index].1.share()?;
+    }
+    Ok(())
 }

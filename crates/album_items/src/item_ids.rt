@@ -7,7 +7,7 @@ ghost use Rattle.std.proofs.Common.{rules};
 ghost use Rattle.album_items.specs.ItemIds.{code_of, item, kind_of, number_of, place_of, IsItemText, word_of, text_of, code_named, item_of};
 
 use album_lists::whole_number;
-use album_stamps::{MOST_PARTS, Refusal};
+use album_stamps::{MOST_OPENING_NUMBER, MOST_PARTS, Refusal};
 use std::alloc::Global;
 use std::cmp::Ordering;
 use std::marker::Model;
@@ -103,6 +103,14 @@ impl ItemId {
         ensures { result ≡ number_of self }
     {
         self.number
+    }
+
+    /// The item's code: four times its number, and the code of its kind.
+    pub(crate) fn code(self) -> usize
+        requires low { number_of self ≤ MOST_OPENING_NUMBER }
+        ensures { result ≡ self }
+    {
+        4 * self.number as usize + self.kind.code() as usize
     }
 
     /// Whether this is the other item.

@@ -6,6 +6,7 @@
 mod collections;
 mod item_ids;
 mod openings;
+mod pairs;
 mod texts;
 mod values;
 

@@ -1,26 +1,27 @@
 // The state that the service opens with.
 ghost use Rattle.std.specs.Prelude.{◌≡◌, ◌==◌, ◌&&◌, true, false, MatchResult};
 ghost use Rattle.std.specs.List.{list_all, list_any};
-ghost use Rattle.std.specs.Option.{option_map_or};
 ghost use Rattle.album_stamps.specs.declared.refusals.Refusal.TheVariants.{BadOpening};
 ghost use Rattle.album_stamps.specs.Distinct.{are_single};
-ghost use Rattle.album_items.specs.Openings.{has_own_value, is_low, are_low, has_low_numbers, is_low_row, children_of, has_single_children, has_few_children, same_item, names_list, same_list, holder_of, fits_holder, suits, is_right_row, has_parts, has_limit, has_few_items, has_single_rows, has_own_lists, has_fit_lists, is_opening};
+ghost use Rattle.album_items.specs.Openings.{has_own_value, is_low, are_low, has_low_numbers, is_low_row, children_of, has_single_children, has_few_children, same_item, is_right_row, has_parts, has_limit, has_policy, has_few_items, has_single_rows, has_own_lists, has_fit_lists, is_opening};
 
 use crate::collections::{ItemValues, Items};
-use crate::item_ids::{ItemId, Kind};
+use crate::item_ids::ItemId;
+use crate::pairs;
 use crate::values::Value;
-use album_lists::Holder;
 use album_stamps::{
     LEAST_MARKS, MOST_CHILDREN, MOST_MARKS, MOST_OPENING_ITEMS, MOST_OPENING_NUMBER, MOST_PARTS,
     Refusal,
 };
 
 /// The state that the service opens with: how many partitions there are, how many marks the
-/// history of each may have, and the first values of items.
+/// history of each may have, the number of the policy by which lists are judged, and the first
+/// values of items.
 #[derive(Debug, Drop)]
 pub struct Opening {
     pub parts: u64,
     pub limit: u64,
+    pub policy: u64,
     pub items: ItemValues,
 }
 
@@ -45,20 +46,24 @@ impl Opening {
         self.has_counts() && are_right(rows) && go_together(rows)
     }
 
-    /// Whether the partitions, their marks and the items are neither too few nor too many.
+    /// Whether the partitions, their marks and the items are neither too few nor too many, and there is
+    /// such a policy.
     fn has_counts(&self) -> bool
-        ensures { result ≡ (has_parts self.now && has_limit self.now && has_few_items self.now.items) }
+        ensures { result ≡ (has_parts self.now.parts && has_limit self.now.limit && has_policy self.now.policy
+            && has_few_items self.now.items) }
     {
         (1..=u64::from(MOST_PARTS)).contains(&self.parts)
             && (LEAST_MARKS..=MOST_MARKS).contains(&self.limit)
+            && matches!(self.policy, 1 | 2)
             && self.items.as_slice().len() <= MOST_OPENING_ITEMS
     }
 }
 
 fn go_together(rows: &[(ItemId, Value)]) -> bool
+    requires right { list_all is_right_row rows.now ≡ true }
     ensures { result ≡ (has_single_rows rows.now && has_own_lists rows.now && has_fit_lists rows.now) }
 {
-    has_single_rows(rows) && has_own_lists(rows) && has_fit_lists(rows)
+    pairs::has_single_rows(rows) && pairs::has_own_lists(rows) && pairs::has_fit_lists(rows)
 }
 
 fn are_right(rows: &[(ItemId, Value)]) -> bool
@@ -150,7 +155,7 @@ fn holds(items: &[ItemId], item: ItemId) -> bool
     items.iter().any(|other| item.is(*other))
 }
 
-/// Whether no item has two values.
+/// Whether no item has two values, of any rows. (`pairs` tells the same of an opening's rows in one pass.)
 pub fn has_single_rows(rows: &[(ItemId, Value)]) -> bool
     ensures { result ≡ has_single_rows rows.now }
 {
@@ -167,86 +172,4 @@ fn tells_of(rows: &[(ItemId, Value)], row: &(ItemId, Value)) -> bool
     ensures { result ≡ list_any (same_item row.now) rows.now }
 {
     rows.iter().any(|other| row.0.is(other.0))
-}
-
-/// Whether no two heads name one list.
-fn has_own_lists(rows: &[(ItemId, Value)]) -> bool
-    ensures { result ≡ has_own_lists rows.now }
-{
-    for index in 0..rows.len() {
-        if shares_list(&rows[index + 1..], &rows[index]) {
-            return false;
-        }
-    }
-    true
-}
-
-/// Whether one of the rows has a head that names the list of the row's head.
-fn shares_list(rows: &[(ItemId, Value)], row: &(ItemId, Value)) -> bool
-    ensures { result ≡ list_any (same_list row.now) rows.now }
-{
-    rows.iter().any(|other| same_list(row, other))
-}
-
-fn same_list(row: &(ItemId, Value), other: &(ItemId, Value)) -> bool
-    ensures { result ≡ same_list row.now other.now }
-{
-    match row.1.head() {
-        Some(head) => names_list(head.list, &other.1),
-        None => false,
-    }
-}
-
-fn names_list(number: u64, value: &Value) -> bool
-    ensures { result ≡ names_list number value.now }
-{
-    match value.head() {
-        Some(head) => head.list == number,
-        None => false,
-    }
-}
-
-/// Whether each list that a head names, if it is there, fits what carries it.
-fn has_fit_lists(rows: &[(ItemId, Value)]) -> bool
-    ensures { result ≡ has_fit_lists rows.now }
-{
-    rows.iter().all(|row| suit(row, rows))
-}
-
-fn suit(row: &(ItemId, Value), rows: &[(ItemId, Value)]) -> bool
-    ensures { result ≡ list_all (suits row.now) rows.now }
-{
-    rows.iter().all(|other| suits(row, other))
-}
-
-/// Whether the other row, where it is the list that the row's head names, fits it.
-fn suits(row: &(ItemId, Value), other: &(ItemId, Value)) -> bool
-    ensures { result ≡ suits row.now other.now }
-{
-    match row.1.head() {
-        Some(head) => {
-            !other.0.is(ItemId::new(Kind::List, head.list)) || fits_holder(holder(&row.1), &other.1)
-        }
-        None => true,
-    }
-}
-
-/// What carries the list of the head.
-fn holder(value: &Value) -> Holder
-    ensures { result ≡ holder_of value.now }
-{
-    match value {
-        Value::Album(_) => Holder::Folder,
-        _ => Holder::Plain,
-    }
-}
-
-/// Whether the value, where it is a list, fits the holder.
-fn fits_holder(holder: Holder, value: &Value) -> bool
-    ensures { result ≡ fits_holder holder value.now }
-{
-    match value {
-        Value::List(list) => list.fits(holder),
-        _ => true,
-    }
 }

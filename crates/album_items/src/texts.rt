@@ -10,23 +10,25 @@ use album_stamps::{MOST_CONTENT, MOST_TITLE, Refusal, Refused};
 use bytes::Bytes;
 use std::alloc::Global;
 use std::marker::Model;
+use std::sync::ArcStr;
 
-/// A title: at most `MOST_TITLE` bytes of UTF-8, with none of U+0000 to U+001F and U+007F. Contracts
-/// see its bytes.
+/// A title: at most `MOST_TITLE` bytes of UTF-8, with none of U+0000 to U+001F and U+007F, which its
+/// copies share. Contracts see its bytes.
 #[derive(Clone, Debug, Drop)]
 pub struct Title {
-    text: String,
+    text: ArcStr<Global>,
 }
 
 impl Model for Title {
-    ghost use Rattle.std.specs.Prelude.{List, ℕ, IsTrue, string_bytes};
+    ghost use Rattle.std.specs.Prelude.{List, ℕ, IsTrue};
+    ghost use Rattle.std.specs.Arc.{arc_str_bytes};
     ghost use Rattle.album_items.specs.Texts.{is_title};
 
     ghost Value = { List ℕ };
 
-    ghost view = { λ t. string_bytes t.text };
+    ghost view = { λ t. arc_str_bytes t.text };
 
-    ghost invariant = { λ t. IsTrue (is_title (string_bytes t.text)) };
+    ghost invariant = { λ t. IsTrue (is_title (arc_str_bytes t.text)) };
 }
 
 impl Title {
@@ -37,7 +39,7 @@ impl Title {
         if !is_title(text) {
             return Err(Refusal::BadText);
         }
-        let text = String::from_str(alloc, text)?;
+        let text = ArcStr::from_str(alloc, text)?;
         Ok(Title { text })
     }
 

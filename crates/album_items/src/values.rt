@@ -126,6 +126,25 @@ impl Value {
         }
     }
 
+    /// Lets the copies that are made from now on share what the value holds: its entries, its members or its
+    /// children, as its texts are shared from the first. Such a copy costs counts, whatever the value's size.
+    /// It is for a partition, which shares the writes that it keeps before it copies them into answers.
+    ///
+    /// # Errors
+    ///
+    /// `OutOfMemory`, and then the copies may cost what they did. The value stays what it is.
+    pub fn share(&mut self) -> Result<(), Refusal>
+        ensures same { self.new ≡ self.old }
+        ensures memory { IsOkUnless result Refusal.OutOfMemory }
+    {
+        match self {
+            Value::Missing | Value::Picture(_) => Ok(()),
+            Value::Album(album) => album.children.share(),
+            Value::List(list) => list.share(),
+            Value::Group(group) => group.members.share(),
+        }
+    }
+
     /// The same value once more.
     pub fn copy(&self) -> Result<Value, Refusal>
         ensures copy { IfOk result (λ value. value ≡ self.now) }

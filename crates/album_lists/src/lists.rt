@@ -6,11 +6,12 @@ ghost use Rattle.album_lists.specs.Entries.{is_spelled, is_of_use, is_whole, is_
 ghost use Rattle.album_lists.specs.Inheritance.{inherited};
 
 use crate::inheritance::inherited;
+use crate::shared_lists::SharedList;
 use crate::whos::Who;
 use album_access::{AceFlags, AceType, Mask};
 use album_stamps::{MOST_ENTRIES, Refusal, Refused};
 use bitflags::Flags;
-use std::alloc::Global;
+use std::alloc::{AllocError, Global};
 use std::marker::Model;
 
 /// An entry of an access list (RFC 7530, section 6.2.1).
@@ -41,9 +42,9 @@ pub enum Holder {
 
 /// At most `MOST_ENTRIES` entries, each one that a line can spell, and with `INHERIT_ONLY` only where
 /// something inherits it. Contracts see the entries in order.
-#[derive(Clone, Debug, Drop)]
+#[derive(Debug, Drop)]
 pub struct AccessList {
-    entries: Vec<Ace>,
+    entries: SharedList<Ace>,
 }
 
 impl Model for AccessList {
@@ -55,9 +56,19 @@ impl Model for AccessList {
 
     ghost Value = { List Ace };
 
-    ghost view = { λ l. l.entries.items };
+    ghost view = { λ l. l.entries };
 
-    ghost invariant = { λ l. (length l.entries.items ≤ MOST_ENTRIES) × IsTrue (list_all is_whole l.entries.items) };
+    ghost invariant = { λ l. (length l.entries ≤ MOST_ENTRIES) × IsTrue (list_all is_whole l.entries) };
+}
+
+// By hand, since the search doesn't find a derived clone of what holds a list equal.
+impl Clone for AccessList {
+    ghost is_clone = { λ list copy. copy ≡ list };
+
+    fn clone(&self) -> Result<AccessList, AllocError> {
+        let entries = self.entries.clone()?;
+        Ok(AccessList { entries })
+    }
 }
 
 impl AccessList {
@@ -86,7 +97,9 @@ impl AccessList {
                 given: entries,
             });
         }
-        Ok(AccessList { entries })
+        Ok(AccessList {
+            entries: SharedList::of(entries),
+        })
     }
 
     /// The entries, in order.
@@ -114,7 +127,17 @@ impl AccessList {
         ensures memory { IsOkUnless result Refusal.OutOfMemory }
     {
         let entries = inherited(alloc, self.entries.as_slice(), holder)?;
-        Ok(AccessList { entries })
+        Ok(AccessList {
+            entries: SharedList::of(entries),
+        })
+    }
+
+    /// Lets the copies that are made from now on share the entries.
+    pub fn share(&mut self) -> Result<(), Refusal>
+        ensures same { self.new ≡ self.old }
+        ensures memory { IsOkUnless result Refusal.OutOfMemory }
+    {
+        Ok(self.entries.share()?)
     }
 
     /// The same list once more.

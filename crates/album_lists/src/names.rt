@@ -7,37 +7,39 @@ ghost use Rattle.album_stamps.specs.declared.refusals.Refusal.TheVariants.{BadWh
 ghost use Rattle.album_lists.specs.Names.{is_name, is_name_byte, name_of};
 
 use album_stamps::{MOST_NAME, Refusal};
+use arrayvec::ArrayString;
 use std::alloc::Global;
 use std::marker::Model;
 
-/// The name of a user: 1 to 64 bytes of a to z, 0 to 9, dot, hyphen and underscore. Contracts see its
-/// bytes.
+/// The name of a user: 1 to 64 bytes of a to z, 0 to 9, dot, hyphen and underscore, which lie in the
+/// value itself. Contracts see them.
 #[derive(Clone, Debug, Drop)]
 pub struct Name {
-    text: String,
+    text: ArrayString<MOST_NAME>,
 }
 
 impl Model for Name {
-    ghost use Rattle.std.specs.Prelude.{List, ℕ, IsTrue, string_bytes};
+    ghost use Rattle.std.specs.Prelude.{List, ℕ, IsTrue};
     ghost use Rattle.album_lists.specs.Names.{is_name};
 
     ghost Value = { List ℕ };
 
-    ghost view = { λ n. string_bytes n.text };
+    ghost view = { λ n. n.text.bytes };
 
-    ghost invariant = { λ n. IsTrue (is_name (string_bytes n.text)) };
+    ghost invariant = { λ n. IsTrue (is_name n.text.bytes) };
 }
 
 impl Name {
-    /// The name that the text is, or `BadWho`.
-    pub fn of(alloc: Global, text: &str) -> Result<Name, Refusal>
+    /// The name that the text is, or `BadWho`. It lies in place, so no memory is asked of the allocator.
+    pub fn of(_alloc: Global, text: &str) -> Result<Name, Refusal>
         ensures { Makes (λ name. name) result (ok_or (name_of text.now) BadWho) }
     {
         if !is_name(text) {
             return Err(Refusal::BadWho);
         }
-        let text = String::from_str(alloc, text)?;
-        Ok(Name { text })
+        let mut name = ArrayString::new();
+        name.push_str(text);
+        Ok(Name { text: name })
     }
 
     /// The text of the name.

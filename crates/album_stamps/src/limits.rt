@@ -15,7 +15,7 @@ pub const LEAST_MARKS: u64 = 2;
 pub const MOST_MARKS: u64 = 1_000_000;
 
 /// How many entries an access list may have.
-pub const MOST_ENTRIES: usize = 64;
+pub const MOST_ENTRIES: usize = 128;
 
 /// How many members a group may have.
 pub const MOST_MEMBERS: usize = 128;
