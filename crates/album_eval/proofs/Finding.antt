@@ -1,169 +1,181 @@
--- The groups found so far, and what is due.
-use Rattle.std.proofs.Common.{◌≡◌, ◌≤◌, ◌<◌, ℕ, zero, suc, List, [], ◌∷◌, Bool, true, false, not, ◌&&◌, cond, Option, Some, None, Vec, Global, Contains, refl, sym, ◌∙◌, ap, subst, arith, inl, inr}
-use Rattle.std.specs.List.{list_any, slice_get, find}
+-- The groups found so far, and those on the worklist, for the proof of `groups_of`. The main lemma is `all_found`.
+use Rattle.std.proofs.Common.{◌≡◌, ◌≤◌, ◌<◌, ◌+◌, ◌++◌, ◌⊎◌, ◌↔◌, ℕ, zero, suc, List, [], ◌∷◌, Bool, true, false, cond, Some, Vec, Global, Contains, length, refl, sym, ◌∙◌, ap, subst, arith, inl, inr}
+use Rattle.std.specs.List.{slice_get}
 use Rattle.std.specs.Ordering.{nat_cmp}
-use Rattle.std.specs.BTreeMap as map
-use Rattle.std.specs.BTreeMap.{BTreeMap}
-use Rattle.std.proofs.lemmas.Bool.{or_cases, and_parts, not-true}
-use Rattle.std.proofs.lemmas.Slice.Eq.{bytes_eq-Decides}
-use Rattle.std.proofs.lemmas.List.Elements.{Contains-append_right}
-use Rattle.std.proofs.lemmas.List.Folds.{list_any_at}
-use Rattle.std.proofs.lemmas.Map.Entries.{place_from_lookup, btree_map_get_place}
-use Rattle.std.proofs.lemmas.Map.Lookups.{exact_unsigned}
-use Rattle.std.specs.Cmp.{Equal-is}
-use Rattle.std.proofs.lemmas.Cmp.{nat_cmp_total}
 use Rattle.std.specs.BTreeMap.{is_at}
+use Rattle.std.specs.Cmp.{Equal-is}
+use Rattle.std.proofs.lemmas.Bool.{cases_Bool, cases_eq, both_ways}
+use Rattle.std.proofs.lemmas.Option.{slice_get-get_or, slice_get_within, get_or_from_slice_get}
+use Rattle.std.proofs.lemmas.List.Elements.{Contains-append_left, Contains-append_right, Contains-append_cases, Contains-push, Contains-push_cases}
+use Rattle.std.proofs.lemmas.Map.Lookups.{exact_unsigned}
 use Rattle.album_lists.specs.declared.whos.Member.{Member}
 use Rattle.album_lists.specs.declared.whos.Member.TheVariants.{User, Group}
-use Rattle.album_eval.specs.Groups.{IsIn, by_name, by_group, is_named, is_due, listed_in, members_of}
+use Rattle.album_eval.specs.Groups.{IsIn, by_name, by_group}
 
--- a member that passes
-pub member_from_any : {X : Type 0} (p : X → Bool) (xs : List X) → list_any p xs ≡ true → (x : X) × Contains xs x × (p x ≡ true)
-member_from_any p [] e = absurd (cc)
-member_from_any p (y ∷ xs) e = elim (or_cases (p y) (list_any p xs) e) [ inl h ↦ (y, (0, omega arith, refl), h) | inr h ↦ (let r = member_from_any p xs h in (r.0, Contains-append_right (y ∷ []) xs r.0 r.1, r.2)) ]
-
-pub any_from_member : {X : Type 0} (p : X → Bool) (xs : List X) (x : X) → Contains xs x → p x ≡ true → list_any p xs ≡ true
-any_from_member p xs x c e = list_any_at p xs c.0 x c.1 (ap p c.2 ∙ e)
-
--- each found group has the user in it
-abbrev pub IsSound : (ℕ → List Member) → List ℕ → (ℕ → Bool) → Type 0
-IsSound listed user found = (group : ℕ) → found group ≡ true → IsIn listed user group
-
-in_from_member : (listed : ℕ → List Member) (user : List ℕ) (found : ℕ → Bool) (group : ℕ) → IsSound listed user found → (m : Member) → Contains (listed group) m → is_named user found m ≡ true → IsIn listed user group
-in_from_member listed user found group sound (User name) c e = by_name group (subst (λ (n : List ℕ). Contains (listed group) (User n)) ((bytes_eq-Decides name user).0 e) c)
-in_from_member listed user found group sound (Group inner) c e = by_group group inner c (sound inner e)
-
--- a group that is due has the user in it
-pub in_from_due : (listed : ℕ → List Member) (user : List ℕ) (found : ℕ → Bool) (group : ℕ) → IsSound listed user found → is_due user found group (listed group) ≡ true → IsIn listed user group
-unfolding is_due
-in_from_due listed user found group sound due =
-    let m = member_from_any (is_named user found) (listed group) (and_parts (not (found group)) (list_any (is_named user found) (listed group)) due).1 in
-    in_from_member listed user found group sound m.0 m.1 m.2
-
-pub not_found_from_due : (listed : ℕ → List Member) (user : List ℕ) (found : ℕ → Bool) (group : ℕ) → is_due user found group (listed group) ≡ true → found group ≡ false
-unfolding is_due
-not_found_from_due listed user found group due = not-true (found group) (and_parts (not (found group)) (list_any (is_named user found) (listed group)) due).0
-
--- where nothing is due, each group with the user in it is found
-found_from_any : (user : List ℕ) (found : ℕ → Bool) (group : ℕ) (members : List Member) → is_due user found group members ≡ false → list_any (is_named user found) members ≡ true → found group ≡ true
-unfolding is_due
-found_from_any user found group members none any = go (found group) (list_any (is_named user found) members) none any
-  where
-    go : (a b : Bool) → (not a && b) ≡ false → b ≡ true → a ≡ true
-    go true b e h = refl
-    go false true e h = absurd (cc)
-    go false false e h = absurd (cc)
-
-pub found_from_in : (listed : ℕ → List Member) (user : List ℕ) (found : ℕ → Bool) → ((group : ℕ) → is_due user found group (listed group) ≡ false) → (group : ℕ) → IsIn listed user group → found group ≡ true
-found_from_in listed user found none group (by_name g c) = found_from_any user found g (listed g) (none g) (any_from_member (is_named user found) (listed g) (User user) c ((bytes_eq-Decides user user).1 refl))
-found_from_in listed user found none group (by_group g inner c h) = found_from_any user found g (listed g) (none g) (any_from_member (is_named user found) (listed g) (Group inner) c (found_from_in listed user found none inner h))
-
-same_key : (k q : ℕ) → is_at (nat_cmp k) q ≡ true → k ≡ q
+pub same_key : (k q : ℕ) → is_at (nat_cmp k) q ≡ true → k ≡ q
 same_key k q e = exact_unsigned k q ((Equal-is (nat_cmp k q)).0 e)
 
--- one group more is found
-pub sound_more : (listed : ℕ → List Member) (user : List ℕ) (old new : ℕ → Bool) (group : ℕ) → ((q : ℕ) → new q ≡ cond (is_at (nat_cmp group) q) true (old q)) → IsIn listed user group → IsSound listed user old → IsSound listed user new
-sound_more listed user old new group updates is sound q found = go (is_at (nat_cmp group) q) refl
+-- ---- one group more in a set
+
+-- what is asked of the set after a group was inserted
+pub record Inserts (old new : ℕ → Bool) (group : ℕ) : Type 0 where
+  pub stays : (q : ℕ) → old q ≡ true → new q ≡ true
+  pub comes : new group ≡ true
+  pub only : (q : ℕ) → new q ≡ true → (group ≡ q) ⊎ (old q ≡ true)
+
+pub inserts_from_updates : (old new : ℕ → Bool) (group : ℕ) → ((q : ℕ) → new q ≡ cond (is_at (nat_cmp group) q) true (old q)) → new group ≡ true → Inserts old new group
+inserts_from_updates old new group updates now = record {
+  stays = λ q was. elim (cases_Bool (is_at (nat_cmp group) q)) [ inl here ↦ (let u = updates q in rw here at u) | inr other ↦ (let u : new q ≡ old q = rw other at (updates q) in u ∙ was) ];
+  comes = now;
+  only = λ q is. elim (cases_Bool (is_at (nat_cmp group) q)) [ inl here ↦ inl (same_key group q here) | inr other ↦ (let u : new q ≡ old q = rw other at (updates q) in inr (sym u ∙ is)) ];
+}
+
+looked_more : (old new : ℕ → Bool) (other : ℕ) (others : List ℕ) (n : ℕ) → Inserts old new other → slice_get others n ≡ Some other → ((k group : ℕ) → k < n → slice_get others k ≡ Some group → old group ≡ true) → (k group : ℕ) → k < n + 1 → slice_get others k ≡ Some group → new group ≡ true
+looked_more old new other others n inserts at looked k group l here = elim (cases_eq k n) [ inl same ↦ (let is : other ≡ group = cc (at, here, same) in subst (λ (q : ℕ). new q ≡ true) is inserts.comes) | inr before ↦ inserts.stays group (looked k group (omega (arith, l, before)) here) ]
+
+-- the set has just those of the list, up to an index
+pub record Holds (found : ℕ → Bool) (numbers : List ℕ) (n : ℕ) : Type 0 where
+  pub only : (q : ℕ) → found q ≡ true → Contains numbers q
+  pub each : (k q : ℕ) → k < n → slice_get numbers k ≡ Some q → found q ≡ true
+
+pub none_held : (found : ℕ → Bool) (numbers : List ℕ) → ((q : ℕ) → found q ≡ false) → Holds found numbers 0
+none_held found numbers none = record { only = λ q is. absurd (both_ways (found q) (none q) is); each = λ k q l at. absurd (omega (arith, l)) }
+
+pub held_more : (old new : ℕ → Bool) (numbers : List ℕ) (n q : ℕ) → slice_get numbers n ≡ Some q → Inserts old new q → Holds old numbers n → Holds new numbers (n + 1)
+held_more old new numbers n q at inserts h = record {
+  only = λ p is. (elim (inserts.only p is) [ inl same ↦ subst (λ (m : ℕ). Contains numbers m) same (n, slice_get_within numbers n q at, get_or_from_slice_get numbers n q q at) | inr was ↦ h.only p was ]);
+  each = looked_more old new q numbers n inserts at h.each;
+}
+
+pub all_held : (found : ℕ → Bool) (numbers : List ℕ) (n : ℕ) → length numbers ≤ n → Holds found numbers n → (q : ℕ) → Contains numbers q → found q ≡ true
+all_held found numbers n end h q has = h.each has.0 q (let l = has.1 in omega (arith, l, end)) (slice_get-get_or numbers has.0 q has.1 ∙ ap (λ (m : ℕ). Some m) has.2)
+
+-- ---- the search
+
+-- each group found has the user in it, and is closed but for those on the worklist: the groups that list those may be missing
+pub record Searched (listed : ℕ → List Member) (user : List ℕ) (found : ℕ → Bool) (worklist : List ℕ) : Type 0 where
+  pub sound : (group : ℕ) → found group ≡ true → IsIn listed user group
+  pub kept : (group : ℕ) → Contains worklist group → found group ≡ true
+  pub named : (group : ℕ) → Contains (listed group) (User user) → found group ≡ true
+  pub closed : (group inner : ℕ) → Contains (listed group) (Group inner) → found inner ≡ true → (found group ≡ true) ⊎ Contains worklist inner
+
+found_from_in : (listed : ℕ → List Member) (user : List ℕ) (found : ℕ → Bool) (worklist : List ℕ) → length worklist ≡ 0 → Searched listed user found worklist → (group : ℕ) → IsIn listed user group → found group ≡ true
+found_from_in listed user found worklist none s group (by_name g lists) = s.named g lists
+found_from_in listed user found worklist none s group (by_group g inner lists is) = elim (s.closed g inner lists (found_from_in listed user found worklist none s inner is)) [ inl there ↦ there | inr on ↦ (let l = on.1 in absurd (omega (arith, none, l))) ]
+
+-- with nothing on the worklist, the set is exact
+pub all_found : (listed : ℕ → List Member) (user : List ℕ) (found : ℕ → Bool) (worklist : List ℕ) → length worklist ≡ 0 → Searched listed user found worklist → (group : ℕ) → (found group ≡ true) ↔ IsIn listed user group
+all_found listed user found worklist none s group = (s.sound group, found_from_in listed user found worklist none s group)
+
+-- at the start: the groups that list the user by name, all of them on the worklist
+pub at_start : (listed : ℕ → List Member) (user : List ℕ) (found : ℕ → Bool) (worklist : List ℕ) → ((group : ℕ) → Contains worklist group → Contains (listed group) (User user)) → ((group : ℕ) → Contains (listed group) (User user) → Contains worklist group) → ((group : ℕ) → found group ≡ true → Contains worklist group) → ((group : ℕ) → Contains worklist group → found group ≡ true) → Searched listed user found worklist
+at_start listed user found worklist lists listing only each = record {
+  sound = λ group is. by_name group (lists group (only group is));
+  kept = each;
+  named = λ group names. each group (listing group names);
+  closed = λ group inner names is. inr (only inner is);
+}
+
+-- the same with the worklist in another order
+same_worklist : (listed : ℕ → List Member) (user : List ℕ) (found : ℕ → Bool) (old new : List ℕ) → ((q : ℕ) → Contains old q → Contains new q) → ((q : ℕ) → Contains new q → Contains old q) → Searched listed user found old → Searched listed user found new
+same_worklist listed user found old new to from s = record {
+  sound = s.sound;
+  kept = λ group on. s.kept group (from group on);
+  named = s.named;
+  closed = λ group inner lists is. (elim (s.closed group inner lists is) [ inl there ↦ inl there | inr on ↦ inr (to inner on) ]);
+}
+
+-- one group more is found, and is on the worklist where it is new
+searched_more : (listed : ℕ → List Member) (user : List ℕ) (old new : ℕ → Bool) (worklist more : List ℕ) (other : ℕ) → Inserts old new other → IsIn listed user other → ((q : ℕ) → Contains worklist q → Contains more q) → ((q : ℕ) → Contains more q → Contains worklist q ⊎ (other ≡ q)) → (Contains more other ⊎ (old other ≡ true)) → Searched listed user old worklist → Searched listed user new more
+searched_more listed user old new worklist more other inserts is to from here s = record {
+  sound = λ group there. (elim (inserts.only group there) [ inl same ↦ subst (λ (n : ℕ). IsIn listed user n) same is | inr was ↦ s.sound group was ]);
+  kept = λ group on. (elim (from group on) [ inl was ↦ inserts.stays group (s.kept group was) | inr same ↦ subst (λ (n : ℕ). new n ≡ true) same inserts.comes ]);
+  named = λ group lists. inserts.stays group (s.named group lists);
+  closed = λ group inner lists there. (elim (inserts.only inner there) [ inl same ↦ (elim here [ inl on ↦ inr (subst (λ (n : ℕ). Contains more n) same on) | inr was ↦ go group inner lists (subst (λ (n : ℕ). old n ≡ true) same was) ]) | inr was ↦ go group inner lists was ]);
+}
   where
-    go : (b : Bool) → is_at (nat_cmp group) q ≡ b → IsIn listed user q
-    go true e = subst (λ (n : ℕ). IsIn listed user n) (same_key group q e) is
-    go false e = sound q (let u = updates q in cc)
+    go : (group inner : ℕ) → Contains (listed group) (Group inner) → old inner ≡ true → (new group ≡ true) ⊎ Contains more inner
+    go group inner lists was = elim (s.closed group inner lists was) [ inl there ↦ inl (inserts.stays group there) | inr on ↦ inr (to inner on) ]
 
--- what `find` gives
-find_some : {X : Type 0} (test : X → Bool) (xs : List X) (x : X) → Some x ≡ find test xs → (i : ℕ) × (slice_get xs i ≡ Some x) × (test x ≡ true)
-find_some test [] x e = absurd (cc)
-find_some {X} test (y ∷ xs) x e = go (test y) refl (λ f. find_some test xs x f)
+-- ---- the groups that list one taken from the worklist
+
+-- the groups that list it are found up to an index
+pub record Looking (listed : ℕ → List Member) (user : List ℕ) (found : ℕ → Bool) (worklist : List ℕ) (inner : ℕ) (others : List ℕ) (n : ℕ) : Type 0 where
+  pub searched : Searched listed user found (inner ∷ worklist)
+  pub looked : (k group : ℕ) → k < n → slice_get others k ≡ Some group → found group ≡ true
+
+pub looks : (listed : ℕ → List Member) (user : List ℕ) (found : ℕ → Bool) (before worklist : List ℕ) (inner : ℕ) (others : List ℕ) → before ≡ worklist ++ inner ∷ [] → Searched listed user found before → Looking listed user found worklist inner others 0
+looks listed user found before worklist inner others last s = record {
+  searched = same_worklist listed user found before (inner ∷ worklist) to from s;
+  looked = λ k group l at. absurd (omega (arith, l));
+}
   where
-    go : (b : Bool) → test y ≡ b → (Some x ≡ find test xs → (i : ℕ) × (slice_get xs i ≡ Some x) × (test x ≡ true)) → (i : ℕ) × (slice_get (y ∷ xs) i ≡ Some x) × (test x ≡ true)
-    go true t rest = let f : Some x ≡ Some y = rw t at e in let same : x ≡ y = cc in (0, ap (λ (z : X). Some z) (sym same), ap test same ∙ t)
-    go false t rest = let f : Some x ≡ find test xs = rw t at e in let r = rest f in (suc r.0, r.1, r.2)
+    to : (q : ℕ) → Contains before q → Contains (inner ∷ worklist) q
+    to q on = elim (Contains-append_cases worklist (inner ∷ []) q (rw last at on)) [ inl was ↦ Contains-append_right (inner ∷ []) worklist q was | inr now ↦ Contains-append_left (inner ∷ []) worklist q now ]
 
-find_none : {X : Type 0} (test : X → Bool) (xs : List X) → None ≡ find test xs → (i : ℕ) (x : X) → slice_get xs i ≡ Some x → test x ≡ false
-find_none test [] e i x at = absurd (cc)
-find_none {X} test (y ∷ xs) e i x at = go (test y) refl (λ f k h. find_none test xs f k x h) i at
+    from : (q : ℕ) → Contains (inner ∷ worklist) q → Contains before q
+    from q on = rw last (elim (Contains-append_cases (inner ∷ []) worklist q on) [ inl now ↦ Contains-append_right worklist (inner ∷ []) q now | inr was ↦ Contains-append_left worklist (inner ∷ []) q was ])
+
+-- the next was found before
+pub found_before : (listed : ℕ → List Member) (user : List ℕ) (old new : ℕ → Bool) (worklist : List ℕ) (inner other : ℕ) (others : List ℕ) (n : ℕ) → Inserts old new other → Contains (listed other) (Group inner) → slice_get others n ≡ Some other → old other ≡ true → Looking listed user old worklist inner others n → Looking listed user new worklist inner others (n + 1)
+found_before listed user old new worklist inner other others n inserts lists at was look = record {
+  searched = searched_more listed user old new (inner ∷ worklist) (inner ∷ worklist) other inserts (look.searched.sound other was) (λ q on. on) (λ q on. inl on) (inr was) look.searched;
+  looked = looked_more old new other others n inserts at look.looked;
+}
+
+-- the next is found now
+pub found_now : (listed : ℕ → List Member) (user : List ℕ) (old new : ℕ → Bool) (worklist more : List ℕ) (inner other : ℕ) (others : List ℕ) (n : ℕ) → Inserts old new other → Contains (listed other) (Group inner) → slice_get others n ≡ Some other → more ≡ worklist ++ other ∷ [] → Looking listed user old worklist inner others n → Looking listed user new more inner others (n + 1)
+found_now listed user old new worklist more inner other others n inserts lists at pushed look = record {
+  searched = rw pushed (searched_more listed user old new (inner ∷ worklist) (inner ∷ worklist ++ other ∷ []) other inserts (by_group other inner lists (look.searched.sound inner (look.searched.kept inner (0, omega arith, refl)))) (Contains-append_left (inner ∷ worklist) (other ∷ [])) (λ q on. Contains-push_cases (inner ∷ worklist) other q on) (inl (Contains-push (inner ∷ worklist) other)) look.searched);
+  looked = looked_more old new other others n inserts at look.looked;
+}
+
+-- all of them are found
+pub looked_through : (listed : ℕ → List Member) (user : List ℕ) (found : ℕ → Bool) (worklist : List ℕ) (inner : ℕ) (others : List ℕ) (n : ℕ) → length others ≤ n → ((group : ℕ) → Contains (listed group) (Group inner) → Contains others group) → Looking listed user found worklist inner others n → Searched listed user found worklist
+looked_through listed user found worklist inner others n end listing look = record {
+  sound = look.searched.sound;
+  kept = λ group on. look.searched.kept group (Contains-append_right (inner ∷ []) worklist group on);
+  named = look.searched.named;
+  closed = λ group q lists is. (elim (look.searched.closed group q lists is) [ inl there ↦ inl there | inr on ↦ (elim (Contains-append_cases (inner ∷ []) worklist q on) [ inl now ↦ inl (there group (subst (λ (m : ℕ). Contains (listed group) (Group m)) (sym (only_one q now)) lists)) | inr was ↦ inr was ]) ]);
+}
   where
-    go : (b : Bool) → test y ≡ b → (None ≡ find test xs → (k : ℕ) → slice_get xs k ≡ Some x → test x ≡ false) → (i : ℕ) → slice_get (y ∷ xs) i ≡ Some x → test x ≡ false
-    go true t rest i h = let f : None ≡ Some y = rw t at e in absurd (cc)
-    go false t rest zero h = let f : Some y ≡ Some x = h in let same : y ≡ x = cc in ap test (sym same) ∙ t
-    go false t rest (suc i) h = let f : None ≡ find test xs = rw t at e in rest f i h
+    only_one : (q : ℕ) → Contains (inner ∷ []) q → inner ≡ q
+    only_one q on = elim (Contains-push_cases [] inner q on) [ inl none ↦ absurd (omega (arith, none.1)) | inr same ↦ same ]
 
-abbrev pub is_due_entry : List ℕ → (ℕ → Bool) → (ℕ × Vec Member Global) → Bool
-is_due_entry user found entry = is_due user found entry.0 entry.1.items
+    there : (group : ℕ) → Contains (listed group) (Group inner) → found group ≡ true
+    there group lists = let at = listing group lists in look.looked at.0 group (let l = at.1 in omega (arith, l, end)) (slice_get-get_or others at.0 group at.1 ∙ ap (λ (m : ℕ). Some m) at.2)
 
-pub due_from_find : (m : BTreeMap ℕ (Vec Member Global)) (user : List ℕ) (found : ℕ → Bool) (k : ℕ) (v : Vec Member Global) → map.IsOrdered nat_cmp m → Some (k, v) ≡ find (is_due_entry user found) m.entries → is_due user found k (listed_in m k) ≡ true
-due_from_find m user found k v ordered e =
-    let f = find_some (is_due_entry user found) m.entries (k, v) e in
-    let there = btree_map_get_place nat_cmp_total m f.0 k v ordered f.1 in
-    rw there f.2
-
-nothing_due : (user : List ℕ) (found : ℕ → Bool) (k : ℕ) → is_due user found k [] ≡ false
-unfolding is_due
-nothing_due user found k = go (found k)
-  where
-    go : (b : Bool) → (not b && false) ≡ false
-    go true = refl
-    go false = refl
-
-pub none_due_from_find : (m : BTreeMap ℕ (Vec Member Global)) (user : List ℕ) (found : ℕ → Bool) → None ≡ find (is_due_entry user found) m.entries → (k : ℕ) → is_due user found k (listed_in m k) ≡ false
-none_due_from_find m user found e k = go (map.get nat_cmp m k) refl
-  where
-    go : (o : Option (Vec Member Global)) → map.get nat_cmp m k ≡ o → is_due user found k (members_of o) ≡ false
-    go None g = nothing_due user found k
-    go (Some v) g =
-        let p = place_from_lookup (is_at (nat_cmp k)) m.entries v g in
-        rw (same_key k p.1 p.3) (find_none (is_due_entry user found) m.entries e p.0 (p.1, v) p.2)
+-- ---- how far there is to go
 
 -- how many groups of the map aren't found
 pub missing : (ℕ → Bool) → List (ℕ × Vec Member Global) → ℕ
 missing found [] = 0
 missing found (e ∷ es) = cond (found e.0) (missing found es) (suc (missing found es))
 
-pub missing_le : (f g : ℕ → Bool) → ((q : ℕ) → f q ≡ true → g q ≡ true) → (es : List (ℕ × Vec Member Global)) → missing g es ≤ missing f es
+pub missing_le : (old new : ℕ → Bool) → ((q : ℕ) → old q ≡ true → new q ≡ true) → (es : List (ℕ × Vec Member Global)) → missing new es ≤ missing old es
 unfolding missing
-missing_le f g more [] = omega arith
-missing_le f g more (e ∷ es) = go (f e.0) (g e.0) (more e.0) (missing_le f g more es)
+missing_le old new more [] = omega arith
+missing_le old new more (e ∷ es) = go (old e.0) (new e.0) (more e.0) (missing_le old new more es)
   where
-    go : (a b : Bool) → (a ≡ true → b ≡ true) → missing g es ≤ missing f es → cond b (missing g es) (suc (missing g es)) ≤ cond a (missing f es) (suc (missing f es))
+    go : (a b : Bool) → (a ≡ true → b ≡ true) → missing new es ≤ missing old es → cond b (missing new es) (suc (missing new es)) ≤ cond a (missing old es) (suc (missing old es))
     go true true h rest = rest
     go true false h rest = let wrong = h refl in absurd (cc)
     go false true h rest = omega (arith, rest)
     go false false h rest = omega (arith, rest)
 
-missing_lt : (f g : ℕ → Bool) → ((q : ℕ) → f q ≡ true → g q ≡ true) → (k : ℕ) → f k ≡ false → g k ≡ true → (es : List (ℕ × Vec Member Global)) (i : ℕ) (v : Vec Member Global) → slice_get es i ≡ Some (k, v) → missing g es < missing f es
+-- with one more that is in the map, fewer are missing
+pub missing_lt : (old new : ℕ → Bool) → ((q : ℕ) → old q ≡ true → new q ≡ true) → (k : ℕ) → old k ≡ false → new k ≡ true → (es : List (ℕ × Vec Member Global)) (i : ℕ) (v : Vec Member Global) → slice_get es i ≡ Some (k, v) → missing new es < missing old es
 unfolding missing
-missing_lt f g more k no' now [] i v at = absurd (cc)
-missing_lt f g more k no' now (e ∷ es) zero v at =
+missing_lt old new more k was now [] i v at = absurd (cc)
+missing_lt old new more k was now (e ∷ es) zero v at =
     let same : e ≡ (k, v) = cc in
-    let old : f e.0 ≡ false = ap (λ (p : ℕ × Vec Member Global). f p.0) same ∙ no' in
-    let new : g e.0 ≡ true = ap (λ (p : ℕ × Vec Member Global). g p.0) same ∙ now in
-    rw (old, new) (let rest = missing_le f g more es in omega (arith, rest))
-missing_lt f g more k no' now (e ∷ es) (suc i) v at = go (f e.0) (g e.0) (more e.0) (missing_lt f g more k no' now es i v at)
+    let before : old e.0 ≡ false = ap (λ (p : ℕ × Vec Member Global). old p.0) same ∙ was in
+    let after : new e.0 ≡ true = ap (λ (p : ℕ × Vec Member Global). new p.0) same ∙ now in
+    rw (before, after) (let rest = missing_le old new more es in omega (arith, rest))
+missing_lt old new more k was now (e ∷ es) (suc i) v at = go (old e.0) (new e.0) (more e.0) (missing_lt old new more k was now es i v at)
   where
-    go : (a b : Bool) → (a ≡ true → b ≡ true) → missing g es < missing f es → cond b (missing g es) (suc (missing g es)) < cond a (missing f es) (suc (missing f es))
+    go : (a b : Bool) → (a ≡ true → b ≡ true) → missing new es < missing old es → cond b (missing new es) (suc (missing new es)) < cond a (missing old es) (suc (missing old es))
     go true true h rest = rest
     go true false h rest = let wrong = h refl in absurd (cc)
     go false true h rest = omega (arith, rest)
     go false false h rest = omega (arith, rest)
-
--- a group that is due is in the map
-entry_from_due : (m : BTreeMap ℕ (Vec Member Global)) (user : List ℕ) (found : ℕ → Bool) (k : ℕ) → is_due user found k (listed_in m k) ≡ true → (v : Vec Member Global) × (map.get nat_cmp m k ≡ Some v)
-entry_from_due m user found k due = go (map.get nat_cmp m k) refl due
-  where
-    go : (o : Option (Vec Member Global)) → map.get nat_cmp m k ≡ o → is_due user found k (members_of o) ≡ true → (v : Vec Member Global) × (map.get nat_cmp m k ≡ Some v)
-    go None g d = let wrong = nothing_due user found k in absurd (cc)
-    go (Some v) g d = (v, g)
-
--- with a group that is due, fewer are missing
-pub missing_less : (m : BTreeMap ℕ (Vec Member Global)) (user : List ℕ) (old new : ℕ → Bool) (k : ℕ) → is_due user old k (listed_in m k) ≡ true → ((q : ℕ) → new q ≡ cond (is_at (nat_cmp k) q) true (old q)) → new k ≡ true → missing new m.entries < missing old m.entries
-missing_less m user old new k due updates now =
-    let e = entry_from_due m user old k due in
-    let p = place_from_lookup (is_at (nat_cmp k)) m.entries e.0 e.1 in
-    let same = same_key k p.1 p.3 in
-    missing_lt old new (λ q h. more q h) k (not_found_from_due (listed_in m) user old k due) now m.entries p.0 e.0 (subst (λ (n : ℕ). slice_get m.entries p.0 ≡ Some (n, e.0)) (sym same) p.2)
-  where
-    more : (q : ℕ) → old q ≡ true → new q ≡ true
-    more q h = go (is_at (nat_cmp k) q) refl
-      where
-        go : (b : Bool) → is_at (nat_cmp k) q ≡ b → new q ≡ true
-        go true t = let u = updates q in rw t at u
-        go false t = let u : new q ≡ old q = rw t at (updates q) in u ∙ h

@@ -1,6 +1,5 @@
 -- Who is in which group.
-use Rattle.std.specs.Prelude.{ℕ, List, [], Bool, not, ◌&&◌, bytes_eq, Option, Some, None, Vec, Contains}
-use Rattle.std.specs.List.{list_any}
+use Rattle.std.specs.Prelude.{ℕ, List, [], Bool, false, bytes_eq, Option, Some, None, Vec, Contains}
 use Rattle.std.specs.Ordering.{nat_cmp}
 use Rattle.std.specs.BTreeMap as map
 use Rattle.std.specs.BTreeMap.{BTreeMap}
@@ -30,13 +29,17 @@ members_of (Some members) = members.items
 abbrev pub listed_in : BTreeMap ℕ (Vec Member Global) → ℕ → List Member
 listed_in groups group = members_of (map.get nat_cmp groups group)
 
--- ---- for the search of the groups: the user and the groups found so far
+-- ---- for the search of the groups
 
--- the member is the user, or a group that is found
-abbrev pub is_named : List ℕ → (ℕ → Bool) → Member → Bool
-is_named user found (member.User name) = bytes_eq name user
-is_named user found (member.Group number) = found number
+-- the member is the user of this name
+abbrev pub names_user : List ℕ → Member → Bool
+names_user user (member.User name) = bytes_eq name user
+names_user user (member.Group number) = false
 
--- the group isn't found yet, and has such a member
-unfoldable pub is_due : List ℕ → (ℕ → Bool) → ℕ → List Member → Bool
-is_due user found group members = not (found group) && list_any (is_named user found) members
+-- what a map from each inner group to those that list it has of a group: none where it is missing
+abbrev pub outer_of : Option (Vec ℕ Global) → List ℕ
+outer_of None = []
+outer_of (Some numbers) = numbers.items
+
+abbrev pub outer_in : BTreeMap ℕ (Vec ℕ Global) → ℕ → List ℕ
+outer_in outer group = outer_of (map.get nat_cmp outer group)

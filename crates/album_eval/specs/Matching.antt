@@ -10,9 +10,12 @@ use Rattle.album_lists.specs.Entries.{is_only_inherited}
 use Rattle.album_eval.specs.declared.facts.Facts.{Facts}
 use Rattle.album_eval.specs.declared.facts.Principal.{Principal}
 use Rattle.album_eval.specs.declared.facts.Principal.TheVariants as principal
+use Rattle.album_eval.specs.declared.policies.Policy.{Policy}
 
--- who asks, whose the object is, its head group, and whether who asks is in a group
+-- by which policy a request is judged, who asks, whose the object is, its head group, and whether who asks is in a
+-- group
 pub record Case : Type 0 where
+  pub policy : Policy
   pub principal : Principal
   pub owner : List ℕ
   pub head_group : ℕ
@@ -21,6 +24,7 @@ pub record Case : Type 0 where
 abbrev pub case_of : Facts → Case
 case_of facts =
     record {
+      policy = facts.policy;
       principal = facts.principal.now;
       owner = facts.owner.now;
       head_group = facts.head_group;

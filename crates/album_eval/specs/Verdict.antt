@@ -1,8 +1,8 @@
 -- What an access list says of a request (RFC 7530, section 6.2.1).
-use Rattle.std.specs.Prelude.{◌≡◌, ◌≤◌, ℕ, zero, suc, min, List, Bool, true, false, ◌&&◌, Option, Some, None, position, IsSomeAnd}
+use Rattle.std.specs.Prelude.{◌≡◌, ◌≤◌, ℕ, zero, suc, min, List, Bool, true, false, not, ◌&&◌, Option, Some, None, position, IsSomeAnd}
 use Rattle.std.specs.List.{slice_get}
 use Rattle.std.specs.Option.{option_map_or}
-use Rattle.album_access.specs.Bits.{has_bit}
+use Rattle.album_access.specs.Bits.{mask_bits, has_bit}
 use Rattle.album_access.specs.declared.masks.Mask.{Mask}
 use Rattle.album_access.specs.declared.types.AceType.{AceType}
 use Rattle.album_access.specs.declared.types.AceType.TheVariants.{Allowed, Denied, Audit, Alarm}
@@ -10,6 +10,11 @@ use Rattle.album_lists.specs.declared.lists.Ace.{Ace}
 use Rattle.album_eval.specs.declared.verdicts.Verdict.{Verdict}
 use Rattle.album_eval.specs.declared.verdicts.Verdict.TheVariants.{Granted, DeniedBy, DeniedAtEnd}
 use Rattle.album_eval.specs.Matching.{Case, is_match}
+use Rattle.album_eval.specs.Policies.{is_given}
+
+-- a bit that is asked, and not given before the list is looked at
+unfoldable pub is_asked : Case → Mask → ℕ → Bool
+is_asked case mask bit = has_bit mask bit && not (is_given case bit)
 
 -- entries of these types decide; the others are only noted
 abbrev pub allows_or_denies : AceType → Bool
@@ -32,7 +37,7 @@ IsSortAt sort entries i = IsSomeAnd (slice_get entries i) (λ entry. entry.sort 
 -- a bit that is asked is first mentioned at the index, by an entry that denies it
 pub record Denies (case : Case) (entries : List Ace) (mask : Mask) (i : ℕ) : Type 0 where
   pub bit : ℕ
-  pub asked : has_bit mask bit ≡ true
+  pub asked : is_asked case mask bit ≡ true
   pub first : first_mention case bit entries ≡ Some i
   pub denied : IsSortAt Denied entries i
 
@@ -43,13 +48,13 @@ IsAllowed case entries bit = IsSomeAnd (first_mention case bit entries) (IsSortA
 -- Granted: each bit asked is allowed by its first mention. DeniedBy: the least index at which a first mention denies.
 -- DeniedAtEnd: no first mention denies, and a bit that is asked has none.
 abbrev pub IsVerdict : Case → List Ace → Mask → Verdict → Type 0
-IsVerdict case entries mask Granted = (bit : ℕ) → has_bit mask bit ≡ true → IsAllowed case entries bit
+IsVerdict case entries mask Granted = (bit : ℕ) → is_asked case mask bit ≡ true → IsAllowed case entries bit
 IsVerdict case entries mask (DeniedBy i) =
     Denies case entries mask i × ((k : ℕ) → Denies case entries mask k → i ≤ k)
 IsVerdict case entries mask DeniedAtEnd =
     ((k : ℕ) → Denies case entries mask k → ⊥)
     × (bit : ℕ)
-    × (has_bit mask bit ≡ true)
+    × (is_asked case mask bit ≡ true)
     × (first_mention case bit entries ≡ None)
 
 -- ---- the same, computed; that the two agree is the law `one_verdict`
@@ -87,14 +92,14 @@ with_bit true entries (Some i) tally = with_mention (is_denied_at entries i) i t
 abbrev pub tally_below : Case → List Ace → Mask → ℕ → Tally
 tally_below case entries mask zero = record { denial = None; is_unmentioned = false }
 tally_below case entries mask (suc n) =
-    with_bit (has_bit mask n) entries (first_mention case n entries) (tally_below case entries mask n)
+    with_bit (is_asked case mask n) entries (first_mention case n entries) (tally_below case entries mask n)
 
 abbrev pub verdict_by : Option ℕ → Bool → Verdict
 verdict_by (Some i) is_unmentioned = DeniedBy i
 verdict_by None true = DeniedAtEnd
 verdict_by None false = Granted
 
--- the verdict on a request for the 32 bits of the mask
+-- the verdict on a request; no bit of a mask is at the mask's own number or past it
 unfoldable pub verdict : Case → List Ace → Mask → Verdict
 verdict case entries mask =
-    let tally : Tally = tally_below case entries mask 32 in verdict_by tally.denial tally.is_unmentioned
+    let tally : Tally = tally_below case entries mask (mask_bits mask) in verdict_by tally.denial tally.is_unmentioned

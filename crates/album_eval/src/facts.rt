@@ -8,6 +8,7 @@ ghost use Rattle.album_lists.specs.declared.whos.Who.{Who};
 ghost use Rattle.album_eval.specs.declared.facts.Principal.{Principal};
 ghost use Rattle.album_eval.specs.Matching.{case_of, is_user, is_for, is_match, IsPrincipalText, principal_of};
 
+use crate::policies::Policy;
 use album_access::AceFlags;
 use album_lists::{Ace, Name, Who, user_name};
 use album_stamps::Refusal;
@@ -24,9 +25,10 @@ pub enum Principal {
     User(Name),
 }
 
-/// What a list is judged on: who asks, whose the object is, and the groups that who asks is in.
+/// What a list is judged on: by which policy, who asks, whose the object is, and the groups that who asks is in.
 #[derive(Clone, Copy, Debug)]
 pub struct Facts<'a> {
+    pub policy: Policy,
     pub principal: &'a Principal,
     pub owner: &'a Name,
     pub head_group: u64,

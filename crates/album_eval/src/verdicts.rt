@@ -1,16 +1,18 @@
 // What an access list says of a request.
-ghost use Rattle.std.specs.Prelude.{◌≡◌, ◌<◌, ◌^◌, ◌==◌, ◌↔◌, List, IsTrue, IfSome, MatchOption, length, min};
-ghost use Rattle.std.specs.Int.{bit_at};
-ghost use Rattle.album_access.specs.Bits.{mask_bits};
+ghost use Rattle.std.specs.Prelude.{◌≡◌, ◌&&◌, ◌⊎◌, ℕ, List, [], true, false, not};
+ghost use Rattle.album_access.specs.Bits.{has_bit};
 ghost use Rattle.album_access.specs.declared.masks.Mask.{Mask};
 ghost use Rattle.album_lists.specs.declared.lists.Ace.{Ace};
+ghost use Rattle.album_eval.specs.declared.policies.Policy.TheVariants.{One, Two};
 ghost use Rattle.album_eval.specs.declared.verdicts.Verdict.{Verdict};
-ghost use Rattle.album_eval.specs.Matching.{Case, case_of};
-ghost use Rattle.album_eval.specs.Verdict.{mentions, first_mention, IsVerdict, verdict};
+ghost use Rattle.album_eval.specs.declared.verdicts.Verdict.TheVariants.{Granted, DeniedAtEnd};
+ghost use Rattle.album_eval.specs.Matching.{Case, case_of, is_user};
+ghost use Rattle.album_eval.specs.Policies.{is_given, under};
+ghost use Rattle.album_eval.specs.Verdict.{IsVerdict, verdict};
 
 use crate::facts::Facts;
 use album_access::{AceType, Mask};
-use album_lists::{AccessList, Ace};
+use album_lists::AccessList;
 use bitflags::Flags;
 
 /// The answer to a request.
@@ -27,80 +29,69 @@ pub enum Verdict {
 pub fn one_verdict()
     ensures one { (case : Case) (entries : List Ace) (mask : Mask) (v w : Verdict)
         → IsVerdict case entries mask v → IsVerdict case entries mask w → v ≡ w }
-    ensures computed { (case : Case) (entries : List Ace) (mask : Mask) → mask_bits mask < 2 ^ 32
+    ensures computed { (case : Case) (entries : List Ace) (mask : Mask)
         → IsVerdict case entries mask (verdict case entries mask) }
 {}
 
-/// What the list says of a request for the bits of the mask (RFC 7530, section 6.2.1).
+/// A law: the policies differ only where the owner asks for READ_ACL (bit 17) or WRITE_ACL (bit 18). Two grants the
+/// owner these two, whatever the list; under One an empty list grants nothing.
+pub fn given_to_owners()
+    ensures others { (case : Case) (entries : List Ace) (mask : Mask) → is_user case.principal case.owner ≡ false
+        → verdict (under Two case) entries mask ≡ verdict (under One case) entries mask }
+    ensures other_bits { (case : Case) (entries : List Ace) (mask : Mask)
+        → has_bit mask 17 ≡ false → has_bit mask 18 ≡ false
+        → verdict (under Two case) entries mask ≡ verdict (under One case) entries mask }
+    ensures given { (case : Case) (entries : List Ace) (mask : Mask) → is_user case.principal case.owner ≡ true
+        → ((bit : ℕ) → has_bit mask bit ≡ true → (bit ≡ 17) ⊎ (bit ≡ 18))
+        → IsVerdict (under Two case) entries mask Granted }
+    ensures no_list { (case : Case) (mask : Mask) (bit : ℕ) → has_bit mask bit ≡ true
+        → IsVerdict (under One case) [] mask DeniedAtEnd }
+{}
+
+/// What the list says of a request for the bits of the mask (RFC 7530, section 6.2.1), under the policy.
 pub fn evaluate(list: &AccessList, facts: &Facts, mask: Mask) -> Verdict
     ensures is { IsVerdict (case_of facts.now) list.now mask result }
     ensures computed { result ≡ verdict (case_of facts.now) list.now mask }
 {
-    let entries = list.entries();
-    let asked = mask.bits();
-    let mut denial: Option<usize> = None;
-    let mut unmentioned = false;
-    for bit in 0..u32::BITS {
-        if is_set(asked, bit) {
-            match first_mention(entries, facts, bit) {
-                Some(index) => {
-                    if is_denied(&entries[index]) {
-                        denial = Some(earlier(denial, index));
+    let mut remaining = without(mask, given(facts));
+    for (index, entry) in list.entries().iter().enumerate() {
+        if remaining.is_empty() {
+            return Verdict::Granted;
+        }
+        if facts.is_match(entry) {
+            match entry.sort {
+                AceType::Allowed => remaining = without(remaining, entry.mask),
+                AceType::Denied => {
+                    if entry.mask.intersects(remaining) {
+                        return Verdict::DeniedBy(index);
                     }
                 }
-                None => unmentioned = true,
+                AceType::Audit | AceType::Alarm => {}
             }
         }
     }
-    match denial {
-        Some(index) => Verdict::DeniedBy(index),
-        None if unmentioned => Verdict::DeniedAtEnd,
-        None => Verdict::Granted,
+    if remaining.is_empty() {
+        Verdict::Granted
+    } else {
+        Verdict::DeniedAtEnd
     }
 }
 
-/// Whether the bit of this number is set.
-fn is_set(bits: u32, bit: u32) -> bool
-    requires { bit < 32 }
-    ensures { result ≡ (bit_at bits bit == 1) }
+/// The bits that are given before the list is looked at.
+fn given(facts: &Facts) -> Mask
+    ensures { (bit : ℕ) → has_bit result bit ≡ is_given (case_of facts.now) bit }
 {
-    bits >> bit & 1 == 1
-}
-
-/// Whether the entry takes part, and allows or denies the bit.
-#[tactic(auto, unfolding(crate::specs::Verdict::mentions))]
-fn mentions(facts: &Facts, bit: u32, entry: &Ace) -> bool
-    requires { bit < 32 }
-    ensures { result ≡ mentions (case_of facts.now) bit entry.now }
-{
-    facts.is_match(entry)
-        && matches!(entry.sort, AceType::Allowed | AceType::Denied)
-        && is_set(entry.mask.bits(), bit)
-}
-
-/// Where the bit is first mentioned.
-#[tactic(auto, unfolding(crate::specs::Verdict::first_mention))]
-fn first_mention(entries: &[Ace], facts: &Facts, bit: u32) -> Option<usize>
-    requires { bit < 32 }
-    ensures index { result ≡ first_mention (case_of facts.now) bit entries.now }
-    ensures within { IfSome result (λ i. i < length entries.now) }
-{
-    entries.iter().position(|entry| mentions(facts, bit, entry))
-}
-
-/// Whether the entry denies.
-fn is_denied(entry: &Ace) -> bool
-    ensures { IsTrue result ↔ (entry.now.sort ≡ AceType.Denied) }
-{
-    matches!(entry.sort, AceType::Denied)
-}
-
-/// The lesser of the indexes.
-fn earlier(denial: Option<usize>, index: usize) -> usize
-    ensures { MatchOption denial (result ≡ index) (λ least. result ≡ min least index) }
-{
-    match denial {
-        Some(least) => least.min(index),
-        None => index,
+    if facts.principal.is_user(facts.owner) {
+        facts.policy.owner_bits()
+    } else {
+        Mask::empty()
     }
+}
+
+/// The bits of the mask that the other doesn't have.
+fn without(mask: Mask, other: Mask) -> Mask
+    ensures { (bit : ℕ) → has_bit result bit ≡ (has_bit mask bit && not (has_bit other bit)) }
+{
+    // (`difference` is the same, but only of a `u32` is it known that no bit is past its 32)
+    Mask::from_bits_retain(mask.bits() & !other.bits())
 }

@@ -1,0 +1,39 @@
+// By which rules a request is judged.
+ghost use Rattle.std.specs.Prelude.{◌≡◌, ℕ};
+ghost use Rattle.album_access.specs.Bits.{has_bit};
+ghost use Rattle.album_eval.specs.Policies.{policy_of, gives_owner};
+
+use album_access::Mask;
+use bitflags::Flags;
+
+/// By which rules a request is judged.
+#[derive(Clone, Copy, Debug, PartialEq, Eq)]
+pub enum Policy {
+    /// Those of RFC 7530.
+    One,
+    /// The same, but an owner who asks is given READ_ACL and WRITE_ACL before the list is looked at.
+    Two,
+}
+
+impl Policy {
+    /// The policy of this number, 1 or 2.
+    pub fn of(number: u64) -> Option<Policy>
+        ensures { result ≡ policy_of number }
+    {
+        match number {
+            1 => Some(Policy::One),
+            2 => Some(Policy::Two),
+            _ => None,
+        }
+    }
+
+    /// The bits that an owner who asks is given.
+    pub(crate) fn owner_bits(self) -> Mask
+        ensures { (bit : ℕ) → has_bit result bit ≡ gives_owner self bit }
+    {
+        match self {
+            Policy::One => Mask::empty(),
+            Policy::Two => Mask::READ_ACL.union(Mask::WRITE_ACL),
+        }
+    }
+}
