@@ -1,39 +1,42 @@
--- Versions and latest stamps, row by row.
-use Rattle.std.specs.Prelude.{ℕ, List, [], ◌∷◌, ◌++◌, Bool, ◌==◌, ◌&&◌, max, Option, Some, None, if◌then◌else◌}
-use Rattle.std.specs.List.{list_any, list_all}
+-- What is kept of one item: its versions, its latest committed stamp and its floor.
+use Rattle.std.specs.Prelude.{ℕ, ◌<◌, ◌≤◌, ◌≡◌, List, [], ◌∷◌, length, ◌==◌, Option, Some, None, if◌then◌else◌}
+use Rattle.std.specs.List.{All, AllPairs, HoldsAt}
+use Rattle.std.specs.List.Sorted.{IsPartitionPoint}
 use Rattle.album_items.specs.declared.values.Value.{Value}
 use Rattle.album_versions.specs.declared.rows.Version.{Version}
-use Rattle.album_versions.specs.declared.rows.Latest.{Latest}
 
--- Is it the item's version at the stamp?
-abbrev pub is_version : Version → ℕ → ℕ → Bool
-is_version version item stamp = (version.item == item) && (version.stamp == stamp)
+-- What is kept of an item.
+pub record RowState : Type 0 where
+  pub latest : ℕ
+  pub floor : ℕ
+  pub versions : List Version
 
--- the value of the item's first version at the stamp
-abbrev pub version_in : List Version → ℕ → ℕ → Option Value
-version_in [] item stamp = None
-version_in (version ∷ versions) item stamp =
-    (if is_version version item stamp then Some version.value else version_in versions item stamp)
+-- of an item of which nothing was written
+abbrev pub empty_row : RowState
+empty_row = record { latest = 0; floor = 0; versions = [] }
 
--- the item's latest stamp, or 0 where the item has no row
-abbrev pub latest_in : List Latest → ℕ → ℕ
-latest_in [] item = 0
-latest_in (row ∷ rows) item = (if row.item == item then row.stamp else latest_in rows item)
+-- the value of the first version at the stamp, if there is one
+abbrev pub version_in : List Version → ℕ → Option Value
+version_in [] stamp = None
+version_in (version ∷ versions) stamp =
+    (if version.stamp == stamp then Some version.value else version_in versions stamp)
 
--- Has the item a row for its latest stamp?
-abbrev pub has_row : List Latest → ℕ → Bool
-has_row rows item = list_any (λ row. row.item == item) rows
+-- the stamps rise, so no stamp comes twice
+abbrev pub IsRising : List Version → Type 0
+IsRising versions = AllPairs (λ version later. version.stamp < later.stamp) versions
 
--- the rows with one for the item
-abbrev pub with_row : List Latest → ℕ → List Latest
-with_row rows item = (if has_row rows item then rows else rows ++ record { item = item; stamp = 0 } ∷ [])
+-- the version at the index has the stamp
+pub record IsAt (versions : List Version) (stamp index : ℕ) : Type 0 where
+  pub in_range : index < length versions
+  pub has_stamp : HoldsAt (λ version. version.stamp ≡ stamp) versions index
 
--- the rows with the item's latest stamp raised to the stamp
-abbrev pub raised : List Latest → ℕ → ℕ → List Latest
-raised [] item stamp = []
-raised (row ∷ rows) item stamp =
-    (if row.item == item then record row { stamp = max row.stamp stamp } ∷ rows else row ∷ raised rows item stamp)
+-- a version at the stamp would go to the index: lesser stamps before it, and greater ones from it on
+pub record IsGapFor (versions : List Version) (stamp index : ℕ) : Type 0 where
+  pub in_range : index ≤ length versions
+  pub parted : IsPartitionPoint (λ version. version.stamp < stamp) (λ version. stamp < version.stamp) versions index
 
--- Has the item of each version a row?
-abbrev pub have_rows : List Version → List Latest → Bool
-have_rows versions rows = list_all (λ version. has_row rows version.item) versions
+-- the versions rise by stamp, none is below the floor, and the floor is not above the latest stamp
+pub record IsRow (row : RowState) : Type 0 where
+  pub rising : IsRising row.versions
+  pub kept : All (λ version. row.floor ≤ version.stamp) row.versions
+  pub low : row.floor ≤ row.latest

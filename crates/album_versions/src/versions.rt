@@ -1,54 +1,50 @@
-// The versions of items, and the latest committed stamp of each.
-ghost use Rattle.std.specs.Prelude.{◌≡◌, ◌≢◌, ◌≤◌, ℕ, Bool, List, is_some, IsTrue, IsSome, IfErr, OnOk, OnErr, All, Contains};
+// The versions of items, and of each item the latest committed stamp and the floor.
+ghost use Rattle.std.specs.Prelude.{◌≡◌, ◌≢◌, ◌<◌, ◌≤◌, ◌↔◌, ◌⊎◌, ℕ, Bool, List, is_some, IsTrue, IsSome, IsNone, IfSome, IfErr, OnOk, OnErr, All, Contains};
 ghost use Rattle.std.specs.Option.{option_copied};
 ghost use Rattle.album_items.specs.declared.values.Value.{Value as ItemValue};
-ghost use Rattle.album_versions.specs.Best.{best_of};
-ghost use Rattle.album_versions.specs.Versions.{VersionsState, version_at, latest_of, SameVersions, Adds, Drops, Commits};
+ghost use Rattle.album_versions.specs.Best.{best_of, unless_gone};
+ghost use Rattle.album_versions.specs.Rows.{empty_row};
+ghost use Rattle.album_versions.specs.Versions.{VersionsState, version_at, latest_of, floor_of, SameVersions, Adds, Drops, Commits, Trims};
 
-use crate::rows::{
-    Latest, Version, best_among, drop_versions, latest_among, make_row, raise, value_in,
-};
+use crate::rows::Row;
 use album_items::{ItemId, Value};
 use album_stamps::{Refusal, Refused, Stamp};
 use std::alloc::Global;
+use std::collections::BTreeMap;
 use std::marker::Model;
 
-/// The versions of items, each with its stamp and its value, and the latest committed stamp of
-/// each item. Contracts see, of an item, the value at each stamp and the latest stamp.
+/// The versions of items, each with its stamp and its value, and of each item the latest committed
+/// stamp and the floor, below which no version is kept. Contracts see, of an item, the value at
+/// each stamp, the latest stamp and the floor.
 #[derive(Debug, Drop)]
 pub struct Versions {
-    versions: Vec<Version>,
-    rows: Vec<Latest>,
+    alloc: Global,
+    rows: BTreeMap<ItemId, Row>,
 }
 
 impl Model for Versions {
-    ghost use Rattle.std.specs.Prelude.{IsTrue};
-    ghost use Rattle.album_versions.specs.Rows.{have_rows};
     ghost use Rattle.album_versions.specs.Versions.{VersionsState};
 
     ghost Value = { VersionsState };
 
-    ghost view = { λ v. record { versions = v.versions.items; rows = v.rows.items } };
-
-    // The item of each version has a row for its latest stamp, so a commit takes no memory.
-    ghost invariant = { λ v. IsTrue (have_rows v.versions.items v.rows.items) };
+    ghost view = { λ v. record { rows = v.rows.entries } };
 }
 
 impl Versions {
-    /// No version of any item, and nothing committed.
-    #[tactic(auto, unfolding(crate::specs::Versions::version_at, crate::specs::Versions::latest_of))]
+    /// No version of any item, nothing committed, and each floor at the zero stamp.
     pub fn new(alloc: Global) -> Versions
         ensures versions { (i t : ℕ) → version_at result i t ≡ None }
         ensures latest { (i : ℕ) → latest_of result i ≡ 0 }
+        ensures floor { (i : ℕ) → floor_of result i ≡ 0 }
     {
         Versions {
-            versions: Vec::new(alloc),
-            rows: Vec::new(alloc),
+            alloc,
+            rows: BTreeMap::new(alloc),
         }
     }
 
     /// Adds a version of the item, which is not committed yet. Ask it only where the item has no
-    /// version at the stamp.
+    /// version at the stamp. Below the item's floor nothing is kept of it.
     ///
     /// # Errors
     ///
@@ -60,35 +56,38 @@ impl Versions {
         ensures given { IfErr result (λ e. e.given ≡ value) }
         ensures memory { IfErr result (λ e. e.refusal ≡ Refusal.OutOfMemory) }
     {
-        if let Err(_) = make_row(&mut self.rows, item) {
-            return Err(Refused {
-                refusal: Refusal::OutOfMemory,
-                given: value,
-            });
-        }
-        match self.versions.push(Version { item, stamp, value }) {
-            Ok(()) => Ok(()),
-            Err(failed) => Err(Refused {
-                refusal: Refusal::OutOfMemory,
-                given: failed.value.value,
-            }),
-        }
+        add_in(&mut self.rows, Row::new(self.alloc), item, stamp, value)
     }
 
     /// Every version at the stamp goes, of every item. What was committed stays the latest.
     pub fn drop_stamp(&mut self, stamp: Stamp)
         ensures { Drops self.old self.new stamp }
     {
-        drop_versions(&mut self.versions, stamp);
+        // No row goes. Of a loop over `values_mut` no contract says what it leaves.
+        self.rows.retain(|_, row| {
+            row.drop_stamp(stamp);
+            true
+        });
     }
 
     /// The item's version at the stamp is committed: the item's latest stamp is raised to the
-    /// stamp, and is never lowered. Ask it only where the item has a version at the stamp.
+    /// stamp, and is never lowered. Ask it only where the version is there or below the floor.
     pub fn commit(&mut self, item: ItemId, stamp: Stamp)
-        requires { IsSome (version_at self.old item stamp) }
+        requires { IsSome (version_at self.old item stamp) ⊎ (stamp < floor_of self.old item) }
         ensures { Commits self.old self.new item stamp }
     {
-        raise(&mut self.rows, item, stamp);
+        if let Some(row) = self.rows.get_mut(&item) {
+            row.commit(stamp);
+        }
+    }
+
+    /// The item's floor is raised to its latest stamp, and its versions below that go.
+    pub fn trim(&mut self, item: ItemId)
+        ensures { Trims self.old self.new item }
+    {
+        if let Some(row) = self.rows.get_mut(&item) {
+            row.trim();
+        }
     }
 
     /// The item's latest committed stamp, and the zero stamp where nothing was committed.
@@ -96,19 +95,44 @@ impl Versions {
     pub fn latest(&self, item: ItemId) -> Stamp
         ensures { result ≡ latest_of self.now item }
     {
-        latest_among(&self.rows, item)
+        match self.rows.get(&item) {
+            None => Stamp::zero(),
+            Some(row) => row.latest(),
+        }
     }
 
-    /// The greatest of the stamps at which the item has a version, and the zero stamp where it has
-    /// none at any of them.
-    #[tactic(auto, unfolding(crate::specs::Versions::version_at))]
-    pub fn best(&self, item: ItemId, stamps: &[Stamp]) -> Stamp
-        ensures best { result ≡ best_of (λ t. is_some (version_at self.now item t)) stamps.now }
-        ensures given { result ≢ 0 → Contains stamps.now result }
-        ensures has_version { result ≢ 0 → IsSome (version_at self.now item result) }
-        ensures greatest { All (λ t. IsSome (version_at self.now item t) → t ≤ result) stamps.now }
+    /// The item's floor: the latest stamp that it had as it was last trimmed, and the zero stamp
+    /// before. Below it no version is kept.
+    #[tactic(auto, unfolding(crate::specs::Versions::latest_of, crate::specs::Versions::floor_of))]
+    pub fn floor(&self, item: ItemId) -> Stamp
+        ensures floor { result ≡ floor_of self.now item }
+        ensures below { result ≤ latest_of self.now item }
+        ensures kept { (t : ℕ) → IsSome (version_at self.now item t) → result ≤ t }
     {
-        best_among(&self.versions, item, stamps)
+        match self.rows.get(&item) {
+            None => Stamp::zero(),
+            Some(row) => row.floor(),
+        }
+    }
+
+    /// The greatest of the stamps at which the item has a version. Where it has none at any of
+    /// them, that is the zero stamp as long as the floor is, and the answer is gone, `None`, from
+    /// then on.
+    #[tactic(auto, unfolding(crate::specs::Versions::version_at, crate::specs::Versions::floor_of))]
+    pub fn best(&self, item: ItemId, stamps: &[Stamp]) -> Option<Stamp>
+        ensures best { result
+            ≡ unless_gone (best_of (λ t. is_some (version_at self.now item t)) stamps.now) (floor_of self.now item) }
+        ensures given { IfSome result (λ best. best ≢ 0 → Contains stamps.now best) }
+        ensures has_version { IfSome result (λ best. best ≢ 0 → IsSome (version_at self.now item best)) }
+        ensures greatest { IfSome result
+            (λ best. All (λ t. IsSome (version_at self.now item t) → t ≤ best) stamps.now) }
+        ensures gone { IsNone result
+            ↔ ((0 < floor_of self.now item) × All (λ t. version_at self.now item t ≡ None) stamps.now) }
+    {
+        match self.rows.get(&item) {
+            None => Some(Stamp::zero()),
+            Some(row) => row.best(stamps),
+        }
     }
 
     /// The value of the item's version at the stamp.
@@ -116,11 +140,40 @@ impl Versions {
     pub fn value(&self, item: ItemId, stamp: Stamp) -> Option<&Value>
         ensures { option_copied result ≡ version_at self.now item stamp }
     {
-        value_in(&self.versions, item, stamp)
+        match self.rows.get(&item) {
+            None => None,
+            Some(row) => row.value(stamp),
+        }
     }
 }
 
-/// A law: what `best` gives is told by three facts. Unless it is 0 it is one of the given stamps
+/// Adds a version to the item's row, which is this one where the item has none.
+fn add_in(
+    rows: &mut BTreeMap<ItemId, Row>,
+    row: Row,
+    item: ItemId,
+    stamp: Stamp,
+    value: Value,
+) -> Result<(), Refused<Value>>
+    requires empty { row ≡ empty_row }
+    requires new { version_at (record { rows = rows.old.entries }) item stamp ≡ None }
+    ensures added { OnOk result
+        (Adds (record { rows = rows.old.entries }) (record { rows = rows.new.entries }) item stamp value) }
+    ensures unchanged { OnErr result
+        (SameVersions (record { rows = rows.old.entries }) (record { rows = rows.new.entries })) }
+    ensures given { IfErr result (λ e. e.given ≡ value) }
+    ensures memory { IfErr result (λ e. e.refusal ≡ Refusal.OutOfMemory) }
+{
+    match rows.entry(item) {
+        Ok(entry) => entry.or_insert(row).add(stamp, value),
+        Err(_) => Err(Refused {
+            refusal: Refusal::OutOfMemory,
+            given: value,
+        }),
+    }
+}
+
+/// A law: what `best` finds is told by three facts. Unless it is 0 it is one of the given stamps
 /// and has a version, and no given stamp that has a version is greater. So neither the order of
 /// the stamps nor repeats among them matter.
 pub fn best_is_the_greatest()
@@ -146,14 +199,51 @@ pub fn latest_never_falls()
         → SameVersions b d }
 {}
 
-/// A law: what was added is found, and what was dropped is not. Where no item had a version at the
-/// stamp, to add one and to drop the stamp leaves what there was.
+/// A law: what was added is found, unless it is below the floor, where nothing changes. What was
+/// dropped is not found. Where no item had a version at the stamp, to add one and to drop the stamp
+/// leaves what there was.
 pub fn dropped_as_if_never_added()
     ensures found { (old new : VersionsState) (item stamp : ℕ) (value : ItemValue)
-        → Adds old new item stamp value → version_at new item stamp ≡ Some value }
+        → floor_of old item ≤ stamp → Adds old new item stamp value → version_at new item stamp ≡ Some value }
+    ensures not_kept { (old new : VersionsState) (item stamp : ℕ) (value : ItemValue)
+        → stamp < floor_of old item → Adds old new item stamp value → SameVersions old new }
     ensures gone { (old new : VersionsState) (stamp i : ℕ) → Drops old new stamp
         → version_at new i stamp ≡ None }
     ensures undone { (old mid new : VersionsState) (item stamp : ℕ) (value : ItemValue)
         → ((i : ℕ) → version_at old i stamp ≡ None)
         → Adds old mid item stamp value → Drops mid new stamp → SameVersions old new }
+{}
+
+/// A law: a trim raises the item's floor to its latest stamp, which stays, and no version below
+/// that is there. The version at the latest stamp stays, and so does all of every other item. A
+/// second trim changes nothing.
+pub fn trims_raise_the_floor()
+    ensures floor { (old new : VersionsState) (item : ℕ) → Trims old new item
+        → floor_of new item ≡ latest_of new item }
+    ensures latest { (old new : VersionsState) (item i : ℕ) → Trims old new item
+        → latest_of new i ≡ latest_of old i }
+    ensures gone { (old new : VersionsState) (item t : ℕ) → Trims old new item
+        → t < floor_of new item → version_at new item t ≡ None }
+    ensures stays { (old new : VersionsState) (item : ℕ) → Trims old new item
+        → version_at new item (latest_of new item) ≡ version_at old item (latest_of old item) }
+    ensures others { (old new : VersionsState) (item i t : ℕ) → Trims old new item → i ≢ item
+        → (version_at new i t ≡ version_at old i t) × (floor_of new i ≡ floor_of old i) }
+    ensures twice { (old mid new : VersionsState) (item : ℕ) → Trims old mid item → Trims mid new item
+        → SameVersions mid new }
+{}
+
+/// A law: a floor that is not above the latest stamp stays so, and is never lowered, whatever is
+/// done.
+pub fn floor_stays_low()
+    ensures same { (old new : VersionsState) (i : ℕ) → floor_of old i ≤ latest_of old i
+        → SameVersions old new → (floor_of new i ≤ latest_of new i) × (floor_of old i ≤ floor_of new i) }
+    ensures add { (old new : VersionsState) (item stamp i : ℕ) (value : ItemValue) → floor_of old i ≤ latest_of old i
+        → Adds old new item stamp value
+        → (floor_of new i ≤ latest_of new i) × (floor_of old i ≤ floor_of new i) }
+    ensures drop { (old new : VersionsState) (stamp i : ℕ) → floor_of old i ≤ latest_of old i
+        → Drops old new stamp → (floor_of new i ≤ latest_of new i) × (floor_of old i ≤ floor_of new i) }
+    ensures commit { (old new : VersionsState) (item stamp i : ℕ) → floor_of old i ≤ latest_of old i
+        → Commits old new item stamp → (floor_of new i ≤ latest_of new i) × (floor_of old i ≤ floor_of new i) }
+    ensures trim { (old new : VersionsState) (item i : ℕ) → floor_of old i ≤ latest_of old i
+        → Trims old new item → (floor_of new i ≤ latest_of new i) × (floor_of old i ≤ floor_of new i) }
 {}
