@@ -24,6 +24,8 @@ pub enum Reply {
     Clash,
     /// There is no room for the writes of the stamp.
     Full(Stamp),
+    /// What was asked of the item is no longer kept: it was trimmed.
+    Gone(ItemId),
 }
 
 impl Reply {

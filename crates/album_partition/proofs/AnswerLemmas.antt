@@ -1,5 +1,5 @@
 -- What a message can do, read off the table of answers once: `acts` is what the laws and PartitionLemmas cite.
-use Rattle.std.proofs.Common.{◌≡◌, ◌⊎◌, ℕ, Bool, true, false, ◌==◌, List, refl, inl, inr, if◌then◌else◌}
+use Rattle.std.proofs.Common.{◌≡◌, ◌⊎◌, ℕ, Bool, true, false, ◌==◌, List, Option, Some, None, refl, inl, inr, if◌then◌else◌}
 use Rattle.std.proofs.lemmas.Bool.Decides.{Decides-eqb}
 use Rattle.album_items.specs.ItemIds.{place_of}
 use Rattle.album_items.specs.Openings.{Row}
@@ -17,13 +17,14 @@ use Rattle.album_calls.specs.declared.replies.Reply.TheVariants as reply
 use Rattle.album_terminate.specs.declared.deciding.StampState.{StampState}
 use Rattle.album_terminate.specs.declared.deciding.StampState.TheVariants as state
 use Rattle.album_partition.specs.declared.marks.Mark.TheVariants.{Prepared, Committed, Discarded}
-use Rattle.album_partition.specs.Answers.{Effect, nothing, says, marks, marks_and_says, is_same, prepare_by, to_prepare, commit_by, to_commit, check_by, to_check, to_get, says_version, to_part, to_prepared, to_vote, to_status, to_body, effect_of}
+use Rattle.album_partition.specs.Answers.{Effect, nothing, says, marks, marks_and_says, is_same, prepare_by, to_prepare, commit_by, to_commit, check_by, to_check, get_by, to_get, says_version, to_part, to_prepared, to_vote, to_status, to_body, effect_of}
 use Rattle.album_partition.specs.Laws.{IsClash}
 use Rattle.album_partition.specs.Marks.{state_of, is_pending, is_full, items_at}
-use Rattle.album_partition.specs.Partition.{PartitionState, value_at, stamp_for}
+use Rattle.album_partition.specs.Partition.{PartitionState, value_at, stamp_for, read_at}
 use Rattle.album_partition.specs.Places.{is_placed, lies_at}
 use Rattle.album_partition.specs.Proper.{is_proper}
 use Rattle.album_partition.proofs.StateLemmas.{is_pending_tells}
+use Rattle.album_partition.proofs.TrimLemmas.{read_high}
 
 -- ---- what is so where a reply is all
 
@@ -35,10 +36,11 @@ IsSaid p b (reply.Status t vote.Prepared) = state_of p.marks t ≡ state.Pending
 IsSaid p b (reply.Status t vote.Committed) = state_of p.marks t ≡ state.Committed
 IsSaid p b (reply.Status t vote.Never) = state_of p.marks t ≡ state.Discarded
 IsSaid p b (reply.NotPrepared t) = state_of p.marks t ≡ state.Unknown
-IsSaid p b (reply.Full t) = (is_full p.opening.limit p.marks ≡ true) × (state_of p.marks t ≡ state.Unknown)
+IsSaid p b (reply.Full t) = (is_full p.limit p.marks ≡ true) × (state_of p.marks t ≡ state.Unknown)
 IsSaid p b (reply.Version item t value) =
     (stamps : List ℕ) × (b ≡ body.Request (Get item stamps)) × (t ≡ stamp_for p.marks item stamps) × (value ≡ value_at p item t)
 IsSaid p b reply.Clash = IsClash p b
+IsSaid p b (reply.Gone item) = (stamps : List ℕ) × (b ≡ body.Request (Get item stamps)) × (read_at p.marks item stamps ≡ None)
 
 -- ---- each way in which a message can act
 
@@ -49,8 +51,8 @@ pub record IsPrepared (p : PartitionState) (b : Body) (e : Effect) : Type 0 wher
   pub is : List ℕ
   pub asked : b ≡ body.Request (Prepare t ws is)
   pub done : e ≡ marks_and_says (Prepared t ws is) (reply.Prepared t)
-  pub proper : is_proper p.number p.opening.parts t ws is ≡ true
-  pub room : is_full p.opening.limit p.marks ≡ false
+  pub proper : is_proper p.number p.parts t ws is ≡ true
+  pub room : is_full p.limit p.marks ≡ false
   pub unknown : state_of p.marks t ≡ state.Unknown
 
 -- a Commit of a pending stamp
@@ -67,7 +69,7 @@ pub record IsRefused (p : PartitionState) (b : Body) (e : Effect) : Type 0 where
   pub asked : b ≡ body.Request (Check t)
   pub done : e ≡ marks_and_says (Discarded t) (reply.Status t vote.Never)
   pub some : (t == 0) ≡ false
-  pub room : is_full p.opening.limit p.marks ≡ false
+  pub room : is_full p.limit p.marks ≡ false
   pub unknown : state_of p.marks t ≡ state.Unknown
 
 -- a vote Committed, or Never, on a pending stamp
@@ -90,7 +92,7 @@ pub record IsVotedPrepared (p : PartitionState) (from : Node) (b : Body) (e : Ef
   pub sender : from ≡ Part part
   pub told : b ≡ body.Reply (reply.Status t vote.Prepared)
   pub done : e ≡ to_part p part t
-  pub due : lies_at part p.opening.parts (items_at p.marks t) ≡ true
+  pub due : lies_at part p.parts (items_at p.marks t) ≡ true
   pub pending : state_of p.marks t ≡ state.Pending
 
 pub data Acts (p : PartitionState) (from : Node) (b : Body) (e : Effect) : Type 0 where
@@ -106,8 +108,8 @@ pub data Acts (p : PartitionState) (from : Node) (b : Body) (e : Effect) : Type 
 -- ---- row by row
 
 prepare_acts : (p : PartitionState) (from : Node) (t : ℕ) (ws : List Row) (is : List ℕ)
-    → is_proper p.number p.opening.parts t ws is ≡ true
-    → (full : Bool) → is_full p.opening.limit p.marks ≡ full
+    → is_proper p.number p.parts t ws is ≡ true
+    → (full : Bool) → is_full p.limit p.marks ≡ full
     → (same : Bool) → is_same p.marks t ws is ≡ same
     → (s : StampState) → state_of p.marks t ≡ s
     → Acts p from (body.Request (Prepare t ws is)) (prepare_by full same s t ws is)
@@ -122,12 +124,12 @@ prepare_acts p from t ws is proper full f same g state.Discarded e = said (reply
 
 to_prepare_acts : (p : PartitionState) (from : Node) (t : ℕ) (ws : List Row) (is : List ℕ)
     → Acts p from (body.Request (Prepare t ws is)) (to_prepare p t ws is)
-to_prepare_acts p from t ws is = go (is_proper p.number p.opening.parts t ws is) refl
+to_prepare_acts p from t ws is = go (is_proper p.number p.parts t ws is) refl
   where
-    go : (b : Bool) → is_proper p.number p.opening.parts t ws is ≡ b
+    go : (b : Bool) → is_proper p.number p.parts t ws is ≡ b
         → Acts p from (body.Request (Prepare t ws is))
-        (if b then prepare_by (is_full p.opening.limit p.marks) (is_same p.marks t ws is) (state_of p.marks t) t ws is else says reply.Clash)
-    go true e = prepare_acts p from t ws is e (is_full p.opening.limit p.marks) refl (is_same p.marks t ws is) refl (state_of p.marks t) refl
+        (if b then prepare_by (is_full p.limit p.marks) (is_same p.marks t ws is) (state_of p.marks t) t ws is else says reply.Clash)
+    go true e = prepare_acts p from t ws is e (is_full p.limit p.marks) refl (is_same p.marks t ws is) refl (state_of p.marks t) refl
     go false e = said reply.Clash refl (inl e)
 
 commit_acts : (p : PartitionState) (from : Node) (t : ℕ) → (t == 0) ≡ false
@@ -145,7 +147,7 @@ to_commit_acts p from t = go (t == 0) refl
     go false e = commit_acts p from t e (state_of p.marks t) refl
 
 check_acts : (p : PartitionState) (from : Node) (t : ℕ) → (t == 0) ≡ false
-    → (full : Bool) → is_full p.opening.limit p.marks ≡ full
+    → (full : Bool) → is_full p.limit p.marks ≡ full
     → (s : StampState) → state_of p.marks t ≡ s → Acts p from (body.Request (Check t)) (check_by full s t)
 check_acts p from t some true f state.Unknown e = said (reply.Full t) refl (f, e)
 check_acts p from t some false f state.Unknown e = refused (record { t = t; asked = refl; done = refl; some = some; room = f; unknown = e })
@@ -157,26 +159,27 @@ to_check_acts : (p : PartitionState) (from : Node) (t : ℕ) → Acts p from (bo
 to_check_acts p from t = go (t == 0) refl
   where
     go : (b : Bool) → (t == 0) ≡ b
-        → Acts p from (body.Request (Check t)) (if b then says reply.Clash else check_by (is_full p.opening.limit p.marks) (state_of p.marks t) t)
+        → Acts p from (body.Request (Check t)) (if b then says reply.Clash else check_by (is_full p.limit p.marks) (state_of p.marks t) t)
     go true e = said reply.Clash refl ((Decides-eqb t 0).0 e)
-    go false e = check_acts p from t e (is_full p.opening.limit p.marks) refl (state_of p.marks t) refl
+    go false e = check_acts p from t e (is_full p.limit p.marks) refl (state_of p.marks t) refl
 
 to_get_acts : (p : PartitionState) (from : Node) (item : ℕ) (stamps : List ℕ) → Acts p from (body.Request (Get item stamps)) (to_get p item stamps)
-to_get_acts p from item stamps = go (is_placed p.number p.opening.parts item) refl (stamp_for p.marks item stamps) refl
+to_get_acts p from item stamps = go (is_placed p.number p.parts item) refl (read_at p.marks item stamps) refl
   where
-    go : (b : Bool) → is_placed p.number p.opening.parts item ≡ b → (t : ℕ) → t ≡ stamp_for p.marks item stamps
-        → Acts p from (body.Request (Get item stamps)) (if b then says_version p item t else says reply.Clash)
-    go true here t e = said (reply.Version item t (value_at p item t)) refl (stamps, refl, e, refl)
-    go false here t e =
+    go : (b : Bool) → is_placed p.number p.parts item ≡ b → (o : Option ℕ) → read_at p.marks item stamps ≡ o
+        → Acts p from (body.Request (Get item stamps)) (if b then get_by p item o else says reply.Clash)
+    go true here (Some t) e = said (reply.Version item t (value_at p item t)) refl (stamps, refl, (read_high p.marks item stamps t e).1, refl)
+    go true here None e = said (reply.Gone item) refl (stamps, refl, e)
+    go false here o e =
         said reply.Clash refl
-        (λ (placed : place_of p.opening.parts item ≡ p.number). absurd (let there = (Decides-eqb (place_of p.opening.parts item) p.number).1 placed in cc))
+        (λ (placed : place_of p.parts item ≡ p.number). absurd (let there = (Decides-eqb (place_of p.parts item) p.number).1 placed in cc))
 
 prepared_acts : (p : PartitionState) (from : Node) (t : ℕ) → state_of p.marks t ≡ state.Pending
     → Acts p from (body.Reply (reply.Status t vote.Prepared)) (to_prepared p from t)
 prepared_acts p (Client client) t pending = idle refl
-prepared_acts p (Part part) t pending = go (lies_at part p.opening.parts (items_at p.marks t)) refl
+prepared_acts p (Part part) t pending = go (lies_at part p.parts (items_at p.marks t)) refl
   where
-    go : (b : Bool) → lies_at part p.opening.parts (items_at p.marks t) ≡ b
+    go : (b : Bool) → lies_at part p.parts (items_at p.marks t) ≡ b
         → Acts p (Part part) (body.Reply (reply.Status t vote.Prepared)) (if b then to_part p part t else nothing)
     go true e = voted_prepared (record { t = t; part = part; sender = refl; told = refl; done = refl; due = e; pending = pending })
     go false e = idle refl
@@ -209,6 +212,7 @@ acts p from (body.Reply (reply.Version i t v)) = idle refl
 acts p from (body.Reply (reply.NotPrepared t)) = idle refl
 acts p from (body.Reply reply.Clash) = idle refl
 acts p from (body.Reply (reply.Full t)) = idle refl
+acts p from (body.Reply (reply.Gone i)) = idle refl
 
 -- a message to another node does nothing
 pub acts_here : (p : PartitionState) (message : Message) → Acts p message.from message.body (effect_of p message)
@@ -221,6 +225,6 @@ acts_here p message = go (is_part message.to p.number)
 -- ---- a Prepare of an unknown stamp, for `Partition::to_prepare`
 
 pub unknown_prepared : (p : PartitionState) (t : ℕ) (ws : List Row) (is : List ℕ)
-    → is_proper p.number p.opening.parts t ws is ≡ true → state_of p.marks t ≡ state.Unknown
-    → prepare_by (is_full p.opening.limit p.marks) (is_same p.marks t ws is) state.Unknown t ws is ≡ to_prepare p t ws is
+    → is_proper p.number p.parts t ws is ≡ true → state_of p.marks t ≡ state.Unknown
+    → prepare_by (is_full p.limit p.marks) (is_same p.marks t ws is) state.Unknown t ws is ≡ to_prepare p t ws is
 unknown_prepared p t ws is proper unknown = rw (proper, unknown) refl

@@ -8,33 +8,34 @@ use Rattle.std.proofs.lemmas.List.{append_assoc, length-append}
 use Rattle.album_terminate.specs.declared.deciding.StampState.{StampState}
 use Rattle.album_terminate.specs.declared.deciding.StampState.TheVariants as state
 use Rattle.album_partition.specs.declared.marks.Mark.{Mark}
-use Rattle.album_partition.specs.declared.marks.Mark.TheVariants.{Prepared, Committed, Discarded}
-use Rattle.album_partition.specs.Marks.{IsPromisedAgainst, mark_stamp, prepares, commits, state_of, is_unknown, is_pending, version, has_version, latest, may_follow, is_legal, load, is_full}
+use Rattle.album_partition.specs.declared.marks.Mark.TheVariants.{Prepared, Committed, Discarded, Trimmed}
+use Rattle.album_partition.specs.Marks.{IsPromisedAgainst, is_mark_of, prepares, commits, state_of, is_unknown, is_pending, version, has_version, latest, may_follow, is_legal, load, is_full}
 use Rattle.album_partition.proofs.LegalLemmas.{along, along_legal, legal_parts}
-use Rattle.album_partition.proofs.LoadLemmas.{prepared_counts, committed_counts, discarded_counts, refused_counts}
+use Rattle.album_partition.proofs.LoadLemmas.{prepared_counts, committed_counts, discarded_counts, refused_counts, trimmed_counts}
 use Rattle.album_partition.proofs.StateLemmas.{any_push_no, prepares_no, state_push_other, unknown_tells, pending_tells, is_unknown_tells, is_pending_tells, discarded_is_discarded}
-use Rattle.album_partition.proofs.StoredLemmas.{version_push_other, latest_prepared, latest_committed, latest_discarded}
+use Rattle.album_partition.proofs.VersionLemmas.{version_push_other, latest_prepared, latest_committed, latest_discarded, latest_trimmed}
 
 -- ---- a stamp that is decided
 
 -- no mark of it can follow
 apart : (marks : List Mark) (mark : Mark) (t : ℕ) → is_unknown (state_of marks t) || is_pending (state_of marks t) ≡ false
-    → may_follow marks mark ≡ true → (mark_stamp mark == t) ≡ false
-apart marks mark t decided may = go (mark_stamp mark == t) refl
+    → may_follow marks mark ≡ true → is_mark_of t mark ≡ false
+apart marks mark t decided may = go (is_mark_of t mark) refl
   where
-    closed : (m : Mark) → mark_stamp m ≡ t → may_follow marks m ≡ true → is_unknown (state_of marks t) || is_pending (state_of marks t) ≡ true
-    closed (Prepared s ws is) same may = subst (λ (u : ℕ). is_unknown (state_of marks u) || is_pending (state_of marks u) ≡ true) same (rw may refl)
-    closed (Committed s) same may = subst (λ (u : ℕ). is_unknown (state_of marks u) || is_pending (state_of marks u) ≡ true) same (rw (is_pending_tells (state_of marks s) may) refl)
-    closed (Discarded s) same may = subst (λ (u : ℕ). is_unknown (state_of marks u) || is_pending (state_of marks u) ≡ true) same may
+    closed : (m : Mark) → is_mark_of t m ≡ true → may_follow marks m ≡ true → is_unknown (state_of marks t) || is_pending (state_of marks t) ≡ true
+    closed (Prepared s ws is) own may = subst (λ (u : ℕ). is_unknown (state_of marks u) || is_pending (state_of marks u) ≡ true) ((Decides-eqb s t).0 own) (rw may refl)
+    closed (Committed s) own may = subst (λ (u : ℕ). is_unknown (state_of marks u) || is_pending (state_of marks u) ≡ true) ((Decides-eqb s t).0 own) (rw (is_pending_tells (state_of marks s) may) refl)
+    closed (Discarded s) own may = subst (λ (u : ℕ). is_unknown (state_of marks u) || is_pending (state_of marks u) ≡ true) ((Decides-eqb s t).0 own) may
+    closed (Trimmed i) own may = absurd (cc)
 
-    go : (b : Bool) → (mark_stamp mark == t) ≡ b → (mark_stamp mark == t) ≡ false
+    go : (b : Bool) → is_mark_of t mark ≡ b → is_mark_of t mark ≡ false
     go false e = e
-    go true e = absurd (let still = closed mark ((Decides-eqb (mark_stamp mark) t).0 e) may in cc)
+    go true e = absurd (let still = closed mark e may in cc)
 
-committed_apart : (marks : List Mark) (mark : Mark) (t : ℕ) → state_of marks t ≡ state.Committed → may_follow marks mark ≡ true → (mark_stamp mark == t) ≡ false
+committed_apart : (marks : List Mark) (mark : Mark) (t : ℕ) → state_of marks t ≡ state.Committed → may_follow marks mark ≡ true → is_mark_of t mark ≡ false
 committed_apart marks mark t done may = apart marks mark t (rw done refl) may
 
-discarded_apart : (marks : List Mark) (mark : Mark) (t : ℕ) → state_of marks t ≡ state.Discarded → may_follow marks mark ≡ true → (mark_stamp mark == t) ≡ false
+discarded_apart : (marks : List Mark) (mark : Mark) (t : ℕ) → state_of marks t ≡ state.Discarded → may_follow marks mark ≡ true → is_mark_of t mark ≡ false
 discarded_apart marks mark t gone may = apart marks mark t (rw gone refl) may
 
 pub committed_stays : (before later : List Mark) (t : ℕ) → is_legal (before ++ later) ≡ true
@@ -85,6 +86,7 @@ latest_more marks (Committed t) i may = rw (latest_committed marks t i) (go (has
     go : (b : Bool) → latest marks i ≤ (if b then max (latest marks i) t else latest marks i)
     go true = max_left (latest marks i) t
     go false = omega arith
+latest_more marks (Trimmed j) i may = let same = latest_trimmed marks j i in omega arith
 
 pub latest_rises : (before later : List Mark) (i : ℕ) → is_legal (before ++ later) ≡ true → latest before i ≤ latest (before ++ later) i
 latest_rises before later i h =
@@ -113,6 +115,10 @@ load_more marks (Discarded t) h may = go (state_of marks t) refl may
     go state.Pending e f = let fewer = discarded_counts marks t h e in let more = one in omega arith
     go state.Committed e f = absurd (cc)
     go state.Discarded e f = absurd (cc)
+load_more marks (Trimmed i) h may =
+    let one : length (marks ++ Trimmed i ∷ []) ≡ length marks + 1 = length-append marks (Trimmed i ∷ []) in
+    let same = trimmed_counts marks i in
+    omega arith
 
 pub load_rises : (before later : List Mark) → is_legal (before ++ later) ≡ true → load before ≤ load (before ++ later)
 load_rises before later h =

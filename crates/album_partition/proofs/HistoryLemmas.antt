@@ -16,13 +16,14 @@ use Rattle.album_terminate.specs.declared.deciding.StampState.TheVariants as sta
 use Rattle.album_partition.specs.declared.history.Standing.{Standing}
 use Rattle.album_partition.specs.declared.history.Standing.TheVariants as standing
 use Rattle.album_partition.specs.declared.marks.Mark.{Mark}
-use Rattle.album_partition.specs.declared.marks.Mark.TheVariants.{Prepared, Committed, Discarded}
-use Rattle.album_partition.specs.Marks.{mark_stamp, prepares, commits, state_of, is_unknown, is_pending, may_follow, pending_stamps, ArePending}
-use Rattle.album_partition.specs.History.{IsAt, Stands, IsHistory, kept_by, kept_mark}
+use Rattle.album_partition.specs.declared.marks.Mark.TheVariants.{Prepared, Committed, Discarded, Trimmed}
+use Rattle.album_partition.specs.Marks.{mark_stamp, is_mark_of, prepares, commits, state_of, is_unknown, is_pending, may_follow, pending_stamps, ArePending}
+use Rattle.album_partition.specs.History.{IsAt, Stands, WillStand, IsHistory, kept_by, kept_mark}
+use Rattle.album_partition.specs.declared.history.Change.{Change}
 use Rattle.album_partition.proofs.LegalLemmas.{is_legal-push}
 use Rattle.album_partition.proofs.ListLemmas.{kept_in, kept_out}
-use Rattle.album_partition.proofs.StateLemmas.{find_push_no, find_push_first, prepares_no, state_push_other, prepared_is_pending, committed_is_committed, discarded_is_discarded, unknown_tells, pending_tells, is_unknown_tells, is_pending_tells, same_stamp}
-use Rattle.album_partition.proofs.LoadLemmas.{prepared_counts, committed_counts, discarded_counts, refused_counts, pending_few}
+use Rattle.album_partition.proofs.StateLemmas.{find_push_no, find_push_first, prepares_no, own_mark, no_mark, state_push_other, prepared_is_pending, committed_is_committed, discarded_is_discarded, unknown_tells, pending_tells, is_unknown_tells, is_pending_tells, same_stamp}
+use Rattle.album_partition.proofs.LoadLemmas.{prepared_counts, committed_counts, discarded_counts, refused_counts, trimmed_counts, pending_few}
 use Rattle.std.specs.BTreeMap as tree
 use Rattle.std.specs.List.Sorted.{IsStrictlySortedBy}
 use Rattle.std.proofs.lemmas.List.Kept.{IsStrictlySortedBy-filter}
@@ -63,7 +64,7 @@ at_push marks mark t n other at =
     }
 
 -- what the index says of another stamp is so still
-pub stands_push_other : (marks : List Mark) (mark : Mark) (t : ℕ) (found : Option Standing) → (mark_stamp mark == t) ≡ false → Stands marks t found → Stands (marks ++ mark ∷ []) t found
+pub stands_push_other : (marks : List Mark) (mark : Mark) (t : ℕ) (found : Option Standing) → is_mark_of t mark ≡ false → Stands marks t found → Stands (marks ++ mark ∷ []) t found
 stands_push_other marks mark t None apart h = state_push_other marks mark t apart ∙ h
 stands_push_other marks mark t (Some (standing.Pending n)) apart h = (state_push_other marks mark t apart ∙ h.0, at_push marks mark t n (prepares_no mark t apart) h.1)
 stands_push_other marks mark t (Some (standing.Committed n)) apart h = (state_push_other marks mark t apart ∙ h.0, at_push marks mark t n (prepares_no mark t apart) h.1)
@@ -89,36 +90,58 @@ stands_discarded marks t uncommitted = discarded_is_discarded marks t uncommitte
 -- ---- the whole index
 
 -- a test of a key tells whether it is the stamp
-key_tells : (s t : ℕ) → is_at (nat_cmp s) t ≡ (s == t)
+pub key_tells : (s t : ℕ) → is_at (nat_cmp s) t ≡ (s == t)
 key_tells s t =
     same_from_decides (is_eq (nat_cmp s t)) (s == t)
     ((λ e. exact_unsigned s t ((Equal-is (nat_cmp s t)).0 e)), (λ (same : s ≡ t). (Equal-is (nat_cmp s t)).1 (sym (nat_cmp_is s t Equal same))))
     (Decides-eqb s t)
 
-pub indexed_push : (marks : List Mark) (mark : Mark) (index later : BTreeMap ℕ Standing) (count next : ℕ) (found : Standing)
+pub indexed_push : (marks : List Mark) (mark : Mark) (index later : BTreeMap ℕ Standing) (count next u : ℕ) (found : Standing)
     → IsHistory marks index count
     → may_follow marks mark ≡ true
-    → Stands (marks ++ mark ∷ []) (mark_stamp mark) (Some found)
-    → ((q : ℕ) → get nat_cmp later q ≡ cond (is_at (nat_cmp (mark_stamp mark)) q) (Some found) (get nat_cmp index q))
+    → mark_stamp mark ≡ Some u
+    → Stands (marks ++ mark ∷ []) u (Some found)
+    → ((q : ℕ) → get nat_cmp later q ≡ cond (is_at (nat_cmp u) q) (Some found) (get nat_cmp index q))
     → next ≡ length (pending_stamps (marks ++ mark ∷ []))
     → IsHistory (marks ++ mark ∷ []) later next
-indexed_push marks mark index later count next found h may own updated counted =
+indexed_push marks mark index later count next u found h may of own updated counted =
     record {
       legal = is_legal-push marks mark h.legal may;
-      stands = λ t. subst (Stands (marks ++ mark ∷ []) t) (sym (updated t)) (subst (λ (b : Bool). Stands (marks ++ mark ∷ []) t (cond b (Some found) (get nat_cmp index t))) (sym (key_tells (mark_stamp mark) t)) (go t (mark_stamp mark == t) refl));
+      stands = λ t. subst (Stands (marks ++ mark ∷ []) t) (sym (updated t)) (subst (λ (b : Bool). Stands (marks ++ mark ∷ []) t (cond b (Some found) (get nat_cmp index t))) (sym (key_tells u t)) (go t (u == t) refl));
       count = counted;
     }
   where
-    go : (t : ℕ) (b : Bool) → (mark_stamp mark == t) ≡ b → Stands (marks ++ mark ∷ []) t (cond b (Some found) (get nat_cmp index t))
-    go t true e = subst (λ s. Stands (marks ++ mark ∷ []) s (Some found)) ((Decides-eqb (mark_stamp mark) t).0 e) own
-    go t false e = stands_push_other marks mark t (get nat_cmp index t) e (h.stands t)
+    go : (t : ℕ) (b : Bool) → (u == t) ≡ b → Stands (marks ++ mark ∷ []) t (cond b (Some found) (get nat_cmp index t))
+    go t true e = subst (λ s. Stands (marks ++ mark ∷ []) s (Some found)) ((Decides-eqb u t).0 e) own
+    go t false e = stands_push_other marks mark t (get nat_cmp index t) (own_mark mark u t of ∙ e) (h.stands t)
+
+-- a mark of no stamp leaves what is kept of each
+pub pushed_of_none : (marks later : List Mark) (mark : Mark) (index : BTreeMap ℕ Standing) (count : ℕ)
+    → IsHistory marks index count
+    → may_follow marks mark ≡ true
+    → WillStand marks mark None
+    → later ≡ marks ++ mark ∷ []
+    → IsHistory later index count
+pushed_of_none marks later mark index count h may none made =
+    subst (λ (ms : List Mark). IsHistory ms index count) (sym made)
+    (record {
+      legal = is_legal-push marks mark h.legal may;
+      stands = λ t. stands_push_other marks mark t (get nat_cmp index t) (no_mark mark t none) (h.stands t);
+      count = h.count ∙ sym (counts mark none);
+    })
+  where
+    counts : (m : Mark) → mark_stamp m ≡ None → length (pending_stamps (marks ++ m ∷ [])) ≡ length (pending_stamps marks)
+    counts (Prepared u ws is) e = absurd (cc)
+    counts (Committed u) e = absurd (cc)
+    counts (Discarded u) e = absurd (cc)
+    counts (Trimmed i) e = trimmed_counts marks i
 
 -- ---- what is known of a mark that may follow
 
 pub index_is : (marks : List Mark) (t n : ℕ) (found : Option Standing) → Stands marks t found → found ≡ Some (standing.Pending n) → IsAt marks t n
 index_is marks t n found stands is = (subst (Stands marks t) is stands).1
 
--- an pending_stamps stamp is told as one
+-- a pending stamp is told as one
 pub not_discarded : (marks : List Mark) (t : ℕ) (found : Option Standing) {X : Type 0} → Stands marks t found → found ≡ Some standing.Discarded → state_of marks t ≡ state.Pending → X
 not_discarded marks t found stands is pending = absurd (let h = subst (Stands marks t) is stands in cc)
 
@@ -130,14 +153,14 @@ not_committed marks t n found stands is pending = absurd (let h = subst (Stands 
 
 -- ---- after a mark that may follow
 
-pub after_prepared : (marks : List Mark) (mark : Mark) (t : ℕ) (ws : List Row) (is : List ℕ) (n : ℕ) → may_follow marks mark ≡ true → mark ≡ Prepared t ws is → n ≡ length marks → Stands (marks ++ mark ∷ []) (mark_stamp mark) (Some (standing.Pending n))
+pub after_prepared : (marks : List Mark) (mark : Mark) (t : ℕ) (ws : List Row) (is : List ℕ) (n : ℕ) → may_follow marks mark ≡ true → mark ≡ Prepared t ws is → n ≡ length marks → Stands (marks ++ mark ∷ []) t (Some (standing.Pending n))
 after_prepared marks mark t ws is n may same at =
     rw (same, at) (stands_prepared marks t ws is (is_unknown_tells (state_of marks t) (rw same at may)))
 
-pub after_committed : (marks : List Mark) (mark : Mark) (t n : ℕ) → mark ≡ Committed t → IsAt marks t n → Stands (marks ++ mark ∷ []) (mark_stamp mark) (Some (standing.Committed n))
+pub after_committed : (marks : List Mark) (mark : Mark) (t n : ℕ) → mark ≡ Committed t → IsAt marks t n → Stands (marks ++ mark ∷ []) t (Some (standing.Committed n))
 after_committed marks mark t n same at = rw same (stands_committed marks t n at)
 
-pub after_discarded : (marks : List Mark) (mark : Mark) (t : ℕ) → may_follow marks mark ≡ true → mark ≡ Discarded t → Stands (marks ++ mark ∷ []) (mark_stamp mark) (Some standing.Discarded)
+pub after_discarded : (marks : List Mark) (mark : Mark) (t : ℕ) → may_follow marks mark ≡ true → mark ≡ Discarded t → Stands (marks ++ mark ∷ []) t (Some standing.Discarded)
 after_discarded marks mark t may same = rw same (stands_discarded marks t (uncommitted (state_of marks t) refl (rw same at may)))
   where
     uncommitted : (s : StampState) → state_of marks t ≡ s → is_unknown s || is_pending s ≡ true → list_any (commits t) marks ≡ false
@@ -187,17 +210,16 @@ not_pending state.Committed h e = absurd (cc)
 not_pending state.Discarded h e = absurd (cc)
 not_pending state.Pending h e = ⊎_elim (λ (f : state.Pending ≡ state.Unknown). absurd (cc)) (λ g. ⊎_elim (λ (f : state.Pending ≡ state.Committed). absurd (cc)) (λ (f : state.Pending ≡ state.Discarded). absurd (cc)) g) h
 
-pub made : (marks items : List Mark) (mark : Mark) (key : ℕ) (index later : BTreeMap ℕ Standing) (count next : ℕ) (found : Standing)
+pub made : (marks items : List Mark) (mark : Mark) (change : Change) (index later : BTreeMap ℕ Standing) (count : ℕ)
     → IsHistory marks index count
     → may_follow marks mark ≡ true
-    → Stands (marks ++ mark ∷ []) (mark_stamp mark) (Some found)
-    → key ≡ mark_stamp mark
-    → ((q : ℕ) → get nat_cmp later q ≡ cond (is_at (nat_cmp key) q) (Some found) (get nat_cmp index q))
-    → next ≡ length (pending_stamps (marks ++ mark ∷ []))
+    → WillStand marks mark (Some change)
+    → ((q : ℕ) → get nat_cmp later q ≡ cond (is_at (nat_cmp change.stamp) q) (Some change.standing) (get nat_cmp index q))
     → items ≡ marks ++ mark ∷ []
-    → IsHistory items later next
-made marks items mark key index later count next found h may own is updated counted same =
-    subst (λ (ms : List Mark). IsHistory ms later next) (sym same) (indexed_push marks mark index later count next found h may own (subst (λ (k : ℕ). (q : ℕ) → get nat_cmp later q ≡ cond (is_at (nat_cmp k) q) (Some found) (get nat_cmp index q)) is updated) counted)
+    → IsHistory items later change.pending
+made marks items mark change index later count h may will updated same =
+    subst (λ (ms : List Mark). IsHistory ms later change.pending) (sym same)
+    (indexed_push marks mark index later count change.pending change.stamp change.standing h may will.0 will.1 updated will.2)
 
 pub listed : (test : ℕ → Bool) (found rest all later : List ℕ) (t : ℕ) → found ++ filter test rest ≡ all → rest ≡ t ∷ later → test t ≡ true → (found ++ t ∷ []) ++ filter test later ≡ all
 listed test found rest all later t e is passes =

@@ -1,6 +1,6 @@
 -- What follows of the table of answers. Each lemma that is `pub` is a law's, by its name; all but the last few go
 -- through the ways in which a message can act (`acts_here`).
-use Rattle.std.proofs.Common.{◌≡◌, ◌≢◌, ⊎_elim, inl, inr, ℕ, ◌≤◌, Bool, true, false, ◌==◌, ◌||◌, is_some, List, [], ◌∷◌, ◌++◌, option_map, option_to_list, Option, Some, None, refl, sym, ap, ◌∙◌, subst, if◌then◌else◌}
+use Rattle.std.proofs.Common.{◌≡◌, ◌≢◌, ◌⊎◌, ⊎_elim, inl, inr, ℕ, ◌≤◌, Bool, true, false, ◌==◌, ◌||◌, is_some, List, [], ◌∷◌, ◌++◌, option_map, option_to_list, Option, Some, None, refl, sym, ap, ◌∙◌, subst, if◌then◌else◌}
 use Rattle.std.specs.List.{list_any}
 use Rattle.std.proofs.lemmas.Bool.Decides.{Decides-eqb}
 use Rattle.std.proofs.lemmas.List.{append-nil}
@@ -28,11 +28,11 @@ use Rattle.album_terminate.proofs.Telling.{have_told_tells}
 use Rattle.album_versions.specs.Best.{best_of}
 use Rattle.album_versions.proofs.Greatest.{best_of-passes, Contains-best_of, All-best_of}
 use Rattle.album_partition.specs.declared.marks.Mark.{Mark}
-use Rattle.album_partition.specs.declared.marks.Mark.TheVariants.{Prepared, Committed, Discarded}
-use Rattle.album_partition.specs.Answers.{Effect, nothing, says, says_version, marks, marks_and_says, mark_by, is_same, prepare_by, commit_by, check_by, to_prepare, to_check, to_part, to_vote, to_status, to_request, to_body, effect_of, with_effect, after, reply_to, answer}
-use Rattle.album_partition.specs.Laws.{IsTrueOf, IsClash, IsReplyTo, IsLatest, IsBest, IsReadAt, IsValueOf, IsReadOf, IsChecked, IsCause}
-use Rattle.album_partition.specs.Marks.{IsPromisedAgainst, mark_stamp, commits, state_of, is_pending, is_full, items_at, version, has_version, committed_stamps, latest}
-use Rattle.album_partition.specs.Partition.{PartitionState, IsPartition, value_at, stamp_for}
+use Rattle.album_partition.specs.declared.marks.Mark.TheVariants.{Prepared, Committed, Discarded, Trimmed}
+use Rattle.album_partition.specs.Answers.{Effect, nothing, says, get_by, marks, marks_and_says, mark_by, is_same, prepare_by, commit_by, check_by, to_prepare, to_check, to_part, to_vote, to_status, to_request, to_body, effect_of, with_effect, after, reply_to, answer}
+use Rattle.album_partition.specs.Laws.{IsTrueOf, IsClash, IsReplyTo, IsLatest, IsBest, IsReadAt, IsValueOf, IsReadOf, IsGoneFor, IsChecked, IsCause}
+use Rattle.album_partition.specs.Marks.{IsPromisedAgainst, is_mark_of, commits, state_of, is_pending, is_full, items_at, version, has_version, committed_stamps, latest}
+use Rattle.album_partition.specs.Partition.{PartitionState, IsPartition, value_at, stamp_for, read_at}
 use Rattle.album_partition.specs.Places.{is_placed, lies_at, others_of}
 use Rattle.album_partition.specs.Proper.{is_proper}
 use Rattle.album_partition.specs.Votes.{NotedVote, heard}
@@ -40,6 +40,7 @@ use Rattle.album_partition.proofs.AnswerLemmas.{IsSaid, Acts, idle, said, prepar
 use Rattle.album_partition.proofs.GrowthLemmas.{full_still}
 use Rattle.album_partition.proofs.ListLemmas.{any_from_contains, contains_from_any}
 use Rattle.album_partition.proofs.PartitionLemmas.{same_partition, stays_after}
+use Rattle.album_partition.proofs.TrimLemmas.{gone_trimmed, gone_unkept, gone_asks}
 use Rattle.album_partition.proofs.StateLemmas.{state_push_other, unknown_tells, committed_tells, prepared_is_pending, committed_is_committed, discarded_is_discarded}
 
 -- ---- what a reply tells
@@ -55,6 +56,7 @@ said_true p b (reply.Status t vote.Never) h = h
 said_true p b (reply.NotPrepared t) h = h
 said_true p b reply.Clash h = tt
 said_true p b (reply.Full t) h = h.1
+said_true p b (reply.Gone i) h = gone_trimmed p.marks i h.0 h.2
 
 -- what an effect that is known says
 tells : (p : PartitionState) (e known : Effect) (r told : Reply) → e ≡ known → known.reply ≡ Some told
@@ -109,7 +111,7 @@ status_silent p from t v = go (is_pending (state_of p.marks t)) from v
     part false q = refl
 
     go : (b : Bool) (from : Node) (v : Vote) → (if b then to_vote p from t v else nothing).reply ≡ None
-    go true (Part q) vote.Prepared = part (lies_at q p.opening.parts (items_at p.marks t)) q
+    go true (Part q) vote.Prepared = part (lies_at q p.parts (items_at p.marks t)) q
     go true (Client c) vote.Prepared = refl
     go true from vote.Committed = refl
     go true from vote.Never = refl
@@ -124,6 +126,7 @@ replies_silent p from (reply.Version i t v) = refl
 replies_silent p from (reply.NotPrepared t) = refl
 replies_silent p from reply.Clash = refl
 replies_silent p from (reply.Full t) = refl
+replies_silent p from (reply.Gone i) = refl
 
 same_request : (p : PartitionState) (votes : List NotedVote) (from : Node) (q : Request)
     → (to_body (record p { votes = votes }) from (body.Request q)).reply ≡ (to_body p from (body.Request q)).reply
@@ -166,8 +169,8 @@ unmarked e known mark is none f = absurd (let g : known.mark ≡ Some mark = sub
 
 last_vote : (p : PartitionState) (m : Message) (part t : ℕ) (mark : Mark)
     → m.from ≡ Part part → m.body ≡ body.Reply (reply.Status t vote.Prepared)
-    → lies_at part p.opening.parts (items_at p.marks t) ≡ true → state_of p.marks t ≡ state.Pending
-    → (b : Bool) → have_told (part ∷ heard p.votes t) (others_of p.number p.opening.parts (items_at p.marks t)) ≡ b
+    → lies_at part p.parts (items_at p.marks t) ≡ true → state_of p.marks t ≡ state.Pending
+    → (b : Bool) → have_told (part ∷ heard p.votes t) (others_of p.number p.parts (items_at p.marks t)) ≡ b
     → mark_by (if b then decision.Commit else decision.Wait) t ≡ Some mark → IsCause p m mark
 last_vote p m part t mark sender told due pending true all f =
     subst (IsCause p m) (let same : Committed t ≡ mark = cc in same) (
@@ -177,7 +180,7 @@ last_vote p m part t mark sender told due pending true all f =
         sender = sender;
         told = told;
         due = due;
-        others = (have_told_tells (part ∷ heard p.votes t) (others_of p.number p.opening.parts (items_at p.marks t))).0 all;
+        others = (have_told_tells (part ∷ heard p.votes t) (others_of p.number p.parts (items_at p.marks t))).0 all;
       })),
     )
 last_vote p m part t mark sender told due pending false all f = absurd (cc)
@@ -197,7 +200,7 @@ cause_by p m e (voted_committed a) mark f = marks_by p m e (marks (Committed a.t
 cause_by p m e (voted_never a) mark f = marks_by p m e (marks (Discarded a.t)) (Discarded a.t) mark a.done refl (inr (a.pending, a.told)) f
 cause_by p m e (voted_prepared a) mark f =
     last_vote p m a.part a.t mark a.sender a.told a.due a.pending
-    (have_told (a.part ∷ heard p.votes a.t) (others_of p.number p.opening.parts (items_at p.marks a.t))) refl
+    (have_told (a.part ∷ heard p.votes a.t) (others_of p.number p.parts (items_at p.marks a.t))) refl
     (subst (λ (x : Effect). x.mark ≡ Some mark) a.done f)
 
 pub marks_are_caused : (p : PartitionState) (m : Message) (mark : Mark) → (effect_of p m).mark ≡ Some mark → IsCause p m mark
@@ -235,25 +238,40 @@ never_is_a_promise p m t unknown f = promised_by p m.from m.body (effect_of p m)
 
 -- ---- where there is no room
 
-full_by : (p : PartitionState) (from : Node) (b : Body) (e : Effect) (t : ℕ) → Acts p from b e → e.reply ≡ Some (reply.Full t)
-    → (is_full p.opening.limit p.marks ≡ true) × (state_of p.marks t ≡ state.Unknown)
-full_by p from b e t (idle is) f = silent e nothing (reply.Full t) is refl f
-full_by p from b e t (said told is h) f =
-    let same : told ≡ reply.Full t = (let g : Some told ≡ Some (reply.Full t) = subst (λ (x : Effect). x.reply ≡ Some (reply.Full t)) is f in cc) in
-    subst (IsSaid p b) same h
-full_by p from b e t (prepared a) f =
-    absurd (let g : Some (reply.Prepared a.t) ≡ Some (reply.Full t) = subst (λ (x : Effect). x.reply ≡ Some (reply.Full t)) a.done f in cc)
-full_by p from b e t (committed a) f =
-    absurd (let g : Some (reply.Committed a.t) ≡ Some (reply.Full t) = subst (λ (x : Effect). x.reply ≡ Some (reply.Full t)) a.done f in cc)
-full_by p from b e t (refused a) f =
-    absurd (let g : Some (reply.Status a.t vote.Never) ≡ Some (reply.Full t) = subst (λ (x : Effect). x.reply ≡ Some (reply.Full t)) a.done f in cc)
-full_by p from b e t (voted_committed a) f = silent e (marks (Committed a.t)) (reply.Full t) a.done refl f
-full_by p from b e t (voted_never a) f = silent e (marks (Discarded a.t)) (reply.Full t) a.done refl f
-full_by p from b e t (voted_prepared a) f = silent e (to_part p a.part a.t) (reply.Full t) a.done refl f
+-- a mark may be made with such a reply
+abbrev ComesWithMark : Reply → Type 0
+ComesWithMark (reply.Prepared t) = Unit {0}
+ComesWithMark (reply.Committed t) = Unit {0}
+ComesWithMark (reply.Discarded t) = ⊥
+ComesWithMark (reply.Version i t v) = ⊥
+ComesWithMark (reply.Status t v) = Unit {0}
+ComesWithMark (reply.NotPrepared t) = ⊥
+ComesWithMark reply.Clash = ⊥
+ComesWithMark (reply.Full t) = ⊥
+ComesWithMark (reply.Gone i) = ⊥
+
+-- any other reply is all that the message does
+only_said : (p : PartitionState) (from : Node) (b : Body) (e : Effect) (r : Reply) → (ComesWithMark r → ⊥)
+    → Acts p from b e → e.reply ≡ Some r → IsSaid p b r
+only_said p from b e r alone (idle is) f = silent e nothing r is refl f
+only_said p from b e r alone (said told is h) f =
+    let same : told ≡ r = (let g : Some told ≡ Some r = subst (λ (x : Effect). x.reply ≡ Some r) is f in cc) in subst (IsSaid p b) same h
+only_said p from b e r alone (prepared a) f =
+    let same : (reply.Prepared a.t) ≡ r = (let g : Some (reply.Prepared a.t) ≡ Some r = subst (λ (x : Effect). x.reply ≡ Some r) a.done f in cc) in absurd (alone (subst ComesWithMark same tt))
+only_said p from b e r alone (committed a) f =
+    let same : (reply.Committed a.t) ≡ r = (let g : Some (reply.Committed a.t) ≡ Some r = subst (λ (x : Effect). x.reply ≡ Some r) a.done f in cc) in absurd (alone (subst ComesWithMark same tt))
+only_said p from b e r alone (refused a) f =
+    let same : (reply.Status a.t vote.Never) ≡ r = (let g : Some (reply.Status a.t vote.Never) ≡ Some r = subst (λ (x : Effect). x.reply ≡ Some r) a.done f in cc) in absurd (alone (subst ComesWithMark same tt))
+only_said p from b e r alone (voted_committed a) f = silent e (marks (Committed a.t)) r a.done refl f
+only_said p from b e r alone (voted_never a) f = silent e (marks (Discarded a.t)) r a.done refl f
+only_said p from b e r alone (voted_prepared a) f = silent e (to_part p a.part a.t) r a.done refl f
+
+said_here : (p : PartitionState) (m : Message) (r : Reply) → (ComesWithMark r → ⊥) → (effect_of p m).reply ≡ Some r → IsSaid p m.body r
+said_here p m r alone f = only_said p m.from m.body (effect_of p m) r alone (acts_here p m) f
 
 pub full_only : (p : PartitionState) (m : Message) (t : ℕ) → (effect_of p m).reply ≡ Some (reply.Full t)
-    → (is_full p.opening.limit p.marks ≡ true) × (state_of p.marks t ≡ state.Unknown)
-full_only p m t f = full_by p m.from m.body (effect_of p m) t (acts_here p m) f
+    → (is_full p.limit p.marks ≡ true) × (state_of p.marks t ≡ state.Unknown)
+full_only p m t f = said_here p m (reply.Full t) (λ x. x) f
 
 other : (t : ℕ) → t ≢ 0 → (t == 0) ≡ false
 other t h = go (t == 0) refl
@@ -262,41 +280,41 @@ other t h = go (t == 0) refl
     go true e = absurd (h ((Decides-eqb t 0).0 e))
     go false e = e
 
-pub full_check : (p : PartitionState) (t : ℕ) → t ≢ 0 → is_full p.opening.limit p.marks ≡ true → state_of p.marks t ≡ state.Unknown
+pub full_check : (p : PartitionState) (t : ℕ) → t ≢ 0 → is_full p.limit p.marks ≡ true → state_of p.marks t ≡ state.Unknown
     → to_check p t ≡ says (reply.Full t)
 full_check p t some full unknown = rw (other t some, full, unknown) refl
 
 pub full_prepare : (p : PartitionState) (t : ℕ) (ws : List Row) (is : List ℕ)
-    → is_proper p.number p.opening.parts t ws is ≡ true → is_full p.opening.limit p.marks ≡ true → state_of p.marks t ≡ state.Unknown
+    → is_proper p.number p.parts t ws is ≡ true → is_full p.limit p.marks ≡ true → state_of p.marks t ≡ state.Unknown
     → to_prepare p t ws is ≡ says (reply.Full t)
 full_prepare p t ws is proper full unknown = rw (proper, full, unknown) refl
 
 -- it stays so
-pub still_full : (p : PartitionState) (m : Message) → IsPartition p → is_full p.opening.limit p.marks ≡ true
-    → is_full p.opening.limit (after p m).marks ≡ true
-still_full p m h full = full_still p.marks (option_to_list (effect_of p m).mark) p.opening.limit (stays_after p m h).legal full
+pub still_full : (p : PartitionState) (m : Message) → IsPartition p → is_full p.limit p.marks ≡ true
+    → is_full p.limit (after p m).marks ≡ true
+still_full p m h full = full_still p.marks (option_to_list (effect_of p m).mark) p.limit (stays_after p m h).legal full
 
 -- a mark is of a stamp that is pending, where there is no room for another's
-pending_cause : (p : PartitionState) (m : Message) (mark : Mark) → is_full p.opening.limit p.marks ≡ true → IsCause p m mark
-    → state_of p.marks (mark_stamp mark) ≡ state.Pending
-pending_cause p m (Prepared t ws is) full cause = absurd (let room = cause.room in cc)
-pending_cause p m (Committed t) full cause = cause.0
-pending_cause p m (Discarded t) full cause = ⊎_elim (λ (a : IsChecked p m t). absurd (let room = a.room in cc)) (λ b. b.0) cause
+pending_cause : (p : PartitionState) (m : Message) (mark : Mark) (t : ℕ) → is_full p.limit p.marks ≡ true → IsCause p m mark
+    → is_mark_of t mark ≡ true → state_of p.marks t ≡ state.Pending
+pending_cause p m (Prepared s ws is) t full cause own = absurd (let room = cause.room in cc)
+pending_cause p m (Committed s) t full cause own = subst (λ (u : ℕ). state_of p.marks u ≡ state.Pending) ((Decides-eqb s t).0 own) cause.0
+pending_cause p m (Discarded s) t full cause own =
+    subst (λ (u : ℕ). state_of p.marks u ≡ state.Pending) ((Decides-eqb s t).0 own)
+    (⊎_elim (λ (a : IsChecked p m s). absurd (let room = a.room in cc)) (λ b. b.0) cause)
+pending_cause p m (Trimmed i) t full cause own = absurd (cc)
 
-pub still_unknown : (p : PartitionState) (m : Message) (t : ℕ) → is_full p.opening.limit p.marks ≡ true → state_of p.marks t ≡ state.Unknown
+pub still_unknown : (p : PartitionState) (m : Message) (t : ℕ) → is_full p.limit p.marks ≡ true → state_of p.marks t ≡ state.Unknown
     → state_of (after p m).marks t ≡ state.Unknown
 still_unknown p m t full unknown = go (effect_of p m).mark refl
   where
     go : (o : Option Mark) → (effect_of p m).mark ≡ o → state_of (p.marks ++ option_to_list o) t ≡ state.Unknown
     go None e = rw (append-nil p.marks) unknown
-    go (Some mark) e = state_push_other p.marks mark t (apart (mark_stamp mark == t) refl) ∙ unknown
+    go (Some mark) e = state_push_other p.marks mark t (apart (is_mark_of t mark) refl) ∙ unknown
       where
-        pending : state_of p.marks (mark_stamp mark) ≡ state.Pending
-        pending = pending_cause p m mark full (marks_are_caused p m mark e)
-
-        apart : (b : Bool) → (mark_stamp mark == t) ≡ b → (mark_stamp mark == t) ≡ false
+        apart : (b : Bool) → is_mark_of t mark ≡ b → is_mark_of t mark ≡ false
         apart false f = f
-        apart true f = absurd (let now : state_of p.marks t ≡ state.Pending = subst (λ (u : ℕ). state_of p.marks u ≡ state.Pending) ((Decides-eqb (mark_stamp mark) t).0 f) pending in cc)
+        apart true f = absurd (let now = pending_cause p m mark t full (marks_are_caused p m mark e) f in cc)
 
 -- ---- what is read
 
@@ -305,6 +323,7 @@ committed_is : (marks : List Mark) (t : ℕ) → list_any (λ s. s == t) (commit
 committed_is [] t = refl
 committed_is (Prepared s ws is ∷ marks) t = committed_is marks t
 committed_is (Discarded s ∷ marks) t = committed_is marks t
+committed_is (Trimmed i ∷ marks) t = committed_is marks t
 committed_is (Committed s ∷ marks) t = ap (λ (b : Bool). (s == t) || b) (committed_is marks t)
 
 state_committed : (marks : List Mark) (t : ℕ) → list_any (commits t) marks ≡ true → state_of marks t ≡ state.Committed
@@ -331,9 +350,9 @@ read_best marks item stamps =
       greatest = All-best_of (has_version marks item) stamps;
     }
 
-read_at : (marks : List Mark) (item : ℕ) (stamps : List ℕ) → IsReadAt marks item stamps (stamp_for marks item stamps)
-read_at marks item [] = read_latest marks item
-read_at marks item (t ∷ stamps) = read_best marks item (t ∷ stamps)
+read_for : (marks : List Mark) (item : ℕ) (stamps : List ℕ) → IsReadAt marks item stamps (stamp_for marks item stamps)
+read_for marks item [] = read_latest marks item
+read_for marks item (t ∷ stamps) = read_best marks item (t ∷ stamps)
 
 has_read : (marks : List Mark) (item : ℕ) (stamps : List ℕ) → stamp_for marks item stamps ≢ 0 → has_version marks item (stamp_for marks item stamps) ≡ true
 has_read marks item [] some = (read_latest marks item).there some
@@ -343,72 +362,54 @@ value_read : (p : PartitionState) (item t : ℕ) → (t ≢ 0 → has_version p.
 value_read p item t there =
     record {
       written = λ some. written some (version p.marks item t) refl (there some);
-      opening = λ zero. rw zero refl;
+      first = λ zero. rw zero refl;
     }
   where
     written : t ≢ 0 → (v : Option Value) → version p.marks item t ≡ v → is_some v ≡ true → version p.marks item t ≡ Some (value_at p item t)
     written some None e f = absurd (cc)
     written some (Some v) e f = e ∙ ap Some (sym (rw (other t some, e) refl))
 
-read_by : (p : PartitionState) (m : Message) (e : Effect) (item t : ℕ) (v : Value) → Acts p m.from m.body e
-    → e.reply ≡ Some (reply.Version item t v) → IsReadOf p m item t v
-read_by p m e item t v (idle is) f = silent e nothing (reply.Version item t v) is refl f
-read_by p m e item t v (said told is h) f =
-    let same : told ≡ reply.Version item t v = (let g : Some told ≡ Some (reply.Version item t v) = subst (λ (x : Effect). x.reply ≡ Some (reply.Version item t v)) is f in cc) in
-    read_of (subst (IsSaid p m.body) same h)
+pub version_is_read : (p : PartitionState) (m : Message) (item t : ℕ) (v : Value) → (effect_of p m).reply ≡ Some (reply.Version item t v) → IsReadOf p m item t v
+version_is_read p m item t v f = read_of (said_here p m (reply.Version item t v) (λ x. x) f)
   where
     read_of : IsSaid p m.body (reply.Version item t v) → IsReadOf p m item t v
     read_of (stamps, asked, at, value) =
         record {
           stamps = stamps;
           asked = asked;
-          stamp_is = subst (IsReadAt p.marks item stamps) (sym at) (read_at p.marks item stamps);
+          stamp_is = subst (IsReadAt p.marks item stamps) (sym at) (read_for p.marks item stamps);
           value_is = subst (IsValueOf p item t) (sym value)
               (value_read p item t (λ (some : t ≢ 0). subst (λ (u : ℕ). has_version p.marks item u ≡ true) (sym at) (has_read p.marks item stamps (λ zero. some (at ∙ zero)))));
         }
-read_by p m e item t v (prepared a) f =
-    absurd (let g : Some (reply.Prepared a.t) ≡ Some (reply.Version item t v) = subst (λ (x : Effect). x.reply ≡ Some (reply.Version item t v)) a.done f in cc)
-read_by p m e item t v (committed a) f =
-    absurd (let g : Some (reply.Committed a.t) ≡ Some (reply.Version item t v) = subst (λ (x : Effect). x.reply ≡ Some (reply.Version item t v)) a.done f in cc)
-read_by p m e item t v (refused a) f =
-    absurd (let g : Some (reply.Status a.t vote.Never) ≡ Some (reply.Version item t v) = subst (λ (x : Effect). x.reply ≡ Some (reply.Version item t v)) a.done f in cc)
-read_by p m e item t v (voted_committed a) f = silent e (marks (Committed a.t)) (reply.Version item t v) a.done refl f
-read_by p m e item t v (voted_never a) f = silent e (marks (Discarded a.t)) (reply.Version item t v) a.done refl f
-read_by p m e item t v (voted_prepared a) f = silent e (to_part p a.part a.t) (reply.Version item t v) a.done refl f
 
-pub version_is_read : (p : PartitionState) (m : Message) (item t : ℕ) (v : Value) → (effect_of p m).reply ≡ Some (reply.Version item t v) → IsReadOf p m item t v
-version_is_read p m item t v f = read_by p m (effect_of p m) item t v (acts_here p m) f
+pub gone_is_trimmed : (p : PartitionState) (m : Message) (item : ℕ) → (effect_of p m).reply ≡ Some (reply.Gone item) → IsGoneFor p.marks m item
+gone_is_trimmed p m item f =
+    let (stamps, asked, none) = said_here p m (reply.Gone item) (λ x. x) f in record {
+      stamps = stamps;
+      asked = asked;
+      trimmed = gone_trimmed p.marks item stamps none;
+      unkept = gone_unkept p.marks item stamps none;
+      some = gone_asks p.marks item stamps none;
+    }
 
 pub get_is_answered : (p : PartitionState) (m : Message) (item : ℕ) (stamps : List ℕ)
-    → m.body ≡ body.Request (Get item stamps) → is_part m.to p.number ≡ true → place_of p.opening.parts item ≡ p.number
-    → (t : ℕ) × (v : Value) × ((effect_of p m).reply ≡ Some (reply.Version item t v))
-get_is_answered p m item stamps asked here placed = (
-  stamp_for p.marks item stamps,
-  value_at p item (stamp_for p.marks item stamps),
-  ap (λ (b : Bool). (if b then to_body p m.from m.body else nothing).reply) here
-      ∙ ap (λ (x : Body). (to_body p m.from x).reply) asked
-      ∙ ap (λ (b : Bool). (if b then says_version p item (stamp_for p.marks item stamps) else says reply.Clash).reply) ((Decides-eqb (place_of p.opening.parts item) p.number).1 placed),
-)
+    → m.body ≡ body.Request (Get item stamps) → is_part m.to p.number ≡ true → place_of p.parts item ≡ p.number
+    → ((t : ℕ) × (v : Value) × ((effect_of p m).reply ≡ Some (reply.Version item t v))) ⊎ ((effect_of p m).reply ≡ Some (reply.Gone item))
+get_is_answered p m item stamps asked here placed = go (read_at p.marks item stamps) (
+    ap (λ (b : Bool). (if b then to_body p m.from m.body else nothing).reply) here
+    ∙ ap (λ (x : Body). (to_body p m.from x).reply) asked
+    ∙ ap (λ (b : Bool). (if b then get_by p item (read_at p.marks item stamps) else says reply.Clash).reply) ((Decides-eqb (place_of p.parts item) p.number).1 placed)
+    )
+  where
+    go : (o : Option ℕ) → (effect_of p m).reply ≡ (get_by p item o).reply
+        → ((t : ℕ) × (v : Value) × ((effect_of p m).reply ≡ Some (reply.Version item t v))) ⊎ ((effect_of p m).reply ≡ Some (reply.Gone item))
+    go (Some t) e = inl (t, value_at p item t, e)
+    go None e = inr e
 
 -- ---- a Clash, and that each request is answered
 
-clash_by : (p : PartitionState) (from : Node) (b : Body) (e : Effect) → Acts p from b e → e.reply ≡ Some reply.Clash → IsClash p b
-clash_by p from b e (idle is) f = silent e nothing reply.Clash is refl f
-clash_by p from b e (said told is h) f =
-    let same : told ≡ reply.Clash = (let g : Some told ≡ Some reply.Clash = subst (λ (x : Effect). x.reply ≡ Some reply.Clash) is f in cc) in
-    subst (IsSaid p b) same h
-clash_by p from b e (prepared a) f =
-    absurd (let g : Some (reply.Prepared a.t) ≡ Some reply.Clash = subst (λ (x : Effect). x.reply ≡ Some reply.Clash) a.done f in cc)
-clash_by p from b e (committed a) f =
-    absurd (let g : Some (reply.Committed a.t) ≡ Some reply.Clash = subst (λ (x : Effect). x.reply ≡ Some reply.Clash) a.done f in cc)
-clash_by p from b e (refused a) f =
-    absurd (let g : Some (reply.Status a.t vote.Never) ≡ Some reply.Clash = subst (λ (x : Effect). x.reply ≡ Some reply.Clash) a.done f in cc)
-clash_by p from b e (voted_committed a) f = silent e (marks (Committed a.t)) reply.Clash a.done refl f
-clash_by p from b e (voted_never a) f = silent e (marks (Discarded a.t)) reply.Clash a.done refl f
-clash_by p from b e (voted_prepared a) f = silent e (to_part p a.part a.t) reply.Clash a.done refl f
-
 pub clash_only : (p : PartitionState) (m : Message) → (effect_of p m).reply ≡ Some reply.Clash → IsClash p m.body
-clash_only p m f = clash_by p m.from m.body (effect_of p m) (acts_here p m) f
+clash_only p m f = said_here p m reply.Clash (λ x. x) f
 
 prepare_replies : (full same : Bool) (s : StampState) (t : ℕ) (ws : List Row) (is : List ℕ) → is_some (prepare_by full same s t ws is).reply ≡ true
 prepare_replies true same state.Unknown t ws is = refl
@@ -439,12 +440,17 @@ either false d e f g = g
 
 request_replies : (p : PartitionState) (q : Request) → is_some (to_request p q).reply ≡ true
 request_replies p (Prepare t ws is) =
-    either (is_proper p.number p.opening.parts t ws is) (prepare_by (is_full p.opening.limit p.marks) (is_same p.marks t ws is) (state_of p.marks t) t ws is) (says reply.Clash)
-    (prepare_replies (is_full p.opening.limit p.marks) (is_same p.marks t ws is) (state_of p.marks t) t ws is) refl
+    either (is_proper p.number p.parts t ws is) (prepare_by (is_full p.limit p.marks) (is_same p.marks t ws is) (state_of p.marks t) t ws is) (says reply.Clash)
+    (prepare_replies (is_full p.limit p.marks) (is_same p.marks t ws is) (state_of p.marks t) t ws is) refl
 request_replies p (Commit t) = either (t == 0) (says reply.Clash) (commit_by (state_of p.marks t) t) refl (commit_replies (state_of p.marks t) t)
-request_replies p (Get item stamps) = either (is_placed p.number p.opening.parts item) (says_version p item (stamp_for p.marks item stamps)) (says reply.Clash) refl refl
+request_replies p (Get item stamps) =
+    either (is_placed p.number p.parts item) (get_by p item (read_at p.marks item stamps)) (says reply.Clash) (get_replies (read_at p.marks item stamps)) refl
+  where
+    get_replies : (o : Option ℕ) → is_some (get_by p item o).reply ≡ true
+    get_replies None = refl
+    get_replies (Some t) = refl
 request_replies p (Check t) =
-    either (t == 0) (says reply.Clash) (check_by (is_full p.opening.limit p.marks) (state_of p.marks t) t) refl (check_replies (is_full p.opening.limit p.marks) (state_of p.marks t) t)
+    either (t == 0) (says reply.Clash) (check_by (is_full p.limit p.marks) (state_of p.marks t) t) refl (check_replies (is_full p.limit p.marks) (state_of p.marks t) t)
 
 pub requests_are_answered : (p : PartitionState) (m : Message) (q : Request) → m.body ≡ body.Request q → is_part m.to p.number ≡ true → is_some (answer p m) ≡ true
 requests_are_answered p m q asked here =

@@ -7,7 +7,7 @@ use Rattle.std.proofs.Math.Bool.{or-false}
 use Rattle.std.proofs.lemmas.Bool.Decides.{Decides-eqb}
 use Rattle.std.proofs.lemmas.List.Elements.{filter-append, filter_map-append}
 use Rattle.album_partition.specs.declared.marks.Mark.{Mark}
-use Rattle.album_partition.specs.declared.marks.Mark.TheVariants.{Prepared, Committed, Discarded}
+use Rattle.album_partition.specs.declared.marks.Mark.TheVariants.{Prepared, Committed, Discarded, Trimmed}
 use Rattle.album_partition.specs.Marks.{prepares, state_of, prepare_in, prepared_stamps, may_follow, legal_after, is_legal, commits, discards, decides, is_unknown, is_pending}
 use Rattle.album_partition.proofs.StateLemmas.{unknown_tells, is_unknown_tells, any_push, pending_tells, is_pending_tells}
 use Rattle.album_items.specs.Openings.{Row}
@@ -76,6 +76,7 @@ pub times_none : (t : ℕ) (marks : List Mark) → list_any (prepares t) marks �
 times_none t [] e = refl
 times_none t (Committed s ∷ marks) e = times_none t marks e
 times_none t (Discarded s ∷ marks) e = times_none t marks e
+times_none t (Trimmed i ∷ marks) e = times_none t marks e
 times_none t (Prepared s ws is ∷ marks) e = go (s == t) e (times_none t marks)
   where
     go : (b : Bool) → b || list_any (prepares t) marks ≡ false → (list_any (prepares t) marks ≡ false → times t (prepared_stamps marks) ≡ 0) → length (cond b (s ∷ filter (λ s. s == t) (prepared_stamps marks)) (filter (λ s. s == t) (prepared_stamps marks))) ≡ 0
@@ -86,6 +87,7 @@ times_some : (t : ℕ) (marks : List Mark) → list_any (prepares t) marks ≡ t
 times_some t [] e = absurd (cc)
 times_some t (Committed s ∷ marks) e = times_some t marks e
 times_some t (Discarded s ∷ marks) e = times_some t marks e
+times_some t (Trimmed i ∷ marks) e = times_some t marks e
 times_some t (Prepared s ws is ∷ marks) e = go (s == t) e (times_some t marks)
   where
     go : (b : Bool) → b || list_any (prepares t) marks ≡ true → (list_any (prepares t) marks ≡ true → 1 ≤ times t (prepared_stamps marks)) → 1 ≤ length (cond b (s ∷ filter (λ s. s == t) (prepared_stamps marks)) (filter (λ s. s == t) (prepared_stamps marks)))
@@ -101,6 +103,7 @@ one_is_not s t e = rw e refl
 times_more : (t : ℕ) (before : List Mark) (mark : Mark) → may_follow before mark ≡ true → times t (prepared_stamps before) ≤ 1 → times t (prepared_stamps (before ++ mark ∷ [])) ≤ 1
 times_more t before (Committed s) may few = (let more = times_push t before (Committed s) in omega arith)
 times_more t before (Discarded s) may few = (let more = times_push t before (Discarded s) in omega arith)
+times_more t before (Trimmed i) may few = (let more = times_push t before (Trimmed i) in omega arith)
 times_more t before (Prepared s ws is) may few = go (s == t) refl
   where
     unprepared : list_any (prepares s) before ≡ false
@@ -174,6 +177,7 @@ once_after test new marks h =
 new_prepare : (t : ℕ) (marks : List Mark) (mark : Mark) → may_follow marks mark ≡ true → prepares t mark ≡ true → list_any (prepares t) marks ≡ false
 new_prepare t marks (Committed s) may e = absurd (cc)
 new_prepare t marks (Discarded s) may e = absurd (cc)
+new_prepare t marks (Trimmed i) may e = absurd (cc)
 new_prepare t marks (Prepared s ws is) may e =
     subst (λ (u : ℕ). list_any (prepares u) marks ≡ false) ((Decides-eqb s t).0 e) (unknown_tells _ _ _ (is_unknown_tells (state_of marks s) may)).2
 
@@ -199,6 +203,7 @@ not_decided t marks state.Discarded e may = absurd (cc)
 
 new_decision : (t : ℕ) (marks : List Mark) (mark : Mark) → may_follow marks mark ≡ true → decides t mark ≡ true → list_any (decides t) marks ≡ false
 new_decision t marks (Prepared s ws is) may e = absurd (cc)
+new_decision t marks (Trimmed i) may e = absurd (cc)
 new_decision t marks (Committed s) may e =
     subst (λ (u : ℕ). list_any (decides u) marks ≡ false) ((Decides-eqb s t).0 (sym (or-false (s == t)) ∙ e)) (not_decided s marks state.Pending (is_pending_tells (state_of marks s) may) refl)
 new_decision t marks (Discarded s) may e =
@@ -217,6 +222,7 @@ prepared_more t marks mark may before e =
     was m may true f g = before f
     was (Prepared s ws is) may false f g = absurd (cc)
     was (Discarded s) may false f g = absurd (cc)
+    was (Trimmed i) may false f g = absurd (cc)
     was (Committed s) may false f g = subst (λ (u : ℕ). list_any (prepares u) marks ≡ true) ((Decides-eqb s t).0 g) (pending_tells _ _ _ (is_pending_tells (state_of marks s) may)).2
 
 pub committed_was_prepared : (marks : List Mark) (t : ℕ) → is_legal marks ≡ true → list_any (commits t) marks ≡ true → list_any (prepares t) marks ≡ true

@@ -6,7 +6,10 @@ pub mod PlaceLemmas
 pub mod ProperLemmas
 pub mod VoteLemmas
 pub mod HistoryLemmas
+pub mod VersionLemmas
+pub mod TrimLemmas
 pub mod StoredLemmas
+pub mod FirstValueLemmas
 pub mod AnswerLemmas
 pub mod PartitionLemmas
 pub mod GrowthLemmas

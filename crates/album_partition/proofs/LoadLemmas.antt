@@ -7,9 +7,10 @@ use Rattle.std.proofs.lemmas.List.Elements.{filter-append, filter_map-append, fi
 use Rattle.album_items.specs.Openings.{Row}
 use Rattle.album_terminate.specs.declared.deciding.StampState.TheVariants as state
 use Rattle.album_partition.specs.declared.marks.Mark.{Mark}
-use Rattle.album_partition.specs.declared.marks.Mark.TheVariants.{Prepared, Committed, Discarded}
-use Rattle.album_partition.specs.Marks.{mark_stamp, state_of, is_pending, prepare_in, prepared_stamps, pending_stamps, is_legal}
+use Rattle.album_partition.specs.declared.marks.Mark.TheVariants.{Prepared, Committed, Discarded, Trimmed}
+use Rattle.album_partition.specs.Marks.{is_mark_of, state_of, is_pending, prepare_in, prepared_stamps, pending_stamps, is_legal}
 use Rattle.album_partition.proofs.LegalLemmas.{times, times_none, times_once}
+use Rattle.album_partition.proofs.ListLemmas.{turned}
 use Rattle.album_partition.proofs.StateLemmas.{state_push_other, unknown_tells, pending_tells, prepared_is_pending, committed_is_committed, discarded_is_discarded}
 
 -- two tests that tell all numbers but one alike, and that one is among the numbers so many times
@@ -35,23 +36,16 @@ pending_push marks mark =
     ∙ length-append (filter (λ s. is_pending (state_of (marks ++ mark ∷ []) s)) (prepared_stamps marks)) (filter (λ s. is_pending (state_of (marks ++ mark ∷ []) s)) (prepared_stamps (mark ∷ [])))
 
 -- the other stamps stay as they are
-apart_from : (marks : List Mark) (mark : Mark) (t s : ℕ) → mark_stamp mark ≡ t → (s == t) ≡ false → (mark_stamp mark == s) ≡ false
-apart_from marks mark t s is e = go (mark_stamp mark == s) refl
-  where
-    go : (b : Bool) → (mark_stamp mark == s) ≡ b → (mark_stamp mark == s) ≡ false
-    go false f = f
-    go true f = absurd (let same : s ≡ t = sym ((Decides-eqb (mark_stamp mark) s).0 f) ∙ is in let here : (s == t) ≡ true = (Decides-eqb s t).1 same in (cc))
+others_stay : (marks : List Mark) (mark : Mark) (s : ℕ) → is_mark_of s mark ≡ false → is_pending (state_of (marks ++ mark ∷ []) s) ≡ is_pending (state_of marks s)
+others_stay marks mark s e = ap is_pending (state_push_other marks mark s e)
 
-others_stay : (marks : List Mark) (mark : Mark) (s : ℕ) → (s == mark_stamp mark) ≡ false → is_pending (state_of (marks ++ mark ∷ []) s) ≡ is_pending (state_of marks s)
-others_stay marks mark s e = ap is_pending (state_push_other marks mark s (apart_from marks mark (mark_stamp mark) s refl e))
-
--- one pending_stamps stamp more
+-- one pending stamp more
 pub prepared_counts : (marks : List Mark) (t : ℕ) (ws : List Row) (is : List ℕ) → state_of marks t ≡ state.Unknown → length (pending_stamps (marks ++ Prepared t ws is ∷ [])) ≡ length (pending_stamps marks) + 1
 prepared_counts marks t ws is unknown =
     let told = unknown_tells _ _ _ unknown in
     let now = ap is_pending (prepared_is_pending marks t ws is unknown) in
     let none = times_none t marks told.2 in
-    let before = filter_but (λ s. is_pending (state_of (marks ++ Prepared t ws is ∷ []) s)) (λ s. is_pending (state_of marks s)) t now (ap is_pending unknown) (λ s e. others_stay marks (Prepared t ws is) s e) (prepared_stamps marks) in
+    let before = filter_but (λ s. is_pending (state_of (marks ++ Prepared t ws is ∷ []) s)) (λ s. is_pending (state_of marks s)) t now (ap is_pending unknown) (λ s e. others_stay marks (Prepared t ws is) s (turned s t e)) (prepared_stamps marks) in
     let one : length (filter (λ s. is_pending (state_of (marks ++ Prepared t ws is ∷ []) s)) (t ∷ [])) ≡ 1 = rw now refl in
     let pushed = pending_push marks (Prepared t ws is) in
     omega arith
@@ -61,7 +55,7 @@ pub committed_counts : (marks : List Mark) (t : ℕ) → is_legal marks ≡ true
 committed_counts marks t legal pending =
     let told = pending_tells _ _ _ pending in
     let once = times_once t marks legal told.2 in
-    let before = filter_but (λ s. is_pending (state_of marks s)) (λ s. is_pending (state_of (marks ++ Committed t ∷ []) s)) t (ap is_pending pending) (ap is_pending (committed_is_committed marks t)) (λ s e. sym (others_stay marks (Committed t) s e)) (prepared_stamps marks) in
+    let before = filter_but (λ s. is_pending (state_of marks s)) (λ s. is_pending (state_of (marks ++ Committed t ∷ []) s)) t (ap is_pending pending) (ap is_pending (committed_is_committed marks t)) (λ s e. sym (others_stay marks (Committed t) s (turned s t e))) (prepared_stamps marks) in
     let pushed = pending_push marks (Committed t) in
     omega arith
 
@@ -69,7 +63,7 @@ pub discarded_counts : (marks : List Mark) (t : ℕ) → is_legal marks ≡ true
 discarded_counts marks t legal pending =
     let told = pending_tells _ _ _ pending in
     let once = times_once t marks legal told.2 in
-    let before = filter_but (λ s. is_pending (state_of marks s)) (λ s. is_pending (state_of (marks ++ Discarded t ∷ []) s)) t (ap is_pending pending) (ap is_pending (discarded_is_discarded marks t told.0)) (λ s e. sym (others_stay marks (Discarded t) s e)) (prepared_stamps marks) in
+    let before = filter_but (λ s. is_pending (state_of marks s)) (λ s. is_pending (state_of (marks ++ Discarded t ∷ []) s)) t (ap is_pending pending) (ap is_pending (discarded_is_discarded marks t told.0)) (λ s e. sym (others_stay marks (Discarded t) s (turned s t e))) (prepared_stamps marks) in
     let pushed = pending_push marks (Discarded t) in
     omega arith
 
@@ -82,7 +76,7 @@ refused_counts marks t unknown =
     (let counted = ap length same in omega arith)
   where
     at : (s : ℕ) → (b : Bool) → (s == t) ≡ b → is_pending (state_of (marks ++ Discarded t ∷ []) s) ≡ is_pending (state_of marks s)
-    at s false e = others_stay marks (Discarded t) s e
+    at s false e = others_stay marks (Discarded t) s (turned s t e)
     at s true e =
         let is = (Decides-eqb s t).0 e in
         let told = unknown_tells _ _ _ unknown in
@@ -91,13 +85,21 @@ refused_counts marks t unknown =
     alike : (s : ℕ) → is_pending (state_of (marks ++ Discarded t ∷ []) s) ≡ is_pending (state_of marks s)
     alike s = at s (s == t) refl
 
--- ---- there are no more pending_stamps stamps than marks
+-- a trim changes nothing
+pub trimmed_counts : (marks : List Mark) (i : ℕ) → length (pending_stamps (marks ++ Trimmed i ∷ [])) ≡ length (pending_stamps marks)
+trimmed_counts marks i =
+    let same = filter_agree (λ s. is_pending (state_of (marks ++ Trimmed i ∷ []) s)) (λ s. is_pending (state_of marks s)) (λ s. others_stay marks (Trimmed i) s refl) (prepared_stamps marks) in
+    let pushed = pending_push marks (Trimmed i) in
+    (let counted = ap length same in omega arith)
+
+-- ---- there are no more pending stamps than marks
 
 prepared_few : (marks : List Mark) → length (prepared_stamps marks) ≤ length marks
 prepared_few [] = omega arith
 prepared_few (Prepared t ws is ∷ marks) = (let few = prepared_few marks in omega arith)
 prepared_few (Committed t ∷ marks) = (let few = prepared_few marks in omega arith)
 prepared_few (Discarded t ∷ marks) = (let few = prepared_few marks in omega arith)
+prepared_few (Trimmed i ∷ marks) = (let few = prepared_few marks in omega arith)
 
 pub pending_few : (marks : List Mark) → length (pending_stamps marks) ≤ length marks
 pending_few marks =

@@ -9,8 +9,8 @@ use Rattle.album_terminate.specs.declared.deciding.StampState.{StampState}
 use Rattle.album_terminate.specs.declared.deciding.StampState.TheVariants as state
 use Rattle.album_items.specs.Openings.{Row}
 use Rattle.album_partition.specs.declared.marks.Mark.{Mark}
-use Rattle.album_partition.specs.declared.marks.Mark.TheVariants.{Prepared, Committed, Discarded}
-use Rattle.album_partition.specs.Marks.{mark_stamp, prepares, commits, discards, state_by, state_of, is_unknown, is_pending}
+use Rattle.album_partition.specs.declared.marks.Mark.TheVariants.{Prepared, Committed, Discarded, Trimmed}
+use Rattle.album_partition.specs.Marks.{mark_stamp, is_mark_of, prepares, commits, discards, state_by, state_of, is_unknown, is_pending}
 
 pub same_stamp : (t : ℕ) → (t == t) ≡ true
 same_stamp t = (Decides-eqb t t).1 refl
@@ -24,20 +24,36 @@ pub any_push_no : {X : Type 0} (f : X → Bool) (xs : List X) (x : X) → f x �
 any_push_no f xs x apart = any_push f xs x ∙ ap (λ b. list_any f xs || b) apart ∙ or-false (list_any f xs)
 
 -- a mark does nothing to another stamp
-pub prepares_no : (mark : Mark) (t : ℕ) → (mark_stamp mark == t) ≡ false → prepares t mark ≡ false
+pub prepares_no : (mark : Mark) (t : ℕ) → is_mark_of t mark ≡ false → prepares t mark ≡ false
 prepares_no (Prepared s ws is) t apart = apart
 prepares_no (Committed s) t apart = refl
 prepares_no (Discarded s) t apart = refl
+prepares_no (Trimmed i) t apart = refl
 
-pub commits_no : (mark : Mark) (t : ℕ) → (mark_stamp mark == t) ≡ false → commits t mark ≡ false
+pub commits_no : (mark : Mark) (t : ℕ) → is_mark_of t mark ≡ false → commits t mark ≡ false
 commits_no (Prepared s ws is) t apart = refl
 commits_no (Committed s) t apart = apart
 commits_no (Discarded s) t apart = refl
+commits_no (Trimmed i) t apart = refl
 
-pub discards_no : (mark : Mark) (t : ℕ) → (mark_stamp mark == t) ≡ false → discards t mark ≡ false
+pub discards_no : (mark : Mark) (t : ℕ) → is_mark_of t mark ≡ false → discards t mark ≡ false
 discards_no (Prepared s ws is) t apart = refl
 discards_no (Committed s) t apart = refl
 discards_no (Discarded s) t apart = apart
+discards_no (Trimmed i) t apart = refl
+
+-- it is of just its own stamp
+pub own_mark : (mark : Mark) (t s : ℕ) → mark_stamp mark ≡ Some t → is_mark_of s mark ≡ (t == s)
+own_mark (Prepared u ws is) t s e = let same : u ≡ t = cc in ap (λ (v : ℕ). v == s) same
+own_mark (Committed u) t s e = let same : u ≡ t = cc in ap (λ (v : ℕ). v == s) same
+own_mark (Discarded u) t s e = let same : u ≡ t = cc in ap (λ (v : ℕ). v == s) same
+own_mark (Trimmed i) t s e = absurd (cc)
+
+pub no_mark : (mark : Mark) (s : ℕ) → mark_stamp mark ≡ None → is_mark_of s mark ≡ false
+no_mark (Prepared u ws is) s e = absurd (cc)
+no_mark (Committed u) s e = absurd (cc)
+no_mark (Discarded u) s e = absurd (cc)
+no_mark (Trimmed i) s e = refl
 
 state_by_same : {a b c d e f : Bool} → a ≡ d → b ≡ e → c ≡ f → state_by a b c ≡ state_by d e f
 state_by_same p q r = rw (p, q, r) refl
@@ -47,7 +63,7 @@ pub state_push : (marks : List Mark) (mark : Mark) (t : ℕ) → state_of (marks
 state_push marks mark t = state_by_same (any_push (commits t) marks mark) (any_push (discards t) marks mark) (any_push (prepares t) marks mark)
 
 -- that of another stamp stays
-pub state_push_other : (marks : List Mark) (mark : Mark) (t : ℕ) → (mark_stamp mark == t) ≡ false → state_of (marks ++ mark ∷ []) t ≡ state_of marks t
+pub state_push_other : (marks : List Mark) (mark : Mark) (t : ℕ) → is_mark_of t mark ≡ false → state_of (marks ++ mark ∷ []) t ≡ state_of marks t
 state_push_other marks mark t apart =
     state_by_same (any_push_no (commits t) marks mark (commits_no mark t apart)) (any_push_no (discards t) marks mark (discards_no mark t apart)) (any_push_no (prepares t) marks mark (prepares_no mark t apart))
 

@@ -9,8 +9,8 @@ use Rattle.std.proofs.lemmas.List.Folds.{find-append}
 use Rattle.album_terminate.specs.Deciding.{have_told}
 use Rattle.album_terminate.specs.declared.deciding.StampState.TheVariants as state
 use Rattle.album_partition.specs.declared.marks.Mark.{Mark}
-use Rattle.album_partition.specs.declared.marks.Mark.TheVariants.{Prepared, Committed, Discarded}
-use Rattle.album_partition.specs.Marks.{mark_stamp, prepares, commits, state_of, is_unknown, is_pending, may_follow, mark_items, items_at}
+use Rattle.album_partition.specs.declared.marks.Mark.TheVariants.{Prepared, Committed, Discarded, Trimmed}
+use Rattle.album_partition.specs.Marks.{is_mark_of, prepares, commits, state_of, is_unknown, is_pending, may_follow, mark_items, items_at}
 use Rattle.album_partition.specs.Places.{lies_at, others_of}
 use Rattle.album_partition.specs.Votes.{NotedVote, has_vote, heard, same_vote, is_due, AreVotes}
 use Rattle.album_partition.proofs.ListLemmas.{no_two-push, list_all-push, list_all-weaker, list_all-any}
@@ -48,14 +48,19 @@ voted_is_prepared parts marks votes t due e =
     subst (λ (u : ℕ). list_any (prepares u) marks ≡ true) ((Decides-eqb h.0.stamp t).0 h.2) (due_is_prepared parts marks h.0 h.1)
 
 -- a mark of the stamp leaves it pending only where it prepares it
-still_pending : (marks : List Mark) (mark : Mark) → may_follow marks mark ≡ true → state_of (marks ++ mark ∷ []) (mark_stamp mark) ≡ state.Pending → state_of marks (mark_stamp mark) ≡ state.Unknown
-still_pending marks (Prepared t ws is) may e = is_unknown_tells (state_of marks t) may
-still_pending marks (Committed t) may e = absurd (let done = committed_is_committed marks t in cc)
-still_pending marks (Discarded t) may e = absurd (let gone = discarded_is_discarded marks t (uncommitted (list_any (commits t) marks) refl) in cc)
+still_pending : (marks : List Mark) (mark : Mark) (t : ℕ) → is_mark_of t mark ≡ true → may_follow marks mark ≡ true
+    → state_of (marks ++ mark ∷ []) t ≡ state.Pending → state_of marks t ≡ state.Unknown
+still_pending marks (Prepared s ws is) t own may e =
+    subst (λ (u : ℕ). state_of marks u ≡ state.Unknown) ((Decides-eqb s t).0 own) (is_unknown_tells (state_of marks s) may)
+still_pending marks (Committed s) t own may e =
+    absurd (let done = subst (λ (u : ℕ). state_of (marks ++ Committed s ∷ []) u ≡ state.Committed) ((Decides-eqb s t).0 own) (committed_is_committed marks s) in cc)
+still_pending marks (Discarded s) t own may e =
+    absurd (let gone = subst (λ (u : ℕ). state_of (marks ++ Discarded s ∷ []) u ≡ state.Discarded) ((Decides-eqb s t).0 own) (discarded_is_discarded marks s (uncommitted (list_any (commits s) marks) refl)) in cc)
   where
-    uncommitted : (b : Bool) → list_any (commits t) marks ≡ b → list_any (commits t) marks ≡ false
+    uncommitted : (b : Bool) → list_any (commits s) marks ≡ b → list_any (commits s) marks ≡ false
     uncommitted false f = f
-    uncommitted true f = absurd (let h : state_of marks t ≡ state.Committed = rw f refl in let g : is_unknown (state_of marks t) || is_pending (state_of marks t) ≡ true = may in let wrong = rw h at g in cc)
+    uncommitted true f = absurd (let h : state_of marks s ≡ state.Committed = rw f refl in let g : is_unknown (state_of marks s) || is_pending (state_of marks s) ≡ true = may in let wrong = rw h at g in cc)
+still_pending marks (Trimmed i) t own may e = absurd (cc)
 
 pub votes_with_mark : (number parts : ℕ) (marks : List Mark) (votes : List NotedVote) (mark : Mark)
     → may_follow marks mark ≡ true → AreVotes number parts marks votes → AreVotes number parts (marks ++ mark ∷ []) votes
@@ -63,17 +68,16 @@ votes_with_mark number parts marks votes mark may h =
     record {
       once = h.once;
       due = list_all-weaker (is_due parts marks) (is_due parts (marks ++ mark ∷ [])) (due-push parts marks mark) votes h.due;
-      open_still = λ t pending voted. go t (mark_stamp mark == t) refl pending voted;
+      open_still = λ t pending voted. go t (is_mark_of t mark) refl pending voted;
     }
   where
-    go : (t : ℕ) (b : Bool) → (mark_stamp mark == t) ≡ b → state_of (marks ++ mark ∷ []) t ≡ state.Pending
+    go : (t : ℕ) (b : Bool) → is_mark_of t mark ≡ b → state_of (marks ++ mark ∷ []) t ≡ state.Pending
         → list_any (λ vote. vote.stamp == t) votes ≡ true
         → have_told (heard votes t) (others_of number parts (items_at (marks ++ mark ∷ []) t)) ≡ false
     go t true e pending voted =
-        let same : mark_stamp mark ≡ t = (Decides-eqb (mark_stamp mark) t).0 e in
-        let unknown = still_pending marks mark may (subst (λ (u : ℕ). state_of (marks ++ mark ∷ []) u ≡ state.Pending) (sym same) pending) in
+        let unknown = still_pending marks mark t e may pending in
         let none = (unknown_tells _ _ _ unknown).2 in
-        let some = subst (λ (u : ℕ). list_any (prepares u) marks ≡ true) (sym same) (voted_is_prepared parts marks votes t h.due voted) in
+        let some = voted_is_prepared parts marks votes t h.due voted in
         absurd (cc)
     go t false e pending voted =
         let items : items_at (marks ++ mark ∷ []) t ≡ items_at marks t = ap mark_items (find_push_no (prepares t) marks mark (prepares_no mark t e)) in

@@ -23,7 +23,7 @@ use Rattle.album_terminate.specs.declared.deciding.StampState.TheVariants as sta
 use Rattle.album_partition.specs.declared.marks.Mark.{Mark}
 use Rattle.album_partition.specs.declared.marks.Mark.TheVariants as mark
 use Rattle.album_partition.specs.Marks.{state_of, is_pending, is_full, writes_at, items_at}
-use Rattle.album_partition.specs.Partition.{PartitionState, value_at, stamp_for}
+use Rattle.album_partition.specs.Partition.{PartitionState, value_at, read_at}
 use Rattle.album_partition.specs.Places.{is_placed, lies_at, others_of}
 use Rattle.album_partition.specs.Proper.{is_proper}
 use Rattle.album_partition.specs.Votes.{NotedVote, new_vote, heard}
@@ -66,9 +66,9 @@ prepare_by full same state.Discarded stamp writes items = says (reply.Discarded 
 
 abbrev pub to_prepare : PartitionState → ℕ → List Row → List ℕ → Effect
 to_prepare partition stamp writes items =
-    if is_proper partition.number partition.opening.parts stamp writes items
+    if is_proper partition.number partition.parts stamp writes items
     then prepare_by
-    (is_full partition.opening.limit partition.marks)
+    (is_full partition.limit partition.marks)
     (is_same partition.marks stamp writes items)
     (state_of partition.marks stamp) stamp writes items
     else says reply.Clash
@@ -98,7 +98,7 @@ check_by full state.Discarded stamp = says (reply.Status stamp vote.Never)
 abbrev pub to_check : PartitionState → ℕ → Effect
 to_check partition stamp =
     if stamp == 0 then says reply.Clash
-    else check_by (is_full partition.opening.limit partition.marks) (state_of partition.marks stamp) stamp
+    else check_by (is_full partition.limit partition.marks) (state_of partition.marks stamp) stamp
 
 -- ---- a Get
 
@@ -106,10 +106,15 @@ to_check partition stamp =
 abbrev pub says_version : PartitionState → ℕ → ℕ → Effect
 says_version partition item stamp = says (reply.Version item stamp (value_at partition item stamp))
 
+-- by the stamp at which it is read: where there is none, it is gone
+abbrev pub get_by : PartitionState → ℕ → Option ℕ → Effect
+get_by partition item None = says (reply.Gone item)
+get_by partition item (Some stamp) = says_version partition item stamp
+
 abbrev pub to_get : PartitionState → ℕ → List ℕ → Effect
 to_get partition item stamps =
-    if is_placed partition.number partition.opening.parts item
-    then says_version partition item (stamp_for partition.marks item stamps)
+    if is_placed partition.number partition.parts item
+    then get_by partition item (read_at partition.marks item stamps)
     else says reply.Clash
 
 -- ---- a vote on a stamp that is pending here
@@ -126,7 +131,7 @@ mark_with partition part stamp =
     mark_by
     (decision_of vote.Prepared
     (part ∷ heard partition.votes stamp)
-    (others_of partition.number partition.opening.parts (items_at partition.marks stamp)))
+    (others_of partition.number partition.parts (items_at partition.marks stamp)))
     stamp
 
 -- a vote Prepared, which one of the partitions of the items has told
@@ -136,7 +141,7 @@ to_part partition part stamp =
 
 abbrev pub to_prepared : PartitionState → Node → ℕ → Effect
 to_prepared partition (Part part) stamp =
-    if lies_at part partition.opening.parts (items_at partition.marks stamp)
+    if lies_at part partition.parts (items_at partition.marks stamp)
     then to_part partition part stamp
     else nothing
 to_prepared partition (Client client) stamp = nothing
@@ -168,6 +173,7 @@ to_reply partition from (reply.Version item stamp value) = nothing
 to_reply partition from (reply.NotPrepared stamp) = nothing
 to_reply partition from reply.Clash = nothing
 to_reply partition from (reply.Full stamp) = nothing
+to_reply partition from (reply.Gone item) = nothing
 
 abbrev pub to_body : PartitionState → Node → Body → Effect
 to_body partition from (body.Request request) = to_request partition request
@@ -209,6 +215,7 @@ is_version (reply.Status stamp vote) = false
 is_version (reply.NotPrepared stamp) = false
 is_version reply.Clash = false
 is_version (reply.Full stamp) = false
+is_version (reply.Gone item) = false
 
 -- something is kept or copied
 abbrev pub wants_memory : Effect → Bool

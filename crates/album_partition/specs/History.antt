@@ -1,5 +1,5 @@
 -- How a history finds the state of a stamp, and where in it the stamp was prepared.
-use Rattle.std.specs.Prelude.{◌≡◌, ℕ, ◌<◌, Bool, true, false, List, length, Option, Some, None}
+use Rattle.std.specs.Prelude.{◌≡◌, ℕ, ◌<◌, Bool, true, false, List, [], ◌∷◌, ◌++◌, length, Option, Some, None}
 use Rattle.std.specs.List.{find, slice_get}
 use Rattle.std.specs.BTreeMap.{BTreeMap, get}
 use Rattle.std.specs.Ordering.{nat_cmp}
@@ -7,8 +7,9 @@ use Rattle.album_terminate.specs.declared.deciding.StampState.{StampState}
 use Rattle.album_terminate.specs.declared.deciding.StampState.TheVariants as state
 use Rattle.album_partition.specs.declared.history.Standing.{Standing}
 use Rattle.album_partition.specs.declared.history.Standing.TheVariants.{Pending, Committed, Discarded}
+use Rattle.album_partition.specs.declared.history.Change.{Change}
 use Rattle.album_partition.specs.declared.marks.Mark.{Mark}
-use Rattle.album_partition.specs.Marks.{prepares, state_of, is_legal, pending_stamps}
+use Rattle.album_partition.specs.Marks.{mark_stamp, prepares, state_of, is_legal, pending_stamps}
 
 -- the mark that prepared a stamp stands at the index
 pub record IsAt (marks : List Mark) (stamp index : ℕ) : Type 0 where
@@ -21,6 +22,15 @@ Stands marks stamp None = state_of marks stamp ≡ state.Unknown
 Stands marks stamp (Some (Pending index)) = (state_of marks stamp ≡ state.Pending) × IsAt marks stamp index
 Stands marks stamp (Some (Committed index)) = (state_of marks stamp ≡ state.Committed) × IsAt marks stamp index
 Stands marks stamp (Some Discarded) = state_of marks stamp ≡ state.Discarded
+
+-- What a mark that was not made yet will change beside the list: how its stamp will stand, and how many will be
+-- pending. A trim is of no stamp, and changes neither.
+abbrev pub WillStand : List Mark → Mark → Option Change → Type 0
+WillStand marks mark None = mark_stamp mark ≡ None
+WillStand marks mark (Some change) =
+    (mark_stamp mark ≡ Some change.stamp)
+    × Stands (marks ++ mark ∷ []) change.stamp (Some change.standing)
+    × (change.pending ≡ length (pending_stamps (marks ++ mark ∷ [])))
 
 -- The marks follow each other as they may; beside them stand, of each stamp, what is kept of it, and how many
 -- are pending.

@@ -1,5 +1,5 @@
 -- What follows of the table of answers: what each reply, each version that is read and each mark tells.
-use Rattle.std.specs.Prelude.{◌≡◌, ◌≢◌, ℕ, ◌≤◌, true, false, All, Contains, ◌⊎◌, List, [], ◌∷◌, Some}
+use Rattle.std.specs.Prelude.{◌≡◌, ◌≢◌, ℕ, ◌≤◌, ◌<◌, true, false, All, Contains, ◌⊎◌, List, [], ◌∷◌, Some, None}
 use Rattle.std.specs.Option.{unwrap_or}
 use Rattle.album_items.specs.ItemIds.{place_of}
 use Rattle.album_items.specs.Openings.{Row}
@@ -15,9 +15,9 @@ use Rattle.album_calls.specs.declared.replies.Reply.{Reply}
 use Rattle.album_calls.specs.declared.replies.Reply.TheVariants as reply
 use Rattle.album_terminate.specs.declared.deciding.StampState.TheVariants as state
 use Rattle.album_partition.specs.declared.marks.Mark.{Mark}
-use Rattle.album_partition.specs.declared.marks.Mark.TheVariants.{Prepared, Committed, Discarded}
+use Rattle.album_partition.specs.declared.marks.Mark.TheVariants.{Prepared, Committed, Discarded, Trimmed}
 use Rattle.album_partition.specs.Answers.{is_same}
-use Rattle.album_partition.specs.Marks.{state_of, is_full, items_at, value_in, version, has_version}
+use Rattle.album_partition.specs.Marks.{state_of, is_full, items_at, value_in, version, has_version, floor, kept_version, is_legal}
 use Rattle.album_partition.specs.Partition.{PartitionState}
 use Rattle.album_partition.specs.Places.{lies_at, others_of}
 use Rattle.album_partition.specs.Proper.{is_proper}
@@ -25,7 +25,8 @@ use Rattle.album_partition.specs.Votes.{heard}
 
 -- ---- what a reply tells
 
--- The stamp stands as the reply says. (Of a version and of a Clash this says nothing.)
+-- The stamp stands as the reply says, and an item that is gone was trimmed. (Of a version and of a Clash this says
+-- nothing.)
 abbrev pub IsTrueOf : List Mark → Reply → Type 0
 IsTrueOf marks (reply.Prepared stamp) =
     (state_of marks stamp ≡ state.Pending) ⊎ (state_of marks stamp ≡ state.Committed)
@@ -38,16 +39,17 @@ IsTrueOf marks (reply.NotPrepared stamp) = state_of marks stamp ≡ state.Unknow
 IsTrueOf marks (reply.Full stamp) = state_of marks stamp ≡ state.Unknown
 IsTrueOf marks (reply.Version item stamp value) = Unit {0}
 IsTrueOf marks reply.Clash = Unit {0}
+IsTrueOf marks (reply.Gone item) = 0 < floor marks item
 
 -- What makes a request clash: a stamp that is 0, a Prepare that can't be followed or is not the one that was
 -- prepared, an item that is placed elsewhere.
 abbrev pub IsClash : PartitionState → Body → Type 0
 IsClash partition (body.Request (Prepare stamp writes items)) =
-    (is_proper partition.number partition.opening.parts stamp writes items ≡ false)
+    (is_proper partition.number partition.parts stamp writes items ≡ false)
     ⊎ ((is_same partition.marks stamp writes items ≡ false)
     × ((state_of partition.marks stamp ≡ state.Pending) ⊎ (state_of partition.marks stamp ≡ state.Committed)))
 IsClash partition (body.Request (Commit stamp)) = stamp ≡ 0
-IsClash partition (body.Request (Get item stamps)) = place_of partition.opening.parts item ≢ partition.number
+IsClash partition (body.Request (Get item stamps)) = place_of partition.parts item ≢ partition.number
 IsClash partition (body.Request (Check stamp)) = stamp ≡ 0
 IsClash partition (body.Reply reply) = ⊥
 
@@ -75,10 +77,10 @@ abbrev pub IsReadAt : List Mark → ℕ → List ℕ → ℕ → Type 0
 IsReadAt marks item [] stamp = IsLatest marks item stamp
 IsReadAt marks item (t ∷ stamps) stamp = IsBest marks item (t ∷ stamps) stamp
 
--- the value is that of the item's version, and at 0 the one that the opening gives it, or Missing
+-- the value is that of the item's version, and at 0 its first value, or Missing
 pub record IsValueOf (partition : PartitionState) (item stamp : ℕ) (value : Value) : Type 0 where
   pub written : stamp ≢ 0 → version partition.marks item stamp ≡ Some value
-  pub opening : stamp ≡ 0 → value ≡ unwrap_or (value_in partition.opening.items item) Missing
+  pub first : stamp ≡ 0 → value ≡ unwrap_or (value_in partition.items item) Missing
 
 -- the version answers the message
 pub record IsReadOf
@@ -88,6 +90,14 @@ pub record IsReadOf
   pub stamp_is : IsReadAt partition.marks item stamps stamp
   pub value_is : IsValueOf partition item stamp value
 
+-- the message asks for the item with stamps, at none of which a version is kept, and the item was trimmed
+pub record IsGoneFor (marks : List Mark) (message : Message) (item : ℕ) : Type 0 where
+  pub stamps : List ℕ
+  pub asked : message.body ≡ body.Request (Get item stamps)
+  pub trimmed : 0 < floor marks item
+  pub unkept : All (λ t. kept_version marks item t ≡ None) stamps
+  pub some : is_legal marks ≡ true → stamps ≢ []
+
 -- ---- why a mark is made
 
 -- a Prepare of an unknown stamp with these writes and items, which can be followed, and for which there is room
@@ -95,23 +105,23 @@ pub record IsAsked
     (partition : PartitionState) (message : Message) (stamp : ℕ) (writes : List Row) (items : List ℕ) : Type 0 where
   pub asked : message.body ≡ body.Request (Prepare stamp writes items)
   pub unknown : state_of partition.marks stamp ≡ state.Unknown
-  pub proper : is_proper partition.number partition.opening.parts stamp writes items ≡ true
-  pub room : is_full partition.opening.limit partition.marks ≡ false
+  pub proper : is_proper partition.number partition.parts stamp writes items ≡ true
+  pub room : is_full partition.limit partition.marks ≡ false
 
 -- a Check of an unknown stamp, for whose mark there is room
 pub record IsChecked (partition : PartitionState) (message : Message) (stamp : ℕ) : Type 0 where
   pub asked : message.body ≡ body.Request (Check stamp)
   pub unknown : state_of partition.marks stamp ≡ state.Unknown
-  pub room : is_full partition.opening.limit partition.marks ≡ false
+  pub room : is_full partition.limit partition.marks ≡ false
 
 -- one of the partitions of the stamp's items votes Prepared, and all others but this one were heard already
 pub record IsLastVote (partition : PartitionState) (message : Message) (stamp : ℕ) : Type 0 where
   pub part : ℕ
   pub sender : message.from ≡ Part part
   pub told : message.body ≡ body.Reply (reply.Status stamp vote.Prepared)
-  pub due : lies_at part partition.opening.parts (items_at partition.marks stamp) ≡ true
+  pub due : lies_at part partition.parts (items_at partition.marks stamp) ≡ true
   pub others : All (Contains (part ∷ heard partition.votes stamp))
-      (others_of partition.number partition.opening.parts (items_at partition.marks stamp))
+      (others_of partition.number partition.parts (items_at partition.marks stamp))
 
 -- what has to be so where a message makes the mark
 abbrev pub IsCause : PartitionState → Message → Mark → Type 0
@@ -124,3 +134,4 @@ IsCause partition message (Discarded stamp) =
     IsChecked partition message stamp
     ⊎ ((state_of partition.marks stamp ≡ state.Pending)
     × (message.body ≡ body.Reply (reply.Status stamp vote.Never)))
+IsCause partition message (Trimmed item) = ⊥

@@ -1,5 +1,5 @@
 -- What a list of marks tells: of a stamp, of the versions of an item, and how full the list is.
-use Rattle.std.specs.Prelude.{◌≡◌, ◌↔◌, Contains, ℕ, ◌+◌, Bool, true, false, ◌==◌, ◌&&◌, ◌||◌, nat_lt, List, [], ◌∷◌, ◌++◌, length, filter, is_some, Option, Some, None, if◌then◌else◌}
+use Rattle.std.specs.Prelude.{◌≡◌, ◌↔◌, Contains, ℕ, ◌+◌, Bool, true, false, ◌==◌, ◌&&◌, ◌||◌, nat_lt, nat_le, List, [], ◌∷◌, ◌++◌, length, filter, is_some, Option, Some, None, if◌then◌else◌}
 use Rattle.std.specs.List.{list_any, filter_map, find}
 use Rattle.std.specs.List.Sorted.{IsStrictlySortedBy}
 use Rattle.std.specs.Map.{lookup}
@@ -10,35 +10,53 @@ use Rattle.album_versions.specs.Best.{best_of}
 use Rattle.album_terminate.specs.declared.deciding.StampState.{StampState}
 use Rattle.album_terminate.specs.declared.deciding.StampState.TheVariants as state
 use Rattle.album_partition.specs.declared.marks.Mark.{Mark}
-use Rattle.album_partition.specs.declared.marks.Mark.TheVariants.{Prepared, Committed, Discarded}
+use Rattle.album_partition.specs.declared.marks.Mark.TheVariants.{Prepared, Committed, Discarded, Trimmed}
 
 -- ---- one mark
 
--- the stamp that it is of
-abbrev pub mark_stamp : Mark → ℕ
-mark_stamp (Prepared stamp writes items) = stamp
-mark_stamp (Committed stamp) = stamp
-mark_stamp (Discarded stamp) = stamp
+-- the stamp that it is of: a trim is of none
+abbrev pub mark_stamp : Mark → Option ℕ
+mark_stamp (Prepared stamp writes items) = Some stamp
+mark_stamp (Committed stamp) = Some stamp
+mark_stamp (Discarded stamp) = Some stamp
+mark_stamp (Trimmed item) = None
+
+-- is it of the stamp?
+abbrev pub is_mark_of : ℕ → Mark → Bool
+is_mark_of stamp (Prepared t writes items) = t == stamp
+is_mark_of stamp (Committed t) = t == stamp
+is_mark_of stamp (Discarded t) = t == stamp
+is_mark_of stamp (Trimmed item) = false
 
 -- does it prepare, commit or discard the stamp?
 abbrev pub prepares : ℕ → Mark → Bool
 prepares stamp (Prepared t writes items) = t == stamp
 prepares stamp (Committed t) = false
 prepares stamp (Discarded t) = false
+prepares stamp (Trimmed item) = false
 
 abbrev pub commits : ℕ → Mark → Bool
 commits stamp (Prepared t writes items) = false
 commits stamp (Committed t) = t == stamp
 commits stamp (Discarded t) = false
+commits stamp (Trimmed item) = false
 
 abbrev pub discards : ℕ → Mark → Bool
 discards stamp (Prepared t writes items) = false
 discards stamp (Committed t) = false
 discards stamp (Discarded t) = t == stamp
+discards stamp (Trimmed item) = false
 
 -- does it decide the stamp?
 abbrev pub decides : ℕ → Mark → Bool
 decides stamp mark = commits stamp mark || discards stamp mark
+
+-- does it trim the item?
+abbrev pub trims : ℕ → Mark → Bool
+trims item (Prepared stamp writes items) = false
+trims item (Committed stamp) = false
+trims item (Discarded stamp) = false
+trims item (Trimmed other) = other == item
 
 -- ---- a stamp
 
@@ -72,12 +90,14 @@ mark_writes None = []
 mark_writes (Some (Prepared stamp writes items)) = writes
 mark_writes (Some (Committed stamp)) = []
 mark_writes (Some (Discarded stamp)) = []
+mark_writes (Some (Trimmed item)) = []
 
 abbrev pub mark_items : Option Mark → List ℕ
 mark_items None = []
 mark_items (Some (Prepared stamp writes items)) = items
 mark_items (Some (Committed stamp)) = []
 mark_items (Some (Discarded stamp)) = []
+mark_items (Some (Trimmed item)) = []
 
 -- the writes that are prepared at a stamp, and the items of its transaction
 abbrev pub writes_at : List Mark → ℕ → List Row
@@ -96,11 +116,13 @@ pub record IsPromisedAgainst (marks : List Mark) (stamp : ℕ) : Type 0 where
 
 -- ---- which marks follow which
 
--- a stamp is prepared where it is unknown, committed where it is pending, and discarded where it is either
+-- a stamp is prepared where it is unknown, committed where it is pending, and discarded where it is either; a trim may
+-- follow always
 abbrev pub may_follow : List Mark → Mark → Bool
 may_follow marks (Prepared stamp writes items) = is_unknown (state_of marks stamp)
 may_follow marks (Committed stamp) = is_pending (state_of marks stamp)
 may_follow marks (Discarded stamp) = is_unknown (state_of marks stamp) || is_pending (state_of marks stamp)
+may_follow marks (Trimmed item) = true
 
 -- each of the later marks may follow those before it
 abbrev pub legal_after : List Mark → List Mark → Bool
@@ -110,7 +132,7 @@ legal_after before (mark ∷ later) = may_follow before mark && legal_after (bef
 abbrev pub is_legal : List Mark → Bool
 is_legal marks = legal_after [] marks
 
--- ---- versions
+-- ---- the versions that were written
 
 -- the value that rows give an item
 abbrev pub value_in : List Row → ℕ → Option Value
@@ -129,6 +151,7 @@ abbrev pub commit_in : Mark → Option ℕ
 commit_in (Prepared stamp writes items) = None
 commit_in (Committed stamp) = Some stamp
 commit_in (Discarded stamp) = None
+commit_in (Trimmed item) = None
 
 abbrev pub committed_stamps : List Mark → List ℕ
 committed_stamps marks = filter_map commit_in marks
@@ -137,6 +160,24 @@ committed_stamps marks = filter_map commit_in marks
 abbrev pub latest : List Mark → ℕ → ℕ
 latest marks item = best_of (has_version marks item) (committed_stamps marks)
 
+-- ---- the versions that are kept
+
+-- the marks before the item's last trim: none where it was never trimmed
+abbrev pub before_trim : ℕ → List Mark → List Mark
+before_trim item [] = []
+before_trim item (mark ∷ marks) = if list_any (trims item) marks then mark ∷ before_trim item marks else []
+
+-- the item's floor, below which no version is kept: its latest stamp as it was last trimmed, and 0 before
+abbrev pub floor : List Mark → ℕ → ℕ
+floor marks item = latest (before_trim item marks) item
+
+-- the value of the item's version at a stamp, where it is kept
+abbrev pub kept_version : List Mark → ℕ → ℕ → Option Value
+kept_version marks item stamp = if nat_le (floor marks item) stamp then version marks item stamp else None
+
+abbrev pub has_kept_version : List Mark → ℕ → ℕ → Bool
+has_kept_version marks item stamp = is_some (kept_version marks item stamp)
+
 -- ---- how full it is
 
 -- the stamps that are prepared
@@ -144,6 +185,7 @@ abbrev pub prepare_in : Mark → Option ℕ
 prepare_in (Prepared stamp writes items) = Some stamp
 prepare_in (Committed stamp) = None
 prepare_in (Discarded stamp) = None
+prepare_in (Trimmed item) = None
 
 abbrev pub prepared_stamps : List Mark → List ℕ
 prepared_stamps marks = filter_map prepare_in marks

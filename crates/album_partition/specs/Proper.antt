@@ -7,8 +7,8 @@ use Rattle.album_items.specs.ItemIds.{kind_of}
 use Rattle.album_items.specs.Openings.{Row, has_single_rows}
 use Rattle.album_items.specs.Values.{is_of}
 use Rattle.album_partition.specs.declared.marks.Mark.{Mark}
-use Rattle.album_partition.specs.declared.marks.Mark.TheVariants.{Prepared, Committed, Discarded}
-use Rattle.album_partition.specs.Places.{placed_at}
+use Rattle.album_partition.specs.declared.marks.Mark.TheVariants.{Prepared, Committed, Discarded, Trimmed}
+use Rattle.album_partition.specs.Places.{is_placed, placed_at}
 
 -- some items, none twice, and not too many
 abbrev pub are_items : List ℕ → Bool
@@ -42,11 +42,13 @@ abbrev pub is_proper : ℕ → ℕ → ℕ → List Row → List ℕ → Bool
 is_proper number parts stamp writes items =
     not (stamp == 0) && are_items items && are_own_writes number parts writes items
 
--- no mark is of the stamp 0, and one that prepares is of a Prepare that could be followed
+-- no mark is of the stamp 0, one that prepares is of a Prepare that could be followed, and one that trims of an item
+-- that is placed here
 abbrev pub is_proper_mark : ℕ → ℕ → Mark → Bool
 is_proper_mark number parts (Prepared stamp writes items) = is_proper number parts stamp writes items
 is_proper_mark number parts (Committed stamp) = not (stamp == 0)
 is_proper_mark number parts (Discarded stamp) = not (stamp == 0)
+is_proper_mark number parts (Trimmed item) = is_placed number parts item
 
 abbrev pub are_proper_marks : ℕ → ℕ → List Mark → Bool
 are_proper_marks number parts marks = list_all (is_proper_mark number parts) marks

@@ -1,15 +1,18 @@
 -- How the versions that a partition keeps are those of its marks.
-use Rattle.std.specs.Prelude.{◌≡◌, ℕ, ◌==◌, ◌<◌, true, max, is_some, List, length, Some, if◌then◌else◌}
+use Rattle.std.specs.Prelude.{◌≡◌, ℕ, ◌==◌, ◌<◌, nat_le, true, max, is_some, List, length, Some, None, if◌then◌else◌}
 use Rattle.album_stamps.specs.declared.limits.TheConstants.{MOST_MARKS}
 use Rattle.album_items.specs.Openings.{Row, has_single_rows}
-use Rattle.album_versions.specs.Versions.{VersionsState, version_at, latest_of}
+use Rattle.album_versions.specs.Versions.{VersionsState, version_at, latest_of, floor_of}
 use Rattle.album_partition.specs.declared.marks.Mark.{Mark}
-use Rattle.album_partition.specs.Marks.{may_follow, mark_writes, value_in, version, latest}
+use Rattle.album_partition.specs.Marks.{is_legal, may_follow, mark_writes, value_in, latest, floor, kept_version}
 
--- each item has just the versions and the latest stamp that the marks tell
+-- the marks follow each other as they may, and each item has just the versions, the latest stamp and the floor that
+-- they tell
 pub record IsStored (marks : List Mark) (kept : VersionsState) : Type 0 where
-  pub versions : (i t : ℕ) → version_at kept i t ≡ version marks i t
+  pub legal : is_legal marks ≡ true
+  pub versions : (i t : ℕ) → version_at kept i t ≡ kept_version marks i t
   pub latest : (i : ℕ) → latest_of kept i ≡ latest marks i
+  pub floor : (i : ℕ) → floor_of kept i ≡ floor marks i
 
 -- the mark may follow those that are made, and prepares no item twice
 pub record CanFollow (marks : List Mark) (mark : Mark) : Type 0 where
@@ -17,13 +20,17 @@ pub record CanFollow (marks : List Mark) (mark : Mark) : Type 0 where
   pub room : length marks < MOST_MARKS
   pub once : has_single_rows (mark_writes (Some mark)) ≡ true
 
--- at one stamp each item has the version that the rows give it, and nothing else changed
+-- at one stamp each item has the version that the rows give it, unless that is below its floor, and nothing else
+-- changed
 pub record HasAdded (old new : VersionsState) (stamp : ℕ) (rows : List Row) : Type 0 where
-  pub versions : (i t : ℕ) → version_at new i t ≡ (if t == stamp then value_in rows i else version_at old i t)
+  pub versions : (i t : ℕ) → version_at new i t
+      ≡ (if t == stamp then (if nat_le (floor_of old i) t then value_in rows i else None) else version_at old i t)
   pub latest : (i : ℕ) → latest_of new i ≡ latest_of old i
+  pub floor : (i : ℕ) → floor_of new i ≡ floor_of old i
 
 -- the latest stamp of each item of the rows is raised to the stamp, and nothing else changed
 pub record HasCommitted (old new : VersionsState) (stamp : ℕ) (rows : List Row) : Type 0 where
   pub versions : (i t : ℕ) → version_at new i t ≡ version_at old i t
   pub latest : (i : ℕ) → latest_of new i
       ≡ (if is_some (value_in rows i) then max (latest_of old i) stamp else latest_of old i)
+  pub floor : (i : ℕ) → floor_of new i ≡ floor_of old i

@@ -26,5 +26,5 @@ abbrev pub swept : PartitionState → ℕ → Result (List Message) Refusal
 swept partition stamp =
     if is_pending (state_of partition.marks stamp)
     then Ok (sent_by partition.number stamp
-    (others_of partition.number partition.opening.parts (items_at partition.marks stamp)))
+    (others_of partition.number partition.parts (items_at partition.marks stamp)))
     else Err NotPrepared

@@ -3,8 +3,8 @@ ghost use Rattle.std.specs.Prelude.{◌≡◌, ◌<◌, ◌++◌, ◌∷◌, [],
 ghost use Rattle.std.specs.List.{slice_get};
 ghost use Rattle.std.specs.Option.{option_copied};
 ghost use Rattle.album_stamps.specs.declared.limits.TheConstants.{MOST_MARKS};
-ghost use Rattle.album_partition.specs.Marks.{ArePending, mark_stamp, mark_writes, mark_items, state_of, is_pending, may_follow, is_legal, pending_stamps};
-ghost use Rattle.album_partition.specs.History.{IsAt, Stands, kept_mark};
+ghost use Rattle.album_partition.specs.Marks.{ArePending, mark_writes, mark_items, state_of, is_pending, may_follow, is_legal, pending_stamps};
+ghost use Rattle.album_partition.specs.History.{IsAt, Stands, WillStand, kept_mark};
 
 use crate::marks::Mark;
 use album_items::{ItemId, Value};
@@ -20,6 +20,15 @@ pub enum Standing {
     Pending(usize),
     Committed(usize),
     Discarded,
+}
+
+/// What a mark changes beside the list: how its stamp stands once it is made, and how many are
+/// pending then.
+#[derive(Clone, Copy)]
+pub struct Change {
+    pub stamp: Stamp,
+    pub standing: Standing,
+    pub pending: usize,
 }
 
 /// The marks, and beside them how each stamp stands and how many are pending. Contracts see the
@@ -123,32 +132,73 @@ impl History {
         ensures ok { OnOk result (self.new ≡ self.old ++ mark ∷ []) }
         ensures err { OnErr result (self.new ≡ self.old) }
     {
-        let stamp = mark.stamp();
-        let (standing, pending) = self.after(&mark);
-        // Room first: once the stamp stands as after the mark, nothing may fail.
+        match self.change(&mark) {
+            None => self.push(mark),
+            Some(change) => self.push_with(mark, change),
+        }
+    }
+
+    /// Makes a mark that changes how no stamp stands.
+    fn push(&mut self, mark: Mark) -> Result<(), AllocError>
+        requires follows { may_follow self.old mark ≡ true }
+        requires change { WillStand self.old mark None }
+        ensures ok { OnOk result (self.new ≡ self.old ++ mark ∷ []) }
+        ensures err { OnErr result (self.new ≡ self.old) }
+    {
         self.marks.reserve(1)?;
-        self.standings.insert(stamp, standing)?;
-        self.pending = pending;
         self.marks.push_reserved(mark);
         Ok(())
     }
 
-    /// How the mark's stamp stands once the mark is made, and how many are pending then.
-    fn after(&self, mark: &Mark) -> (Standing, usize)
+    /// Makes a mark that changes how its stamp stands.
+    fn push_with(&mut self, mark: Mark, change: Change) -> Result<(), AllocError>
+        requires follows { may_follow self.old mark ≡ true }
+        requires change { WillStand self.old mark (Some change) }
+        ensures ok { OnOk result (self.new ≡ self.old ++ mark ∷ []) }
+        ensures err { OnErr result (self.new ≡ self.old) }
+    {
+        // Room first: once the stamp stands as after the mark, nothing may fail.
+        self.marks.reserve(1)?;
+        self.standings.insert(change.stamp, change.standing)?;
+        self.pending = change.pending;
+        self.marks.push_reserved(mark);
+        Ok(())
+    }
+
+    /// What the mark will change. A trim changes how no stamp stands.
+    fn change(&self, mark: &Mark) -> Option<Change>
         requires follows { may_follow self.now mark.now ≡ true }
         requires room { length self.now < MOST_MARKS }
-        ensures standing { Stands (self.now ++ mark.now ∷ []) (mark_stamp mark.now) (Some result.0) }
-        ensures pending { result.1 ≡ length (pending_stamps (self.now ++ mark.now ∷ [])) }
+        ensures { WillStand self.now mark.now result }
     {
         match mark {
-            Mark::Prepared(_, _, _) => (Standing::Pending(self.marks().len()), self.pending + 1),
-            Mark::Committed(stamp) => (Standing::Committed(self.index(*stamp)), self.pending - 1),
-            Mark::Discarded(stamp) => match self.state(*stamp) {
-                StampState::Pending => (Standing::Discarded, self.pending - 1),
-                StampState::Unknown | StampState::Committed | StampState::Discarded => {
-                    (Standing::Discarded, self.pending)
-                }
-            },
+            Mark::Prepared(stamp, _, _) => Some(Change {
+                stamp: *stamp,
+                standing: Standing::Pending(self.marks().len()),
+                pending: self.pending + 1,
+            }),
+            Mark::Committed(stamp) => Some(Change {
+                stamp: *stamp,
+                standing: Standing::Committed(self.index(*stamp)),
+                pending: self.pending - 1,
+            }),
+            Mark::Discarded(stamp) => Some(Change {
+                stamp: *stamp,
+                standing: Standing::Discarded,
+                pending: self.pending_without(*stamp),
+            }),
+            Mark::Trimmed(_) => None,
+        }
+    }
+
+    /// How many stamps are pending once a stamp is discarded that is pending or unknown.
+    fn pending_without(&self, stamp: Stamp) -> usize
+        requires { may_follow self.now (Mark.Discarded stamp) ≡ true }
+        ensures { result ≡ length (pending_stamps (self.now ++ Mark.Discarded stamp ∷ [])) }
+    {
+        match self.state(stamp) {
+            StampState::Pending => self.pending - 1,
+            StampState::Unknown | StampState::Committed | StampState::Discarded => self.pending,
         }
     }
 

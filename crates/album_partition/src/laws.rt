@@ -1,10 +1,9 @@
 // What follows of every history, and of every answer that the table gives.
-ghost use Rattle.std.specs.Prelude.{◌≡◌, ◌≢◌, ◌↔◌, ◌≤◌, ◌++◌, ◌∷◌, ℕ, List, true, false, IsTrue, is_some, None, Some, Ok, Contains, length, filter, option_to_list};
+ghost use Rattle.std.specs.Prelude.{◌≡◌, ◌≢◌, ◌↔◌, ◌≤◌, ◌⊎◌, ◌++◌, [], ◌∷◌, ℕ, List, true, false, IsTrue, is_some, None, Some, Ok, Contains, length, filter, option_to_list};
 ghost use Rattle.std.specs.List.{list_any};
 ghost use Rattle.std.specs.List.Sorted.{IsPermutation};
 ghost use Rattle.album_items.specs.ItemIds.{place_of};
 ghost use Rattle.album_items.specs.Openings.{Row};
-ghost use Rattle.album_items.specs.declared.openings.Opening.{Opening};
 ghost use Rattle.album_items.specs.declared.values.Value.{Value};
 ghost use Rattle.album_calls.specs.Nodes.{is_part};
 ghost use Rattle.album_calls.specs.declared.messages.Body.TheVariants as Body;
@@ -14,14 +13,16 @@ ghost use Rattle.album_calls.specs.declared.replies.Reply.{Reply as AnyReply};
 ghost use Rattle.album_calls.specs.declared.replies.Reply.TheVariants as Reply;
 ghost use Rattle.album_calls.specs.declared.requests.Request.{Request as AnyRequest};
 ghost use Rattle.album_calls.specs.declared.requests.Request.TheVariants as Request;
+ghost use Rattle.album_versions.specs.Best.{best_of, unless_gone};
 ghost use Rattle.album_terminate.specs.declared.deciding.StampState.TheVariants as StampState;
 ghost use Rattle.album_partition.specs.declared.marks.Mark.{Mark};
 ghost use Rattle.album_partition.specs.declared.marks.Mark.TheVariants as Made;
 ghost use Rattle.album_partition.specs.Answers.{says, to_prepare, to_check, effect_of, after, answer};
-ghost use Rattle.album_partition.specs.Laws.{IsTrueOf, IsClash, IsReplyTo, IsReadOf, IsCause};
-ghost use Rattle.album_partition.specs.Marks.{IsPromisedAgainst, prepares, commits, discards, decides, state_of, value_in, version, latest, may_follow, is_legal, load, is_full};
-ghost use Rattle.album_partition.specs.Partition.{PartitionState, IsPartition, opened};
+ghost use Rattle.album_partition.specs.Laws.{IsTrueOf, IsClash, IsReplyTo, IsReadOf, IsGoneFor, IsCause};
+ghost use Rattle.album_partition.specs.Marks.{IsPromisedAgainst, prepares, commits, discards, decides, trims, state_of, value_in, version, latest, floor, has_kept_version, may_follow, is_legal, load, is_full};
+ghost use Rattle.album_partition.specs.Partition.{PartitionState, IsPartition, opened, read_at};
 ghost use Rattle.album_partition.specs.Proper.{is_proper};
+ghost use Rattle.album_partition.specs.Trims.{trimmed};
 ghost use Rattle.album_partition.specs.Votes.{NotedVote};
 
 /// A law: what a history never holds. Each mark may follow those before it, so a stamp is prepared
@@ -43,7 +44,7 @@ pub fn histories_are_orderly()
 {}
 
 /// A law: what marks that follow leave. What is committed or discarded stays so, a committed stamp
-/// keeps its versions, no latest stamp falls, and what is full stays full.
+/// keeps what was written at it, no latest stamp and no floor falls, and what is full stays full.
 pub fn histories_only_grow()
     ensures committed { (before later : List Mark) (stamp : ℕ) → is_legal (before ++ later) ≡ true
         → state_of before stamp ≡ StampState.Committed
@@ -56,6 +57,8 @@ pub fn histories_only_grow()
         → version (before ++ later) item stamp ≡ version before item stamp }
     ensures latest { (before later : List Mark) (item : ℕ) → is_legal (before ++ later) ≡ true
         → latest before item ≤ latest (before ++ later) item }
+    ensures floor { (before later : List Mark) (item : ℕ) → is_legal (before ++ later) ≡ true
+        → floor before item ≤ floor (before ++ later) item }
     ensures load { (before later : List Mark) → is_legal (before ++ later) ≡ true
         → load before ≤ load (before ++ later) }
     ensures full { (before later : List Mark) (limit : ℕ) → is_legal (before ++ later) ≡ true
@@ -77,17 +80,19 @@ pub fn promises_against_are_kept()
         → IsPromisedAgainst (after partition message).marks stamp }
 {}
 
-/// A law: a partition is one as it opens, and stays one whatever message comes. A message adds at
-/// most one mark and at most one vote, at the end.
+/// A law: a partition is one as it opens, and stays one whatever message comes and whatever is
+/// trimmed. A message adds at most one mark and at most one vote, at the end.
 pub fn partitions_stay_partitions()
-    ensures opened { (number : ℕ) (opening : Opening) (partition : PartitionState)
-        → opened number opening ≡ Ok partition → IsPartition partition }
+    ensures opened { (number parts limit : ℕ) (items : List Row) (partition : PartitionState)
+        → opened number parts items limit ≡ Ok partition → IsPartition partition }
     ensures after { (partition : PartitionState) (message : Message)
         → IsPartition partition → IsPartition (after partition message) }
     ensures marks { (partition : PartitionState) (message : Message)
         → (after partition message).marks ≡ partition.marks ++ option_to_list (effect_of partition message).mark }
     ensures votes { (partition : PartitionState) (message : Message)
         → (after partition message).votes ≡ partition.votes ++ option_to_list (effect_of partition message).vote }
+    ensures trimmed { (old new : PartitionState) (item : ℕ)
+        → IsPartition old → trimmed old item ≡ Ok new → IsPartition new }
 {}
 
 /// A law: why each mark is made. A vote Prepared commits only where it is the last of all others'.
@@ -126,9 +131,21 @@ pub fn replies_go_to_the_sender()
         → (after partition message ≡ partition) × (answer partition message ≡ None) }
 {}
 
+/// A law: what a trim does. It leaves every latest stamp and raises the item's floor to it; nothing
+/// else raises a floor, and none is above the latest stamp.
+pub fn trims_raise_the_floor()
+    ensures latest { (marks : List Mark) (item other : ℕ)
+        → latest (marks ++ Made.Trimmed item ∷ []) other ≡ latest marks other }
+    ensures raised { (marks : List Mark) (item : ℕ)
+        → floor (marks ++ Made.Trimmed item ∷ []) item ≡ latest marks item }
+    ensures others { (marks : List Mark) (mark : Mark) (item : ℕ) → trims item mark ≡ false
+        → floor (marks ++ mark ∷ []) item ≡ floor marks item }
+    ensures low { (marks : List Mark) (item : ℕ) → is_legal marks ≡ true → floor marks item ≤ latest marks item }
+{}
+
 /// A law: what is read. Each version that is told answers a Get of just that item, is the one that
 /// was asked for, and has the value that was written. Each Get of an item that is placed here is
-/// answered so.
+/// answered so, or told that the item is gone.
 pub fn gets_read_what_is_written()
     ensures version { (partition : PartitionState) (message : Message) (item stamp : ℕ) (value : Value)
         → (effect_of partition message).reply ≡ Some (Reply.Version item stamp value)
@@ -136,9 +153,24 @@ pub fn gets_read_what_is_written()
     ensures answered { (partition : PartitionState) (message : Message) (item : ℕ) (stamps : List ℕ)
         → message.body ≡ Body.Request (Request.Get item stamps)
         → is_part message.to partition.number ≡ true
-        → place_of partition.opening.parts item ≡ partition.number
-        → (stamp : ℕ) × (value : Value)
-        × ((effect_of partition message).reply ≡ Some (Reply.Version item stamp value)) }
+        → place_of partition.parts item ≡ partition.number
+        → ((stamp : ℕ) × (value : Value)
+        × ((effect_of partition message).reply ≡ Some (Reply.Version item stamp value)))
+        ⊎ ((effect_of partition message).reply ≡ Some (Reply.Gone item)) }
+    ensures gone { (partition : PartitionState) (message : Message) (item : ℕ)
+        → (effect_of partition message).reply ≡ Some (Reply.Gone item)
+        → IsGoneFor partition.marks message item }
+{}
+
+/// A law: at which stamp an item is read, by the versions that are kept. With no stamps given it is
+/// the latest, and never gone. With stamps given it is the greatest of them at which a version is
+/// kept; where there is none, 0 as long as the item's floor is 0, and from then on it is gone.
+pub fn gets_read_what_is_kept()
+    ensures latest { (marks : List Mark) (item : ℕ)
+        → is_legal marks ≡ true → read_at marks item [] ≡ Some (latest marks item) }
+    ensures kept { (marks : List Mark) (item stamp : ℕ) (stamps : List ℕ)
+        → read_at marks item (stamp ∷ stamps)
+        ≡ unless_gone (best_of (has_kept_version marks item) (stamp ∷ stamps)) (floor marks item) }
 {}
 
 /// A law: which writes a Prepare that can be followed has. It gives a value to just those of its
@@ -157,27 +189,30 @@ pub fn proper_writes_are_those_placed_here()
 pub fn full_has_its_cause()
     ensures only { (partition : PartitionState) (message : Message) (stamp : ℕ)
         → (effect_of partition message).reply ≡ Some (Reply.Full stamp)
-        → (is_full partition.opening.limit partition.marks ≡ true)
+        → (is_full partition.limit partition.marks ≡ true)
         × (state_of partition.marks stamp ≡ StampState.Unknown) }
     ensures check { (partition : PartitionState) (stamp : ℕ) → stamp ≢ 0
-        → is_full partition.opening.limit partition.marks ≡ true
+        → is_full partition.limit partition.marks ≡ true
         → state_of partition.marks stamp ≡ StampState.Unknown
         → to_check partition stamp ≡ says (Reply.Full stamp) }
     ensures prepare { (partition : PartitionState) (stamp : ℕ) (writes : List Row) (items : List ℕ)
-        → is_proper partition.number partition.opening.parts stamp writes items ≡ true
-        → is_full partition.opening.limit partition.marks ≡ true
+        → is_proper partition.number partition.parts stamp writes items ≡ true
+        → is_full partition.limit partition.marks ≡ true
         → state_of partition.marks stamp ≡ StampState.Unknown
         → to_prepare partition stamp writes items ≡ says (Reply.Full stamp) }
 {}
 
 /// A law: where a partition is full it stays so, and a stamp that is unknown there stays unknown,
-/// whatever message comes. So a stamp for which there was no room once is never prepared there.
+/// whatever message comes; and nothing can be trimmed then. So a stamp for which there was no room
+/// once is never prepared there.
 pub fn full_stays()
     ensures full { (partition : PartitionState) (message : Message) → IsPartition partition
-        → is_full partition.opening.limit partition.marks ≡ true
-        → is_full partition.opening.limit (after partition message).marks ≡ true }
+        → is_full partition.limit partition.marks ≡ true
+        → is_full partition.limit (after partition message).marks ≡ true }
     ensures unknown { (partition : PartitionState) (message : Message) (stamp : ℕ)
-        → is_full partition.opening.limit partition.marks ≡ true
+        → is_full partition.limit partition.marks ≡ true
         → state_of partition.marks stamp ≡ StampState.Unknown
         → state_of (after partition message).marks stamp ≡ StampState.Unknown }
+    ensures trimmed { (old new : PartitionState) (item : ℕ)
+        → is_full old.limit old.marks ≡ true → trimmed old item ≡ Ok new → new ≡ old }
 {}

@@ -10,6 +10,7 @@
 //! `partition/answers`; then what they stand on, `stored` and `history`; and `laws` last.
 #![tactic(auto)]
 
+mod first_values;
 mod history;
 mod laws;
 mod marks;
@@ -20,10 +21,10 @@ mod stored;
 mod votes;
 
 pub use laws::{
-    full_has_its_cause, full_stays, gets_read_what_is_written, histories_are_orderly,
-    histories_only_grow, marks_have_their_causes, partitions_stay_partitions,
-    promises_against_are_kept, proper_writes_are_those_placed_here, replies_go_to_the_sender,
-    replies_tell_the_state, requests_are_answered,
+    full_has_its_cause, full_stays, gets_read_what_is_kept, gets_read_what_is_written,
+    histories_are_orderly, histories_only_grow, marks_have_their_causes,
+    partitions_stay_partitions, promises_against_are_kept, proper_writes_are_those_placed_here,
+    replies_go_to_the_sender, replies_tell_the_state, requests_are_answered, trims_raise_the_floor,
 };
 pub use marks::Mark;
 pub use partition::Partition;

@@ -16,10 +16,13 @@ pub enum Mark {
     Committed(Stamp),
     /// The writes of the stamp are let go, or never will be taken.
     Discarded(Stamp),
+    /// The versions of the item below its latest stamp are no longer kept.
+    Trimmed(ItemId),
 }
 
 impl Mark {
-    /// The mark of a Prepare of these writes and items, which are copied.
+    /// The mark of a Prepare of these writes and items, which are copied. The versions share the memory
+    /// of the mark's values.
     pub(crate) fn prepared(
         stamp: Stamp,
         writes: &ItemValues,
@@ -27,16 +30,22 @@ impl Mark {
     ) -> Result<Mark, AllocError>
         ensures { IfOk result (λ mark. mark ≡ Mark.Prepared stamp writes.now items.now) }
     {
-        let writes = clone_of(writes)?;
+        let mut writes = clone_of(writes)?;
+        if let Err(_) = writes.share() {
+            return Err(AllocError);
+        }
         Ok(Mark::Prepared(stamp, writes, items.clone()?))
     }
 
-    /// The stamp that it is of.
-    pub fn stamp(&self) -> Stamp
+    /// The stamp that it is of. A trim is of none.
+    pub fn stamp(&self) -> Option<Stamp>
         ensures { result ≡ mark_stamp self.now }
     {
         match self {
-            Mark::Prepared(stamp, _, _) | Mark::Committed(stamp) | Mark::Discarded(stamp) => *stamp,
+            Mark::Prepared(stamp, _, _) => Some(*stamp),
+            Mark::Committed(stamp) => Some(*stamp),
+            Mark::Discarded(stamp) => Some(*stamp),
+            Mark::Trimmed(_) => None,
         }
     }
 
@@ -46,8 +55,7 @@ impl Mark {
     {
         match self {
             Mark::Prepared(_, writes, _) => writes.as_slice(),
-            Mark::Committed(_) => &[],
-            Mark::Discarded(_) => &[],
+            Mark::Committed(_) | Mark::Discarded(_) | Mark::Trimmed(_) => &[],
         }
     }
 
@@ -57,8 +65,7 @@ impl Mark {
     {
         match self {
             Mark::Prepared(_, _, items) => items.as_slice(),
-            Mark::Committed(_) => &[],
-            Mark::Discarded(_) => &[],
+            Mark::Committed(_) | Mark::Discarded(_) | Mark::Trimmed(_) => &[],
         }
     }
 }

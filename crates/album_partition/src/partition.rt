@@ -1,23 +1,25 @@
 // A partition, and what it does with a message.
-ghost use Rattle.std.specs.Prelude.{◌≡◌, ◌≤◌, true, IfOk, IfErr, OnOk, OnErr, IfSome, is_some, ◌||◌, MatchResult, IsOkUnless, Ok, Err};
+ghost use Rattle.std.specs.Prelude.{◌≡◌, ◌≤◌, true, IfOk, IfErr, OnOk, OnErr, IfSome, is_some, ◌||◌, ◌≢◌, IsOk, Some, IsOkUnless, Ok, Err};
 ghost use Rattle.album_stamps.specs.Outcome.{Makes};
 ghost use Rattle.album_partition.specs.Answers.{with_effect, effect_of, after, answer, reply_to, wants_memory};
 ghost use Rattle.album_partition.specs.Marks.{ArePending, state_of, is_legal, load, latest};
-ghost use Rattle.album_partition.specs.Partition.{IsPartition, opened};
+ghost use Rattle.album_partition.specs.Partition.{IsPartition, may_open, opening_state, opened};
 ghost use Rattle.album_partition.specs.Proper.{are_proper_marks};
 ghost use Rattle.album_partition.specs.Stored.{CanFollow};
 ghost use Rattle.album_partition.specs.Sweeps.{swept};
+ghost use Rattle.album_partition.specs.Trims.{trim_mark, trimmed};
 
 mod answers;
 mod sweeps;
 
+use crate::first_values::{FirstValues, indexes_of};
 use crate::marks::Mark;
-use crate::places::{Seat, may_open};
+use crate::places::Seat;
 use crate::stored::Stored;
 use crate::votes::Noted;
 use album_calls::{Body, Message, Node, Reply};
 use album_items::{ItemId, ItemValues};
-use album_stamps::{MOST_PARTS, Refusal, Refused, Stamp};
+use album_stamps::{Refusal, Refused, Stamp};
 use album_terminate::StampState;
 use answers::Effect;
 use std::alloc::{AllocError, Global};
@@ -32,7 +34,7 @@ pub struct Partition {
     /// How many marks the history may have.
     limit: u64,
     /// The items that are placed here, with the values that the service opened with.
-    items: ItemValues,
+    items: FirstValues,
     stored: Stored,
     /// In the order in which they came; those on a stamp stay once it is decided.
     votes: Vec<Noted>,
@@ -45,14 +47,18 @@ impl Model for Partition {
 
     ghost view = { λ p. record {
       number = p.seat.number;
-      opening = record { parts = p.seat.parts; limit = p.limit; items = p.items };
+      parts = p.seat.parts;
+      limit = p.limit;
+      items = p.items;
       marks = p.stored;
       votes = p.votes.items;
     } };
 
     ghost invariant = { λ p. IsPartition (record {
       number = p.seat.number;
-      opening = record { parts = p.seat.parts; limit = p.limit; items = p.items };
+      parts = p.seat.parts;
+      limit = p.limit;
+      items = p.items;
       marks = p.stored;
       votes = p.votes.items;
     }) };
@@ -66,8 +72,8 @@ impl Partition {
     ///
     /// `NoSuchPart` where there are not as many partitions. Else `BadOpening` where there are not 1
     /// to 16 partitions, where the limit is not 2 to 1,000,000 marks, or where an item stands
-    /// twice, is placed elsewhere, or has a value that is missing or of another kind. The items are
-    /// handed back.
+    /// twice, is placed elsewhere, or has a value that is missing or of another kind. Else
+    /// `OutOfMemory`. The items are handed back.
     pub fn new(
         alloc: Global,
         number: u16,
@@ -75,38 +81,20 @@ impl Partition {
         items: ItemValues,
         limit: u64,
     ) -> Result<Partition, Refused<ItemValues>>
-        ensures opened { MatchResult result
-            (λ partition. opened number (record { parts = parts; limit = limit; items = items }) ≡ Ok partition)
-            (λ e. opened number (record { parts = parts; limit = limit; items = items }) ≡ Err e.refusal) }
+        ensures opened { IfOk result (λ partition. opened number parts items limit ≡ Ok partition) }
+        ensures refused { IfErr result
+            (λ e. e.refusal ≢ Refusal.OutOfMemory → opened number parts items limit ≡ Err e.refusal) }
+        ensures memory { IfErr result
+            (λ e. e.refusal ≡ Refusal.OutOfMemory → IsOk (opened number parts items limit)) }
         ensures given { IfErr result (λ e. e.given ≡ items) }
     {
-        if number >= parts {
-            return Err(Refused {
-                refusal: Refusal::NoSuchPart,
+        match Seat::at(number, parts, items.as_slice(), limit) {
+            Ok(seat) => Partition::at(alloc, seat, items, limit),
+            Err(refusal) => Err(Refused {
+                refusal,
                 given: items,
-            });
+            }),
         }
-        if parts > MOST_PARTS {
-            return Err(Refused {
-                refusal: Refusal::BadOpening,
-                given: items,
-            });
-        }
-        let seat = Seat { number, parts };
-        if !may_open(seat, items.as_slice(), limit) {
-            return Err(Refused {
-                refusal: Refusal::BadOpening,
-                given: items,
-            });
-        }
-        Ok(Partition {
-            alloc,
-            seat,
-            limit,
-            items,
-            stored: Stored::new(alloc),
-            votes: Vec::new(alloc),
-        })
     }
 
     /// Does what the message asks, and gives the reply, if there is one: the table of answers. A
@@ -149,6 +137,35 @@ impl Partition {
         }
     }
 
+    /// Lets the versions of the item go that are below its latest stamp, which from then on is its
+    /// floor: a Get with stamps that finds none kept is answered Gone. Where the floor is the latest
+    /// stamp already, nothing is done.
+    ///
+    /// # Errors
+    ///
+    /// `Clash` where the item is placed elsewhere. Else `Full` where there is no room for the mark, as
+    /// for a Prepare, and else `OutOfMemory`, both only where there is something to do. Nothing
+    /// changes then.
+    pub fn trim(&mut self, item: ItemId) -> Result<(), Refusal>
+        ensures trimmed { OnOk result (trimmed self.old item ≡ Ok self.new) }
+        ensures refused { IfErr result (λ e. e ≢ Refusal.OutOfMemory → trimmed self.old item ≡ Err e) }
+        ensures memory { IfErr result
+            (λ e. e ≡ Refusal.OutOfMemory → trim_mark self.old item ≡ Ok (Some (Mark.Trimmed item))) }
+        ensures unchanged { OnErr result (self.new ≡ self.old) }
+    {
+        if !self.seat.has(item) {
+            return Err(Refusal::Clash);
+        }
+        if self.stored.floor(item) == self.stored.latest(item) {
+            return Ok(());
+        }
+        if self.is_full() {
+            return Err(Refusal::Full);
+        }
+        self.stored.add(Some(Mark::Trimmed(item)))?;
+        Ok(())
+    }
+
     /// The stamps that are pending here, rising.
     ///
     /// # Errors
@@ -179,8 +196,8 @@ impl Partition {
     pub fn history(&self) -> &[Mark]
         ensures marks { result.now ≡ self.now.marks }
         ensures legal { is_legal result.now ≡ true }
-        ensures room { load result.now ≤ self.now.opening.limit }
-        ensures proper { are_proper_marks self.now.number self.now.opening.parts result.now ≡ true }
+        ensures room { load result.now ≤ self.now.limit }
+        ensures proper { are_proper_marks self.now.number self.now.parts result.now ≡ true }
         ensures partition { IsPartition self.now }
     {
         self.stored.marks()
@@ -188,6 +205,41 @@ impl Partition {
 }
 
 impl Partition {
+    /// The partition at the seat, which may open so.
+    fn at(
+        alloc: Global,
+        seat: Seat,
+        mut items: ItemValues,
+        limit: u64,
+    ) -> Result<Partition, Refused<ItemValues>>
+        requires { may_open seat.number seat.parts limit items ≡ true }
+        ensures partition { IfOk result (λ partition. partition ≡ opening_state seat.number seat.parts items limit) }
+        ensures memory { IfErr result (λ e. e.refusal ≡ Refusal.OutOfMemory) }
+        ensures given { IfErr result (λ e. e.given ≡ items) }
+    {
+        // The answers share the memory of the first values.
+        if let Err(refusal) = items.share() {
+            return Err(Refused {
+                refusal,
+                given: items,
+            });
+        }
+        match indexes_of(alloc, items.as_slice()) {
+            Ok(indexes) => Ok(Partition {
+                alloc,
+                seat,
+                limit,
+                items: FirstValues::new(items, indexes),
+                stored: Stored::new(alloc),
+                votes: Vec::new(alloc),
+            }),
+            Err(_) => Err(Refused {
+                refusal: Refusal::OutOfMemory,
+                given: items,
+            }),
+        }
+    }
+
     /// Keeps what the effect adds, and gives its reply.
     fn apply(&mut self, effect: Effect) -> Result<Option<Reply>, AllocError>
         requires follows { IfSome effect.mark (CanFollow self.old.marks) }

@@ -1,12 +1,12 @@
 // The marks of a partition, and the versions that they make.
-ghost use Rattle.std.specs.Prelude.{◌≡◌, ◌≤◌, ◌++◌, ◌∷◌, [], ℕ, true, is_some, option_to_list, length, None, Some, IsSome, IfSome, IfOk, OnOk, OnErr, All};
+ghost use Rattle.std.specs.Prelude.{◌≡◌, ◌<◌, ◌≤◌, ◌⊎◌, ◌++◌, ◌∷◌, [], ℕ, true, is_some, option_to_list, length, None, Some, IsSome, IfSome, IfOk, OnOk, OnErr, All};
 ghost use Rattle.std.specs.Option.{option_copied};
 ghost use Rattle.album_stamps.specs.declared.limits.TheConstants.{MOST_MARKS};
 ghost use Rattle.album_items.specs.Openings.{has_single_rows};
-ghost use Rattle.album_versions.specs.Versions.{version_at, SameVersions, Adds};
-ghost use Rattle.album_versions.specs.Best.{best_of};
+ghost use Rattle.album_versions.specs.Versions.{version_at, floor_of, SameVersions, Adds};
 ghost use Rattle.album_partition.specs.History.{kept_mark};
-ghost use Rattle.album_partition.specs.Marks.{ArePending, mark_writes, mark_items, state_of, is_legal, load, version, has_version, latest};
+ghost use Rattle.album_partition.specs.Marks.{ArePending, mark_writes, mark_items, state_of, is_unknown, is_legal, load, version, latest, floor};
+ghost use Rattle.album_partition.specs.Partition.{read_at};
 ghost use Rattle.album_partition.specs.Stored.{CanFollow, HasAdded, HasCommitted};
 
 use crate::history::History;
@@ -100,15 +100,28 @@ impl Stored {
         self.versions.latest(item)
     }
 
-    /// The greatest of the stamps at which the item has a version.
-    pub fn best(&self, item: ItemId, stamps: &[Stamp]) -> Stamp
-        ensures { result ≡ best_of (has_version self.now item) stamps.now }
+    /// The item's floor, below which no version is kept.
+    pub fn floor(&self, item: ItemId) -> Stamp
+        ensures { result ≡ floor self.now item }
     {
-        self.versions.best(item, stamps)
+        self.versions.floor(item)
+    }
+
+    /// At which stamp the item is read, unless it is gone: the latest, or the greatest of the stamps
+    /// at which it has a version.
+    pub fn read_at(&self, item: ItemId, stamps: &[Stamp]) -> Option<Stamp>
+        ensures { result ≡ read_at self.now item stamps.now }
+    {
+        if stamps.is_empty() {
+            Some(self.latest(item))
+        } else {
+            self.versions.best(item, stamps)
+        }
     }
 
     /// The value of the item's version at the stamp.
     pub fn value(&self, item: ItemId, stamp: Stamp) -> Option<&Value>
+        requires { floor self.now item ≤ stamp }
         ensures { option_copied result ≡ version self.now item stamp }
     {
         self.versions.value(item, stamp)
@@ -137,6 +150,7 @@ impl Stored {
             Mark::Prepared(stamp, writes, items) => self.prepare(stamp, writes, items),
             Mark::Committed(stamp) => self.commit(stamp),
             Mark::Discarded(stamp) => self.discard(stamp),
+            Mark::Trimmed(item) => self.trim(item),
         }
     }
 
@@ -170,8 +184,29 @@ impl Stored {
         ensures ok { OnOk result (self.new ≡ self.old ++ Mark.Discarded stamp ∷ []) }
         ensures err { OnErr result (self.new ≡ self.old) }
     {
+        let was_unknown = self.is_unknown(stamp);
         self.history.add(Mark::Discarded(stamp))?;
-        self.versions.drop_stamp(stamp);
+        // A stamp that was unknown has no version, and the items need not be gone over for it.
+        if !was_unknown {
+            self.versions.drop_stamp(stamp);
+        }
+        Ok(())
+    }
+
+    fn is_unknown(&self, stamp: Stamp) -> bool
+        ensures { result ≡ is_unknown (state_of self.now stamp) }
+    {
+        self.state(stamp) == StampState::Unknown
+    }
+
+    fn trim(&mut self, item: ItemId) -> Result<(), AllocError>
+        requires { CanFollow self.old (Mark.Trimmed item) }
+        ensures ok { OnOk result (self.new ≡ self.old ++ Mark.Trimmed item ∷ []) }
+        ensures err { OnErr result (self.new ≡ self.old) }
+    {
+        // First what may fail: to trim versions takes no memory.
+        self.history.add(Mark::Trimmed(item))?;
+        self.versions.trim(item);
         Ok(())
     }
 }
@@ -216,7 +251,8 @@ fn clone_of(value: &Value) -> Result<Value, AllocError>
 
 /// Commits the versions of the rows at a stamp.
 fn commit_rows(versions: &mut Versions, stamp: Stamp, rows: &[(ItemId, Value)])
-    requires { All (λ row. IsSome (version_at versions.old row.0 stamp)) rows.now }
+    requires { All (λ row. IsSome (version_at versions.old row.0 stamp)
+        ⊎ (stamp < floor_of versions.old row.0)) rows.now }
     ensures { HasCommitted versions.old versions.new stamp rows.now }
 {
     for row in rows {

@@ -6,7 +6,7 @@ use Rattle.album_calls.specs.declared.messages.Message.{Message}
 use Rattle.album_reader.specs.declared.round.Fresh.{Fresh}
 use Rattle.album_reader.specs.Answers.{Answer, body_version, is_answer}
 use Rattle.album_reader.specs.Ends.{answer_of, IsFresh}
-use Rattle.album_reader.specs.Rounds.{RoundState, new_answer, with_answer, outcome, stepped, are_in_order, IsOpen}
+use Rattle.album_reader.specs.Rounds.{RoundState, new_answer, with_answer, outcome, taken, are_in_order, IsOpen}
 use Rattle.album_reader.specs.Rounds.Step.{Same}
 use Rattle.album_reader.proofs.Others.{new_answer-answer}
 use Rattle.album_reader.proofs.Rounds.{put_answer-set, with_answer-in_order, index-of, index-inside, lacks-absent, lacks-taken, lacks-free}
@@ -77,7 +77,7 @@ module _ (round : RoundState) (message : Message) (fresh : Fresh)
         stamps = round.stamps;
         answers = set round.answers fresh.index (Some (answer_of fresh.version));
       })
-      ≡ stepped round message
+      ≡ taken round message
   outcome-fresh =
       ap (λ (os : List (Option Answer)). outcome (record {
         asker = round.asker;

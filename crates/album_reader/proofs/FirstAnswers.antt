@@ -4,15 +4,15 @@ use Rattle.std.proofs.Common.{◌≡◌, ℕ, suc, ◌+◌, ◌<◌, Bool, true,
 use Rattle.std.specs.Prelude.{find, option_map, option_and_then}
 use Rattle.std.specs.List.{filter_map}
 use Rattle.std.specs.Option.{option_or, option_map_or}
-use Rattle.std.proofs.lemmas.Bool.{eqb-true, eq-eqb, or_parts, and_parts}
+use Rattle.std.proofs.lemmas.Bool.{eqb-true, eq-eqb, or_parts, or_left, or_right, or_from, and_parts, and_right}
 use Rattle.std.proofs.lemmas.Bool.Decides.{nat_tests}
 use Rattle.std.proofs.lemmas.List.{append-nil, append_assoc}
 use Rattle.std.proofs.lemmas.List.Elements.{filter_map-append, at_from_Contains}
 use Rattle.std.proofs.lemmas.List.Folds.{find-append, list_any_at}
 use Rattle.album_calls.specs.declared.messages.Message.{Message}
-use Rattle.album_reader.specs.Answers.{Asker, Answer, answer_in, answers_in, first_answer, answers_there, are_there, whole, all_answers}
-use Rattle.album_reader.specs.Rounds.{RoundState, Step, has_item, has_answer, if_lacking, put_answer, with_answer, end_by, end_of, outcome, stepped, after_replies, step_after, and_then, stepped_all}
-use Rattle.album_reader.specs.Rounds.Step.{Same}
+use Rattle.album_reader.specs.Answers.{Asker, Answer, body_gone, is_answer, answer_in, answers_in, first_answer, answers_there, are_there, whole, all_answers}
+use Rattle.album_reader.specs.Rounds.{RoundState, Step, has_item, has_answer, if_lacking, put_answer, with_answer, end_by, end_of, outcome, lacks, is_gone, taken, stepped, after_replies, taken_after, step_after, open_step_after, goes, and_then, stepped_all}
+use Rattle.album_reader.specs.Rounds.Step.{Same, Gone}
 use Rattle.album_reader.specs.Snapshots.{items_read, version_of, version_read}
 
 or_none : (o : Option Answer) → option_or o None ≡ o
@@ -279,7 +279,7 @@ module _ (round : RoundState) (replies : List Message) (message : Message) where
   same_after :
       map (first_answer round.asker (replies ++ message ∷ [])) round.items
       ≡ map (first_answer round.asker replies) round.items
-      → Same (after_replies round replies) ≡ step_after round replies message
+      → Same (after_replies round replies) ≡ taken_after round replies message
   same_after e = sym (
       ap (λ (os : List (Option Answer)).
       if is_some (all_answers round.asker replies round.items) then Same (with_these round os) else outcome (with_these round os)) e
@@ -290,7 +290,7 @@ module _ (round : RoundState) (replies : List Message) (message : Message) where
       (answer : Answer) → answer_in round.asker message ≡ Some answer
       → has_item round.items answer.item ≡ true
       → has_answer (answers_there (map (first_answer round.asker replies) round.items)) answer.item ≡ false
-      → outcome (with_answer (after_replies round replies) answer) ≡ step_after round replies message
+      → outcome (with_answer (after_replies round replies) answer) ≡ taken_after round replies message
   new_after answer tells asked free =
       ap (λ (os : List (Option Answer)). outcome (with_these round os))
       (map-new round.asker replies message answer tells round.items free)
@@ -302,15 +302,15 @@ module _ (round : RoundState) (replies : List Message) (message : Message) where
       (not_whole round.asker replies message answer tells round.items asked free)
       )
 
-  -- what comes of a message is what comes of all the replies with it
-  pub stepped-after_replies : stepped (after_replies round replies) message ≡ step_after round replies message
-  stepped-after_replies = go (answer_in round.asker message) refl
+  -- what comes of a version is what comes of all the replies with it
+  taken-after_replies : taken (after_replies round replies) message ≡ taken_after round replies message
+  taken-after_replies = go (answer_in round.asker message) refl
     where
       go :
           (o : Option Answer) → answer_in round.asker message ≡ o
           → option_map_or (λ (a : Answer). outcome (with_answer (after_replies round replies) a))
           (option_and_then (if_lacking (after_replies round replies)) o) (Same (after_replies round replies))
-          ≡ step_after round replies message
+          ≡ taken_after round replies message
       go None e = same_after (map-none round.asker replies message round.items e)
       go (Some answer) e = here (has_item round.items answer.item) refl
           (has_answer (answers_there (map (first_answer round.asker replies) round.items)) answer.item) refl
@@ -320,12 +320,18 @@ module _ (round : RoundState) (replies : List Message) (message : Message) where
               → (c : Bool) → has_answer (answers_there (map (first_answer round.asker replies) round.items)) answer.item ≡ c
               → option_map_or (λ (a : Answer). outcome (with_answer (after_replies round replies) a))
               (if b && not c then Some answer else None) (Same (after_replies round replies))
-              ≡ step_after round replies message
+              ≡ taken_after round replies message
           here true f true g =
               same_after (map-answered round.asker replies message answer e round.items
               (answered round.asker replies message answer e round.items g))
           here true f false g = new_after answer e f g
           here false f c g = same_after (map-absent round.asker replies message answer e round.items f)
+
+  -- what comes of a message is what comes of all the replies with it
+  pub stepped-after_replies : stepped (after_replies round replies) message ≡ step_after round replies message
+  stepped-after_replies =
+      ap (λ (step : Step). if is_gone (after_replies round replies) message then Gone round.items else step)
+      taken-after_replies
 
 end-stays :
     (on : RoundState → Step) (stamps : Option (List ℕ)) (round : RoundState) (answers : List Answer)
@@ -333,11 +339,75 @@ end-stays :
 end-stays on None round answers = refl
 end-stays on (Some stamps) round answers = refl
 
+-- ---- items that are gone
+
+-- an item that was asked has an answer where each has
+there-has :
+    (asker : Asker) (replies : List Message) (items : List ℕ) (item : ℕ)
+    → are_there (map (first_answer asker replies) items) ≡ true → has_item items item ≡ true
+    → has_answer (answers_there (map (first_answer asker replies) items)) item ≡ true
+there-has asker replies [] item there asked = absurd (cc)
+there-has asker replies (first ∷ items) item there asked =
+    go (first_answer asker replies first) refl there (item == first) refl asked (there-has asker replies items item)
+  where
+    go :
+        (o : Option Answer) → first_answer asker replies first ≡ o
+        → are_there (o ∷ map (first_answer asker replies) items) ≡ true
+        → (b : Bool) → (item == first) ≡ b → (b || has_item items item) ≡ true
+        → (are_there (map (first_answer asker replies) items) ≡ true → has_item items item ≡ true
+        → has_answer (answers_there (map (first_answer asker replies) items)) item ≡ true)
+        → has_answer (answers_there (o ∷ map (first_answer asker replies) items)) item ≡ true
+    go None e f b g h later = absurd (cc)
+    go (Some answer) e f true g h later =
+        let own : answer.item ≡ first = first_answer-item asker replies first answer e in
+        let same : item ≡ first = eqb-true item first g in
+        let found : (answer.item == item) ≡ true = grind (arith, nat_tests, own, same) in
+        or_left _ _ found
+    go (Some answer) e f false g h later = or_right _ _ (later f h)
+
+-- nothing is lacking then
+whole-lacks :
+    (round : RoundState) (replies : List Message) (item : ℕ)
+    → are_there (map (first_answer round.asker replies) round.items) ≡ true
+    → lacks (after_replies round replies) item ≡ false
+whole-lacks round replies item there = go (has_item round.items item) refl
+  where
+    go :
+        (b : Bool) → has_item round.items item ≡ b
+        → (b && not (has_answer (answers_there (map (first_answer round.asker replies) round.items)) item)) ≡ false
+    go true e = ap not (there-has round.asker replies round.items item there e)
+    go false e = refl
+
+-- and nothing that comes ends the read
+whole-not_gone :
+    (round : RoundState) (replies : List Message) (message : Message)
+    → are_there (map (first_answer round.asker replies) round.items) ≡ true
+    → is_gone (after_replies round replies) message ≡ false
+whole-not_gone round replies message there = and_right (is_some round.stamps) _ (go (body_gone message.body))
+  where
+    go :
+        (o : Option ℕ)
+        → option_map_or (λ item. is_answer round.asker message item && lacks (after_replies round replies) item) o false
+        ≡ false
+    go None = refl
+    go (Some item) = and_right (is_answer round.asker message item) _ (whole-lacks round replies item there)
+
+whole-goes :
+    (round : RoundState) (more replies : List Message)
+    → are_there (map (first_answer round.asker replies) round.items) ≡ true
+    → goes round replies more ≡ false
+whole-goes round [] replies there = refl
+whole-goes round (message ∷ more) replies there =
+    or_from _ _ (whole-not_gone round replies message there)
+    (whole-goes round more (replies ++ message ∷ [])
+    (ap are_there (map-stays round.asker replies (message ∷ []) round.items there) ∙ there))
+
 -- what comes of replies one after another is what they tell all together
 pub stepped_all-after_replies :
     (round : RoundState) (more replies : List Message)
     → all_answers round.asker replies round.items ≡ None
-    → stepped_all (after_replies round replies) more ≡ outcome (after_replies round (replies ++ more))
+    → stepped_all (after_replies round replies) more
+    ≡ (if goes round replies more then Gone round.items else outcome (after_replies round (replies ++ more)))
 stepped_all-after_replies round [] replies none = sym (
     ap (λ (ms : List Message). outcome (after_replies round ms)) (append-nil replies)
     ∙ ap (λ (o : Option (List Answer)).
@@ -346,22 +416,32 @@ stepped_all-after_replies round [] replies none = sym (
 stepped_all-after_replies round (message ∷ more) replies none =
     ap (and_then (λ next. stepped_all next more)) (
     stepped-after_replies round replies message
-    ∙ ap (λ (o : Option (List Answer)). if is_some o then Same next else outcome next) none
+    ∙ ap (λ (o : Option (List Answer)).
+    if is_gone (after_replies round replies) message then Gone round.items
+    else if is_some o then Same next else outcome next) none
     )
-    ∙ go (whole next.answers) refl (stepped_all-after_replies round more (replies ++ message ∷ []))
+    ∙ by (is_gone (after_replies round replies) message) (stepped_all-after_replies round more (replies ++ message ∷ []))
   where
     next : RoundState
     next = after_replies round (replies ++ message ∷ [])
 
+    -- the replies so far, and those that are left
+    rest : Bool → Step
+    rest gone = if gone then Gone round.items else outcome (after_replies round (replies ++ message ∷ more))
+
     go :
         (o : Option (List Answer)) → whole next.answers ≡ o
         → (whole next.answers ≡ None
-        → stepped_all next more ≡ outcome (after_replies round ((replies ++ message ∷ []) ++ more)))
-        → and_then (λ r. stepped_all r more) (outcome next) ≡ outcome (after_replies round (replies ++ message ∷ more))
+        → stepped_all next more
+        ≡ (if goes round (replies ++ message ∷ []) more then Gone round.items
+        else outcome (after_replies round ((replies ++ message ∷ []) ++ more))))
+        → and_then (λ r. stepped_all r more) (outcome next) ≡ rest (goes round (replies ++ message ∷ []) more)
     go None e later =
         ap (λ (o : Option (List Answer)). and_then (λ r. stepped_all r more) (option_map_or (end_of next) o (Same next))) e
         ∙ later e
-        ∙ ap (λ (ms : List Message). outcome (after_replies round ms)) (append_assoc replies (message ∷ []) more)
+        ∙ ap (λ (ms : List Message).
+        if goes round (replies ++ message ∷ []) more then Gone round.items else outcome (after_replies round ms))
+        (append_assoc replies (message ∷ []) more)
     go (Some all) e later =
         let parts = whole-parts next.answers all e in
         let same : map (first_answer round.asker (replies ++ message ∷ more)) round.items ≡ next.answers =
@@ -371,20 +451,33 @@ stepped_all-after_replies round (message ∷ more) replies none =
         ap (λ (o : Option (List Answer)). and_then (λ r. stepped_all r more) (option_map_or (end_of next) o (Same next))) e
         ∙ end-stays (λ r. stepped_all r more) round.stamps next all
         ∙ sym (
-        ap (λ (os : List (Option Answer)). outcome (with_these round os)) same
+        ap rest (whole-goes round more (replies ++ message ∷ []) parts.0)
+        ∙ ap (λ (os : List (Option Answer)). outcome (with_these round os)) same
         ∙ ap (λ (o : Option (List Answer)). option_map_or (end_of next) o (Same next)) e
         )
+
+    by :
+        (gone : Bool)
+        → (whole next.answers ≡ None
+        → stepped_all next more
+        ≡ (if goes round (replies ++ message ∷ []) more then Gone round.items
+        else outcome (after_replies round ((replies ++ message ∷ []) ++ more))))
+        → and_then (λ r. stepped_all r more) (if gone then Gone round.items else outcome next)
+        ≡ rest (gone || goes round (replies ++ message ∷ []) more)
+    by true later = refl
+    by false later = go (whole next.answers) refl later
 
 -- what comes of a message in a round that is not over, once these replies were given in it
 pub stepped-lacking :
     (round : RoundState) (message : Message) (replies : List Message)
     → are_there round.answers ≡ false → round ≡ after_replies round replies
-    → stepped round message ≡ outcome (after_replies round (replies ++ message ∷ []))
+    → stepped round message ≡ open_step_after round replies message
 stepped-lacking round message replies lacking same =
     ap (λ (r : RoundState). stepped r message) same
     ∙ stepped-after_replies round replies message
     ∙ ap (λ (b : Bool).
-    if is_some (if b then Some (answers_there (map (first_answer round.asker replies) round.items)) else None)
+    if is_gone (after_replies round replies) message then Gone round.items
+    else if is_some (if b then Some (answers_there (map (first_answer round.asker replies) round.items)) else None)
     then Same (after_replies round (replies ++ message ∷ []))
     else outcome (after_replies round (replies ++ message ∷ [])))
     (sym (ap (λ (r : RoundState). are_there r.answers) same) ∙ lacking)

@@ -8,8 +8,8 @@ use Rattle.std.proofs.lemmas.List.Quantifiers.{position-Some}
 use Rattle.album_stamps.specs.Distinct.{are_single}
 use Rattle.album_calls.specs.declared.messages.Message.{Message}
 use Rattle.album_reader.specs.Answers.{Asker, Answer, answers_there, are_there}
-use Rattle.album_reader.specs.Rounds.{RoundState, no_answers, first_round, has_item, has_answer, lacks, new_answer, put_answer, with_answer, end_by, end_of, outcome, stepped, are_in_order, IsOpen, StaysOpen}
-use Rattle.album_reader.specs.Rounds.Step.{Same}
+use Rattle.album_reader.specs.Rounds.{RoundState, no_answers, first_round, has_item, has_answer, lacks, new_answer, put_answer, with_answer, end_by, end_of, outcome, taken, is_gone, stepped, are_in_order, IsOpen, StaysOpen}
+use Rattle.album_reader.specs.Rounds.Step.{Same, Gone}
 use Rattle.album_reader.specs.Snapshots.{items_read}
 use Rattle.album_reader.proofs.Others.{has_answer-at}
 
@@ -235,6 +235,14 @@ module _ (round : RoundState) (item index : ℕ)
       and_from _ _ (has_item-at round.items index item here.0 here.1)
       (ap not (free-index round.items round.answers index item lasts.single lasts.in_order index-inside here.1 free))
 
+  -- it is lacking just where it has none
+  pub lacks-is : not (is_some (get_or round.answers index None)) ≡ lacks round item
+  lacks-is = go (get_or round.answers index None) refl
+    where
+      go : (o : Option Answer) → get_or round.answers index None ≡ o → not (is_some o) ≡ lacks round item
+      go None f = sym (lacks-free f)
+      go (Some answer) f = sym (lacks-taken (ap (λ (p : Option Answer). is_some p) f))
+
 -- an answer that is taken away again
 pub set_back :
     (answers : List (Option Answer)) (index : ℕ) (answer : Option Answer)
@@ -303,10 +311,21 @@ outcome-open round answer lasts = go (are_there (with_answer round answer).answe
     }
 
 pub stepped-open : (round : RoundState) (message : Message) → IsOpen round → StaysOpen (stepped round message)
-stepped-open round message lasts = go (new_answer round message)
+stepped-open round message lasts = by (is_gone round message)
   where
     go :
         (o : Option Answer)
         → StaysOpen (option_map_or (λ (a : Answer). outcome (with_answer round a)) o (Same round))
     go None = lasts
     go (Some answer) = outcome-open round answer lasts
+
+    by : (b : Bool) → StaysOpen (if b then Gone round.items else taken round message)
+    by true = tt
+    by false = go (new_answer round message)
+
+-- where no item is gone, what comes of a message is what comes of its version
+pub taken-stepped :
+    (round : RoundState) (message : Message)
+    → is_gone round message ≡ false → taken round message ≡ stepped round message
+taken-stepped round message goes_on =
+    sym (ap (λ (b : Bool). if b then Gone round.items else taken round message) goes_on)

@@ -34,11 +34,29 @@ reply_version (reply.Status stamp vote) = None
 reply_version (reply.NotPrepared stamp) = None
 reply_version reply.Clash = None
 reply_version (reply.Full stamp) = None
+reply_version (reply.Gone item) = None
 
 -- the version that a body tells, if it tells one
 abbrev pub body_version : Body → Option Answer
 body_version (body.Request request) = None
 body_version (body.Reply reply) = reply_version reply
+
+-- the item that a reply tells to be gone, if it tells that of one
+abbrev pub reply_gone : Reply → Option ℕ
+reply_gone (reply.Prepared stamp) = None
+reply_gone (reply.Committed stamp) = None
+reply_gone (reply.Discarded stamp) = None
+reply_gone (reply.Version item stamp value) = None
+reply_gone (reply.Status stamp vote) = None
+reply_gone (reply.NotPrepared stamp) = None
+reply_gone reply.Clash = None
+reply_gone (reply.Full stamp) = None
+reply_gone (reply.Gone item) = Some item
+
+-- the item that a body tells to be gone, if it tells that of one
+abbrev pub body_gone : Body → Option ℕ
+body_gone (body.Request request) = None
+body_gone (body.Reply reply) = reply_gone reply
 
 -- the message answers the asker for the item: the item's own partition sends it, under the asker's tag
 abbrev pub is_answer : Asker → Message → ℕ → Bool

@@ -38,14 +38,17 @@ pub enum Step {
     Same(Reading),
     /// The first round is over, and these messages ask in the second one.
     Next(Reading, Vec<Message>),
-    /// The read is over.
+    /// The read is done.
     Done(Snapshot),
+    /// The read is over, since one of its items is no longer kept as the first round found it. These
+    /// are its items: a new read of them finds what is kept.
+    Gone(Items),
 }
 
 impl Reading {
-    ghost use Rattle.album_reader.specs.Others.{IsOther};
-    ghost use Rattle.album_reader.specs.Rounds.{first_round, gets_of, stepped, after_replies, outcome};
-    ghost use Rattle.album_reader.specs.Rounds.Step.{Same};
+    ghost use Rattle.album_reader.specs.Others.{IsOther, IsGone};
+    ghost use Rattle.album_reader.specs.Rounds.{first_round, gets_of, stepped, after_replies, open_step_after};
+    ghost use Rattle.album_reader.specs.Rounds.Step.{Same, Gone};
 
     /// Asks each item's partition for its latest version.
     ///
@@ -93,7 +96,7 @@ impl Reading {
     }
 
     /// Takes a message. Of the answers to what the round asks, the first one of each item counts,
-    /// and nothing else does.
+    /// and nothing else does. An item that the second round is told to be gone ends the read.
     ///
     /// # Errors
     ///
@@ -102,10 +105,14 @@ impl Reading {
         ensures step { IfOk result (λ step. step_of step ≡ stepped self message.now) }
 
         // Where the reading is what a list of replies tells, the step is what these and the message
-        // tell: the round is over once each item has an answer among them.
+        // tell: the round is over once each item has an answer among them, and the read where in the
+        // second round the message tells that an item without one is gone.
         ensures all_given { IfOk result (λ step. (replies : List Message)
             → self ≡ after_replies self replies
-            → step_of step ≡ outcome (after_replies self (replies ++ message.now ∷ []))) }
+            → step_of step ≡ open_step_after self replies message.now) }
+
+        // An item that is gone ends the read, and that takes no memory.
+        ensures gone { IsGone self message.now → IsOkAnd result (λ step. step_of step ≡ Gone self.items) }
 
         // Nothing else counts, and what doesn't count is never refused.
         ensures other { IsOther self message.now → IsOkAnd result (λ step. step_of step ≡ Same self) }
@@ -114,6 +121,9 @@ impl Reading {
         ensures given { IfErr result (λ e. e.given ≡ self) }
     {
         let Reading { mut round } = self;
+        if round.is_gone(message) {
+            return Ok(Step::Gone(round.into_items()));
+        }
         match round.take(message) {
             Ok(last) => Ok(Step::of(round, last)),
             Err(_) => Err(Refused {

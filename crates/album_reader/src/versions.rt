@@ -1,6 +1,6 @@
-// The version that a message tells.
+// What a message tells of an item: a version of it, or that it is gone.
 ghost use Rattle.std.specs.Prelude.{◌≡◌, Option, option_map, IfOk};
-ghost use Rattle.album_reader.specs.Answers.{reply_version, body_version};
+ghost use Rattle.album_reader.specs.Answers.{reply_version, body_version, body_gone};
 ghost use Rattle.album_reader.specs.Ends.{answer_of};
 
 use crate::answers::Answer;
@@ -51,5 +51,16 @@ fn reply_version(reply: &Reply) -> Option<VersionIn>
         }),
         Reply::Prepared(_) | Reply::Committed(_) | Reply::Discarded(_) => None,
         Reply::Status(_, _) | Reply::NotPrepared(_) | Reply::Clash | Reply::Full(_) => None,
+        Reply::Gone(_) => None,
+    }
+}
+
+/// The item that the body tells to be gone, if it tells that of one.
+pub fn body_gone(body: &Body) -> Option<ItemId>
+    ensures { result ≡ body_gone body.now }
+{
+    match body {
+        Body::Reply(Reply::Gone(item)) => Some(*item),
+        Body::Request(_) | Body::Reply(_) => None,
     }
 }

@@ -1,10 +1,10 @@
 // The table of answers: what a partition does with each message, decided before anything is kept.
-ghost use Rattle.std.specs.Prelude.{◌≡◌, true, Bool, IfOk, if◌then◌else◌};
+ghost use Rattle.std.specs.Prelude.{◌≡◌, ◌≤◌, true, Bool, IfOk, if◌then◌else◌};
 ghost use Rattle.std.specs.Option.{option_copied, unwrap_or};
 ghost use Rattle.album_partition.specs.Answers.{Does, nothing, says, marks, marks_and_says, prepare_by, commit_by, check_by, mark_by, is_same, says_version, to_body, to_request, to_prepare, to_commit, to_check, to_get, to_reply, to_status, to_vote, to_prepared, to_part, mark_with};
 ghost use Rattle.album_partition.specs.History.{is_kept};
-ghost use Rattle.album_partition.specs.Marks.{state_of, is_full, value_in};
-ghost use Rattle.album_partition.specs.Partition.{value_at, stamp_for};
+ghost use Rattle.album_partition.specs.Marks.{state_of, is_full, floor};
+ghost use Rattle.album_partition.specs.Partition.{value_at};
 ghost use Rattle.album_partition.specs.Proper.{is_proper};
 
 use crate::marks::Mark;
@@ -120,7 +120,7 @@ impl Partition {
 
     /// Whether the Prepare can be followed here.
     fn is_proper(&self, stamp: Stamp, writes: &ItemValues, items: &Items) -> bool
-        ensures { result ≡ is_proper self.now.number self.now.opening.parts stamp writes.now items.now }
+        ensures { result ≡ is_proper self.now.number self.now.parts stamp writes.now items.now }
     {
         is_proper(self.seat, stamp, writes.as_slice(), items.as_slice())
     }
@@ -133,7 +133,7 @@ impl Partition {
         items: &Items,
     ) -> Result<Effect, AllocError>
         ensures { (same : Bool) → Does result (prepare_by
-            (is_full self.now.opening.limit self.now.marks) same StampState.Unknown stamp writes.now items.now) }
+            (is_full self.now.limit self.now.marks) same StampState.Unknown stamp writes.now items.now) }
     {
         if self.is_full() {
             return Ok(Effect::says(Reply::Full(stamp)));
@@ -159,8 +159,8 @@ impl Partition {
     }
 
     /// Whether there is no room for a stamp more.
-    fn is_full(&self) -> bool
-        ensures { result ≡ is_full self.now.opening.limit self.now.marks }
+    pub(super) fn is_full(&self) -> bool
+        ensures { result ≡ is_full self.now.limit self.now.marks }
     {
         self.limit < self.stored.load() + 2
     }
@@ -189,35 +189,28 @@ impl Partition {
         if !self.seat.has(item) {
             return Ok(Effect::says(Reply::Clash));
         }
-        let stamp = self.stamp_for(item, stamps.as_slice());
-        self.says_version(item, stamp)
-    }
-
-    /// At which stamp the item is read.
-    fn stamp_for(&self, item: ItemId, stamps: &[Stamp]) -> Stamp
-        ensures { result ≡ stamp_for self.now.marks item stamps.now }
-    {
-        if stamps.is_empty() {
-            self.stored.latest(item)
-        } else {
-            self.stored.best(item, stamps)
+        match self.stored.read_at(item, stamps.as_slice()) {
+            None => Ok(Effect::says(Reply::Gone(item))),
+            Some(stamp) => self.says_version(item, stamp),
         }
     }
 
     /// The item, as it is read at the stamp.
     fn says_version(&self, item: ItemId, stamp: Stamp) -> Result<Effect, AllocError>
+        requires { floor self.now.marks item ≤ stamp }
         ensures { Does result (says_version self.now item stamp) }
     {
         let value = clone_or_missing(self.value_at(item, stamp))?;
         Ok(Effect::says(Reply::Version(item, stamp, value)))
     }
 
-    /// The item's value at the stamp: at the zero stamp that of the opening.
+    /// The item's value at the stamp: at the zero stamp its first value.
     fn value_at(&self, item: ItemId, stamp: Stamp) -> Option<&Value>
+        requires { floor self.now.marks item ≤ stamp }
         ensures { unwrap_or (option_copied result) Value.Missing ≡ value_at self.now item stamp }
     {
         if stamp.value() == 0 {
-            first_value(self.items.as_slice(), item)
+            self.items.value(item)
         } else {
             self.stored.value(item, stamp)
         }
@@ -235,7 +228,8 @@ impl Partition {
             | Reply::Version(_, _, _)
             | Reply::NotPrepared(_)
             | Reply::Clash
-            | Reply::Full(_) => Ok(Effect::nothing()),
+            | Reply::Full(_)
+            | Reply::Gone(_) => Ok(Effect::nothing()),
         }
     }
 
@@ -343,22 +337,6 @@ fn clone_or_missing(value: Option<&Value>) -> Result<Value, AllocError>
     match value {
         None => Ok(Value::Missing),
         Some(value) => value.clone(),
-    }
-}
-
-/// The item's first value.
-fn first_value(items: &[(ItemId, Value)], item: ItemId) -> Option<&Value>
-    ensures { option_copied result ≡ value_in items.now item }
-{
-    match items {
-        [] => None,
-        [row, rest @ ..] => {
-            if row.0.is(item) {
-                Some(&row.1)
-            } else {
-                first_value(rest, item)
-            }
-        }
     }
 }
 

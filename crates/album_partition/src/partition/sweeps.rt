@@ -14,7 +14,7 @@ impl Partition {
     pub(super) fn ask_others(&self, stamp: Stamp) -> Result<Vec<Message>, Refusal>
         requires { state_of self.now.marks stamp ≡ StampState.Pending }
         ensures messages { IfOk result (λ messages. messages.items ≡ sent_by self.now.number stamp
-            (others_of self.now.number self.now.opening.parts (items_at self.now.marks stamp))) }
+            (others_of self.now.number self.now.parts (items_at self.now.marks stamp))) }
         ensures memory { IsOkUnless result Refusal.OutOfMemory }
     {
         let others = self.seat.others_of(self.alloc, self.stored.items(stamp))?;
