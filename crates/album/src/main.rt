@@ -32,6 +32,7 @@ list of one entry:
   who      who asks: name@users or ANONYMOUS@
   kind     may be left out: picture, album or group, the object that carries the list
   groups   may be left out: [number, members] each, a member being name@users or number@groups
+  policy   may be left out: 1, or 2, by which an owner may always read and change the list of what he owns
 
 It is answered by one of these lines, `at` being the index of the entry that denies, from 0:
 

@@ -1,6 +1,6 @@
 -- The texts that answer lines. For `write_answers`, and for the engine's turns; `left_after` is what both rest on:
 -- what a fault leaves of the answers to lines, behind whole answers and before lines that come later.
-use Rattle.std.proofs.Common.{◌≡◌, ◌≢◌, ◌⊎◌, ℕ, ◌+◌, ◌<◌, List, [], ◌∷◌, ◌++◌, length, take, drop, map, get_or, Bool, true, false, Option, MatchBool, inr, refl, sym, ap, ◌∙◌, subst, arith, append_assoc, append-nil, take-append-drop, length-drop}
+use Rattle.std.proofs.Common.{◌≡◌, ◌≢◌, ◌⊎◌, ℕ, ◌+◌, ◌<◌, List, [], ◌∷◌, ◌++◌, length, take, drop, map, get_or, Bool, true, false, Option, Result, Ok, Err, OnOk, IfErr, MatchBool, inr, refl, sym, ap, ◌∙◌, subst, arith, append_assoc, append-nil, take-append-drop, length-drop}
 use Rattle.std.proofs.lemmas.List.{take_more, map-append, length-map}
 use Rattle.std.specs.Io.KnownBytes.{Appends}
 use Rattle.std.proofs.KnownBytes.{Appends-trans, Appends-nil}
@@ -10,7 +10,7 @@ use Rattle.album_wire.specs.Output.{refusal_line}
 use Rattle.album_server.specs.declared.fault.Fault.{Fault}
 use Rattle.album_server.specs.declared.fault.Fault.TheVariants.{Reading, Writing, Memory}
 use Rattle.album_server.specs.Answers.{Answers, IsAnswer, IsReply, read_of}
-use Rattle.album_server.specs.Writes.{Writes, IsPrefixOf, IsCutShort, IsLeftBy}
+use Rattle.album_server.specs.Writes.{Gains, Writes, IsPrefixOf, IsCutShort, IsLeftBy}
 
 -- ---- lists of lines
 
@@ -105,41 +105,45 @@ up_to_next f xs i x h e =
 with_others : {X : Type 0} (f : X → Line) (xs : List X) (i : ℕ) → map f xs ≡ map f (take i xs) ++ map f (drop i xs)
 with_others f xs i = ap (map f) (sym (take-append-drop i xs)) ∙ map-append f (take i xs) (drop i xs)
 
--- the next line is answered
-pub next_answered : {X : Type 0} (f : X → Line) (xs : List X) (i : ℕ) (x : X) (text : List ℕ) (a b c : Option (List ℕ))
+-- the next line is answered too
+pub next_added : {X : Type 0} (f : X → Line) (xs : List X) (i : ℕ) (x : X) (old new : List ℕ)
     → i < length xs → x ≡ get_or xs i x
-    → Writes (Answers (map f (take i xs))) a b
-    → IsAnswer (f x) text
-    → Appends b c text
-    → Writes (Answers (map f (take (i + 1) xs))) a c
-next_answered f xs i x text a b c h e g k p =
-    let one : Writes (Answers (f x ∷ [])) b c = (text, one_answer (f x) text k, p) in
-    let all = writes_both _ _ (Answers (map f (take i xs) ++ f x ∷ [])) (λ s t. answers_append _ _ s t) a b c g one in
-    subst (λ ls. Writes (Answers ls) a c) (sym (up_to_next f xs i x h e)) all
+    → Answers (map f (take i xs)) old
+    → Gains (IsAnswer (f x)) old new
+    → Answers (map f (take (i + 1) xs)) new
+next_added f xs i x old new h e g added =
+    let all = answers_append _ _ old added.0 g (one_answer (f x) added.0 added.1) in
+    let lines : map f (take i xs) ++ f x ∷ [] ≡ map f (take (i + 1) xs) = sym (up_to_next f xs i x h e) in
+    subst (λ ls. Answers ls new) lines (subst (Answers (map f (take i xs) ++ f x ∷ [])) (sym added.2) all)
 
 -- there is no memory for the next answer
-pub no_memory_at : {X : Type 0} (f : X → Line) (xs : List X) (i : ℕ) (a b : Option (List ℕ))
+pub no_memory_at : {X : Type 0} (f : X → Line) (xs : List X) (i : ℕ) (text : List ℕ)
     → i < length xs
-    → Writes (Answers (map f (take i xs))) a b
-    → Writes (IsLeftBy Memory Answers (map f xs)) a b
-no_memory_at f xs i a b h g =
+    → Answers (map f (take i xs)) text
+    → IsLeftBy Memory Answers (map f xs) text
+no_memory_at f xs i text h g =
     let later : map f (drop i xs) ≢ [] =
     λ none. absurd (omega (arith, ap length none, length-map (drop i xs) f, length-drop i xs, h)) in
-    (g.0, (map f (take i xs), map f (drop i xs), later, with_others f xs i, g.1), g.2)
+    (map f (take i xs), map f (drop i xs), later, with_others f xs i, g)
 
--- the next answer is not all written
-pub not_written_at : {X : Type 0} (f : X → Line) (xs : List X) (i : ℕ) (x : X) (text : List ℕ) (a b c : Option (List ℕ))
-    → i < length xs → x ≡ get_or xs i x
-    → Writes (Answers (map f (take i xs))) a b
-    → IsAnswer (f x) text
-    → Writes (IsCutShort (λ whole. whole ≡ text)) b c
-    → Writes (IsLeftBy Writing Answers (map f xs)) a c
-not_written_at f xs i x text a b c h e g k p =
-    let later : List Line = map f (drop (i + 1) xs) in
-    let lines : map f xs ≡ map f (take i xs) ++ (f x ∷ [] ++ later) =
-    with_others f xs (i + 1) ∙ ap (λ ls. ls ++ later) (up_to_next f xs i x h e) ∙ append_assoc _ _ later in
-    let one : Writes (IsLeftBy Writing Answers (f x ∷ [])) b c =
-    (p.0, (p.1.0, p.1.1, subst (Answers (f x ∷ [])) (sym p.1.2) (one_answer (f x) text k)), p.2) in
-    let all =
-    writes_both _ _ (IsLeftBy Writing Answers (map f (take i xs) ++ (f x ∷ [] ++ later))) (λ s t. left_after Writing (map f (take i xs)) (f x ∷ []) later s t) a b c g one in
-    subst (λ ls. Writes (IsLeftBy Writing Answers ls) a c) (sym lines) all
+-- ---- the text of all answers, written
+
+-- so far as there was memory, it is a prefix of the answers
+prefix_there : (answered : Result Unit Fault) (lines : List Line) (text : List ℕ)
+    → OnOk answered (Answers lines text)
+    → IfErr answered (λ fault. IsLeftBy fault Answers lines text)
+    → IsPrefixOf (Answers lines) text
+prefix_there (Ok u) lines text all left = ([], subst (Answers lines) (sym (append-nil text)) all)
+prefix_there (Err fault) lines text all left = left_is_prefix fault lines text left
+
+-- it is not all written
+pub not_all_written : (answered : Result Unit Fault) (lines : List Line) (text : List ℕ) (a b : Option (List ℕ))
+    → OnOk answered (Answers lines text)
+    → IfErr answered (λ fault. IsLeftBy fault Answers lines text)
+    → Writes (IsCutShort (λ whole. whole ≡ text)) a b
+    → Writes (IsLeftBy Writing Answers lines) a b
+not_all_written answered lines text a b all left p =
+    let begin = prefix_there answered lines text all left in
+    let whole : text ++ begin.0 ≡ p.0 ++ (p.1.0 ++ begin.0) =
+    ap (λ t. t ++ begin.0) (sym p.1.2) ∙ append_assoc p.0 p.1.0 begin.0 in
+    (p.0, (p.1.0 ++ begin.0, goes_on p.1.0 begin.0 p.1.1, subst (Answers lines) whole begin.1), p.2)

@@ -18,7 +18,8 @@ listed_by (l ∷ ls) number = if number == l.number then l.members else listed_b
 
 -- what a question is judged on, where `is_in` tells the groups that who asks is in
 abbrev pub case_by : Question → (ℕ → Bool) → Case
-case_by q is_in = record { principal = q.who; owner = q.owner; head_group = q.head_group; is_in = is_in }
+case_by q is_in =
+    record { policy = q.policy; principal = q.who; owner = q.owner; head_group = q.head_group; is_in = is_in }
 
 -- the verdict of the question's list, judged with just the groups that who asks is in
 pub record IsJudged (q : Question) (v : Verdict) : Type 0 where

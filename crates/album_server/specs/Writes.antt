@@ -14,6 +14,10 @@ HasRead turns remaining left = (given : List ℕ) × Consumes remaining left giv
 abbrev pub Writes : (List ℕ → Type 0) → Option (List ℕ) → Option (List ℕ) → Type 0
 Writes P old new = (text : List ℕ) × P text × Appends old new text
 
+-- a text of which this holds stands behind what was there
+abbrev pub Gains : (List ℕ → Type 0) → List ℕ → List ℕ → Type 0
+Gains P old new = (text : List ℕ) × P text × (new ≡ old ++ text)
+
 -- the reader gave some bytes, and the writer gained a text that goes with them
 abbrev pub Exchanges : (List ℕ → List ℕ → Type 0)
     → Option (List ℕ) → Option (List ℕ) → Option (List ℕ) → Option (List ℕ) → Type 0

@@ -8,6 +8,7 @@ ghost use Rattle.album_server.specs.Writes.{HasRead, Writes, Exchanges, IsPrefix
 use crate::answers::write_answers;
 use crate::fault::Fault;
 use album_wire::Lines;
+use json::Scratch;
 use std::alloc::Global;
 use std::io::{Read, Write};
 
@@ -44,28 +45,34 @@ pub fn judge<R: Read, W: Write>(
     ensures unread { turns ≡ 0 → R.remaining reader.new ≡ R.remaining reader.old }
 {
     let mut lines = Lines::new(alloc);
+    let mut scratch = Scratch::new(alloc);
     let mut piece = [0u8; PIECE];
     for _turn in 0..turns {
         let Ok(len) = reader.read(&mut piece) else {
             return Err(Fault::Reading);
         };
         if len == 0 {
-            return finish(alloc, lines, writer);
+            return finish(alloc, &mut scratch, lines, writer);
         }
         let ended = lines.feed(&piece[..len])?;
-        write_answers(alloc, writer, &ended)?;
+        write_answers(alloc, &mut scratch, writer, &ended)?;
     }
     Err(Fault::Reading)
 }
 
 /// Answers the last line, where the input does not end in a newline.
-fn finish<W: Write>(alloc: Global, lines: Lines, writer: &mut W) -> Result<(), Fault>
+fn finish<W: Write>(
+    alloc: Global,
+    scratch: &mut Scratch,
+    lines: Lines,
+    writer: &mut W,
+) -> Result<(), Fault>
     ensures ok { OnOk result (Writes (Answers (last lines)) (W.contents writer.old) (W.contents writer.new)) }
     ensures fault { IfErr result (λ fault.
         Writes (IsLeftBy fault Answers (last lines)) (W.contents writer.old) (W.contents writer.new)) }
 {
     match lines.end() {
         None => Ok(()),
-        Some(line) => write_answers(alloc, writer, &[line]),
+        Some(line) => write_answers(alloc, scratch, writer, &[line]),
     }
 }

@@ -9,14 +9,15 @@ use album_eval::{Facts, Verdict, evaluate, members};
 use album_lists::Member;
 use album_stamps::Refusal;
 use album_wire::{Group, JudgeLine, read_judge};
+use json::Scratch;
 use std::alloc::{AllocError, Global};
 use std::collections::BTreeMap;
 
 /// The verdict on a line, or the line's refusal.
-pub(crate) fn judged(alloc: Global, bytes: &[u8]) -> Result<Verdict, Refusal>
+pub(crate) fn judged(alloc: Global, scratch: &mut Scratch, bytes: &[u8]) -> Result<Verdict, Refusal>
     ensures { Judges (judge_of bytes.now) result }
 {
-    let line = read_judge(alloc, bytes)?;
+    let line = read_judge(alloc, scratch, bytes)?;
     verdict(alloc, line)
 }
 
@@ -37,11 +38,13 @@ fn verdict(alloc: Global, line: JudgeLine) -> Result<Verdict, Refusal>
         owner,
         who,
         mask,
+        policy,
         ..
     } = line;
     let by_number = group_map(alloc, groups)?;
     let found = members(alloc, &by_number, &who)?;
     let facts = Facts {
+        policy,
         principal: &who,
         owner: &owner,
         head_group,

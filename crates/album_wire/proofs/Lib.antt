@@ -1,5 +1,6 @@
 pub mod Cuts
 pub mod Newlines
+pub mod Reading
 pub mod Members
 pub mod Lists
 pub mod Distinct

@@ -20,13 +20,16 @@ use Rattle.album_lists.specs.declared.lists.Holder.{Holder}
 use Rattle.album_lists.specs.declared.lists.Holder.TheVariants.{Plain, Folder}
 use Rattle.album_lists.proofs.Spelling.{user_spelled, spelled_user}
 use Rattle.album_eval.specs.Matching.{principal_of}
+use Rattle.album_eval.specs.Policies.{policy_of}
+use Rattle.album_eval.specs.declared.policies.Policy.{Policy}
+use Rattle.album_eval.specs.declared.policies.Policy.TheVariants.{One, Two}
 use Rattle.album_eval.proofs.Principals.{principal_spelled, spelled_principal}
 use Rattle.album_wire.specs.Fields.{guard, sized, only_of, field_of, text_of, whole_of, list_of, each, data_of}
 use Rattle.album_wire.specs.Shapes.{entry_shapes_of, texts_of}
 use Rattle.album_wire.specs.Values.{each_of, members_read}
 use Rattle.album_wire.specs.Spelling.{whole_data, list_data, IsJson, IsText, HasOnly}
-use Rattle.album_wire.specs.JudgeShape.{SpelledGroup, SpelledJudge, judge_keys, group_shape_of, numbers, groups_shape_of, holder_of, kind_shape_of, judge_shape_of}
-use Rattle.album_wire.specs.JudgeLine.{Listing, Question, IsKindText, IsGroup, AreGroups, IsQuestion, IsJudgeLine, carried_list_of, listing_of, question_of, judge_of}
+use Rattle.album_wire.specs.JudgeShape.{SpelledGroup, SpelledJudge, judge_keys, group_shape_of, numbers, groups_shape_of, holder_of, kind_shape_of, policy_shape_of, judge_shape_of}
+use Rattle.album_wire.specs.JudgeLine.{Listing, Question, IsKindText, IsPolicyNumber, IsGroup, AreGroups, IsQuestion, IsJudgeLine, carried_list_of, listing_of, question_of, judge_of}
 use Rattle.album_wire.proofs.Steps.{step_taken, same_value, value_there, test_passed, each_read, read_each, each_of_read, read_each_of, zip_through, zip_between}
 use Rattle.album_wire.proofs.Members.{data_read}
 use Rattle.album_wire.proofs.Json.{text_read, whole_read, list_read, two, sized_read, same_two, names_spelled, names_read}
@@ -73,6 +76,44 @@ kind_read : (o : Option Data) (holder : Holder)
 unfolding kind_shape_of
 kind_read None k is = rw is refl
 kind_read (Some d) k is = rw is.1 (rw (read_holder k is.0 is.2) refl)
+
+-- ---- the policy
+
+policy_read : (n : ℕ) (policy : Policy) → policy_of n ≡ Some policy → IsPolicyNumber policy (whole_data n)
+policy_read n policy = go (n == 1) refl (n == 2) refl
+  where
+    at : (k : ℕ) → (n == k) ≡ true → whole_data n ≡ whole_data k
+    at k e = ap whole_data ((Decides-eqb n k).0 e)
+
+    the_same : (p : Policy) → Some p ≡ Some policy → p ≡ policy
+    the_same p e = cc
+
+    go : (a : Bool) → (n == 1) ≡ a → (b : Bool) → (n == 2) ≡ b
+        → cond a (Some One) (cond b (Some Two) None) ≡ Some policy → IsPolicyNumber policy (whole_data n)
+    go true e b f h = subst (λ p. IsPolicyNumber p (whole_data n)) (the_same One h) (at 1 e)
+    go false e true f h = subst (λ p. IsPolicyNumber p (whole_data n)) (the_same Two h) (at 2 f)
+    go false e false f h = cc
+
+policy_spelled : (o : Option Data) (policy : Policy)
+    → policy_shape_of o ≡ Ok policy
+    → MatchOption o (policy ≡ One) (IsPolicyNumber policy)
+unfolding policy_shape_of
+policy_spelled None p h = cc
+policy_spelled (Some d) p h =
+    let number = step_taken (whole_of d) _ p h in
+    subst (IsPolicyNumber p) (sym (whole_read d number.0 number.1)) (policy_read number.0 p (value_there _ BadRequest p number.2))
+
+number_read : (policy : Policy) (d : Data) → IsPolicyNumber policy d → policy_shape_of (Some d) ≡ Ok policy
+unfolding policy_shape_of
+number_read One d is = rw is refl
+number_read Two d is = rw is refl
+
+policy_shaped : (o : Option Data) (policy : Policy)
+    → MatchOption o (policy ≡ One) (IsPolicyNumber policy)
+    → policy_shape_of o ≡ Ok policy
+unfolding policy_shape_of
+policy_shaped None p is = rw is refl
+policy_shaped (Some d) p is = number_read p d is
 
 -- ---- the groups
 
@@ -224,6 +265,7 @@ record IsShape (s : SpelledJudge) (d : Data) : Type 0 where
   owner : get (codes "owner") d ≡ Some (string s.owner)
   who : get (codes "who") d ≡ Some (string s.who)
   mask : get (codes "mask") d ≡ Some (whole_data s.mask)
+  policy : policy_shape_of (get (codes "policy") d) ≡ Ok s.policy
 
 shape_spelled : (s : SpelledJudge) (d : Data) → judge_shape_of d ≡ Ok s → IsShape s d
 unfolding judge_shape_of
@@ -236,6 +278,7 @@ shape_spelled s d h =
     let owner = step_taken (field_of (codes "owner") d >>= text_of) _ s groups.2 in
     let who = step_taken (field_of (codes "who") d >>= text_of) _ s owner.2 in
     let mask = step_taken (field_of (codes "mask") d >>= whole_of) _ s who.2 in
+    let policy = step_taken (policy_shape_of (get (codes "policy") d)) _ s mask.2 in
     let parts : SpelledJudge = record {
       entries = entries.0;
       holder = kind.0;
@@ -244,8 +287,9 @@ shape_spelled s d h =
       owner = owner.0;
       who = who.0;
       mask = mask.0;
+      policy = policy.0;
     } in
-    let same : parts ≡ s = same_value parts s mask.2 in
+    let same : parts ≡ s = same_value parts s policy.2 in
     let value = step_taken (field_of (codes "entries") d) entry_shapes_of entries.0 entries.1 in
     let is : IsShape parts d = record {
       names = names_spelled judge_keys d names.0 names.1;
@@ -258,13 +302,14 @@ shape_spelled s d h =
       owner = text_field (codes "owner") d owner.0 owner.1;
       who = text_field (codes "who") d who.0 who.1;
       mask = whole_field (codes "mask") d mask.0 mask.1;
+      policy = policy.1;
     } in
     subst (λ t. IsShape t d) same is
 
 shape_read : (s : SpelledJudge) (d : Data) → IsShape s d → judge_shape_of d ≡ Ok s
 unfolding judge_shape_of
 shape_read s d is =
-    rw (names_read judge_keys d is.names, is.entries_there, is.entries, is.kind, is.group, is.groups, is.owner, is.who, is.mask) refl
+    rw (names_read judge_keys d is.names, is.entries_there, is.entries, is.kind, is.group, is.groups, is.owner, is.who, is.mask, is.policy) refl
 
 -- each value is one
 record IsValued (q : Question) (s : SpelledJudge) : Type 0 where
@@ -275,6 +320,7 @@ record IsValued (q : Question) (s : SpelledJudge) : Type 0 where
   owner : user_of s.owner ≡ Some q.owner
   who : principal_of s.who ≡ Some q.who
   mask : mask_of s.mask ≡ Ok q.mask
+  policy : s.policy ≡ q.policy
 
 values_spelled : (q : Question) (s : SpelledJudge) → question_of s ≡ Ok q → IsValued q s
 unfolding question_of
@@ -292,6 +338,7 @@ values_spelled q s h =
       owner = owner.0;
       who = who.0;
       mask = mask.0;
+      policy = s.policy;
     } in
     let same : parts ≡ q = same_value parts q mask.2 in
     let is : IsValued parts s = record {
@@ -302,12 +349,13 @@ values_spelled q s h =
       owner = value_there _ BadWho owner.0 owner.1;
       who = value_there _ BadWho who.0 who.1;
       mask = mask.1;
+      policy = refl;
     } in
     subst (λ r. IsValued r s) same is
 
 values_read : (q : Question) (s : SpelledJudge) → IsValued q s → question_of s ≡ Ok q
 unfolding question_of
-values_read q s is = rw (is.list, is.groups, is.owner, is.who, is.mask, is.holder, is.head_group) refl
+values_read q s is = rw (is.list, is.groups, is.owner, is.who, is.mask, is.holder, is.head_group, is.policy) refl
 
 -- ---- the line
 
@@ -329,6 +377,7 @@ question_spelled q s d shape is =
       who = there _ (string s.who) _ shape.who (s.who, refl, principal_spelled q.who s.who is.who);
       mask = shape.mask ∙ ap (λ n. Some (whole_data n)) mask.0;
       has_mask = mask.1;
+      policy = policy_spelled _ q.policy (shape.policy ∙ ap Ok is.policy);
     }
 
 taken : {A : Type 0} (o : Option A) (P : A → Type 0) → IsSomeAnd o P → (a : A) × (o ≡ Some a) × P a
@@ -350,6 +399,7 @@ question_read q d is =
       owner = owner.2.0;
       who = who.2.0;
       mask = mask_bits q.mask;
+      policy = q.policy;
     } in
     let shape : IsShape s d = record {
       names = is.names;
@@ -362,6 +412,7 @@ question_read q d is =
       owner = owner.1 ∙ ap Some owner.2.1;
       who = who.1 ∙ ap Some who.2.1;
       mask = is.mask;
+      policy = policy_shaped _ q.policy is.policy;
     } in
     let values : IsValued q s = record {
       holder = refl;
@@ -371,6 +422,7 @@ question_read q d is =
       owner = spelled_user q.owner owner.2.0 owner.2.2;
       who = spelled_principal q.who who.2.0 who.2.2;
       mask = read_mask q.mask is.has_mask;
+      policy = refl;
     } in
     rw (shape_read s d shape) (values_read q s values)
 

@@ -1,19 +1,25 @@
--- The texts of answers, for what writes them: no answer has a number with a point, and each is known to the byte.
-use Rattle.std.proofs.Common.{◌≡◌, ◌++◌, codes, decimal, false, refl}
+-- The texts of answers, each known to the byte. For what writes them.
+use Rattle.std.proofs.Common.{◌≡◌, ◌++◌, ℕ, codes, decimal, refl, append_assoc}
 use Rattle.std.specs.Fmt.{digits}
 use Rattle.serde_json.proofs.OnLiterals.{serde_json_on_literals}
-use Rattle.serde_json.specs.Written.{has_float}
 use Rattle.album_stamps.specs.declared.refusals.Refusal.{Refusal}
 use Rattle.album_stamps.specs.declared.refusals.Refusal.TheVariants.{OutOfMemory, BadLine, BadRequest, BadWho, BadMask, BadFlags, ListFull, BadText, NoOwner, AlbumFull, TooManyItems, StampsSpent, SessionsSpent, NoSuchMessage, ClientBusy, Stopped, NotPrepared, Clash, Discarded, Full, Closed, BadOpening, NoSuchPart}
 use Rattle.album_stamps.specs.Refusals.{name_of, number_of}
-use Rattle.album_eval.specs.declared.verdicts.Verdict.{Verdict}
 use Rattle.album_eval.specs.declared.verdicts.Verdict.TheVariants.{Granted, DeniedBy, DeniedAtEnd}
-use Rattle.album_wire.specs.Output.{refusal_line, verdict_data}
+use Rattle.album_wire.specs.Output.{refusal_line, verdict_line}
 
-pub verdict_has_no_float : (v : Verdict) → has_float (verdict_data v) ≡ false
-verdict_has_no_float Granted = refl
-verdict_has_no_float (DeniedBy index) = refl
-verdict_has_no_float DeniedAtEnd = refl
+pub granted_text : verdict_line Granted ≡ codes "{\"answer\":\"granted\"}\n"
+unfolding verdict_line serde_json_on_literals
+granted_text = refl
+
+pub denied_text : (index : ℕ)
+    → verdict_line (DeniedBy index) ≡ codes "{\"answer\":\"denied\",\"at\":" ++ decimal index ++ codes "}\n"
+unfolding verdict_line serde_json_on_literals
+denied_text index = simp append_assoc
+
+pub denied_at_end_text : verdict_line DeniedAtEnd ≡ codes "{\"answer\":\"denied\",\"at\":\"end\"}\n"
+unfolding verdict_line serde_json_on_literals
+denied_at_end_text = refl
 
 pub refusal_text : (refusal : Refusal)
     → refusal_line refusal

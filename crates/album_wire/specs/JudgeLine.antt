@@ -16,6 +16,8 @@ use Rattle.album_lists.specs.declared.lists.Holder.TheVariants.{Plain, Folder}
 use Rattle.album_lists.specs.declared.whos.Member.{Member}
 use Rattle.album_eval.specs.Matching.{IsPrincipalText, principal_of}
 use Rattle.album_eval.specs.declared.facts.Principal.{Principal}
+use Rattle.album_eval.specs.declared.policies.Policy.{Policy}
+use Rattle.album_eval.specs.declared.policies.Policy.TheVariants.{One, Two}
 use Rattle.album_wire.specs.Fields.{data_of}
 use Rattle.album_wire.specs.Shapes.{SpelledEntry}
 use Rattle.album_wire.specs.Values.{each_of, entries_read, members_read}
@@ -38,6 +40,7 @@ pub record Question : Type 0 where
   pub owner : List ℕ
   pub who : Principal
   pub mask : Mask
+  pub policy : Policy
 
 abbrev pub listing : Group → Listing
 listing g = record { number = g.number; members = g.members.items }
@@ -51,6 +54,7 @@ question line = record {
   owner = line.owner;
   who = line.who;
   mask = line.mask;
+  policy = line.policy;
 }
 
 -- ---- spelled
@@ -59,6 +63,11 @@ question line = record {
 abbrev pub IsKindText : Holder → List ℕ → Type 0
 IsKindText Plain text = (text ≡ codes "picture") ⊎ (text ≡ codes "group")
 IsKindText Folder text = text ≡ codes "album"
+
+-- the numbers of the policies
+abbrev pub IsPolicyNumber : Policy → Data → Type 0
+IsPolicyNumber One d = d ≡ whole_data 1
+IsPolicyNumber Two d = d ≡ whole_data 2
 
 -- [number, members]
 pub record IsGroup (group : Listing) (d : Data) : Type 0 where
@@ -74,9 +83,11 @@ pub record AreGroups (groups : List Listing) (d : Data) : Type 0 where
 -- the members that may stand in a line
 abbrev pub member_names : List (List ℕ)
 member_names =
-    codes "entries" ∷ codes "kind" ∷ codes "group" ∷ codes "groups" ∷ codes "owner" ∷ codes "who" ∷ codes "mask" ∷ []
+    codes "entries" ∷ codes "kind" ∷ codes "group" ∷ codes "groups" ∷ codes "owner"
+    ∷ codes "who" ∷ codes "mask" ∷ codes "policy" ∷ []
 
--- An object, member by member. Where `kind` is left out it is a picture, and where `groups` is there are none.
+-- An object, member by member. Where `kind` is left out it is a picture, where `groups` is there are none, and where
+-- `policy` is it is policy 1.
 pub record IsQuestion (q : Question) (d : Data) : Type 0 where
   pub names : HasOnly member_names d
   pub entries : IsSomeAnd (get (codes "entries") d) (IsAccessList q.holder q.list)
@@ -87,6 +98,7 @@ pub record IsQuestion (q : Question) (d : Data) : Type 0 where
   pub who : IsSomeAnd (get (codes "who") d) (IsText (IsPrincipalText q.who))
   pub mask : get (codes "mask") d ≡ Some (whole_data (mask_bits q.mask))
   pub has_mask : IsTrue (is_mask (mask_bits q.mask))
+  pub policy : MatchOption (get (codes "policy") d) (q.policy ≡ One) (IsPolicyNumber q.policy)
 
 -- the bytes of a line that asks this
 abbrev pub IsJudgeLine : Question → List ℕ → Type 0
@@ -119,6 +131,7 @@ question_of s = do
     owner = owner;
     who = who;
     mask = mask;
+    policy = s.policy;
   })
 
 -- What the bytes of a line ask, or the first test that they fail. That it is what they spell is a law.

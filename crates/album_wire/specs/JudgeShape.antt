@@ -9,6 +9,9 @@ use Rattle.album_stamps.specs.Outcome.{◌>>=◌}
 use Rattle.album_stamps.specs.Distinct.{are_single}
 use Rattle.album_lists.specs.declared.lists.Holder.{Holder}
 use Rattle.album_lists.specs.declared.lists.Holder.TheVariants.{Plain, Folder}
+use Rattle.album_eval.specs.Policies.{policy_of}
+use Rattle.album_eval.specs.declared.policies.Policy.{Policy}
+use Rattle.album_eval.specs.declared.policies.Policy.TheVariants.{One}
 use Rattle.album_wire.specs.Fields.{guard, only_of, field_of, item_of, text_of, whole_of, list_of, sized, each}
 use Rattle.album_wire.specs.Shapes.{SpelledEntry, spelled_entry, entry_shapes_of, texts_of}
 use Rattle.album_wire.specs.declared.judge_shape.GroupShape.{GroupShape}
@@ -17,7 +20,8 @@ use Rattle.album_wire.specs.declared.judge_shape.JudgeShape.{JudgeShape}
 -- the names of its members
 abbrev pub judge_keys : List (List ℕ)
 judge_keys =
-    codes "entries" ∷ codes "kind" ∷ codes "group" ∷ codes "groups" ∷ codes "owner" ∷ codes "who" ∷ codes "mask" ∷ []
+    codes "entries" ∷ codes "kind" ∷ codes "group" ∷ codes "groups" ∷ codes "owner"
+    ∷ codes "who" ∷ codes "mask" ∷ codes "policy" ∷ []
 
 -- a group as it is spelled
 pub record SpelledGroup : Type 0 where
@@ -33,6 +37,7 @@ pub record SpelledJudge : Type 0 where
   pub owner : List ℕ
   pub who : List ℕ
   pub mask : ℕ
+  pub policy : Policy
 
 abbrev pub spelled_group : GroupShape → SpelledGroup
 spelled_group g = record { number = g.number; members = map (λ text. text.now) g.members.items }
@@ -46,6 +51,7 @@ spelled_judge s = record {
   owner = s.owner.now;
   who = s.who.now;
   mask = s.mask;
+  policy = s.policy;
 }
 
 -- [number, members]
@@ -80,6 +86,11 @@ unfoldable pub kind_shape_of : Option Data → Result Holder Refusal
 kind_shape_of None = Ok Plain
 kind_shape_of (Some d) = text_of d >>= λ word. ok_or (holder_of word) BadRequest
 
+-- `policy` may be left out: then it is policy 1
+unfoldable pub policy_shape_of : Option Data → Result Policy Refusal
+policy_shape_of None = Ok One
+policy_shape_of (Some d) = whole_of d >>= λ number. ok_or (policy_of number) BadRequest
+
 -- the members of a line's object, each of its form
 unfoldable pub judge_shape_of : Data → Result SpelledJudge Refusal
 judge_shape_of d = do
@@ -91,6 +102,7 @@ judge_shape_of d = do
   owner ← field_of (codes "owner") d >>= text_of
   who ← field_of (codes "who") d >>= text_of
   mask ← field_of (codes "mask") d >>= whole_of
+  policy ← policy_shape_of (get (codes "policy") d)
   Ok (record {
     entries = entries;
     holder = holder;
@@ -99,4 +111,5 @@ judge_shape_of d = do
     owner = owner;
     who = who;
     mask = mask;
+    policy = policy;
   })

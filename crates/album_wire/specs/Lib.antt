@@ -1,6 +1,7 @@
 pub mod Lines
 pub mod Spelling
 pub mod Fields
+pub mod Trees
 pub mod Shapes
 pub mod JudgeShape
 pub mod Values

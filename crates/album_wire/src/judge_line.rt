@@ -6,14 +6,15 @@ ghost use Rattle.album_wire.specs.Values.{each_of};
 ghost use Rattle.album_wire.specs.JudgeShape.{spelled_group, spelled_judge};
 ghost use Rattle.album_wire.specs.JudgeLine.{Question, listing, listing_of, question, question_of, carried_list_of, judge_of, IsJudgeLine};
 
-use crate::fields::data;
 use crate::judge_shape::{GroupShape, JudgeShape, judge_shape};
 use crate::shapes::EntryShape;
+use crate::trees::data;
 use crate::values::{access_list, mask, members};
 use album_access::Mask;
-use album_eval::Principal;
+use album_eval::{Policy, Principal};
 use album_lists::{AccessList, Holder, Member, Name, user_name};
 use album_stamps::Refusal;
+use json::Scratch;
 use std::alloc::Global;
 
 /// A group of a judge line.
@@ -23,8 +24,8 @@ pub struct Group {
     pub members: Vec<Member>,
 }
 
-/// A judge line: may `who` do what `mask` says to an object that carries this list? The groups are in
-/// the order of the line, and no two have one number.
+/// A judge line: may `who` do what `mask` says to an object that carries this list, by this policy? The
+/// groups are in the order of the line, and no two have one number.
 #[derive(Debug, Drop)]
 pub struct JudgeLine {
     pub list: AccessList,
@@ -34,14 +35,16 @@ pub struct JudgeLine {
     pub owner: Name,
     pub who: Principal,
     pub mask: Mask,
+    pub policy: Policy,
 }
 
-/// Reads a judge line: what it asks, or the first test that it fails.
+/// Reads a judge line: what it asks, or the first test that it fails. The scratch is room that is kept from line
+/// to line, whatever stood in it.
 #[tactic(auto, unfolding(crate::specs::JudgeLine::judge_of))]
-pub fn read_judge(alloc: Global, bytes: &[u8]) -> Result<JudgeLine, Refusal>
+pub fn read_judge(alloc: Global, scratch: &mut Scratch, bytes: &[u8]) -> Result<JudgeLine, Refusal>
     ensures { Gives question result (judge_of bytes.now) }
 {
-    let value = data(alloc, bytes)?;
+    let value = data(alloc, scratch, bytes)?;
     let shape = judge_shape(alloc, &value)?;
     values_of(alloc, &shape)
 }
@@ -69,6 +72,7 @@ fn values_of(alloc: Global, shape: &JudgeShape) -> Result<JudgeLine, Refusal>
         owner,
         who,
         mask,
+        policy: shape.policy,
     })
 }
 
@@ -86,7 +90,7 @@ fn carried_list(alloc: Global, holder: Holder, shapes: &[EntryShape]) -> Result<
 fn each_group(alloc: Global, shapes: &[GroupShape]) -> Result<Vec<Group>, Refusal>
     ensures { Gives (λ groups. map listing groups.items) result (each_of listing_of (map spelled_group shapes.now)) }
 {
-    let mut groups = Vec::new(alloc);
+    let mut groups = Vec::with_capacity(alloc, shapes.len())?;
     for shape in shapes {
         groups.push(listed_group(alloc, shape)?)?;
     }

@@ -1,16 +1,18 @@
-// The shape of a judge line: {entries, group, owner, who, mask, and perhaps kind, groups}, groups = [[number, texts]].
+// The shape of a judge line: {entries, group, owner, who, mask, and perhaps kind, groups, policy}, groups =
+// [[number, texts]].
 ghost use Rattle.std.specs.Prelude.{◌≡◌, List, ℕ, IfOk, map, option_map};
-ghost use Rattle.serde_json.specs.View.{view, items_view};
 ghost use Rattle.album_stamps.specs.Distinct.{are_single};
 ghost use Rattle.album_stamps.specs.Outcome.{Gives};
 ghost use Rattle.album_wire.specs.Fields.{each};
-ghost use Rattle.album_wire.specs.JudgeShape.{spelled_group, spelled_judge, group_shape_of, numbers, groups_shape_of, holder_of, kind_shape_of, judge_shape_of};
+ghost use Rattle.album_wire.specs.JudgeShape.{spelled_group, spelled_judge, group_shape_of, numbers, groups_shape_of, holder_of, kind_shape_of, policy_shape_of, judge_shape_of};
+ghost use Rattle.album_wire.specs.Trees.{value_data, items_data};
 
-use crate::fields::{field, item, list, only, sized_list, text, whole};
+use crate::fields::{field, item, list, member, only, sized_list, text, whole};
 use crate::shapes::{EntryShape, entry_shapes, texts};
+use album_eval::Policy;
 use album_lists::Holder;
 use album_stamps::Refusal;
-use serde_json::Value;
+use json::Value;
 use std::alloc::{AllocError, Global};
 use std::collections::BTreeSet;
 
@@ -31,24 +33,28 @@ pub(crate) struct JudgeShape<'a> {
     pub(crate) owner: &'a str,
     pub(crate) who: &'a str,
     pub(crate) mask: u64,
+    pub(crate) policy: Policy,
 }
 
 /// The fields of a judge line, each of its shape, or `BadRequest`.
 #[tactic(auto, unfolding(crate::specs::JudgeShape::judge_shape_of))]
-pub(crate) fn judge_shape(alloc: Global, value: &Value) -> Result<JudgeShape<'_>, Refusal>
-    ensures { Gives spelled_judge result (judge_shape_of (view value.now)) }
+pub(crate) fn judge_shape<'a>(alloc: Global, value: &Value<'a>) -> Result<JudgeShape<'a>, Refusal>
+    ensures { Gives spelled_judge result (judge_shape_of (value_data value.now)) }
 {
     only(
         value,
-        &["entries", "kind", "group", "groups", "owner", "who", "mask"],
+        &[
+            "entries", "kind", "group", "groups", "owner", "who", "mask", "policy",
+        ],
     )?;
     let entries = entry_shapes(alloc, field(value, "entries")?)?;
-    let holder = kind_shape(value.get("kind"))?;
+    let holder = kind_shape(member(value, "kind"))?;
     let head_group = whole(field(value, "group")?)?;
-    let groups = groups_shape(alloc, value.get("groups"))?;
+    let groups = groups_shape(alloc, member(value, "groups"))?;
     let owner = text(field(value, "owner")?)?;
     let who = text(field(value, "who")?)?;
     let mask = whole(field(value, "mask")?)?;
+    let policy = policy_shape(member(value, "policy"))?;
     Ok(JudgeShape {
         entries,
         holder,
@@ -57,12 +63,13 @@ pub(crate) fn judge_shape(alloc: Global, value: &Value) -> Result<JudgeShape<'_>
         owner,
         who,
         mask,
+        policy,
     })
 }
 
 #[tactic(auto, unfolding(crate::specs::JudgeShape::kind_shape_of))]
-fn kind_shape(value: Option<&Value>) -> Result<Holder, Refusal>
-    ensures { Gives (λ h. h) result (kind_shape_of (option_map (λ v. view v.now) value.entry)) }
+fn kind_shape(value: Option<&Value<'_>>) -> Result<Holder, Refusal>
+    ensures { Gives (λ h. h) result (kind_shape_of (option_map (λ v. value_data v.now) value.entry)) }
 {
     match value {
         None => Ok(Holder::Plain),
@@ -82,10 +89,23 @@ fn holder(word: &str) -> Option<Holder>
     }
 }
 
+#[tactic(auto, unfolding(crate::specs::JudgeShape::policy_shape_of))]
+fn policy_shape(value: Option<&Value<'_>>) -> Result<Policy, Refusal>
+    ensures { Gives (λ p. p) result (policy_shape_of (option_map (λ v. value_data v.now) value.entry)) }
+{
+    match value {
+        None => Ok(Policy::One),
+        Some(value) => Policy::of(whole(value)?).ok_or(Refusal::BadRequest),
+    }
+}
+
 #[tactic(auto, unfolding(crate::specs::JudgeShape::groups_shape_of))]
-fn groups_shape(alloc: Global, value: Option<&Value>) -> Result<Vec<GroupShape<'_>>, Refusal>
+fn groups_shape<'a>(
+    alloc: Global,
+    value: Option<&Value<'a>>,
+) -> Result<Vec<GroupShape<'a>>, Refusal>
     ensures { Gives (λ shapes. map spelled_group shapes.items) result
-        (groups_shape_of (option_map (λ v. view v.now) value.entry)) }
+        (groups_shape_of (option_map (λ v. value_data v.now) value.entry)) }
 {
     let Some(value) = value else {
         return Ok(Vec::new(alloc));
@@ -97,10 +117,10 @@ fn groups_shape(alloc: Global, value: Option<&Value>) -> Result<Vec<GroupShape<'
     Ok(groups)
 }
 
-fn each_group_shape(alloc: Global, values: &[Value]) -> Result<Vec<GroupShape<'_>>, Refusal>
-    ensures { Gives (λ shapes. map spelled_group shapes.items) result (each group_shape_of (items_view values.now)) }
+fn each_group_shape<'a>(alloc: Global, values: &[Value<'a>]) -> Result<Vec<GroupShape<'a>>, Refusal>
+    ensures { Gives (λ shapes. map spelled_group shapes.items) result (each group_shape_of (items_data values.now)) }
 {
-    let mut shapes = Vec::new(alloc);
+    let mut shapes = Vec::with_capacity(alloc, values.len())?;
     for value in values {
         shapes.push(group_shape(alloc, value)?)?;
     }
@@ -108,8 +128,8 @@ fn each_group_shape(alloc: Global, values: &[Value]) -> Result<Vec<GroupShape<'_
 }
 
 #[tactic(auto, unfolding(crate::specs::JudgeShape::group_shape_of))]
-fn group_shape(alloc: Global, value: &Value) -> Result<GroupShape<'_>, Refusal>
-    ensures { Gives spelled_group result (group_shape_of (view value.now)) }
+fn group_shape<'a>(alloc: Global, value: &Value<'a>) -> Result<GroupShape<'a>, Refusal>
+    ensures { Gives spelled_group result (group_shape_of (value_data value.now)) }
 {
     sized_list(value, 2)?;
     let number = whole(item(value, 0)?)?;

@@ -9,8 +9,10 @@ mod fields;
 mod judge_line;
 mod judge_shape;
 mod lines;
+mod numbers;
 mod output;
 mod shapes;
+mod trees;
 mod values;
 
 pub use judge_line::{Group, JudgeLine, questions_by_line, read_judge};

@@ -5,6 +5,7 @@ ghost use Rattle.std.specs.Option.{option_to_list};
 ghost use Rattle.album_wire.specs.Lines.{Line, cut, continued, kept, last, lines_of, has_no_newline};
 
 use album_stamps::{MOST_LINE, Refusal};
+use memchr::memchr;
 use std::alloc::{AllocError, Global};
 use std::marker::Model;
 
@@ -139,7 +140,7 @@ fn first_line(text: &[u8]) -> Option<(&[u8], &[u8])>
 fn newline_index(text: &[u8]) -> Option<usize>
     ensures { result ≡ position (λ byte. byte == 10) text.now }
 {
-    text.iter().position(|byte| *byte == b'\n')
+    memchr(b'\n', text)
 }
 
 /// A law: it doesn't matter how a text is cut into pieces.

@@ -1,14 +1,14 @@
 // The shapes of lists in a line: entries = [[type, who, mask, flags], ..], texts = [text, ..].
 ghost use Rattle.std.specs.Prelude.{◌≡◌, List, ℕ, map};
-ghost use Rattle.serde_json.specs.View.{view, items_view};
 ghost use Rattle.album_stamps.specs.Outcome.{Gives};
 ghost use Rattle.album_wire.specs.Fields.{each, text_of};
 ghost use Rattle.album_wire.specs.Shapes.{SpelledEntry, spelled_entry, sort_of, entry_shape_of, entry_shapes_of, texts_of};
+ghost use Rattle.album_wire.specs.Trees.{value_data, items_data};
 
 use crate::fields::{item, list, sized_list, text, whole};
 use album_access::AceType;
 use album_stamps::Refusal;
-use serde_json::Value;
+use json::Value;
 use std::alloc::Global;
 
 /// An entry as a line spells it.
@@ -21,16 +21,19 @@ pub(crate) struct EntryShape<'a> {
 }
 
 /// A list of entries.
-pub(crate) fn entry_shapes(alloc: Global, value: &Value) -> Result<Vec<EntryShape<'_>>, Refusal>
-    ensures { Gives (λ shapes. map spelled_entry shapes.items) result (entry_shapes_of (view value.now)) }
+pub(crate) fn entry_shapes<'a>(
+    alloc: Global,
+    value: &Value<'a>,
+) -> Result<Vec<EntryShape<'a>>, Refusal>
+    ensures { Gives (λ shapes. map spelled_entry shapes.items) result (entry_shapes_of (value_data value.now)) }
 {
     each_entry_shape(alloc, list(value)?)
 }
 
-fn each_entry_shape(alloc: Global, values: &[Value]) -> Result<Vec<EntryShape<'_>>, Refusal>
-    ensures { Gives (λ shapes. map spelled_entry shapes.items) result (each entry_shape_of (items_view values.now)) }
+fn each_entry_shape<'a>(alloc: Global, values: &[Value<'a>]) -> Result<Vec<EntryShape<'a>>, Refusal>
+    ensures { Gives (λ shapes. map spelled_entry shapes.items) result (each entry_shape_of (items_data values.now)) }
 {
-    let mut shapes = Vec::new(alloc);
+    let mut shapes = Vec::with_capacity(alloc, values.len())?;
     for value in values {
         shapes.push(entry_shape(value)?)?;
     }
@@ -38,8 +41,8 @@ fn each_entry_shape(alloc: Global, values: &[Value]) -> Result<Vec<EntryShape<'_
 }
 
 #[tactic(auto, unfolding(crate::specs::Shapes::entry_shape_of))]
-fn entry_shape(value: &Value) -> Result<EntryShape<'_>, Refusal>
-    ensures { Gives spelled_entry result (entry_shape_of (view value.now)) }
+fn entry_shape<'a>(value: &Value<'a>) -> Result<EntryShape<'a>, Refusal>
+    ensures { Gives spelled_entry result (entry_shape_of (value_data value.now)) }
 {
     sized_list(value, 4)?;
     let sort = sort(text(item(value, 0)?)?).ok_or(Refusal::BadRequest)?;
@@ -67,16 +70,16 @@ fn sort(word: &str) -> Option<AceType>
 }
 
 /// A list of texts.
-pub(crate) fn texts(alloc: Global, value: &Value) -> Result<Vec<&str>, Refusal>
-    ensures { Gives (λ texts. map (λ t. t.now) texts.items) result (texts_of (view value.now)) }
+pub(crate) fn texts<'a>(alloc: Global, value: &Value<'a>) -> Result<Vec<&'a str>, Refusal>
+    ensures { Gives (λ texts. map (λ t. t.now) texts.items) result (texts_of (value_data value.now)) }
 {
     each_text(alloc, list(value)?)
 }
 
-fn each_text(alloc: Global, values: &[Value]) -> Result<Vec<&str>, Refusal>
-    ensures { Gives (λ texts. map (λ t. t.now) texts.items) result (each text_of (items_view values.now)) }
+fn each_text<'a>(alloc: Global, values: &[Value<'a>]) -> Result<Vec<&'a str>, Refusal>
+    ensures { Gives (λ texts. map (λ t. t.now) texts.items) result (each text_of (items_data values.now)) }
 {
-    let mut texts = Vec::new(alloc);
+    let mut texts = Vec::with_capacity(alloc, values.len())?;
     for value in values {
         texts.push(text(value)?)?;
     }

@@ -27,7 +27,7 @@ pub(crate) fn access_list(alloc: Global, shapes: &[EntryShape]) -> Result<Access
 fn each_entry(alloc: Global, shapes: &[EntryShape]) -> Result<Vec<Ace>, Refusal>
     ensures { Gives (λ entries. entries.items) result (each_of entry_read (map spelled_entry shapes.now)) }
 {
-    let mut entries = Vec::new(alloc);
+    let mut entries = Vec::with_capacity(alloc, shapes.len())?;
     for shape in shapes {
         entries.push(entry(alloc, shape)?)?;
     }
@@ -83,7 +83,7 @@ pub(crate) fn members(alloc: Global, texts: &[&str]) -> Result<Vec<Member>, Refu
 fn each_member(alloc: Global, texts: &[&str]) -> Result<Vec<Member>, Refusal>
     ensures { Gives (λ members. members.items) result (each_of member_read (map (λ t. t.now) texts.now)) }
 {
-    let mut members = Vec::new(alloc);
+    let mut members = Vec::with_capacity(alloc, texts.len())?;
     for text in texts {
         members.push(Member::read(alloc, text)?)?;
     }

@@ -1,10 +1,10 @@
 use Rattle.std.proofs.Common.{◌≡◌, drop, map}
-use Rattle.serde_json.specs.View.{items_view}
 use Rattle.album_wire.specs.Fields.{each}
 use Rattle.album_wire.specs.JudgeShape.{spelled_group, group_shape_of}
+use Rattle.album_wire.specs.Trees.{items_data}
 use Rattle.album_wire.proofs.Lists.{with_front}
 use Rattle.album_wire.proofs.judge_shape.each_group_shape.Given as goal
 
 abbrev pub invariant-loop-value : goal.invariant-loop-value
 invariant-loop-value l =
-    with_front (map spelled_group l.shapes.items) (each group_shape_of (items_view (drop l.value-index l.values))) ≡ each group_shape_of (items_view l.values)
+    with_front (map spelled_group l.shapes.items) (each group_shape_of (items_data (drop l.value-index l.values))) ≡ each group_shape_of (items_data l.values)
