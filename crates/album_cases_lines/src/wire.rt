@@ -3,6 +3,7 @@ use album_eval::Verdict;
 use album_stamps::Refusal;
 use album_wire::{LineIn, Lines, read_judge, write_refusal, write_verdict};
 use bitflags::Flags;
+use json::Scratch;
 use std::alloc::Global;
 
 /// The length of the line, where it is not too long.
@@ -37,7 +38,8 @@ const QUESTION: &str =
 
 /// The head group, how many groups there are, and the mask of a judge line.
 fn numbers_of(alloc: Global, text: &str) -> Result<(u64, usize, u32), Refusal> {
-    let line = read_judge(alloc, text.as_bytes())?;
+    let mut scratch = Scratch::new(alloc);
+    let line = read_judge(alloc, &mut scratch, text.as_bytes())?;
     Ok((line.head_group, line.groups.len(), line.mask.bits()))
 }
 

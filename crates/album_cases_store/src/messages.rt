@@ -156,6 +156,11 @@ fn version_text(alloc: Global, item: ItemId, stamp: Stamp, word: &str) -> Result
     Ok(format!(in alloc; "version {} {} {word}", item.as_str(), stamp.value())?)
 }
 
+fn gone_text(alloc: Global, item: ItemId) -> Result<String, Refusal> {
+    let item = item.text(alloc)?;
+    Ok(format!(in alloc; "gone {}", item.as_str())?)
+}
+
 fn reply_text(alloc: Global, reply: &Reply) -> Result<String, Refusal> {
     match reply {
         Reply::Prepared(stamp) => with_stamp(alloc, "prepared", *stamp),
@@ -170,6 +175,7 @@ fn reply_text(alloc: Global, reply: &Reply) -> Result<String, Refusal> {
         Reply::NotPrepared(stamp) => with_stamp(alloc, "not prepared", *stamp),
         Reply::Clash => Ok(String::from_str(alloc, "clash")?),
         Reply::Full(stamp) => with_stamp(alloc, "full", *stamp),
+        Reply::Gone(item) => gone_text(alloc, *item),
     }
 }
 

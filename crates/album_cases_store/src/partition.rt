@@ -225,6 +225,84 @@ fn full_by_pending(rt: HostRuntime) -> Result<(), Fail> {
     check(&rt, alloc, &mut partition, &Node::Part(0), FULL_BY_PENDING)
 }
 
+/// What is sent before a trim of picture/0, and what is replied then and afterwards.
+const WRITTEN: Cases = &[
+    (
+        Step::Prepare(65537, FIRST, PICTURE),
+        "p0 c1 7 prepared 65537",
+    ),
+    (Step::Commit(65537), "p0 c1 8 committed 65537"),
+    (
+        Step::Get("picture/0", &[65538]),
+        "p0 c1 9 version picture/0 0 missing",
+    ),
+    (
+        Step::Prepare(131073, OTHER, PICTURE),
+        "p0 c1 10 prepared 131073",
+    ),
+    (Step::Commit(131073), "p0 c1 11 committed 131073"),
+];
+
+const TRIMMED: Cases = &[
+    (
+        Step::Get("picture/0", &[]),
+        "p0 c1 7 version picture/0 131073 picture",
+    ),
+    (
+        Step::Get("picture/0", &[65537, 131073]),
+        "p0 c1 8 version picture/0 131073 picture",
+    ),
+    (Step::Get("picture/0", &[65537]), "p0 c1 9 gone picture/0"),
+    (Step::Get("picture/0", &[0]), "p0 c1 10 gone picture/0"),
+    (
+        Step::Prepare(65538, FIRST, PICTURE),
+        "p0 c1 11 prepared 65538",
+    ),
+    (Step::Commit(65538), "p0 c1 12 committed 65538"),
+    (Step::Get("picture/0", &[65538]), "p0 c1 13 gone picture/0"),
+    (
+        Step::Get("picture/0", &[]),
+        "p0 c1 14 version picture/0 131073 picture",
+    ),
+    (
+        Step::Get("picture/3", &[65537]),
+        "p0 c1 15 version picture/3 0 missing",
+    ),
+];
+
+/// The partition lets the older versions of the item go.
+fn trim(partition: &mut Partition, item: &str) -> Result<(), Refusal> {
+    partition.trim(item_of(item)?)
+}
+
+#[test]
+fn commit_below_floor(rt: HostRuntime) -> Result<(), Fail> {
+    let alloc = rt.alloc();
+    let mut partition = opened(alloc, 0, 10)?;
+    check(&rt, alloc, &mut partition, &Node::Part(0), WRITTEN)?;
+    trim(&mut partition, "picture/0")?;
+    trim(&mut partition, "picture/0")?;
+    assert_eq!(rt; partition.history().len(), 5);
+    check(&rt, alloc, &mut partition, &Node::Part(0), TRIMMED)
+}
+
+/// A partition with room for three marks, of which two are made.
+fn nearly_full(alloc: Global) -> Result<Partition, Refusal> {
+    let mut partition = opened(alloc, 0, 3)?;
+    written(alloc, &mut partition, 1)?;
+    Ok(partition)
+}
+
+#[test]
+fn trim_full(rt: HostRuntime) -> Result<(), Fail> {
+    let mut partition = nearly_full(rt.alloc())?;
+    assert_eq!(rt; trim(&mut partition, "picture/0"), Err(Refusal::Full));
+    assert_eq!(rt; trim(&mut partition, "picture/3"), Ok(()));
+    assert_eq!(rt; trim(&mut partition, "album/0"), Err(Refusal::Clash));
+    assert_eq!(rt; partition.history().len(), 2);
+    Ok(())
+}
+
 /// The partition takes the message, whatever it replies.
 fn taken(alloc: Global, partition: &mut Partition, step: Step) -> Result<(), Refusal> {
     let message = sent(alloc, Node::Part(0), 7, step)?;

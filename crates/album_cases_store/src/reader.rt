@@ -81,6 +81,7 @@ fn given(step: Step, reply: &Message) -> Result<Step, Refusal> {
         Step::Same(reading) => Ok(reading.on_reply(reply)?),
         Step::Next(reading, messages) => Ok(Step::Next(reading, messages)),
         Step::Done(snapshot) => Ok(Step::Done(snapshot)),
+        Step::Gone(items) => Ok(Step::Gone(items)),
     }
 }
 
@@ -182,6 +183,7 @@ fn word(step: &Step) -> &'static str {
         Step::Same(_) => "same",
         Step::Next(_, _) => "next",
         Step::Done(_) => "done",
+        Step::Gone(_) => "gone",
     }
 }
 
@@ -207,6 +209,110 @@ fn replies_that_are_no_answers(rt: HostRuntime) -> Result<(), Fail> {
         step = replied(alloc, step, (*part, *tag, *text, *is))?;
         assert!(rt; word(&step) == *expected);
     }
+    Ok(())
+}
+
+/// What a partition tells client 2: that the item is gone.
+fn gone(part: u16, tag: u64, text: &str) -> Result<Message, Refusal> {
+    let client = ClientNo::of(2).ok_or(Refusal::BadRequest)?;
+    let told = Reply::Gone(item_of(text)?);
+    let from = Node::Part(part);
+    Ok(Message::new(from, Node::Client(client), tag, Body::Reply(told)))
+}
+
+fn told_gone(step: Step, (part, tag, text): (u16, u64, &str)) -> Result<Step, Refusal> {
+    given(step, &gone(part, tag, text)?)
+}
+
+/// The second round of a read of both items, with the answer of picture/0.
+fn half_read(alloc: Global) -> Result<Step, Refusal> {
+    let mut partitions = opened(alloc, &[PICTURE, &[], LIST_0])?;
+    let (reading, messages) = started(alloc, BOTH)?;
+    let Step::Next(reading, _messages) = round(&mut partitions, reading, &messages)? else {
+        return Err(Refusal::Clash);
+    };
+    replied(
+        alloc,
+        Step::Same(reading),
+        (0, 4, "picture/0", Is::Picture(1)),
+    )
+}
+
+/// Partition, tag and item of words that an item is gone, and how far the first round is then.
+const GONE_TOO_EARLY: &[(u16, u64, &str, &str)] = &[
+    (0, 3, "picture/0", "same"),
+    (0, 4, "picture/0", "same"),
+];
+
+/// The same of the second round: it counts from the item's own partition, under the round's tag, for
+/// an item without an answer.
+const GONE: &[(u16, u64, &str, &str)] = &[
+    (2, 3, "list/0", "same"),
+    (1, 4, "list/0", "same"),
+    (0, 4, "picture/0", "same"),
+    (0, 4, "picture/3", "same"),
+    (2, 4, "list/0", "gone"),
+];
+
+#[test]
+fn a_read_of_what_is_gone(rt: HostRuntime) -> Result<(), Fail> {
+    let alloc = rt.alloc();
+    let mut first = copied(alloc)?;
+    for (part, tag, text, expected) in GONE_TOO_EARLY {
+        first = told_gone(first, (*part, *tag, *text))?;
+        assert!(rt; word(&first) == *expected);
+    }
+    let mut second = half_read(alloc)?;
+    for (part, tag, text, expected) in GONE {
+        second = told_gone(second, (*part, *tag, *text))?;
+        assert!(rt; word(&second) == *expected);
+    }
+    Ok(())
+}
+
+/// Partition 0, which opens with a picture.
+fn with_picture(alloc: Global) -> Result<Vec<Partition>, Refusal> {
+    opened(alloc, &[PICTURE, &[], &[]])
+}
+
+/// The picture is written at 65537, and partition 0 lets its older versions go.
+fn written_and_trimmed(alloc: Global, partitions: &mut [Partition]) -> Result<(), Refusal> {
+    let prepare = sent(
+        alloc,
+        Node::Part(0),
+        7,
+        Sent::Prepare(65537, PICTURE, &["picture/0"]),
+    )?;
+    deliver(partitions, &prepare)?;
+    let commit = sent(alloc, Node::Part(0), 8, Sent::Commit(65537))?;
+    deliver(partitions, &commit)?;
+    match partitions.get_mut(0) {
+        Some(partition) => partition.trim(item_of("picture/0")?),
+        None => Err(Refusal::NoSuchPart),
+    }
+}
+
+/// A read between whose rounds its picture is written and trimmed: how far it comes, with its items,
+/// and what a new read of them finds.
+fn overtaken(alloc: Global) -> Result<String, Refusal> {
+    let mut partitions = with_picture(alloc)?;
+    let (reading, messages) = started(alloc, &["picture/0"])?;
+    let Step::Next(reading, messages) = round(&mut partitions, reading, &messages)? else {
+        return Err(Refusal::Clash);
+    };
+    written_and_trimmed(alloc, &mut partitions)?;
+    let Step::Gone(items) = round(&mut partitions, reading, &messages)? else {
+        return Err(Refusal::Clash);
+    };
+    let count = items.as_slice().len();
+    let anew = read(alloc, &mut partitions, &["picture/0"])?;
+    Ok(format!(in alloc; "gone {count}; {}", anew.as_str())?)
+}
+
+#[test]
+fn trim_then_gone(rt: HostRuntime) -> Result<(), Fail> {
+    let text = overtaken(rt.alloc())?;
+    assert!(rt; text.as_str() == "gone 1; picture/0 65537 picture; ");
     Ok(())
 }
 
@@ -249,6 +355,7 @@ fn read_missing(alloc: Global, len: usize) -> Result<usize, Refusal> {
         Step::Done(snapshot) => Ok(snapshot.items().len()),
         Step::Same(_) => Err(Refusal::Clash),
         Step::Next(_, _) => Err(Refusal::Clash),
+        Step::Gone(_) => Err(Refusal::Clash),
     }
 }
 

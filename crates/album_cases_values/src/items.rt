@@ -2,8 +2,8 @@
 use crate::lists::list_of;
 use album_access::AceType;
 use album_items::{
-    Album, Content, Group, Head, ItemId, Items, Kind, Members, Picture, Title, Value, place,
-    read_item,
+    Album, Content, Group, Head, ItemId, ItemValues, Items, Kind, Members, Picture, Title, Value,
+    place, read_item,
 };
 use album_lists::{Member, Name};
 use album_stamps::{MOST_CONTENT, MOST_TITLE, Refusal};
@@ -125,9 +125,11 @@ fn list(alloc: Global) -> Result<Value, Refusal> {
     Ok(Value::List(list))
 }
 
-/// The number of an album's first child, of the group that is a group's member, or of a list's entries.
+/// The number of a title's letters, of an album's first child, of the group that is a group's member, or of a
+/// list's entries.
 fn first_number(value: &Value) -> Option<u64> {
     match value {
+        Value::Picture(picture) => Some(picture.title.as_str().len() as u64),
         Value::Album(album) => album
             .children
             .as_slice()
@@ -138,7 +140,7 @@ fn first_number(value: &Value) -> Option<u64> {
             _ => None,
         },
         Value::List(list) => Some(list.entries().len() as u64),
-        _ => None,
+        Value::Missing => None,
     }
 }
 
@@ -154,4 +156,44 @@ fn copies(rt: HostRuntime) {
     assert_eq!(rt; copied_number(group(alloc)), Ok(Some(9)));
     assert_eq!(rt; copied_number(album(alloc)), Ok(Some(4)));
     assert_eq!(rt; copied_number(list(alloc)), Ok(Some(1)));
+}
+
+/// A row of each kind of value.
+fn each_kind(alloc: Global) -> Result<ItemValues, Refusal> {
+    let mut rows = Vec::new(alloc);
+    rows.push((ItemId::new(Kind::Picture, 1), picture(alloc, 5)?))?;
+    rows.push((ItemId::new(Kind::Album, 1), album(alloc)?))?;
+    rows.push((ItemId::new(Kind::List, 1), list(alloc)?))?;
+    rows.push((ItemId::new(Kind::Group, 1), group(alloc)?))?;
+    rows.push((ItemId::new(Kind::Group, 2), Value::Missing))?;
+    Ok(ItemValues::of(rows))
+}
+
+/// The first numbers of the values in their order, as digits.
+fn digits(rows: &ItemValues) -> u64 {
+    let mut number = 0u64;
+    for (_, value) in rows.as_slice() {
+        number = number
+            .wrapping_mul(10)
+            .wrapping_add(first_number(value).unwrap_or(0));
+    }
+    number
+}
+
+/// The first numbers of rows that were shared so many times, and those of their copy.
+fn shared_digits(alloc: Global, times: usize) -> Result<(u64, u64), Refusal> {
+    let mut rows = each_kind(alloc)?;
+    for _ in 0..times {
+        rows.share()?;
+    }
+    let copy = rows.copy()?;
+    Ok((digits(&rows), digits(&copy)))
+}
+
+#[test]
+fn shared_values(rt: HostRuntime) {
+    let alloc = rt.alloc();
+    assert_eq!(rt; shared_digits(alloc, 0), Ok((34_190, 34_190)));
+    assert_eq!(rt; shared_digits(alloc, 1), Ok((34_190, 34_190)));
+    assert_eq!(rt; shared_digits(alloc, 2), Ok((34_190, 34_190)));
 }

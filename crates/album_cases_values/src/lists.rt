@@ -1,7 +1,7 @@
 // Names, whos, access lists and inheritance (docs/FORMATS.md, "Whos", "Entries" and "Flags").
 use album_access::{AceFlags, AceType, Mask};
 use album_lists::{AccessList, Ace, Holder, Member, Name, Who};
-use album_stamps::Refusal;
+use album_stamps::{MOST_ENTRIES, Refusal};
 use bitflags::Flags;
 use std::alloc::Global;
 
@@ -71,6 +71,28 @@ pub fn list_of(alloc: Global, rows: Rows) -> Result<AccessList, Refusal> {
         entries.push(entry(alloc, *sort, who, *mask, *flags)?)?;
     }
     Ok(AccessList::new(entries)?)
+}
+
+/// How many entries the list of so many has; or its refusal, and how many are handed back.
+fn entries_taken(alloc: Global, len: usize) -> Result<(Option<Refusal>, usize), Refusal> {
+    let mut entries = Vec::new(alloc);
+    for _ in 0..len {
+        entries.push(entry(alloc, AceType::Allowed, "amy@users", 1, 0)?)?;
+    }
+    match AccessList::new(entries) {
+        Ok(list) => Ok((None, list.entries().len())),
+        Err(refused) => Ok((Some(refused.refusal), refused.given.len())),
+    }
+}
+
+#[test]
+fn most_entries(rt: HostRuntime) {
+    let alloc = rt.alloc();
+    assert_eq!(rt; entries_taken(alloc, MOST_ENTRIES), Ok((None, 128)));
+    assert_eq!(rt;
+        entries_taken(alloc, 129),
+        Ok((Some(Refusal::ListFull), 129))
+    );
 }
 
 /// Adds the user of an entry, and its flags.

@@ -21,6 +21,7 @@ fn checked(items: ItemValues) -> Result<(), Refusal> {
     let opening = Opening {
         parts: 3,
         limit: 1000,
+        policy: 1,
         items,
     };
     opening.check()
@@ -32,6 +33,37 @@ fn two_heads_with_one_list(rt: HostRuntime) {
     assert_eq!(rt; two_pictures(alloc, 7, 8), Ok(()));
     assert_eq!(rt; two_pictures(alloc, 7, 7), Err(Refusal::BadOpening));
     assert_eq!(rt; two_pictures(alloc, 7, 65536), Err(Refusal::BadOpening));
+}
+
+/// What the check of an opening with no item says, under a policy of this number.
+fn under_policy(alloc: Global, policy: u64) -> Result<(), Refusal> {
+    let opening = Opening {
+        parts: 1,
+        limit: 2,
+        policy,
+        items: ItemValues::of(Vec::new(alloc)),
+    };
+    opening.check()
+}
+
+/// Each number, and whether there is a policy of it.
+const POLICIES: &[(u64, bool)] = &[(0, false), (1, true), (2, true), (3, false)];
+
+/// The first number of the table of which the check says otherwise.
+fn other_policy(alloc: Global) -> Option<u64> {
+    for (policy, taken) in POLICIES {
+        if under_policy(alloc, *policy).is_ok() != *taken {
+            return Some(*policy);
+        }
+    }
+    None
+}
+
+#[test]
+fn policies(rt: HostRuntime) {
+    let alloc = rt.alloc();
+    assert_eq!(rt; other_policy(alloc), None);
+    assert_eq!(rt; under_policy(alloc, 3), Err(Refusal::BadOpening));
 }
 
 /// What the check of an opening of so many pictures says, each under its own list.
