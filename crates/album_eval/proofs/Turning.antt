@@ -14,7 +14,7 @@ use Rattle.std.proofs.lemmas.Option.{slice_get-get_or, slice_get_within, get_or_
 use Rattle.std.proofs.lemmas.Slice.Eq.{bytes_eq-Decides}
 use Rattle.album_lists.specs.declared.whos.Member.{Member}
 use Rattle.album_lists.specs.declared.whos.Member.TheVariants.{User, Group}
-use Rattle.album_eval.specs.Groups.{names_user, members_of, listed_in}
+use Rattle.album_eval.specs.Groups.{names_user, members_found, listed_in}
 use Rattle.album_eval.proofs.Finding.{same_key, Inserts, missing, missing_lt}
 
 abbrev pub Entry : Type 0
@@ -27,13 +27,13 @@ Groups = BTreeMap ℕ (Vec Member Global)
 
 -- the group at a place lists what stands there
 pub listed_at : (groups : Groups) (k group : ℕ) (v : Vec Member Global) → tree.IsOrdered nat_cmp groups → slice_get groups.entries k ≡ Some (group, v) → listed_in groups group ≡ v.items
-listed_at groups k group v ordered at = ap members_of (btree_map_get_place nat_cmp_total groups k group v ordered at)
+listed_at groups k group v ordered at = ap members_found (btree_map_get_place nat_cmp_total groups k group v ordered at)
 
 -- a group that lists a member has a place
 pub place_of : (groups : Groups) (group : ℕ) (m : Member) → Contains (listed_in groups group) m → (k : ℕ) × (v : Vec Member Global) × (slice_get groups.entries k ≡ Some (group, v)) × Contains v.items m
 place_of groups group m = go (tree.get nat_cmp groups group) refl
   where
-    go : (o : Option (Vec Member Global)) → tree.get nat_cmp groups group ≡ o → Contains (members_of o) m → (k : ℕ) × (v : Vec Member Global) × (slice_get groups.entries k ≡ Some (group, v)) × Contains v.items m
+    go : (o : Option (Vec Member Global)) → tree.get nat_cmp groups group ≡ o → Contains (members_found o) m → (k : ℕ) × (v : Vec Member Global) × (slice_get groups.entries k ≡ Some (group, v)) × Contains v.items m
     go None e lists = absurd (omega (arith, lists.1))
     go (Some v) e lists =
         let p = place_from_lookup (is_at (nat_cmp group)) groups.entries v e in

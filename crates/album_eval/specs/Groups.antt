@@ -22,12 +22,12 @@ IsMember listed principal.Anonymous group = ⊥
 IsMember listed (principal.User user) group = IsIn listed user group
 
 -- what a group of a map lists: nobody where the group is missing
-abbrev pub members_of : Option (Vec Member Global) → List Member
-members_of None = []
-members_of (Some members) = members.items
+abbrev pub members_found : Option (Vec Member Global) → List Member
+members_found None = []
+members_found (Some members) = members.items
 
 abbrev pub listed_in : BTreeMap ℕ (Vec Member Global) → ℕ → List Member
-listed_in groups group = members_of (map.get nat_cmp groups group)
+listed_in groups group = members_found (map.get nat_cmp groups group)
 
 -- ---- for the search of the groups
 

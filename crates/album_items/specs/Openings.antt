@@ -1,5 +1,5 @@
 -- Which states the service may open with.
-use Rattle.std.specs.Prelude.{ℕ, List, [], Bool, true, false, not, ◌&&◌, ◌||◌, ◌==◌, nat_le, length, Option, Some, None}
+use Rattle.std.specs.Prelude.{ℕ, List, Bool, true, false, not, ◌&&◌, ◌||◌, ◌==◌, nat_le, length, Option, Some, None}
 use Rattle.std.specs.List.{list_all}
 use Rattle.std.specs.Option.{option_map_or}
 use Rattle.album_lists.specs.Entries.{fits}
@@ -8,7 +8,7 @@ use Rattle.album_lists.specs.declared.lists.Holder.TheVariants.{Plain, Folder}
 use Rattle.album_stamps.specs.declared.limits.TheConstants.{MOST_PARTS, LEAST_MARKS, MOST_MARKS, MOST_CHILDREN, MOST_OPENING_ITEMS, MOST_OPENING_NUMBER}
 use Rattle.album_items.specs.ItemIds.{list, kind_of, number_of}
 use Rattle.album_stamps.specs.Distinct.{no_two, are_single}
-use Rattle.album_items.specs.Values.{is_of, is_there, head_of}
+use Rattle.album_items.specs.Values.{is_of, is_there, head_of, children_of}
 use Rattle.album_items.specs.declared.values.Value.{Value}
 use Rattle.album_items.specs.declared.values.Value.TheVariants as value
 use Rattle.album_items.specs.declared.openings.Opening.{Opening}
@@ -43,14 +43,6 @@ has_low_numbers (value.Group group) = is_low group.head.list
 -- so have the item and its value
 abbrev pub is_low_row : Row → Bool
 is_low_row row = is_low (number_of row.0) && has_low_numbers row.1
-
--- the children of an album
-abbrev pub children_of : Value → List ℕ
-children_of value.Missing = []
-children_of (value.Picture picture) = []
-children_of (value.Album album) = album.children
-children_of (value.List entries) = []
-children_of (value.Group group) = []
 
 -- an album has at most 128 children
 abbrev pub has_few_children : Row → Bool

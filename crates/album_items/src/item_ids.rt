@@ -1,7 +1,8 @@
 // Items: a kind, and a number among the items of that kind.
-ghost use Rattle.std.specs.Prelude.{◌≡◌, ◌↔◌, ◌==◌, ◌≤◌, ◌<◌, ◌^◌, ℕ, List, Some, IfOk, IsOkUnless, string_bytes, option_map};
-ghost use Rattle.std.specs.Cmp.Rules.{comparing};
+ghost use Rattle.std.specs.Prelude.{◌≡◌, ◌↔◌, ◌==◌, ◌++◌, ◌≤◌, ◌<◌, ◌^◌, ℕ, List, Some, IfOk, IsOkUnless, string_bytes, option_map};
+ghost use Rattle.std.specs.Cmp.Rules.{comparing, hashing};
 ghost use Rattle.std.specs.Cmp.{partial_order_from_own_ties};
+ghost use Rattle.std.specs.Hash as fed;
 ghost use Rattle.std.specs.Ordering.{nat_cmp, as_partial_cmp};
 ghost use Rattle.std.proofs.Common.{rules};
 ghost use Rattle.album_items.specs.ItemIds.{code_of, item, kind_of, number_of, place_of, IsItemText, word_of, text_of, code_named, item_of};
@@ -10,6 +11,7 @@ use album_lists::whole_number;
 use album_stamps::{MOST_OPENING_NUMBER, MOST_PARTS, Refusal};
 use std::alloc::Global;
 use std::cmp::Ordering;
+use std::hash::{Hash, Hasher};
 use std::marker::Model;
 
 /// What an item is.
@@ -153,6 +155,18 @@ impl PartialEq for ItemId {
 
 impl Eq for ItemId {
     ghost laws = { Prim.search (comparing, rules) };
+}
+
+// By hand, since what is compared is by hand.
+impl Hash for ItemId {
+    ghost hash_input = { λ item. fed.u8 (kind_of item) ++ fed.u64 (number_of item) };
+
+    ghost respects_eq = { Prim.search (hashing, rules) };
+
+    fn hash<H: Hasher>(&self, state: &mut H) {
+        self.kind.code().hash(state);
+        self.number.hash(state);
+    }
 }
 
 impl PartialOrd for ItemId {

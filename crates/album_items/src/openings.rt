@@ -3,7 +3,8 @@ ghost use Rattle.std.specs.Prelude.{◌≡◌, ◌==◌, ◌&&◌, true, false, 
 ghost use Rattle.std.specs.List.{list_all, list_any};
 ghost use Rattle.album_stamps.specs.declared.refusals.Refusal.TheVariants.{BadOpening};
 ghost use Rattle.album_stamps.specs.Distinct.{are_single};
-ghost use Rattle.album_items.specs.Openings.{has_own_value, is_low, are_low, has_low_numbers, is_low_row, children_of, has_single_children, has_few_children, same_item, is_right_row, has_parts, has_limit, has_policy, has_few_items, has_single_rows, has_own_lists, has_fit_lists, is_opening};
+ghost use Rattle.album_items.specs.Values.{children_of};
+ghost use Rattle.album_items.specs.Openings.{has_own_value, is_low, are_low, has_low_numbers, is_low_row, has_single_children, has_few_children, same_item, is_right_row, has_parts, has_limit, has_policy, has_few_items, has_single_rows, has_own_lists, has_fit_lists, is_opening};
 
 use crate::collections::{ItemValues, Items};
 use crate::item_ids::ItemId;
@@ -122,19 +123,13 @@ fn is_low_row(row: &(ItemId, Value)) -> bool
 fn has_few_children(row: &(ItemId, Value)) -> bool
     ensures { result ≡ has_few_children row.now }
 {
-    match &row.1 {
-        Value::Album(album) => album.children.as_slice().len() <= MOST_CHILDREN,
-        _ => true,
-    }
+    row.1.children().len() <= MOST_CHILDREN
 }
 
 fn has_single_children(row: &(ItemId, Value)) -> bool
     ensures { result ≡ has_single_children row.now }
 {
-    match &row.1 {
-        Value::Album(album) => are_single(album.children.as_slice()),
-        _ => true,
-    }
+    are_single(row.1.children())
 }
 
 /// Whether no item stands twice.

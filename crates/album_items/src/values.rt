@@ -1,13 +1,13 @@
 // The values of items.
-ghost use Rattle.std.specs.Prelude.{◌≡◌, IfOk, IsOkUnless};
+ghost use Rattle.std.specs.Prelude.{◌≡◌, IfOk, IsOkUnless, option_to_list};
 ghost use Rattle.std.specs.Option.{option_copied};
 ghost use Rattle.album_items.specs.ItemIds.{code_of};
-ghost use Rattle.album_items.specs.Values.{is_of, is_there, head_of};
+ghost use Rattle.album_items.specs.Values.{is_of, is_there, head_of, home_of, children_of, entries_of, members_of};
 
 use crate::collections::{Items, Members};
-use crate::item_ids::Kind;
+use crate::item_ids::{ItemId, Kind};
 use crate::texts::{Content, Title};
-use album_lists::{AccessList, Name};
+use album_lists::{AccessList, Ace, Member, Name};
 use album_stamps::Refusal;
 
 /// Whose an object is, the number of its group, and the number of its list.
@@ -123,6 +123,46 @@ impl Value {
             Value::Album(album) => Some(&album.head),
             Value::Group(group) => Some(&group.head),
             Value::Missing | Value::List(_) => None,
+        }
+    }
+
+    /// The album that is a picture's home.
+    pub fn home(&self) -> Option<ItemId>
+        ensures { option_to_list result ≡ home_of self.now }
+    {
+        match self {
+            Value::Picture(picture) => Some(ItemId::new(Kind::Album, picture.home)),
+            Value::Missing | Value::Album(_) | Value::List(_) | Value::Group(_) => None,
+        }
+    }
+
+    /// The children of an album, in order; of another value none.
+    pub fn children(&self) -> &[ItemId]
+        ensures { result.now ≡ children_of self.now }
+    {
+        match self {
+            Value::Album(album) => album.children.as_slice(),
+            Value::Missing | Value::Picture(_) | Value::List(_) | Value::Group(_) => &[],
+        }
+    }
+
+    /// The entries of a list, in order; of another value none.
+    pub fn entries(&self) -> &[Ace]
+        ensures { result.now ≡ entries_of self.now }
+    {
+        match self {
+            Value::List(list) => list.entries(),
+            Value::Missing | Value::Picture(_) | Value::Album(_) | Value::Group(_) => &[],
+        }
+    }
+
+    /// The members of a group, in order; of another value none.
+    pub fn members(&self) -> &[Member]
+        ensures { result.now ≡ members_of self.now }
+    {
+        match self {
+            Value::Group(group) => group.members.as_slice(),
+            Value::Missing | Value::Picture(_) | Value::Album(_) | Value::List(_) => &[],
         }
     }
 

@@ -7,7 +7,7 @@ use Rattle.std.specs.BTreeMap.{BTreeMap, is_at}
 use Rattle.std.proofs.lemmas.Bool.Decides.{same_from_decides}
 use Rattle.std.proofs.lemmas.List.{map-append}
 use Rattle.album_lists.specs.declared.whos.Member.{Member}
-use Rattle.album_eval.specs.Groups.{IsMember, members_of, listed_in}
+use Rattle.album_eval.specs.Groups.{IsMember, members_found, listed_in}
 use Rattle.album_eval.specs.declared.verdicts.Verdict.{Verdict}
 use Rattle.album_eval.proofs.Computing.{one_verdict}
 use Rattle.album_eval.specs.Verdict.{IsVerdict}
@@ -44,10 +44,10 @@ inserted : (old new : BTreeMap ℕ (Vec Member Global)) (k : ℕ) (members : Vec
     → ((q : ℕ) → tree.get nat_cmp new q ≡ cond (is_at (nat_cmp k) q) (Some members) (tree.get nat_cmp old q))
     → (q : ℕ) → listed_in new q ≡ cond (q == k) members.items (listed_in old q)
 inserted old new k members updates q =
-    ap members_of (updates q ∙ ap (λ b. cond b (Some members) (tree.get nat_cmp old q)) (same_key k q)) ∙ go (q == k)
+    ap members_found (updates q ∙ ap (λ b. cond b (Some members) (tree.get nat_cmp old q)) (same_key k q)) ∙ go (q == k)
   where
     go : (b : Bool)
-        → members_of (cond b (Some members) (tree.get nat_cmp old q)) ≡ cond b members.items (listed_in old q)
+        → members_found (cond b (Some members) (tree.get nat_cmp old q)) ≡ cond b members.items (listed_in old q)
     go true = refl
     go false = refl
 
@@ -58,7 +58,7 @@ pub groups_begin : (empty : BTreeMap ℕ (Vec Member Global)) (ls : List Listing
     → (number : ℕ)
     → listed_or (listed_in empty) ls number ≡ listed_by ls number
 groups_begin empty ls none number =
-    listed_by_or ls (listed_in empty) number (λ n. let e : tree.get nat_cmp empty n ≡ None = rw none refl in ap members_of e)
+    listed_by_or ls (listed_in empty) number (λ n. let e : tree.get nat_cmp empty n ≡ None = rw none refl in ap members_found e)
 
 pub groups_step : (old new : BTreeMap ℕ (Vec Member Global)) (before after : List Group) (g : Group) (ls : List Listing)
     → before ≡ after ++ g ∷ []

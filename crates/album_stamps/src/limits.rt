@@ -9,6 +9,9 @@ pub const MOST_TRANSACTION_ITEMS: usize = 16;
 /// How many items one read may have.
 pub const MOST_READ_ITEMS: usize = 512;
 
+/// How many reads may be made for one view.
+pub const MOST_READS: u8 = 8;
+
 /// How few, and how many marks the history of a partition may have room for.
 pub const LEAST_MARKS: u64 = 2;
 
