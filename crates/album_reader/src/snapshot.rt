@@ -3,15 +3,17 @@ ghost use Rattle.std.specs.Prelude.{◌≡◌, option_map};
 ghost use Rattle.album_reader.specs.Snapshots.{items_read, version_read};
 
 use crate::answers::Answer;
-use album_items::{ItemId, Items, Value};
+use album_items::{ItemId, Value};
 use album_stamps::Stamp;
+use indexmap::IndexSet;
 use std::marker::Model;
 
-/// What was read: of each item the stamp and the value. Contracts see these answers, in the order in
-/// which the items were asked.
+/// What was read: of each item the stamp and the value, each found by one look-up, however many there
+/// are. Contracts see these answers, in the order in which the items were asked.
 #[derive(Debug, Drop)]
 pub struct Snapshot {
-    items: Items,
+    // At the index of its item stands each answer.
+    items: IndexSet<ItemId>,
     answers: Vec<Answer>,
 }
 
@@ -24,13 +26,13 @@ impl Model for Snapshot {
 
     ghost view = { λ s. s.answers.items };
 
-    ghost invariant = { λ s. s.items ≡ items_read s.answers.items };
+    ghost invariant = { λ s. s.items.keys ≡ items_read s.answers.items };
 }
 
 impl Snapshot {
     /// What was read, answer by answer. `items` are those of the answers.
-    pub(crate) fn of(items: Items, answers: Vec<Answer>) -> Snapshot
-        requires { items ≡ items_read answers.items }
+    pub(crate) fn of(items: IndexSet<ItemId>, answers: Vec<Answer>) -> Snapshot
+        requires { items.keys ≡ items_read answers.items }
         ensures { result ≡ answers.items }
     {
         Snapshot { items, answers }
@@ -47,13 +49,8 @@ impl Snapshot {
     pub fn at(&self, item: ItemId) -> Option<(Stamp, &Value)>
         ensures { option_map (λ row. (row.0, row.1.now)) result ≡ version_read self.now item }
     {
-        version_among(&self.answers, item)
+        let index = self.items.get_index_of(&item)?;
+        let answer = &self.answers[index];
+        Some((answer.stamp, &answer.value))
     }
-}
-
-fn version_among(answers: &[Answer], item: ItemId) -> Option<(Stamp, &Value)>
-    ensures { option_map (λ row. (row.0, row.1.now)) result ≡ version_read answers.now item }
-{
-    let answer = answers.iter().find(|answer| answer.item.is(item))?;
-    Some((answer.stamp, &answer.value))
 }
