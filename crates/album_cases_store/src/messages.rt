@@ -196,7 +196,7 @@ fn body_text(alloc: Global, body: &Body) -> Result<String, Refusal> {
 }
 
 /// From, to, tag and what is said, as `p0 c1 7 prepared 65537`.
-pub fn text_of(alloc: Global, message: &Message) -> Result<String, Refusal> {
+fn text_of(alloc: Global, message: &Message) -> Result<String, Refusal> {
     let from = node_text(alloc, message.from())?;
     let to = node_text(alloc, message.to())?;
     let body = body_text(alloc, message.body())?;

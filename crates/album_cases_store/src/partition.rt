@@ -1,7 +1,7 @@
 // What a partition answers, how it settles what was left pending, and how it opens (docs/PROTOCOL.md, "What a
 // partition answers" and "How a pending write is settled").
 use crate::messages::{
-    Is, Rows, Step, all_told, client, item_of, rows_of, same, sent, stamp_of, text_of, told,
+    Is, Rows, Step, all_told, client, item_of, rows_of, same, sent, stamp_of, told,
 };
 use album_calls::{Message, Node};
 use album_partition::Partition;
@@ -57,6 +57,14 @@ fn check(
     Ok(())
 }
 
+/// Partition 0 of three, with room for so many marks, replies to each message so. Gives how many marks it
+/// has then.
+fn replies_so(rt: &impl Abort, alloc: Global, limit: u64, cases: Cases) -> Result<usize, Fail> {
+    let mut partition = opened(alloc, 0, limit)?;
+    check(rt, alloc, &mut partition, &Node::Part(0), cases)?;
+    Ok(partition.history().len())
+}
+
 const FIRST: Rows = &[("picture/0", Is::Picture(1))];
 
 const OTHER: Rows = &[("picture/0", Is::Picture(2))];
@@ -91,12 +99,11 @@ const TABLE: Cases = &[
     (Step::Get("list/0", &[]), "p0 c1 13 clash"),
 ];
 
+/// A Prepare is answered alike when it comes again, and a Check of an unknown stamp discards it.
 #[test]
 fn partition_table(rt: HostRuntime) -> Result<(), Fail> {
-    let alloc = rt.alloc();
-    let mut partition = opened(alloc, 0, 10)?;
-    check(&rt, alloc, &mut partition, &Node::Part(0), TABLE)?;
-    assert_eq!(rt; partition.history().len(), 2);
+    let marks = replies_so(&rt, rt.alloc(), 10, TABLE)?;
+    assert_eq!(rt; marks, 2);
     Ok(())
 }
 
@@ -118,12 +125,11 @@ const IMPROPER: Cases = &[
     (Step::Prepared(65537), "-"),
 ];
 
+/// A message that breaks a rule is answered Clash, a reply not at all, and neither leaves a mark.
 #[test]
 fn improper_messages(rt: HostRuntime) -> Result<(), Fail> {
-    let alloc = rt.alloc();
-    let mut partition = opened(alloc, 0, 10)?;
-    check(&rt, alloc, &mut partition, &Node::Part(0), IMPROPER)?;
-    assert_eq!(rt; partition.history().len(), 0);
+    let marks = replies_so(&rt, rt.alloc(), 10, IMPROPER)?;
+    assert_eq!(rt; marks, 0);
     Ok(())
 }
 
@@ -161,9 +167,8 @@ const ORDERS: Cases = &[
 
 #[test]
 fn writes_in_any_order(rt: HostRuntime) -> Result<(), Fail> {
-    let alloc = rt.alloc();
-    let mut partition = opened(alloc, 0, 10)?;
-    check(&rt, alloc, &mut partition, &Node::Part(0), ORDERS)
+    replies_so(&rt, rt.alloc(), 10, ORDERS)?;
+    Ok(())
 }
 
 const UNANSWERED: Cases = &[
@@ -171,12 +176,17 @@ const UNANSWERED: Cases = &[
     (Step::Prepare(65537, FIRST, PICTURE), "-"),
 ];
 
+/// The partition says nothing to what goes to another one, nor to what goes to a client.
+fn silent(rt: &impl Abort, alloc: Global, partition: &mut Partition) -> Result<(), Fail> {
+    check(rt, alloc, partition, &Node::Part(1), UNANSWERED)?;
+    check(rt, alloc, partition, &client()?, UNANSWERED)
+}
+
+/// A message to another node does nothing.
 #[test]
 fn messages_to_others(rt: HostRuntime) -> Result<(), Fail> {
-    let alloc = rt.alloc();
-    let mut partition = opened(alloc, 0, 10)?;
-    check(&rt, alloc, &mut partition, &Node::Part(1), UNANSWERED)?;
-    check(&rt, alloc, &mut partition, &client()?, UNANSWERED)?;
+    let mut partition = opened(rt.alloc(), 0, 10)?;
+    silent(&rt, rt.alloc(), &mut partition)?;
     assert_eq!(rt; partition.history().len(), 0);
     Ok(())
 }
@@ -195,11 +205,11 @@ const FULL: Cases = &[
     ),
 ];
 
+/// A full history takes no new stamp, and still answers those that it has.
 #[test]
 fn full_history(rt: HostRuntime) -> Result<(), Fail> {
-    let alloc = rt.alloc();
-    let mut partition = opened(alloc, 0, 2)?;
-    check(&rt, alloc, &mut partition, &Node::Part(0), FULL)
+    replies_so(&rt, rt.alloc(), 2, FULL)?;
+    Ok(())
 }
 
 /// Each pending stamp keeps room for the mark that decides it.
@@ -220,9 +230,8 @@ const FULL_BY_PENDING: Cases = &[
 
 #[test]
 fn full_by_pending(rt: HostRuntime) -> Result<(), Fail> {
-    let alloc = rt.alloc();
-    let mut partition = opened(alloc, 0, 5)?;
-    check(&rt, alloc, &mut partition, &Node::Part(0), FULL_BY_PENDING)
+    replies_so(&rt, rt.alloc(), 5, FULL_BY_PENDING)?;
+    Ok(())
 }
 
 /// What is sent before a trim of picture/0, and what is replied then and afterwards.
@@ -275,14 +284,20 @@ fn trim(partition: &mut Partition, item: &str) -> Result<(), Refusal> {
     partition.trim(item_of(item)?)
 }
 
+/// How many marks there are once the item was trimmed, and once more.
+fn trimmed_twice(partition: &mut Partition, item: &str) -> Result<usize, Refusal> {
+    trim(partition, item)?;
+    trim(partition, item)?;
+    Ok(partition.history().len())
+}
+
+/// What is committed below the floor is not found by a Get, and a second trim makes no mark.
 #[test]
 fn commit_below_floor(rt: HostRuntime) -> Result<(), Fail> {
     let alloc = rt.alloc();
     let mut partition = opened(alloc, 0, 10)?;
     check(&rt, alloc, &mut partition, &Node::Part(0), WRITTEN)?;
-    trim(&mut partition, "picture/0")?;
-    trim(&mut partition, "picture/0")?;
-    assert_eq!(rt; partition.history().len(), 5);
+    assert_eq!(rt; trimmed_twice(&mut partition, "picture/0"), Ok(5));
     check(&rt, alloc, &mut partition, &Node::Part(0), TRIMMED)
 }
 
@@ -293,28 +308,34 @@ fn nearly_full(alloc: Global) -> Result<Partition, Refusal> {
     Ok(partition)
 }
 
+/// What a trim gives where there is no room for its mark: with something to do, with nothing, and elsewhere.
+const TRIMS: &[(&str, Result<(), Refusal>)] = &[
+    ("picture/0", Err(Refusal::Full)),
+    ("picture/3", Ok(())),
+    ("album/0", Err(Refusal::Clash)),
+];
+
 #[test]
 fn trim_full(rt: HostRuntime) -> Result<(), Fail> {
     let mut partition = nearly_full(rt.alloc())?;
-    assert_eq!(rt; trim(&mut partition, "picture/0"), Err(Refusal::Full));
-    assert_eq!(rt; trim(&mut partition, "picture/3"), Ok(()));
-    assert_eq!(rt; trim(&mut partition, "album/0"), Err(Refusal::Clash));
+    for (item, expected) in TRIMS {
+        assert_eq!(rt; trim(&mut partition, item), *expected, "{item}");
+    }
     assert_eq!(rt; partition.history().len(), 2);
     Ok(())
 }
 
-/// The partition takes the message, whatever it replies.
-fn taken(alloc: Global, partition: &mut Partition, step: Step) -> Result<(), Refusal> {
-    let message = sent(alloc, Node::Part(0), 7, step)?;
-    partition.receive(&message)?;
+/// The partition of this number takes the message, whatever it replies.
+fn taken(alloc: Global, partition: &mut Partition, number: u16, step: Step) -> Result<(), Refusal> {
+    let _reply = answer(alloc, partition, Node::Part(number), 7, step)?;
     Ok(())
 }
 
 /// The stamp of the counter is prepared and committed.
 fn written(alloc: Global, partition: &mut Partition, counter: u64) -> Result<(), Refusal> {
     let stamp = counter.wrapping_mul(65536).wrapping_add(1);
-    taken(alloc, partition, Step::Prepare(stamp, FIRST, PICTURE))?;
-    taken(alloc, partition, Step::Commit(stamp))
+    taken(alloc, partition, 0, Step::Prepare(stamp, FIRST, PICTURE))?;
+    taken(alloc, partition, 0, Step::Commit(stamp))
 }
 
 /// A partition to which so many stamps were written.
@@ -358,7 +379,7 @@ fn prepared(
 ) -> Result<Partition, Refusal> {
     let mut partition = opened(alloc, number, 10)?;
     let step = Step::Prepare(65537, writes, items);
-    answer(alloc, &mut partition, Node::Part(number), 7, step)?;
+    taken(alloc, &mut partition, number, step)?;
     Ok(partition)
 }
 
@@ -483,21 +504,26 @@ fn heard(alloc: Global, partition: &mut Partition, votes: &[Message]) -> Result<
     Ok(text)
 }
 
+/// The votes, and what is heard as they are delivered.
+fn heard_votes(
+    alloc: Global,
+    partition: &mut Partition,
+    votes: &[Message],
+) -> Result<String, Refusal> {
+    let mut text = all_told(alloc, votes)?;
+    text.push_str(heard(alloc, partition, votes)?.as_str())?;
+    Ok(text)
+}
+
 /// The votes, and what is heard as they are delivered twice.
 fn heard_twice(
     alloc: Global,
     partition: &mut Partition,
     votes: &[Message],
 ) -> Result<String, Refusal> {
-    let votes_text = all_told(alloc, votes)?;
-    let once = heard(alloc, partition, votes)?;
+    let once = heard_votes(alloc, partition, votes)?;
     let again = heard(alloc, partition, votes)?;
-    Ok(format!(in alloc;
-        "{}{}; {}",
-        votes_text.as_str(),
-        once.as_str(),
-        again.as_str()
-    )?)
+    Ok(format!(in alloc; "{}; {}", once.as_str(), again.as_str())?)
 }
 
 /// Settles 65537 at the first partition by what the second tells, each vote delivered twice.
@@ -586,21 +612,27 @@ fn one_settled(alloc: Global) -> Result<Pair, Refusal> {
     Ok(pair)
 }
 
+/// Partition 2 asks partition 0, and commits as well.
+fn two_commits(rt: &impl Abort, alloc: Global, pair: &mut Pair) -> Result<(), Fail> {
+    let asked = "p2 p0 0 check 65537; p2 p0 0 check 65537; ";
+    sweeps(rt, alloc, &pair.two, asked)?;
+    let vote = "p0 p2 0 status 65537 committed; Committed 2; Committed 2";
+    settles(rt, alloc, &mut pair.two, &mut pair.zero, vote)?;
+    keeps(rt, alloc, &pair.zero, "list/1", "Committed 2 [] 65537")?;
+    keeps(rt, alloc, &pair.two, "list/0", "Committed 2 [] 65537")
+}
+
+/// Why the partition sends nothing to settle 65537, if it does not.
+fn unswept(partition: &Partition) -> Option<Refusal> {
+    swept(partition).err()
+}
+
+/// What one partition has committed the other one commits too, once it asks; the first has nothing to ask.
 #[test]
 fn sweep_after_commit(rt: HostRuntime) -> Result<(), Fail> {
-    let alloc = rt.alloc();
-    let mut pair = one_settled(alloc)?;
-    sweeps(
-        &rt,
-        alloc,
-        &pair.two,
-        "p2 p0 0 check 65537; p2 p0 0 check 65537; ",
-    )?;
-    let vote = "p0 p2 0 status 65537 committed; Committed 2; Committed 2";
-    settles(&rt, alloc, &mut pair.two, &mut pair.zero, vote)?;
-    keeps(&rt, alloc, &pair.zero, "list/1", "Committed 2 [] 65537")?;
-    keeps(&rt, alloc, &pair.two, "list/0", "Committed 2 [] 65537")?;
-    assert_eq!(rt; swept(&pair.zero).err(), Some(Refusal::NotPrepared));
+    let mut pair = one_settled(rt.alloc())?;
+    two_commits(&rt, rt.alloc(), &mut pair)?;
+    assert_eq!(rt; unswept(&pair.zero), Some(Refusal::NotPrepared));
     Ok(())
 }
 
@@ -693,20 +725,6 @@ fn votes_of(
     replies(alloc, &mut partition, checks)
 }
 
-/// The texts of the votes, and how 65537 stands at the partition once it received them.
-fn heard_votes(
-    alloc: Global,
-    partition: &mut Partition,
-    votes: &[Message],
-) -> Result<String, Refusal> {
-    for vote in votes {
-        partition.receive(vote)?;
-    }
-    let told = all_told(alloc, votes)?;
-    let standing = standing(alloc, partition)?;
-    Ok(format!(in alloc; "{}{}", told.as_str(), standing.as_str())?)
-}
-
 /// Partition 0 hears what the other one votes.
 fn hears(
     rt: &impl Abort,
@@ -735,33 +753,21 @@ fn sweep_of_three(rt: HostRuntime) -> Result<(), Fail> {
     Ok(())
 }
 
-/// The text of a copy of the message.
-fn copy_told(alloc: Global, message: &Message) -> Result<String, Refusal> {
-    let copy = message.copy()?;
-    let text = text_of(alloc, &copy)?;
-    Ok(format!(in alloc; "{}; ", text.as_str())?)
+/// The message of the step to partition 0, alone.
+fn one_sent(alloc: Global, step: Step) -> Result<Vec<Message>, Refusal> {
+    let mut messages = Vec::new(alloc);
+    messages.push(sent(alloc, Node::Part(0), 7, step)?)?;
+    Ok(messages)
 }
 
-/// The text of a copy of the reply, if there is one.
-fn reply_copy_told(alloc: Global, reply: &Option<Message>) -> Result<String, Refusal> {
-    match reply {
-        None => Ok(String::new(alloc)),
-        Some(reply) => copy_told(alloc, reply),
-    }
-}
-
-/// The text of a copy of the message, and of a copy of the reply to it.
-fn exchanged(alloc: Global, message: &Message, reply: &Option<Message>) -> Result<String, Refusal> {
-    let sent = copy_told(alloc, message)?;
-    let replied = reply_copy_told(alloc, reply)?;
-    Ok(format!(in alloc; "{}{}", sent.as_str(), replied.as_str())?)
-}
-
-/// What is exchanged with the partition, copied.
+/// What is exchanged with the partition: the text of a copy of the message, and of a copy of the reply, if
+/// there is one.
 fn copied(alloc: Global, partition: &mut Partition, step: Step) -> Result<String, Refusal> {
-    let message = sent(alloc, Node::Part(0), 7, step)?;
-    let reply = partition.receive(&message)?;
-    exchanged(alloc, &message, &reply)
+    let messages = one_sent(alloc, step)?;
+    let replies = replies(alloc, partition, &messages)?;
+    let mut text = copied_text(alloc, &messages)?;
+    text.push_str(copied_text(alloc, &replies)?.as_str())?;
+    Ok(text)
 }
 
 const COPIED: Cases = &[

@@ -1,7 +1,7 @@
 // Reads over three partitions (docs/PROTOCOL.md, "A read"): of writes that one of their partitions alone has
-// committed, and of replies that are no answers.
+// committed, of replies that are no answers, and of versions that are gone.
 use crate::messages::{
-    Is, Rows, Step as Sent, item_of, items_of, rows_of, sent, value_of, value_word,
+    Is, Rows, Step as Sent, item_of, items_of, rows_of, same, sent, value_of, value_word,
 };
 use album_calls::{Body, Message, Node, Reply};
 use album_items::{ItemId, Items, Kind, are_single};
@@ -9,6 +9,7 @@ use album_partition::Partition;
 use album_reader::{Reading, Snapshot, Step};
 use album_stamps::{ClientNo, MOST_READ_ITEMS, Refusal, Stamp};
 use std::alloc::Global;
+use std::process::Abort;
 use std::test::Fail;
 
 /// Three partitions, each with what it opens with.
@@ -32,48 +33,58 @@ fn deliver(partitions: &mut [Partition], message: &Message) -> Result<Option<Mes
     }
 }
 
-/// The partitions, once each of these steps was sent to the partition beside it.
-fn after(
+/// What the partitions reply to the messages, in order.
+fn replies(
     alloc: Global,
-    openings: &[Rows; 3],
-    steps: &[(u16, Sent)],
-) -> Result<Vec<Partition>, Refusal> {
-    let mut partitions = opened(alloc, openings)?;
-    for (part, step) in steps {
-        let message = sent(alloc, Node::Part(*part), 7, *step)?;
-        deliver(&mut partitions, &message)?;
+    partitions: &mut [Partition],
+    messages: &[Message],
+) -> Result<Vec<Message>, Refusal> {
+    let mut replies = Vec::new(alloc);
+    for message in messages {
+        if let Some(reply) = deliver(partitions, message)? {
+            replies.push(reply)?;
+        }
     }
-    Ok(partitions)
+    Ok(replies)
+}
+
+/// The steps, each sent to the partition beside it.
+fn all_sent(alloc: Global, steps: &[(u16, Sent)]) -> Result<Vec<Message>, Refusal> {
+    let mut messages = Vec::new(alloc);
+    for (part, step) in steps {
+        messages.push(sent(alloc, Node::Part(*part), 7, *step)?)?;
+    }
+    Ok(messages)
+}
+
+/// The partitions take the steps, whatever they reply.
+fn take(alloc: Global, partitions: &mut [Partition], steps: &[(u16, Sent)]) -> Result<(), Refusal> {
+    let messages = all_sent(alloc, steps)?;
+    let _replies = replies(alloc, partitions, &messages)?;
+    Ok(())
+}
+
+/// The client that reads.
+fn reader() -> Result<ClientNo, Refusal> {
+    ClientNo::of(2).ok_or(Refusal::BadRequest)
 }
 
 /// Client 2 begins to read these items, under the tag 3.
-fn started(alloc: Global, texts: &[&str]) -> Result<(Reading, Vec<Message>), Refusal> {
-    let items = items_of(alloc, texts)?;
-    let client = ClientNo::of(2).ok_or(Refusal::BadRequest)?;
+fn started(alloc: Global, items: Items) -> Result<(Reading, Vec<Message>), Refusal> {
+    let client = reader()?;
     if items.as_slice().is_empty() || !are_single(items.as_slice()) {
         return Err(Refusal::BadRequest);
     }
     Ok(Reading::start(alloc, items, client, 3, 3)?)
 }
 
-/// One round: each message is delivered, and its reply is given to the reading.
-fn round(
-    partitions: &mut [Partition],
-    reading: Reading,
-    messages: &[Message],
-) -> Result<Step, Refusal> {
+/// What comes of the reading as it is given one reply after the other.
+fn after(reading: Reading, replies: &[Message]) -> Result<Step, Refusal> {
     let mut step = Step::Same(reading);
-    for message in messages {
-        step = exchanged(partitions, step, message)?;
+    for reply in replies {
+        step = given(step, reply)?;
     }
     Ok(step)
-}
-
-fn exchanged(partitions: &mut [Partition], step: Step, message: &Message) -> Result<Step, Refusal> {
-    match deliver(partitions, message)? {
-        None => Ok(step),
-        Some(reply) => given(step, &reply),
-    }
 }
 
 fn given(step: Step, reply: &Message) -> Result<Step, Refusal> {
@@ -85,15 +96,55 @@ fn given(step: Step, reply: &Message) -> Result<Step, Refusal> {
     }
 }
 
-/// Both rounds of a read.
+/// One round of the reading: each message is delivered, and its reply is given to the reading.
+fn round(
+    alloc: Global,
+    partitions: &mut [Partition],
+    reading: Reading,
+    messages: &[Message],
+) -> Result<Step, Refusal> {
+    let replies = replies(alloc, partitions, messages)?;
+    after(reading, &replies)
+}
+
+/// The first round of a read of these items, and what the second one asks.
+fn halfway(
+    alloc: Global,
+    partitions: &mut [Partition],
+    items: Items,
+) -> Result<(Reading, Vec<Message>), Refusal> {
+    let (reading, messages) = started(alloc, items)?;
+    next(round(alloc, partitions, reading, &messages)?)
+}
+
+fn next(step: Step) -> Result<(Reading, Vec<Message>), Refusal> {
+    match step {
+        Step::Next(reading, messages) => Ok((reading, messages)),
+        Step::Same(_) | Step::Done(_) | Step::Gone(_) => Err(Refusal::Clash),
+    }
+}
+
+/// Both rounds of a read of these items.
+fn finished(
+    alloc: Global,
+    partitions: &mut [Partition],
+    items: Items,
+) -> Result<Snapshot, Refusal> {
+    let (reading, messages) = halfway(alloc, partitions, items)?;
+    done(round(alloc, partitions, reading, &messages)?)
+}
+
+fn done(step: Step) -> Result<Snapshot, Refusal> {
+    match step {
+        Step::Done(snapshot) => Ok(snapshot),
+        Step::Same(_) | Step::Next(_, _) | Step::Gone(_) => Err(Refusal::Clash),
+    }
+}
+
+/// What a read of these items finds.
 fn read(alloc: Global, partitions: &mut [Partition], texts: &[&str]) -> Result<String, Refusal> {
-    let (reading, messages) = started(alloc, texts)?;
-    let Step::Next(reading, messages) = round(partitions, reading, &messages)? else {
-        return Err(Refusal::Clash);
-    };
-    let Step::Done(snapshot) = round(partitions, reading, &messages)? else {
-        return Err(Refusal::Clash);
-    };
+    let items = items_of(alloc, texts)?;
+    let snapshot = finished(alloc, partitions, items)?;
     shown(alloc, &snapshot)
 }
 
@@ -130,53 +181,46 @@ const BOTH: &[&str] = &["picture/0", "list/0"];
 
 const LISTS: &[&str] = &["list/0", "list/1"];
 
+/// Partitions 0 and 2 are to write again at 65537 what they open with, as a transaction of these items, and
+/// partition 0 alone has committed it.
+fn half_committed(
+    alloc: Global,
+    openings: &[Rows; 3],
+    items: &'static [&'static str],
+) -> Result<Vec<Partition>, Refusal> {
+    let mut partitions = opened(alloc, openings)?;
+    let steps = [
+        (0, Sent::Prepare(65537, openings[0], items)),
+        (2, Sent::Prepare(65537, openings[2], items)),
+        (0, Sent::Commit(65537)),
+    ];
+    take(alloc, &mut partitions, &steps)?;
+    Ok(partitions)
+}
+
+/// A read that finds a write finds all of its transaction, which one partition alone has committed.
 #[test]
 fn raw_half_commit(rt: HostRuntime) -> Result<(), Fail> {
     let alloc = rt.alloc();
-    let steps = [
-        (0, Sent::Prepare(65537, PICTURE, BOTH)),
-        (2, Sent::Prepare(65537, LIST_0, BOTH)),
-        (0, Sent::Commit(65537)),
-    ];
-    let mut partitions = after(alloc, &[PICTURE, &[], LIST_0], &steps)?;
-    let text = read(alloc, &mut partitions, BOTH)?;
-    assert!(rt; text.as_str() == "picture/0 65537 picture; list/0 65537 list; ");
-    Ok(())
+    let mut partitions = half_committed(alloc, &[PICTURE, &[], LIST_0], BOTH)?;
+    let text = read(alloc, &mut partitions, BOTH);
+    same(&rt, text, "picture/0 65537 picture; list/0 65537 list; ")
 }
 
+/// The same of lists, and of a read of the item alone whose write is not committed.
 #[test]
 fn list_during_half_commit(rt: HostRuntime) -> Result<(), Fail> {
     let alloc = rt.alloc();
-    let steps = [
-        (0, Sent::Prepare(65537, LIST_1, LISTS)),
-        (2, Sent::Prepare(65537, LIST_0, LISTS)),
-        (0, Sent::Commit(65537)),
-    ];
-    let mut partitions = after(alloc, &[LIST_1, &[], LIST_0], &steps)?;
-    let text = read(alloc, &mut partitions, &["list/0", "list/1", "picture/0"])?;
-    assert!(rt; text.as_str() == "list/0 65537 list; list/1 65537 list; picture/0 0 missing; ");
-    let alone = read(alloc, &mut partitions, &["list/0"])?;
-    assert!(rt; alone.as_str() == "list/0 0 list; ");
-    Ok(())
+    let mut partitions = half_committed(alloc, &[LIST_1, &[], LIST_0], LISTS)?;
+    let text = read(alloc, &mut partitions, &["list/0", "list/1", "picture/0"]);
+    same(
+        &rt,
+        text,
+        "list/0 65537 list; list/1 65537 list; picture/0 0 missing; ",
+    )?;
+    let alone = read(alloc, &mut partitions, &["list/0"]);
+    same(&rt, alone, "list/0 0 list; ")
 }
-
-/// What a partition tells client 2: the version at the zero stamp.
-fn version(alloc: Global, part: u16, tag: u64, text: &str, is: Is) -> Result<Message, Refusal> {
-    let client = ClientNo::of(2).ok_or(Refusal::BadRequest)?;
-    let told = Reply::Version(item_of(text)?, Stamp::zero(), value_of(alloc, is)?);
-    let from = Node::Part(part);
-    Ok(Message::new(from, Node::Client(client), tag, Body::Reply(told)))
-}
-
-/// Partition, tag, item and value of replies, and how far a reading of picture/0 and list/0 is then.
-const NO_ANSWERS: &[(u16, u64, &str, Is, &str)] = &[
-    (1, 3, "picture/0", Is::Picture(1), "same"),
-    (0, 4, "picture/0", Is::Picture(1), "same"),
-    (1, 3, "album/0", Is::Album, "same"),
-    (0, 3, "picture/0", Is::Picture(1), "same"),
-    (0, 3, "picture/0", Is::Picture(1), "same"),
-    (2, 3, "list/0", Is::List, "next"),
-];
 
 fn word(step: &Step) -> &'static str {
     match step {
@@ -189,147 +233,161 @@ fn word(step: &Step) -> &'static str {
 
 /// A copy of the reading of both, as it begins.
 fn copied(alloc: Global) -> Result<Step, Refusal> {
-    let (reading, _messages) = started(alloc, BOTH)?;
+    let (reading, _messages) = started(alloc, items_of(alloc, BOTH)?)?;
     Ok(Step::Same(reading.copy()?))
 }
 
-fn replied(
-    alloc: Global,
-    step: Step,
-    (part, tag, text, is): (u16, u64, &str, Is),
-) -> Result<Step, Refusal> {
-    given(step, &version(alloc, part, tag, text, is)?)
+/// What a partition tells client 2, under a tag, of an item: the version at the zero stamp, or that it is
+/// gone.
+type Told = (u16, u64, &'static str, Option<Is>);
+
+fn reply_of(alloc: Global, text: &str, is: Option<Is>) -> Result<Reply, Refusal> {
+    let item = item_of(text)?;
+    match is {
+        Some(is) => Ok(Reply::Version(item, Stamp::zero(), value_of(alloc, is)?)),
+        None => Ok(Reply::Gone(item)),
+    }
 }
 
-#[test]
-fn replies_that_are_no_answers(rt: HostRuntime) -> Result<(), Fail> {
-    let alloc = rt.alloc();
-    let mut step = copied(alloc)?;
-    for (part, tag, text, is, expected) in NO_ANSWERS {
-        step = replied(alloc, step, (*part, *tag, *text, *is))?;
+fn message_of(alloc: Global, (part, tag, text, is): Told) -> Result<Message, Refusal> {
+    let to = Node::Client(reader()?);
+    let reply = reply_of(alloc, text, is)?;
+    Ok(Message::new(Node::Part(part), to, tag, Body::Reply(reply)))
+}
+
+/// What is told, and how far the reading is then.
+type Replies = &'static [(Told, &'static str)];
+
+fn messages_of(alloc: Global, rows: Replies) -> Result<Vec<(Message, &'static str)>, Refusal> {
+    let mut messages = Vec::new(alloc);
+    for (told, expected) in rows {
+        messages.push((message_of(alloc, *told)?, *expected))?;
+    }
+    Ok(messages)
+}
+
+/// The reading is so far after each reply.
+fn comes_so_far(
+    rt: &impl Abort,
+    mut step: Step,
+    replies: &[(Message, &'static str)],
+) -> Result<(), Fail> {
+    for (reply, expected) in replies {
+        step = given(step, reply)?;
         assert!(rt; word(&step) == *expected);
     }
     Ok(())
 }
 
-/// What a partition tells client 2: that the item is gone.
-fn gone(part: u16, tag: u64, text: &str) -> Result<Message, Refusal> {
-    let client = ClientNo::of(2).ok_or(Refusal::BadRequest)?;
-    let told = Reply::Gone(item_of(text)?);
-    let from = Node::Part(part);
-    Ok(Message::new(from, Node::Client(client), tag, Body::Reply(told)))
+/// Replies to a reading of picture/0 and list/0, and how far it is then.
+const NO_ANSWERS: Replies = &[
+    ((1, 3, "picture/0", Some(Is::Picture(1))), "same"),
+    ((0, 4, "picture/0", Some(Is::Picture(1))), "same"),
+    ((1, 3, "album/0", Some(Is::Album)), "same"),
+    ((0, 3, "picture/0", Some(Is::Picture(1))), "same"),
+    ((0, 3, "picture/0", Some(Is::Picture(1))), "same"),
+    ((2, 3, "list/0", Some(Is::List)), "next"),
+];
+
+/// Of the replies, the first one of each item's own partition counts, under the round's tag.
+#[test]
+fn replies_that_are_no_answers(rt: HostRuntime) -> Result<(), Fail> {
+    let replies = messages_of(rt.alloc(), NO_ANSWERS)?;
+    comes_so_far(&rt, copied(rt.alloc())?, &replies)
 }
 
-fn told_gone(step: Step, (part, tag, text): (u16, u64, &str)) -> Result<Step, Refusal> {
-    given(step, &gone(part, tag, text)?)
-}
-
-/// The second round of a read of both items, with the answer of picture/0.
+/// The second round of a read of both items, as it begins.
 fn half_read(alloc: Global) -> Result<Step, Refusal> {
     let mut partitions = opened(alloc, &[PICTURE, &[], LIST_0])?;
-    let (reading, messages) = started(alloc, BOTH)?;
-    let Step::Next(reading, _messages) = round(&mut partitions, reading, &messages)? else {
-        return Err(Refusal::Clash);
-    };
-    replied(
-        alloc,
-        Step::Same(reading),
-        (0, 4, "picture/0", Is::Picture(1)),
-    )
+    let (reading, _messages) = halfway(alloc, &mut partitions, items_of(alloc, BOTH)?)?;
+    Ok(Step::Same(reading))
 }
 
-/// Partition, tag and item of words that an item is gone, and how far the first round is then.
-const GONE_TOO_EARLY: &[(u16, u64, &str, &str)] = &[
-    (0, 3, "picture/0", "same"),
-    (0, 4, "picture/0", "same"),
+/// Words that an item is gone, and how far the first round is then.
+const GONE_TOO_EARLY: Replies = &[
+    ((0, 3, "picture/0", None), "same"),
+    ((0, 4, "picture/0", None), "same"),
 ];
 
-/// The same of the second round: it counts from the item's own partition, under the round's tag, for
-/// an item without an answer.
-const GONE: &[(u16, u64, &str, &str)] = &[
-    (2, 3, "list/0", "same"),
-    (1, 4, "list/0", "same"),
-    (0, 4, "picture/0", "same"),
-    (0, 4, "picture/3", "same"),
-    (2, 4, "list/0", "gone"),
+/// The same of the second round, once picture/0 has its answer: it counts from the item's own partition,
+/// under the round's tag, for an item without an answer.
+const GONE: Replies = &[
+    ((0, 4, "picture/0", Some(Is::Picture(1))), "same"),
+    ((2, 3, "list/0", None), "same"),
+    ((1, 4, "list/0", None), "same"),
+    ((0, 4, "picture/0", None), "same"),
+    ((0, 4, "picture/3", None), "same"),
+    ((2, 4, "list/0", None), "gone"),
 ];
 
+/// Word that an item is gone ends a read, and in its second round alone.
 #[test]
 fn a_read_of_what_is_gone(rt: HostRuntime) -> Result<(), Fail> {
-    let alloc = rt.alloc();
-    let mut first = copied(alloc)?;
-    for (part, tag, text, expected) in GONE_TOO_EARLY {
-        first = told_gone(first, (*part, *tag, *text))?;
-        assert!(rt; word(&first) == *expected);
-    }
-    let mut second = half_read(alloc)?;
-    for (part, tag, text, expected) in GONE {
-        second = told_gone(second, (*part, *tag, *text))?;
-        assert!(rt; word(&second) == *expected);
-    }
-    Ok(())
-}
-
-/// Partition 0, which opens with a picture.
-fn with_picture(alloc: Global) -> Result<Vec<Partition>, Refusal> {
-    opened(alloc, &[PICTURE, &[], &[]])
+    let early = messages_of(rt.alloc(), GONE_TOO_EARLY)?;
+    comes_so_far(&rt, copied(rt.alloc())?, &early)?;
+    let replies = messages_of(rt.alloc(), GONE)?;
+    comes_so_far(&rt, half_read(rt.alloc())?, &replies)
 }
 
 /// The picture is written at 65537, and partition 0 lets its older versions go.
 fn written_and_trimmed(alloc: Global, partitions: &mut [Partition]) -> Result<(), Refusal> {
-    let prepare = sent(
-        alloc,
-        Node::Part(0),
-        7,
-        Sent::Prepare(65537, PICTURE, &["picture/0"]),
-    )?;
-    deliver(partitions, &prepare)?;
-    let commit = sent(alloc, Node::Part(0), 8, Sent::Commit(65537))?;
-    deliver(partitions, &commit)?;
+    let steps = [
+        (0, Sent::Prepare(65537, PICTURE, &["picture/0"])),
+        (0, Sent::Commit(65537)),
+    ];
+    take(alloc, partitions, &steps)?;
     match partitions.get_mut(0) {
         Some(partition) => partition.trim(item_of("picture/0")?),
         None => Err(Refusal::NoSuchPart),
     }
 }
 
-/// A read between whose rounds its picture is written and trimmed: how far it comes, with its items,
-/// and what a new read of them finds.
-fn overtaken(alloc: Global) -> Result<String, Refusal> {
-    let mut partitions = with_picture(alloc)?;
-    let (reading, messages) = started(alloc, &["picture/0"])?;
-    let Step::Next(reading, messages) = round(&mut partitions, reading, &messages)? else {
-        return Err(Refusal::Clash);
-    };
-    written_and_trimmed(alloc, &mut partitions)?;
-    let Step::Gone(items) = round(&mut partitions, reading, &messages)? else {
-        return Err(Refusal::Clash);
-    };
-    let count = items.as_slice().len();
+/// How many items are gone, as the picture is written and trimmed between the rounds of its read.
+fn overtaken(alloc: Global, partitions: &mut [Partition]) -> Result<usize, Refusal> {
+    let items = items_of(alloc, &["picture/0"])?;
+    let (reading, messages) = halfway(alloc, partitions, items)?;
+    written_and_trimmed(alloc, partitions)?;
+    gone(round(alloc, partitions, reading, &messages)?)
+}
+
+fn gone(step: Step) -> Result<usize, Refusal> {
+    match step {
+        Step::Gone(items) => Ok(items.as_slice().len()),
+        Step::Same(_) | Step::Next(_, _) | Step::Done(_) => Err(Refusal::Clash),
+    }
+}
+
+/// What is gone halfway, and what a new read of the picture finds.
+fn read_anew(alloc: Global) -> Result<String, Refusal> {
+    let mut partitions = opened(alloc, &[PICTURE, &[], &[]])?;
+    let count = overtaken(alloc, &mut partitions)?;
     let anew = read(alloc, &mut partitions, &["picture/0"])?;
     Ok(format!(in alloc; "gone {count}; {}", anew.as_str())?)
 }
 
+/// A read that a trim overtakes ends with its items, and a new one finds what is kept.
 #[test]
 fn trim_then_gone(rt: HostRuntime) -> Result<(), Fail> {
-    let text = overtaken(rt.alloc())?;
-    assert!(rt; text.as_str() == "gone 1; picture/0 65537 picture; ");
-    Ok(())
+    let text = read_anew(rt.alloc());
+    same(&rt, text, "gone 1; picture/0 65537 picture; ")
 }
 
-/// How many messages begin a read of so many pictures.
-fn begun(alloc: Global, len: usize) -> Result<usize, Refusal> {
+/// So many pictures.
+fn pictures(alloc: Global, len: usize) -> Result<Items, Refusal> {
     let mut items = Vec::new(alloc);
     for number in 0..len {
         items.push(ItemId::new(Kind::Picture, number as u64))?;
     }
-    if items.is_empty() || !are_single(&items) {
-        return Err(Refusal::BadRequest);
-    }
-    let client = ClientNo::of(2).ok_or(Refusal::BadRequest)?;
-    let (_reading, messages) = Reading::start(alloc, Items::of(items), client, 3, 3)?;
+    Ok(Items::of(items))
+}
+
+/// How many messages begin a read of so many pictures.
+fn begun(alloc: Global, len: usize) -> Result<usize, Refusal> {
+    let (_reading, messages) = started(alloc, pictures(alloc, len)?)?;
     Ok(messages.len())
 }
 
+/// A read has 512 items at most.
 #[test]
 fn most_items(rt: HostRuntime) {
     assert_eq!(rt; begun(rt.alloc(), MOST_READ_ITEMS), Ok(512));
@@ -339,26 +397,11 @@ fn most_items(rt: HostRuntime) {
 /// Reads so many pictures of three partitions that have none, and gives how many rows were read.
 fn read_missing(alloc: Global, len: usize) -> Result<usize, Refusal> {
     let mut partitions = opened(alloc, &[&[], &[], &[]])?;
-    let mut items = Vec::new(alloc);
-    for number in 0..len {
-        items.push(ItemId::new(Kind::Picture, number as u64))?;
-    }
-    if items.is_empty() || !are_single(&items) {
-        return Err(Refusal::BadRequest);
-    }
-    let client = ClientNo::of(2).ok_or(Refusal::BadRequest)?;
-    let (reading, messages) = Reading::start(alloc, Items::of(items), client, 3, 3)?;
-    let Step::Next(reading, messages) = round(&mut partitions, reading, &messages)? else {
-        return Err(Refusal::Clash);
-    };
-    match round(&mut partitions, reading, &messages)? {
-        Step::Done(snapshot) => Ok(snapshot.items().len()),
-        Step::Same(_) => Err(Refusal::Clash),
-        Step::Next(_, _) => Err(Refusal::Clash),
-        Step::Gone(_) => Err(Refusal::Clash),
-    }
+    let snapshot = finished(alloc, &mut partitions, pictures(alloc, len)?)?;
+    Ok(snapshot.items().len())
 }
 
+/// What was read has a row for each item, the missing ones too.
 #[test]
 fn a_read_of_512_items(rt: HostRuntime) {
     assert_eq!(rt; read_missing(rt.alloc(), MOST_READ_ITEMS), Ok(512));
