@@ -1,0 +1,143 @@
+// Asks that a table spells.
+use crate::store::{Entry, groups, item_of, list_of};
+use album_access::AceType;
+use album_items::{Content, ItemId, Kind, Title};
+use album_lists::Name;
+use album_stamps::Refusal;
+use album_views::{Ask, NewList, NewLists};
+use bytes::Bytes;
+use std::alloc::Global;
+
+/// What is asked of one item.
+#[derive(Clone, Copy)]
+pub enum Verb {
+    Read,
+    List,
+    GetList,
+    AddPicture,
+    AddAlbum,
+    Retitle,
+    Replace,
+    Delete,
+    /// It moves to album/7.
+    Move,
+    /// picture/7 moves to it.
+    MoveTo,
+    SetLists,
+    SetOwner,
+    SetMembers,
+}
+
+/// An entry that everyone may have, with these flags.
+const fn entry(flags: u32) -> Entry {
+    (AceType::Allowed, "EVERYONE@", flags)
+}
+
+/// The object, and a list of one entry with these flags.
+fn new_list(alloc: Global, object: ItemId, flags: u32) -> Result<NewList, Refusal> {
+    let list = list_of(alloc, &[entry(flags)])?;
+    Ok(NewList { object, list })
+}
+
+/// Another list of the one object.
+fn one_list(alloc: Global, object: ItemId) -> Result<NewLists, Refusal> {
+    let mut lists = Vec::new(alloc);
+    lists.push(new_list(alloc, object, 0)?)?;
+    Ok(NewLists::of(lists))
+}
+
+/// Other lists of so many pictures, or albums, each with an entry of these flags.
+pub fn many_lists(
+    alloc: Global,
+    kind: Kind,
+    len: u64,
+    flags: u32,
+) -> Result<Vec<NewList>, Refusal> {
+    let mut lists = Vec::new(alloc);
+    for number in 0..len {
+        lists.push(new_list(alloc, ItemId::new(kind, number), flags)?)?;
+    }
+    Ok(lists)
+}
+
+/// The same of pictures without flags, and picture/0 once more.
+pub fn one_list_twice(alloc: Global, len: u64) -> Result<Vec<NewList>, Refusal> {
+    let mut lists = many_lists(alloc, Kind::Picture, len, 0)?;
+    lists.push(new_list(alloc, ItemId::new(Kind::Picture, 0), 0)?)?;
+    Ok(lists)
+}
+
+/// Other lists, as an ask.
+pub fn set_lists(lists: Vec<NewList>) -> Ask {
+    let lists = NewLists::of(lists);
+    Ask::SetLists { lists }
+}
+
+/// A group that is to have so many members.
+pub fn set_members(alloc: Global, object: ItemId, len: u64) -> Result<Ask, Refusal> {
+    let members = groups(alloc, 1000, len)?;
+    Ok(Ask::SetMembers { object, members })
+}
+
+fn add_picture(alloc: Global, album: ItemId) -> Result<Ask, Refusal> {
+    let title = Title::of(alloc, "Bay")?;
+    let content = Content::of(Bytes::new())?;
+    Ok(Ask::AddPicture {
+        album,
+        title,
+        content,
+    })
+}
+
+fn add_album(alloc: Global, album: ItemId) -> Result<Ask, Refusal> {
+    let title = Title::of(alloc, "Bay")?;
+    Ok(Ask::AddAlbum { album, title })
+}
+
+fn retitle(alloc: Global, object: ItemId) -> Result<Ask, Refusal> {
+    let title = Title::of(alloc, "Bay")?;
+    Ok(Ask::Retitle { object, title })
+}
+
+fn replace(object: ItemId) -> Result<Ask, Refusal> {
+    let content = Content::of(Bytes::new())?;
+    Ok(Ask::Replace { object, content })
+}
+
+fn set_owner(alloc: Global, object: ItemId) -> Result<Ask, Refusal> {
+    let owner = Name::of(alloc, "bo")?;
+    Ok(Ask::SetOwner {
+        object,
+        owner,
+        group: 5,
+    })
+}
+
+/// The ask of this item.
+pub fn ask_of(alloc: Global, verb: Verb, text: &str) -> Result<Ask, Refusal> {
+    let item = item_of(text)?;
+    match verb {
+        Verb::Read => Ok(Ask::Read { object: item }),
+        Verb::List => Ok(Ask::List { album: item }),
+        Verb::GetList => Ok(Ask::GetList { object: item }),
+        Verb::AddPicture => add_picture(alloc, item),
+        Verb::AddAlbum => add_album(alloc, item),
+        Verb::Retitle => retitle(alloc, item),
+        Verb::Replace => replace(item),
+        Verb::Delete => Ok(Ask::Delete { object: item }),
+        Verb::Move => Ok(Ask::Move {
+            object: item,
+            to: ItemId::new(Kind::Album, 7),
+        }),
+        Verb::MoveTo => Ok(Ask::Move {
+            object: ItemId::new(Kind::Picture, 7),
+            to: item,
+        }),
+        Verb::SetLists => {
+            let lists = one_list(alloc, item)?;
+            Ok(Ask::SetLists { lists })
+        }
+        Verb::SetOwner => set_owner(alloc, item),
+        Verb::SetMembers => set_members(alloc, item, 2),
+    }
+}

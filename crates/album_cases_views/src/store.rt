@@ -1,0 +1,196 @@
+// A store that a table spells, and what a read of its items finds.
+use album_access::{AceFlags, AceType, Mask};
+use album_calls::{Body, Message, Node, Reply};
+use album_items::{
+    Album, Content, Group, Head, ItemId, Items, Kind, Members, Picture, Title, Value, are_single,
+    read_item,
+};
+use album_lists::{AccessList, Ace, Member, Name, Who};
+use album_reader::{Reading, Snapshot, Step};
+use album_stamps::{ClientNo, Refusal, Stamp};
+use bytes::Bytes;
+use std::alloc::Global;
+
+/// What an item is. All is amy's, and of the head group 0.
+#[derive(Clone, Copy)]
+pub enum Is {
+    /// A picture in album/0, under the list of this number.
+    Picture(u64),
+    /// An album under the list of this number, with so many pictures, from picture/0 on.
+    Album(u64, u64),
+    /// A list of these entries.
+    List(&'static [Entry]),
+    /// A group that lists so many groups, from the one of this number on.
+    Group(u64, u64),
+}
+
+/// The type, the who and the flags of an entry.
+pub type Entry = (AceType, &'static str, u32);
+
+/// Items, each with what it is. All others are missing.
+pub type Store = &'static [(&'static str, Is)];
+
+pub fn item_of(text: &str) -> Result<ItemId, Refusal> {
+    read_item(text).ok_or(Refusal::BadRequest)
+}
+
+fn head(alloc: Global, list: u64) -> Result<Head, Refusal> {
+    let owner = Name::of(alloc, "amy")?;
+    Ok(Head {
+        owner,
+        group: 0,
+        list,
+    })
+}
+
+fn picture(alloc: Global, list: u64) -> Result<Value, Refusal> {
+    Ok(Value::Picture(Picture {
+        title: Title::of(alloc, "Sea")?,
+        content: Content::of(Bytes::new())?,
+        head: head(alloc, list)?,
+        home: 0,
+    }))
+}
+
+fn pictures(alloc: Global, len: u64) -> Result<Items, Refusal> {
+    let mut items = Vec::new(alloc);
+    for number in 0..len {
+        items.push(ItemId::new(Kind::Picture, number))?;
+    }
+    Ok(Items::of(items))
+}
+
+fn album(alloc: Global, list: u64, len: u64) -> Result<Value, Refusal> {
+    Ok(Value::Album(Album {
+        title: Title::of(alloc, "Trip")?,
+        head: head(alloc, list)?,
+        home: None,
+        children: pictures(alloc, len)?,
+    }))
+}
+
+/// The entry of this type, who and flags, with READ_DATA.
+pub fn entry_of(alloc: Global, (sort, who, flags): Entry) -> Result<Ace, Refusal> {
+    let flags = AceFlags::of(flags)?;
+    Ok(Ace {
+        sort,
+        who: Who::read(alloc, who, flags)?,
+        mask: Mask::of(1)?,
+        flags,
+    })
+}
+
+/// The list of these entries.
+pub fn list_of(alloc: Global, rows: &[Entry]) -> Result<AccessList, Refusal> {
+    let mut entries = Vec::new(alloc);
+    for row in rows {
+        entries.push(entry_of(alloc, *row)?)?;
+    }
+    Ok(AccessList::new(entries)?)
+}
+
+/// So many groups as members, from the one of this number on.
+pub fn groups(alloc: Global, first: u64, len: u64) -> Result<Members, Refusal> {
+    let mut members = Vec::new(alloc);
+    for index in 0..len {
+        members.push(Member::Group(first.wrapping_add(index)))?;
+    }
+    Ok(Members::of(members))
+}
+
+fn group(alloc: Global, first: u64, len: u64) -> Result<Value, Refusal> {
+    let members = groups(alloc, first, len)?;
+    let head = head(alloc, 99)?;
+    Ok(Value::Group(Group { head, members }))
+}
+
+fn value_of(alloc: Global, is: Is) -> Result<Value, Refusal> {
+    match is {
+        Is::Picture(list) => picture(alloc, list),
+        Is::Album(list, len) => album(alloc, list, len),
+        Is::List(entries) => Ok(Value::List(list_of(alloc, entries)?)),
+        Is::Group(first, len) => group(alloc, first, len),
+    }
+}
+
+/// What the item is in the store, if it is there.
+fn found(store: Store, item: ItemId) -> Option<Is> {
+    for (text, is) in store {
+        if read_item(text) == Some(item) {
+            return Some(*is);
+        }
+    }
+    None
+}
+
+/// What the one partition answers client 1 of the item, at the zero stamp.
+fn version(alloc: Global, store: Store, tag: u64, item: ItemId) -> Result<Message, Refusal> {
+    let client = ClientNo::of(1).ok_or(Refusal::BadRequest)?;
+    let value = match found(store, item) {
+        Some(is) => value_of(alloc, is)?,
+        None => Value::Missing,
+    };
+    let told = Body::Reply(Reply::Version(item, Stamp::zero(), value));
+    Ok(Message::new(Node::Part(0), Node::Client(client), tag, told))
+}
+
+fn versions(
+    alloc: Global,
+    store: Store,
+    tag: u64,
+    items: &[ItemId],
+) -> Result<Vec<Message>, Refusal> {
+    let mut versions = Vec::new(alloc);
+    for item in items {
+        versions.push(version(alloc, store, tag, *item)?)?;
+    }
+    Ok(versions)
+}
+
+/// Client 1 begins to read these items of one partition, under the tag 1.
+fn started(alloc: Global, items: &Items) -> Result<Reading, Refusal> {
+    if items.as_slice().is_empty() || !are_single(items.as_slice()) {
+        return Err(Refusal::BadRequest);
+    }
+    let client = ClientNo::of(1).ok_or(Refusal::BadRequest)?;
+    let (reading, _messages) = Reading::start(alloc, items.copy()?, client, 1, 1)?;
+    Ok(reading)
+}
+
+/// What comes of the reading as it is given one reply after the other.
+fn after(reading: Reading, replies: &[Message]) -> Result<Step, Refusal> {
+    let mut step = Step::Same(reading);
+    for reply in replies {
+        step = match step {
+            Step::Same(reading) => reading.on_reply(reply)?,
+            Step::Next(_, _) | Step::Done(_) | Step::Gone(_) => return Err(Refusal::Clash),
+        };
+    }
+    Ok(step)
+}
+
+fn second(step: Step) -> Result<Reading, Refusal> {
+    match step {
+        Step::Next(reading, _messages) => Ok(reading),
+        Step::Same(_) | Step::Done(_) | Step::Gone(_) => Err(Refusal::Clash),
+    }
+}
+
+fn done(step: Step) -> Result<Snapshot, Refusal> {
+    match step {
+        Step::Done(snapshot) => Ok(snapshot),
+        Step::Same(_) | Step::Next(_, _) | Step::Gone(_) => Err(Refusal::Clash),
+    }
+}
+
+/// The second round of a read of the items.
+fn halfway(alloc: Global, store: Store, items: &Items) -> Result<Reading, Refusal> {
+    let first = versions(alloc, store, 1, items.as_slice())?;
+    second(after(started(alloc, items)?, &first)?)
+}
+
+/// What a read of the items finds.
+pub fn snapshot(alloc: Global, store: Store, items: &Items) -> Result<Snapshot, Refusal> {
+    let replies = versions(alloc, store, 2, items.as_slice())?;
+    done(after(halfway(alloc, store, items)?, &replies)?)
+}

@@ -1,0 +1,6 @@
+mod Sets
+mod Growing
+mod Turns
+mod Flaws
+mod Closing
+mod Stepping

@@ -1,0 +1,140 @@
+-- What each step of a viewing is, for `Viewing::on_names` (`step-closed`, `step-wide`, `step-again`, `again-readable`) and
+-- for the law `a_view_is_the_first_closed_read` (`closed-by`, `wide-by`, `rounds-by`, `again-by`).
+use Rattle.std.proofs.Common.{◌≡◌, ◌≤◌, ◌<◌, ◌+◌, ◌↔◌, ℕ, Bool, true, false, List, length, nat_le, if◌then◌else◌, refl, sym, ap, ◌∙◌}
+use Rattle.std.proofs.lemmas.Bool.{lt-ltb, le-ltb, ltb-true, ltb-false, le-leb, lt-leb, leb-true, leb-false}
+use Rattle.album_stamps.specs.declared.limits.TheConstants.{MOST_READ_ITEMS, MOST_READS}
+use Rattle.album_reader.specs.Answers.{Answer}
+use Rattle.album_views.specs.Naming.{names_of}
+use Rattle.album_views.specs.Steps.{again, unclosed, stepped, AreReadable, AsksReadable}
+use Rattle.album_views.specs.Views.{ViewState, ViewingState, IsClosed, is_closed}
+use Rattle.album_views.proofs.Closing.{closed-is, is-closed, not-closed}
+use Rattle.album_views.specs.declared.viewing.ViewStep.{ViewStep}
+use Rattle.album_views.specs.declared.viewing.ViewStep.TheVariants.{Again, Closed, Busy}
+use Rattle.album_views.specs.declared.viewing.Why.TheVariants.{Rounds, Wide}
+
+pub step-closed :
+    (viewing : ViewingState) (rows : List Answer) → is_closed viewing.ask rows ≡ true
+    → stepped viewing rows ≡ Closed (record { ask = viewing.ask; rows = rows })
+step-closed viewing rows e =
+    ap (λ b. if b then Closed (record { ask = viewing.ask; rows = rows }) else unclosed viewing (names_of rows viewing.ask)) e
+
+pub step-unclosed :
+    (viewing : ViewingState) (rows : List Answer) → is_closed viewing.ask rows ≡ false
+    → stepped viewing rows ≡ unclosed viewing (names_of rows viewing.ask)
+step-unclosed viewing rows e =
+    ap (λ b. if b then Closed (record { ask = viewing.ask; rows = rows }) else unclosed viewing (names_of rows viewing.ask)) e
+
+pub unclosed-wide :
+    (viewing : ViewingState) (names : List ℕ) → MOST_READ_ITEMS < length names → unclosed viewing names ≡ Busy Wide
+unclosed-wide viewing names l = ap (λ b. if b then Busy Wide else again viewing names) (lt-ltb MOST_READ_ITEMS (length names) l)
+
+pub unclosed-again :
+    (viewing : ViewingState) (names : List ℕ)
+    → length names ≤ MOST_READ_ITEMS → unclosed viewing names ≡ again viewing names
+unclosed-again viewing names l =
+    ap (λ b. if b then Busy Wide else again viewing names) (le-ltb MOST_READ_ITEMS (length names) l)
+
+pub again-readable : (viewing : ViewingState) (items : List ℕ) → AreReadable items → AsksReadable (again viewing items)
+again-readable viewing items readable = go (nat_le MOST_READS (viewing.reads + 1))
+  where
+    go : (b : Bool) → AsksReadable (if b then Busy Rounds else Again (record viewing { reads = viewing.reads + 1 }) items)
+    go true = tt
+    go false = readable
+
+-- ---- what a step says of the snapshot
+
+module _ (viewing : ViewingState) (rows : List Answer) where
+  abbrev names : List ℕ
+  names = names_of rows viewing.ask
+
+  abbrev whole : ViewState
+  whole = record { ask = viewing.ask; rows = rows }
+
+  abbrev next : ViewingState
+  next = record { ask = viewing.ask; reads = viewing.reads + 1 }
+
+  -- the step, by whether the snapshot is closed, its names are too many, and the read was the last one
+  abbrev chosen : Bool → Bool → Bool → ViewStep
+  chosen closed wide last =
+      if closed then Closed whole else if wide then Busy Wide else if last then Busy Rounds else Again next names
+
+  -- what of each test a step tells
+  closed-told : (a b c : Bool) (view : ViewState) → chosen a b c ≡ Closed view → (a ≡ true) × (view ≡ whole)
+  closed-told true b c view e = (refl, cc)
+  closed-told false true c view e = absurd (cc)
+  closed-told false false true view e = absurd (cc)
+  closed-told false false false view e = absurd (cc)
+
+  wide-told : (a b c : Bool) → chosen a b c ≡ Busy Wide → (a ≡ false) × (b ≡ true)
+  wide-told true b c e = absurd (cc)
+  wide-told false true c e = (refl, refl)
+  wide-told false false true e = absurd (cc)
+  wide-told false false false e = absurd (cc)
+
+  rounds-told : (a b c : Bool) → chosen a b c ≡ Busy Rounds → (a ≡ false) × (b ≡ false) × (c ≡ true)
+  rounds-told true b c e = absurd (cc)
+  rounds-told false true c e = absurd (cc)
+  rounds-told false false true e = (refl, refl, refl)
+  rounds-told false false false e = absurd (cc)
+
+  again-told :
+      (a b c : Bool) (other : ViewingState) (items : List ℕ) → chosen a b c ≡ Again other items
+      → (a ≡ false) × (b ≡ false) × (c ≡ false) × (items ≡ names) × (other ≡ next)
+  again-told true b c other items e = absurd (cc)
+  again-told false true c other items e = absurd (cc)
+  again-told false false true other items e = absurd (cc)
+  again-told false false false other items e = (refl, refl, refl, cc, cc)
+
+  -- the same, of the tests themselves
+  is-lacking : (IsClosed viewing.ask rows → ⊥) → is_closed viewing.ask rows ≡ false
+  is-lacking lacking = go (is_closed viewing.ask rows) refl
+    where
+      go : (b : Bool) → is_closed viewing.ask rows ≡ b → is_closed viewing.ask rows ≡ false
+      go false e = e
+      go true e = absurd (lacking (closed-is rows viewing.ask e))
+
+  pub closed-by :
+      (view : ViewState) → (stepped viewing rows ≡ Closed view) ↔ (IsClosed viewing.ask rows × (view ≡ whole))
+  closed-by view = (
+    λ e. (let told = closed-told _ _ _ view e in (closed-is rows viewing.ask told.0, told.1)),
+    λ h. step-closed viewing rows (is-closed rows viewing.ask h.0) ∙ ap Closed (sym h.1),
+  )
+
+  pub wide-by :
+      (stepped viewing rows ≡ Busy Wide)
+      ↔ ((IsClosed viewing.ask rows → ⊥) × (MOST_READ_ITEMS < length (names_of rows viewing.ask)))
+  wide-by = (
+    λ e. (let told = wide-told _ _ _ e in (not-closed rows viewing.ask told.0, ltb-true _ _ told.1)),
+    λ h. step-unclosed viewing rows (is-lacking h.0) ∙ unclosed-wide viewing names h.1,
+  )
+
+  pub rounds-by :
+      (stepped viewing rows ≡ Busy Rounds)
+      ↔ ((IsClosed viewing.ask rows → ⊥)
+      × (length (names_of rows viewing.ask) ≤ MOST_READ_ITEMS)
+      × (MOST_READS ≤ viewing.reads + 1))
+  rounds-by = (
+    λ e. (let told = rounds-told _ _ _ e in
+        (not-closed rows viewing.ask told.0, ltb-false _ _ told.1, leb-true _ _ told.2)),
+    λ h. step-unclosed viewing rows (is-lacking h.0)
+        ∙ unclosed-again viewing names h.1
+        ∙ ap (λ b. if b then Busy Rounds else Again next names) (le-leb MOST_READS (viewing.reads + 1) h.2),
+  )
+
+  pub again-by :
+      (other : ViewingState) (items : List ℕ)
+      → (stepped viewing rows ≡ Again other items)
+      ↔ ((IsClosed viewing.ask rows → ⊥)
+      × (length (names_of rows viewing.ask) ≤ MOST_READ_ITEMS)
+      × (viewing.reads + 1 < MOST_READS)
+      × (items ≡ names_of rows viewing.ask)
+      × (other ≡ record { ask = viewing.ask; reads = viewing.reads + 1 }))
+  again-by other items = (
+    λ e. (let told = again-told _ _ _ other items e in
+        (not-closed rows viewing.ask told.0, ltb-false _ _ told.1, leb-false _ _ told.2, told.3, told.4)),
+    λ h. step-unclosed viewing rows (is-lacking h.0)
+        ∙ unclosed-again viewing names h.1
+        ∙ ap (λ b. if b then Busy Rounds else Again next names) (lt-leb MOST_READS (viewing.reads + 1) h.2)
+        ∙ ap (λ (v : ViewingState). Again v names) (sym h.4)
+        ∙ ap (λ (is : List ℕ). Again other is) (sym h.3),
+  )

@@ -1,0 +1,53 @@
+-- What a client asks: of which items, of what kinds they may be, and whether it writes.
+use Rattle.std.specs.Prelude.{ℕ, List, [], ◌∷◌, Bool, true, false, map}
+use Rattle.album_items.specs.declared.item_ids.Kind.{Kind}
+use Rattle.album_items.specs.declared.item_ids.Kind.TheVariants.{Picture, Album, Group}
+use Rattle.album_views.specs.declared.asks.Ask.{Ask}
+use Rattle.album_views.specs.declared.asks.Ask.TheVariants as ask
+use Rattle.album_views.specs.declared.asks.NewList.{NewList}
+
+-- an item that is asked for, and the kinds of which it may be
+pub record Wanted : Type 0 where
+  pub object : ℕ
+  pub kinds : List Kind
+
+abbrev pub want : List Kind → ℕ → Wanted
+want kinds object = record { object = object; kinds = kinds }
+
+-- what has a head, and so a list of its own
+abbrev pub headed : List Kind
+headed = Picture ∷ Album ∷ Group ∷ []
+
+-- the objects of an ask, in the order of its fields, each with the kinds of which it may be
+abbrev pub wanted : Ask → List Wanted
+wanted (ask.Read object) = want (Picture ∷ Group ∷ []) object ∷ []
+wanted (ask.List album) = want (Album ∷ []) album ∷ []
+wanted (ask.GetList object) = want headed object ∷ []
+wanted (ask.AddPicture album title content) = want (Album ∷ []) album ∷ []
+wanted (ask.AddAlbum album title) = want (Album ∷ []) album ∷ []
+wanted (ask.Retitle object title) = want (Picture ∷ Album ∷ []) object ∷ []
+wanted (ask.Replace object content) = want (Picture ∷ []) object ∷ []
+wanted (ask.Delete object) = want (Picture ∷ []) object ∷ []
+wanted (ask.Move object to) = want (Picture ∷ []) object ∷ want (Album ∷ []) to ∷ []
+wanted (ask.SetLists lists) = map (λ (new : NewList). want headed new.object) lists
+wanted (ask.SetOwner object owner group) = want headed object ∷ []
+wanted (ask.SetMembers object members) = want (Group ∷ []) object ∷ []
+
+-- the objects of an ask
+abbrev pub objects_of : Ask → List ℕ
+objects_of ask = map (λ wanted. wanted.object) (wanted ask)
+
+-- the ask makes a new object
+abbrev pub is_adding : Ask → Bool
+is_adding (ask.Read object) = false
+is_adding (ask.List album) = false
+is_adding (ask.GetList object) = false
+is_adding (ask.AddPicture album title content) = true
+is_adding (ask.AddAlbum album title) = true
+is_adding (ask.Retitle object title) = false
+is_adding (ask.Replace object content) = false
+is_adding (ask.Delete object) = false
+is_adding (ask.Move object to) = false
+is_adding (ask.SetLists lists) = false
+is_adding (ask.SetOwner object owner group) = false
+is_adding (ask.SetMembers object members) = false

@@ -1,0 +1,150 @@
+// What a client asks.
+ghost use Rattle.std.specs.Prelude.{◌≡◌, List, IfOk, IsOkUnless, map};
+ghost use Rattle.album_views.specs.Asks.{objects_of};
+
+use album_items::{Content, ItemId, Members, Title};
+use album_lists::{AccessList, Name};
+use album_stamps::Refusal;
+use std::alloc::{AllocError, Global};
+use std::marker::Model;
+
+/// An object, and the list that it is to have.
+#[derive(Clone, Debug, Drop)]
+pub struct NewList {
+    pub object: ItemId,
+    pub list: AccessList,
+}
+
+/// Objects, each with the list that it is to have. Contracts see them in order.
+#[derive(Clone, Debug, Drop)]
+pub struct NewLists {
+    lists: Vec<NewList>,
+}
+
+impl Model for NewLists {
+    ghost use Rattle.std.specs.Prelude.{List};
+    ghost use Rattle.album_views.specs.declared.asks.NewList.{NewList};
+
+    ghost Value = { List NewList };
+
+    ghost view = { λ l. l.lists.items };
+}
+
+impl NewLists {
+    /// These objects with their lists.
+    pub fn of(lists: Vec<NewList>) -> NewLists
+        ensures { result ≡ lists.items }
+    {
+        NewLists { lists }
+    }
+
+    /// The objects with their lists, in order.
+    pub fn as_slice(&self) -> &[NewList]
+        ensures { result.now ≡ self.now }
+    {
+        self.lists.as_slice()
+    }
+}
+
+/// What a client asks. The items that it names are its objects.
+#[derive(Clone, Debug, Drop)]
+pub enum Ask {
+    /// The title and the content of a picture, or the members of a group.
+    Read {
+        object: ItemId,
+    },
+    /// The children of an album, those that who asks may see, with their titles.
+    List {
+        album: ItemId,
+    },
+    /// The entries of the object's access list.
+    GetList {
+        object: ItemId,
+    },
+    /// A new picture in the album.
+    AddPicture {
+        album: ItemId,
+        title: Title,
+        content: Content,
+    },
+    /// A new album in the album.
+    AddAlbum {
+        album: ItemId,
+        title: Title,
+    },
+    /// Another title of a picture or an album.
+    Retitle {
+        object: ItemId,
+        title: Title,
+    },
+    /// Another content of a picture.
+    Replace {
+        object: ItemId,
+        content: Content,
+    },
+    /// The picture is to be gone, from its home too.
+    Delete {
+        object: ItemId,
+    },
+    /// The picture is to be in the album `to`, and no longer in its home.
+    Move {
+        object: ItemId,
+        to: ItemId,
+    },
+    /// Other access lists of objects, all at once.
+    SetLists {
+        lists: NewLists,
+    },
+    /// Another owner and another head group.
+    SetOwner {
+        object: ItemId,
+        owner: Name,
+        group: u64,
+    },
+    /// Other members of a group.
+    SetMembers {
+        object: ItemId,
+        members: Members,
+    },
+}
+
+impl Ask {
+    /// The objects, in the order of the fields.
+    #[tactic(auto, using(crate::proofs::Flaws::objects_lists))]
+    pub(crate) fn objects(&self, alloc: Global) -> Result<Vec<ItemId>, AllocError>
+        ensures { IfOk result (λ objects. objects.items ≡ objects_of self.now) }
+    {
+        match self {
+            Ask::Read { object } => Ok(vec![in alloc; *object]?),
+            Ask::List { album } => Ok(vec![in alloc; *album]?),
+            Ask::GetList { object } => Ok(vec![in alloc; *object]?),
+            Ask::AddPicture { album, .. } => Ok(vec![in alloc; *album]?),
+            Ask::AddAlbum { album, .. } => Ok(vec![in alloc; *album]?),
+            Ask::Retitle { object, .. } => Ok(vec![in alloc; *object]?),
+            Ask::Replace { object, .. } => Ok(vec![in alloc; *object]?),
+            Ask::Delete { object } => Ok(vec![in alloc; *object]?),
+            Ask::Move { object, to } => Ok(vec![in alloc; *object, *to]?),
+            Ask::SetLists { lists } => objects_of(alloc, lists.as_slice()),
+            Ask::SetOwner { object, .. } => Ok(vec![in alloc; *object]?),
+            Ask::SetMembers { object, .. } => Ok(vec![in alloc; *object]?),
+        }
+    }
+
+    /// The same ask once more.
+    ///
+    /// # Errors
+    ///
+    /// `OutOfMemory`.
+    pub fn copy(&self) -> Result<Ask, Refusal>
+        ensures copy { IfOk result (λ ask. ask ≡ self.now) }
+        ensures memory { IsOkUnless result Refusal.OutOfMemory }
+    {
+        Ok(self.clone()?)
+    }
+}
+
+fn objects_of(alloc: Global, lists: &[NewList]) -> Result<Vec<ItemId>, AllocError>
+    ensures { IfOk result (λ objects. objects.items ≡ map (λ new. new.object) lists.now) }
+{
+    lists.iter().map(|new| new.object).collect(alloc)
+}

@@ -1,0 +1,205 @@
+// Which asks are refused before anything is read.
+ghost use Rattle.std.specs.Prelude.{◌≡◌, ◌==◌, ◌&&◌, None, Some, IfOk, MatchResult, length, map};
+ghost use Rattle.std.specs.List.{list_all, list_any};
+ghost use Rattle.album_stamps.specs.Distinct.{no_two};
+ghost use Rattle.album_lists.specs.Entries.{fits};
+ghost use Rattle.album_views.specs.Asks.{headed, objects_of, is_adding};
+ghost use Rattle.album_views.specs.Checks.{is_one_of, has_kinds, has_single_objects, same_object, new_members, new_lists, holder_of, has_fitting_lists, flaw_of, refusal_of};
+
+use crate::asks::{Ask, NewList};
+use album_eval::Principal;
+use album_items::{ItemId, Kind};
+use album_lists::Holder;
+use album_stamps::{MOST_MEMBERS, MOST_TRANSACTION_ITEMS, Refusal};
+
+/// The kinds of what has a head, and so a list of its own.
+const HEADED: [Kind; 3] = [Kind::Picture, Kind::Album, Kind::Group];
+
+impl Ask {
+    /// Whether the ask of this principal can be read for. It takes no memory.
+    ///
+    /// # Errors
+    ///
+    /// By the first test that the ask fails: `BadRequest` where an object is of a kind of which it may not
+    /// be, where there is none, or one stands twice; `TooManyItems` where there are more than
+    /// `MOST_TRANSACTION_ITEMS`; `ListFull` where a group is to have more than `MOST_MEMBERS` members;
+    /// `BadFlags` where a list does not fit its object; `NoOwner` where Anonymous makes a new object.
+    pub fn check(&self, principal: &Principal) -> Result<(), Refusal>
+        ensures refusal { MatchResult result
+            (λ _. refusal_of self.now principal.now ≡ None)
+            (λ e. refusal_of self.now principal.now ≡ Some e) }
+
+        // An ask that is taken of somebody has no flaw of its own, so a viewing can begin with it.
+        ensures sound { IfOk result (λ _. flaw_of self.now ≡ None) }
+    {
+        self.check_for_all()?;
+        if self.is_adding() && matches!(principal, Principal::Anonymous) {
+            return Err(Refusal::NoOwner);
+        }
+        Ok(())
+    }
+
+    /// The same, whoever asks.
+    #[tactic(auto, unfolding(crate::specs::Checks::flaw_of))]
+    fn check_for_all(&self) -> Result<(), Refusal>
+        ensures { MatchResult result (λ _. flaw_of self.now ≡ None) (λ e. flaw_of self.now ≡ Some e) }
+    {
+        if !(self.has_kinds() && self.has_single_objects()) {
+            return Err(Refusal::BadRequest);
+        }
+        if self.objects_len() > MOST_TRANSACTION_ITEMS {
+            return Err(Refusal::TooManyItems);
+        }
+        if self.new_members_len() > MOST_MEMBERS {
+            return Err(Refusal::ListFull);
+        }
+        if !self.has_fitting_lists() {
+            return Err(Refusal::BadFlags);
+        }
+        Ok(())
+    }
+
+    /// Whether each object is of a kind of which it may be.
+    #[tactic(auto, using(crate::proofs::Flaws::kinds_lists))]
+    fn has_kinds(&self) -> bool
+        ensures { result ≡ has_kinds self.now }
+    {
+        match self {
+            Ask::Read { object } => is_one_of(&[Kind::Picture, Kind::Group], *object),
+            Ask::List { album } => is_one_of(&[Kind::Album], *album),
+            Ask::GetList { object } => is_one_of(&HEADED, *object),
+            Ask::AddPicture { album, .. } => is_one_of(&[Kind::Album], *album),
+            Ask::AddAlbum { album, .. } => is_one_of(&[Kind::Album], *album),
+            Ask::Retitle { object, .. } => is_one_of(&[Kind::Picture, Kind::Album], *object),
+            Ask::Replace { object, .. } => is_one_of(&[Kind::Picture], *object),
+            Ask::Delete { object } => is_one_of(&[Kind::Picture], *object),
+            Ask::Move { object, to } => {
+                is_one_of(&[Kind::Picture], *object) && is_one_of(&[Kind::Album], *to)
+            }
+            Ask::SetLists { lists } => are_headed(lists.as_slice()),
+            Ask::SetOwner { object, .. } => is_one_of(&HEADED, *object),
+            Ask::SetMembers { object, .. } => is_one_of(&[Kind::Group], *object),
+        }
+    }
+
+    /// Whether there is an object, and none stands twice.
+    #[tactic(auto, using(crate::proofs::Flaws::single_lists))]
+    fn has_single_objects(&self) -> bool
+        ensures { result ≡ has_single_objects self.now }
+    {
+        match self {
+            Ask::SetLists { lists } => {
+                !lists.as_slice().is_empty() && have_single_objects(lists.as_slice())
+            }
+            Ask::Move { object, to } => !object.is(*to),
+            Ask::Read { .. } | Ask::List { .. } | Ask::GetList { .. } => true,
+            Ask::AddPicture { .. } | Ask::AddAlbum { .. } | Ask::Retitle { .. } => true,
+            Ask::Replace { .. } | Ask::Delete { .. } => true,
+            Ask::SetOwner { .. } | Ask::SetMembers { .. } => true,
+        }
+    }
+
+    /// How many objects there are.
+    fn objects_len(&self) -> usize
+        ensures { result ≡ length (objects_of self.now) }
+    {
+        match self {
+            Ask::SetLists { lists } => lists.as_slice().len(),
+            Ask::Move { .. } => 2,
+            Ask::Read { .. } | Ask::List { .. } | Ask::GetList { .. } => 1,
+            Ask::AddPicture { .. } | Ask::AddAlbum { .. } | Ask::Retitle { .. } => 1,
+            Ask::Replace { .. } | Ask::Delete { .. } => 1,
+            Ask::SetOwner { .. } | Ask::SetMembers { .. } => 1,
+        }
+    }
+
+    /// How many members a group is to have.
+    fn new_members_len(&self) -> usize
+        ensures { result ≡ length (new_members self.now) }
+    {
+        match self {
+            Ask::SetMembers { members, .. } => members.as_slice().len(),
+            Ask::Read { .. } | Ask::List { .. } | Ask::GetList { .. } => 0,
+            Ask::AddPicture { .. } | Ask::AddAlbum { .. } | Ask::Retitle { .. } => 0,
+            Ask::Replace { .. } | Ask::Delete { .. } | Ask::Move { .. } => 0,
+            Ask::SetLists { .. } | Ask::SetOwner { .. } => 0,
+        }
+    }
+
+    /// The lists that objects are to have.
+    fn new_lists(&self) -> &[NewList]
+        ensures { result.now ≡ new_lists self.now }
+    {
+        match self {
+            Ask::SetLists { lists } => lists.as_slice(),
+            Ask::Read { .. } | Ask::List { .. } | Ask::GetList { .. } => &[],
+            Ask::AddPicture { .. } | Ask::AddAlbum { .. } | Ask::Retitle { .. } => &[],
+            Ask::Replace { .. } | Ask::Delete { .. } | Ask::Move { .. } => &[],
+            Ask::SetOwner { .. } | Ask::SetMembers { .. } => &[],
+        }
+    }
+
+    /// Whether each new list fits its object.
+    fn has_fitting_lists(&self) -> bool
+        ensures { result ≡ has_fitting_lists self.now }
+    {
+        self.new_lists()
+            .iter()
+            .all(|new| new.list.fits(holder_of(new.object)))
+    }
+
+    /// Whether the ask makes a new object.
+    fn is_adding(&self) -> bool
+        ensures { result ≡ is_adding self.now }
+    {
+        match self {
+            Ask::AddPicture { .. } | Ask::AddAlbum { .. } => true,
+            Ask::Read { .. } | Ask::List { .. } | Ask::GetList { .. } | Ask::Retitle { .. } =>
+                false,
+            Ask::Replace { .. } | Ask::Delete { .. } | Ask::Move { .. } => false,
+            Ask::SetLists { .. } | Ask::SetOwner { .. } | Ask::SetMembers { .. } => false,
+        }
+    }
+}
+
+/// Whether the item is of one of the kinds.
+fn is_one_of(kinds: &[Kind], item: ItemId) -> bool
+    ensures { result ≡ is_one_of kinds.now item }
+{
+    kinds.iter().any(|kind| kind.code() == item.kind().code())
+}
+
+fn are_headed(lists: &[NewList]) -> bool
+    ensures { result ≡ list_all (λ new. is_one_of headed new.object) lists.now }
+{
+    lists.iter().all(|new| is_one_of(&HEADED, new.object))
+}
+
+/// Whether no object stands twice.
+fn have_single_objects(lists: &[NewList]) -> bool
+    ensures { result ≡ no_two same_object lists.now }
+{
+    for index in 0..lists.len() {
+        if names_object_of(&lists[index + 1..], &lists[index]) {
+            return false;
+        }
+    }
+    true
+}
+
+/// Whether one of them is for the object of this one.
+fn names_object_of(lists: &[NewList], new: &NewList) -> bool
+    ensures { result ≡ list_any (same_object new.now) lists.now }
+{
+    lists.iter().any(|other| new.object.is(other.object))
+}
+
+/// What carries the list of an item: an album is a folder.
+fn holder_of(item: ItemId) -> Holder
+    ensures { result ≡ holder_of item }
+{
+    match item.kind() {
+        Kind::Album => Holder::Folder,
+        Kind::Picture | Kind::List | Kind::Group => Holder::Plain,
+    }
+}

@@ -1,0 +1,26 @@
+//! What clients ask, and the views on which it is ruled: a view is one snapshot that has every item that
+//! the ruling looks at.
+//!
+//! What comes in: an ask, and then the snapshot of each read that is made for it. What goes out: the items
+//! to read first, and with each snapshot the items to read next, or a view, or why there is none.
+//!
+//! Read `asks` and `checks` first, then `naming`, which tells the items that a ruling looks at, then `viewing`.
+#![tactic(auto)]
+
+// What is asked.
+mod asks;
+mod checks;
+
+// What a ruling looks at, and the reads until a snapshot has it.
+mod naming;
+mod view;
+mod viewing;
+
+// What holds of them.
+mod laws;
+
+pub use asks::{Ask, NewList, NewLists};
+pub use laws::{a_view_is_the_first_closed_read, asks_without_flaw, names_are_what_is_named};
+pub use naming::names;
+pub use view::View;
+pub use viewing::{ViewStep, Viewing, Why};

@@ -1,0 +1,59 @@
+// Views.
+ghost use Rattle.std.specs.Prelude.{◌≡◌, option_map};
+ghost use Rattle.album_reader.specs.Snapshots.{items_read, version_read};
+ghost use Rattle.album_views.specs.Views.{IsView};
+
+use crate::asks::Ask;
+use album_items::{ItemId, Value};
+use album_reader::Snapshot;
+use album_stamps::Stamp;
+use std::marker::Model;
+
+/// An ask, and the one snapshot on which it is ruled, which has every item that the ruling looks at.
+#[derive(Debug, Drop)]
+pub struct View {
+    ask: Ask,
+    snapshot: Snapshot,
+}
+
+impl Model for View {
+    ghost use Rattle.album_views.specs.Views.{ViewState, IsView};
+
+    ghost Value = { ViewState };
+
+    ghost view = { λ v. record { ask = v.ask; rows = v.snapshot } };
+
+    ghost invariant = { λ v. IsView (record { ask = v.ask; rows = v.snapshot }) };
+}
+
+impl View {
+    /// The ask and its snapshot.
+    pub(crate) fn of(ask: Ask, snapshot: Snapshot) -> View
+        requires { IsView (record { ask = ask; rows = snapshot }) }
+        ensures { result ≡ record { ask = ask; rows = snapshot } }
+    {
+        View { ask, snapshot }
+    }
+
+    /// What is asked.
+    pub fn ask(&self) -> &Ask
+        ensures ask { result.now ≡ self.now.ask }
+        ensures valid { IsView self.now }
+    {
+        &self.ask
+    }
+
+    /// The items that were read.
+    pub fn items(&self) -> &[ItemId]
+        ensures { result.now ≡ items_read self.now.rows }
+    {
+        self.snapshot.items()
+    }
+
+    /// The stamp and the value of the item, if it was read.
+    pub fn at(&self, item: ItemId) -> Option<(Stamp, &Value)>
+        ensures { option_map (λ row. (row.0, row.1.now)) result ≡ version_read self.now.rows item }
+    {
+        self.snapshot.at(item)
+    }
+}

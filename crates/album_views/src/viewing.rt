@@ -1,0 +1,160 @@
+// Reads until one is a view.
+ghost use Rattle.std.specs.Prelude.{◌≡◌, ◌≢◌, ◌≤◌, None, IfOk, IfErr, IsTrue, IsOkUnless, length, Contains};
+ghost use Rattle.std.specs.List.{list_all};
+ghost use Rattle.album_stamps.specs.Distinct.{are_single};
+ghost use Rattle.album_reader.specs.Snapshots.{items_read};
+ghost use Rattle.album_views.specs.Asks.{objects_of};
+ghost use Rattle.album_views.specs.Checks.{flaw_of};
+ghost use Rattle.album_views.specs.Naming.{names_of};
+ghost use Rattle.album_views.specs.Seen.{is_read};
+ghost use Rattle.album_views.specs.Steps.{again, unclosed, stepped, AreReadable, AsksReadable};
+
+use crate::asks::Ask;
+use crate::naming::names;
+use crate::view::View;
+use album_items::{ItemId, Items};
+use album_reader::Snapshot;
+use album_stamps::{MOST_READ_ITEMS, MOST_READS, Refusal, Refused};
+use std::alloc::Global;
+use std::marker::Model;
+
+/// An ask that has no view yet. Contracts see the ask, and how many reads were made for it.
+#[derive(Clone, Debug, Drop)]
+pub struct Viewing {
+    ask: Ask,
+    reads: u8,
+}
+
+impl Model for Viewing {
+    ghost use Rattle.album_views.specs.Views.{ViewingState, IsViewing};
+
+    ghost Value = { ViewingState };
+
+    ghost view = { λ v. record { ask = v.ask; reads = v.reads } };
+
+    ghost invariant = { λ v. IsViewing (record { ask = v.ask; reads = v.reads }) };
+}
+
+/// Why an ask has no view.
+#[derive(Clone, Copy, Debug, PartialEq, Eq)]
+pub enum Why {
+    /// `MOST_READS` reads were made.
+    Rounds,
+    /// The ruling looks at more than `MOST_READ_ITEMS` items.
+    Wide,
+}
+
+/// What comes of a read.
+#[derive(Debug, Drop)]
+pub enum ViewStep {
+    /// These items are to be read, all of them afresh.
+    Again(Viewing, Items),
+    /// The snapshot has all that the ruling looks at.
+    Closed(View),
+    /// No view comes of the ask.
+    Busy(Why),
+}
+
+impl Viewing {
+    /// Begins with the objects of the ask, which are to be read first.
+    ///
+    /// # Errors
+    ///
+    /// `OutOfMemory`, with the ask handed back.
+    pub fn start(alloc: Global, ask: Ask) -> Result<(Viewing, Items), Refused<Ask>>
+        requires sound { flaw_of ask ≡ None }
+        ensures viewing { IfOk result (λ r. r.0 ≡ record { ask = ask; reads = 0 }) }
+        ensures items { IfOk result (λ r. r.1 ≡ objects_of ask) }
+        ensures readable { IfOk result (λ r. AreReadable r.1) }
+        ensures memory { IfErr result (λ e. e.refusal ≡ Refusal.OutOfMemory) }
+        ensures given { IfErr result (λ e. e.given ≡ ask) }
+    {
+        match ask.objects(alloc) {
+            Ok(objects) => Ok((Viewing { ask, reads: 0 }, Items::of(objects))),
+            Err(_) => Err(Refused {
+                refusal: Refusal::OutOfMemory,
+                given: ask,
+            }),
+        }
+    }
+
+    /// Takes the snapshot of a read. Of one that is no view nothing is kept.
+    ///
+    /// # Errors
+    ///
+    /// `OutOfMemory`, with the viewing and the snapshot handed back unchanged.
+    pub fn on_snapshot(
+        self,
+        alloc: Global,
+        snapshot: Snapshot,
+    ) -> Result<ViewStep, Refused<(Viewing, Snapshot)>>
+        ensures step { IfOk result (λ step. step ≡ stepped self snapshot) }
+        ensures readable { IfOk result AsksReadable }
+        ensures memory { IfErr result (λ e. e.refusal ≡ Refusal.OutOfMemory) }
+        ensures given { IfErr result (λ e. e.given ≡ (self, snapshot)) }
+    {
+        match names(alloc, &snapshot, &self.ask) {
+            Ok(names) => Ok(self.on_names(snapshot, names)),
+            Err(refusal) => Err(Refused {
+                refusal,
+                given: (self, snapshot),
+            }),
+        }
+    }
+
+    /// What comes of the snapshot, whose names these are.
+    fn on_names(self, snapshot: Snapshot, names: Vec<ItemId>) -> ViewStep
+        requires { names.items ≡ names_of snapshot self.ask }
+        ensures step { result ≡ stepped self snapshot }
+        ensures readable { AsksReadable result }
+    {
+        if has_all(&snapshot, &names) {
+            return ViewStep::Closed(View::of(self.ask, snapshot));
+        }
+        if names.len() > MOST_READ_ITEMS {
+            return ViewStep::Busy(Why::Wide);
+        }
+        self.again(Items::of(names))
+    }
+
+    /// Takes a read that ended since one of its items was gone; `items` are those of the read. They are to
+    /// be read once more. It takes no memory.
+    pub fn on_gone(self, items: Items) -> ViewStep
+        ensures { result ≡ again self items }
+    {
+        self.again(items)
+    }
+
+    /// One read more, of these items, unless the last one was made.
+    fn again(self, items: Items) -> ViewStep
+        ensures { result ≡ again self items }
+    {
+        if self.reads + 1 >= MOST_READS {
+            return ViewStep::Busy(Why::Rounds);
+        }
+        let next = Viewing {
+            ask: self.ask,
+            reads: self.reads + 1,
+        };
+        ViewStep::Again(next, items)
+    }
+
+    /// The same viewing once more.
+    ///
+    /// # Errors
+    ///
+    /// `OutOfMemory`.
+    pub fn copy(&self) -> Result<Viewing, Refusal>
+        ensures copy { IfOk result (λ viewing. viewing ≡ self.now) }
+        ensures memory { IsOkUnless result Refusal.OutOfMemory }
+    {
+        Ok(self.clone()?)
+    }
+}
+
+/// Whether each of the items was read.
+fn has_all(snapshot: &Snapshot, items: &[ItemId]) -> bool
+    ensures { result ≡ list_all (is_read snapshot.now) items.now }
+{
+    items.iter().all(|item| snapshot.at(*item).is_some())
+}
