@@ -1,10 +1,12 @@
-//! Tests of partitions and reads, driven by tables of messages that are spelled as short texts.
+//! Tests of partitions, reads and passes, most of them driven by tables of messages that are spelled as short texts.
 #![tactic(auto)]
 
 #[cfg(test)]
 mod messages;
 #[cfg(test)]
 mod partition;
+#[cfg(test)]
+mod passes;
 #[cfg(test)]
 mod reader;
 #[cfg(test)]

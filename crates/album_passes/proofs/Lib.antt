@@ -1,0 +1,10 @@
+pub mod PrefixLemmas
+pub mod AnnouncedLemmas
+pub mod CutLemmas
+pub mod SeatLemmas
+pub mod SplitLemmas
+pub mod StepLemmas
+pub mod HoldingLemmas
+pub mod DeskLemmas
+pub mod ClosedLemmas
+pub mod ReadLemmas

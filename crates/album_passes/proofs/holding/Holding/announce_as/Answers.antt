@@ -1,0 +1,14 @@
+use Rattle.std.proofs.Common.{rules, ◌≡◌, Some, None, sym, subst, refl}
+use Rattle.album_stamps.specs.Stamps.{client_number}
+use Rattle.album_passes.specs.Cuts.{announced_for}
+use Rattle.album_passes.specs.Holding.{Held}
+use Rattle.album_passes.specs.Knowledge.{known}
+use Rattle.album_passes.proofs.StepLemmas.{announces}
+use Rattle.album_passes.proofs.holding.Holding.announce_as.Goals as goal
+
+pub load-requires : goal.load-requires
+load-requires g c =
+    let t = g.N.NamesItems.stamp in
+    let P : Held → Type 0 = λ y. (y.seat.number ≡ Some (client_number t)) × (announced_for (known y.seat) t ≡ None) in
+    let q = subst P (sym c.self.view_is) (c.requires.own, c.requires.fresh) in
+    (search rules, search rules, announces _ _ _ _ _ (client_number t) t _ c.self.invariant.1.one c.self.invariant.1.alone q.0 refl q.1)

@@ -1,0 +1,45 @@
+-- How cuts begin, grow and are put together.
+use Rattle.std.specs.Prelude.{◌≡◌, ℕ, nat_lt, List, [], ◌∷◌, ◌++◌, length, slice_set, replicate, Option, Some, None, if◌then◌else◌}
+use Rattle.album_items.specs.Openings.{Row}
+use Rattle.album_stamps.specs.Stamps.{client_number}
+use Rattle.album_partition.specs.declared.marks.Mark.{Mark}
+use Rattle.album_passes.specs.Cuts.{Cut, prefix_at, announced_for}
+
+-- of no marks, and with nothing announced
+abbrev pub empty_cut : List Row → ℕ → Cut
+empty_cut opening parts = record { opening = opening; parts = parts; prefixes = replicate parts []; announced = [] }
+
+-- with one mark more at a partition
+abbrev pub marked_cut : Cut → ℕ → Mark → Cut
+marked_cut cut part mark =
+    record cut { prefixes = slice_set cut.prefixes part (prefix_at cut part ++ mark ∷ []) }
+
+-- with the items announced for the stamp
+abbrev pub announced_cut : Cut → ℕ → List ℕ → Cut
+announced_cut cut stamp items = record cut { announced = (stamp, items) ∷ cut.announced }
+
+-- the second list of marks where it is longer, and else the first
+abbrev pub longer : List Mark → List Mark → List Mark
+longer first second = if nat_lt (length first) (length second) then second else first
+
+-- the longer one at each partition
+abbrev pub longer_each : List (List Mark) → List (List Mark) → List (List Mark)
+longer_each [] seconds = seconds
+longer_each (first ∷ firsts) [] = first ∷ firsts
+longer_each (first ∷ firsts) (second ∷ seconds) = longer first second ∷ longer_each firsts seconds
+
+-- the longer prefixes of two cuts, and what either announces
+abbrev pub merged : Cut → Cut → Cut
+merged first second = record first {
+  prefixes = longer_each first.prefixes second.prefixes;
+  announced = first.announced ++ second.announced;
+}
+
+-- nothing is announced of a client's stamps
+abbrev pub IsUnheard : ℕ → Cut → Type 0
+IsUnheard client cut = (stamp : ℕ) → client_number stamp ≡ client → announced_for cut stamp ≡ None
+
+-- where there is a client of this number, just that is announced of its stamps which was before
+abbrev pub KeepsOwn : Option ℕ → Cut → Cut → Type 0
+KeepsOwn number old new = (client stamp : ℕ) → number ≡ Some client → client_number stamp ≡ client
+    → announced_for new stamp ≡ announced_for old stamp

@@ -1,0 +1,10 @@
+pub mod Cuts
+pub mod Changes
+pub mod Reads
+pub mod Knowledge
+pub mod Rule
+pub mod Steps
+pub mod Holding
+pub mod Pass
+pub mod Owner
+pub mod Desk

@@ -1,0 +1,87 @@
+// What follows of cuts: of closed ones, of ones that grow and are merged, and of reads over them.
+ghost use Rattle.std.specs.Prelude.{◌≡◌, ◌<◌, ℕ, List, true, false, Some, IsSome, All, Contains};
+ghost use Rattle.std.specs.List.{list_any};
+ghost use Rattle.album_items.specs.ItemIds.{place_of};
+ghost use Rattle.album_items.specs.Openings.{Row};
+ghost use Rattle.album_terminate.specs.declared.deciding.StampState.TheVariants as StampState;
+ghost use Rattle.album_partition.specs.declared.marks.Mark.{Mark};
+ghost use Rattle.album_partition.specs.declared.marks.Mark.TheVariants as Made;
+ghost use Rattle.album_partition.specs.Marks.{is_mark_of, prepares, commits, discards, state_of, items_at};
+ghost use Rattle.album_partition.specs.Places.{others_of};
+ghost use Rattle.album_partition.specs.Proper.{is_proper};
+ghost use Rattle.album_reader.specs.Answers.{Answer};
+ghost use Rattle.album_passes.specs.Cuts.{Cut, prefix_at, announced_for, IsNamed, IsPreparedThroughout, IsPromisedSomewhere, IsBacked, IsClosedCut, IsSound, Extends};
+ghost use Rattle.album_passes.specs.Changes.{marked_cut, merged};
+ghost use Rattle.album_passes.specs.Reads.{IsCommitted, written_value, IsReadAtomic, IsFreshFrom, IsReadInTwoRounds};
+
+/// A law: what a closed cut tells of each stamp that has a mark in it. Its items are announced; a
+/// mark that prepares it names these, and writes only them; where it is committed, each item's
+/// partition has prepared it; where it is discarded, one of them will never prepare it. So no stamp
+/// is committed at one partition and discarded at another.
+pub fn closed_cuts_tell()
+    ensures announced { (cut : Cut) (part stamp : ℕ) → IsClosedCut cut
+        → list_any (is_mark_of stamp) (prefix_at cut part) ≡ true → IsSome (announced_for cut stamp) }
+    ensures prepared { (cut : Cut) (part stamp : ℕ) (writes : List Row) (items : List ℕ) → IsClosedCut cut
+        → Contains (prefix_at cut part) (Made.Prepared stamp writes items) → IsNamed cut stamp writes items }
+    ensures committed { (cut : Cut) (part stamp : ℕ) → IsClosedCut cut
+        → list_any (commits stamp) (prefix_at cut part) ≡ true → IsPreparedThroughout cut stamp }
+    ensures discarded { (cut : Cut) (part stamp : ℕ) → IsClosedCut cut
+        → list_any (discards stamp) (prefix_at cut part) ≡ true → IsPromisedSomewhere cut stamp }
+    ensures apart { (cut : Cut) (part other stamp : ℕ) → IsSound cut
+        → list_any (commits stamp) (prefix_at cut part) ≡ true
+        → list_any (discards stamp) (prefix_at cut other) ≡ false }
+{}
+
+/// A law: by what a mark is backed that a partition makes. A Prepared that could be followed, by
+/// the list that is announced; a Committed, where the stamp is prepared at each of the others of its
+/// items' partitions; a Discarded of a stamp that was unknown, by itself, where an item of the list
+/// is placed here; each mark by what the cut has already; and a trim by nothing.
+pub fn marks_are_backed()
+    ensures prepared { (cut : Cut) (number parts stamp : ℕ) (writes : List Row) (items : List ℕ)
+        → announced_for cut stamp ≡ Some items → is_proper number parts stamp writes items ≡ true
+        → IsBacked cut (Made.Prepared stamp writes items) }
+    ensures committed { (cut : Cut) (part stamp : ℕ) → IsSound cut → part < cut.parts
+        → list_any (prepares stamp) (prefix_at cut part) ≡ true
+        → All (λ other. list_any (prepares stamp) (prefix_at cut other) ≡ true)
+        (others_of part cut.parts (items_at (prefix_at cut part) stamp))
+        → IsBacked cut (Made.Committed stamp) }
+    ensures discarded { (cut : Cut) (part stamp item : ℕ) (items : List ℕ) → IsSound cut → part < cut.parts
+        → announced_for cut stamp ≡ Some items → Contains items item → place_of cut.parts item ≡ part
+        → state_of (prefix_at cut part) stamp ≡ StampState.Unknown
+        → IsBacked (marked_cut cut part (Made.Discarded stamp)) (Made.Discarded stamp) }
+    ensures already { (cut : Cut) (part : ℕ) (mark : Mark)
+        → IsBacked cut mark → IsBacked (marked_cut cut part mark) mark }
+    ensures trimmed { (cut : Cut) (item : ℕ) → IsBacked cut (Made.Trimmed item) }
+{}
+
+/// A law: how cuts go on from each other. What is backed stays so, and the merged cut of two is the
+/// least that goes on from both, if there is one.
+pub fn cuts_only_grow()
+    ensures itself { (cut : Cut) → Extends cut cut }
+    ensures along { (first second third : Cut)
+        → Extends first second → Extends second third → Extends first third }
+    ensures backed { (old new : Cut) (mark : Mark) → Extends old new → IsBacked old mark → IsBacked new mark }
+    ensures least { (first second cut : Cut)
+        → Extends first cut → Extends second cut → Extends (merged first second) cut }
+{}
+
+/// A law: what a committed stamp ever writes to an item, a sound cut in which it is committed has
+/// already, at whatever partition.
+pub fn what_is_committed_is_there()
+    ensures { (old new : Cut) (item stamp : ℕ) → IsSound old → IsSound new → Extends old new
+        → IsCommitted old stamp → written_value new item stamp ≡ written_value old item stamp }
+{}
+
+/// A law: a read of two rounds over sound cuts is read atomic, and fresh from the cut with which it
+/// began. It stays so as the cut grows.
+pub fn reads_are_atomic_and_fresh()
+    ensures atomic { (begun middle ended : Cut) (firsts : List Answer) (stamps : List ℕ) (answers : List Answer)
+        → IsReadInTwoRounds begun middle ended firsts stamps answers → IsReadAtomic ended answers }
+    ensures fresh { (begun middle ended : Cut) (firsts : List Answer) (stamps : List ℕ) (answers : List Answer)
+        → IsReadInTwoRounds begun middle ended firsts stamps answers → IsFreshFrom begun ended answers }
+    ensures atomic_still { (old new : Cut) (answers : List Answer) → IsSound old → IsSound new → Extends old new
+        → IsReadAtomic old answers → IsReadAtomic new answers }
+    ensures fresh_still { (earlier begun old new : Cut) (answers : List Answer) → IsSound old → IsSound new
+        → Extends earlier begun → Extends begun old → Extends old new
+        → IsFreshFrom begun old answers → IsFreshFrom earlier new answers }
+{}

@@ -1,0 +1,29 @@
+//! Passes: what was seen of the partitions' histories, in tokens that travel with messages.
+//!
+//! A `Desk` opens with an `Owner` for each partition and a first `Pass`. A partition's thread
+//! appends each mark that it makes, a client draws its number and announces the items of each
+//! write; each splits a pass off for every message that it sends, and joins the pass of every
+//! message that it takes. What a pass has seen is a cut: a prefix of each history, and the lists
+//! that were announced. It is there for contracts alone; when the program runs, a pass is the
+//! lengths of its prefixes, and what the threads share is a word for each partition and one for the
+//! numbers.
+//!
+//! Read `pass` and `owner` first, and specs/Cuts.antt beside them; then `desk`; then what they
+//! stand on, `holding` and the rule of the words in `rule`; and `laws` last.
+#![tactic(auto)]
+
+mod desk;
+mod holding;
+mod laws;
+mod lengths;
+mod owner;
+mod pass;
+mod rule;
+
+pub use desk::Desk;
+pub use laws::{
+    closed_cuts_tell, cuts_only_grow, marks_are_backed, reads_are_atomic_and_fresh,
+    what_is_committed_is_there,
+};
+pub use owner::Owner;
+pub use pass::{Pass, meet};
