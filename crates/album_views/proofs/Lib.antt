@@ -1,6 +1,6 @@
-mod Sets
-mod Growing
-mod Turns
+pub mod Sets
+pub mod Growing
+pub mod Turns
 mod Flaws
-mod Closing
+pub mod Closing
 mod Stepping

@@ -1,0 +1,7 @@
+pub mod Masks
+pub mod Basis
+pub mod Reasons
+pub mod Sights
+pub mod Hearings
+pub mod Listing
+pub mod Agreement

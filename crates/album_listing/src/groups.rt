@@ -1,0 +1,84 @@
+// The groups that a principal is in, by the groups that a view shows.
+ghost use Rattle.std.specs.Prelude.{◌≡◌, ◌==◌, ℕ, IfOk, OnOk, IsOkUnless, if◌then◌else◌};
+ghost use Rattle.std.specs.Ordering.{nat_cmp};
+ghost use Rattle.std.specs.BTreeSet as set;
+ghost use Rattle.album_eval.specs.Groups.{listed_in};
+ghost use Rattle.album_items.specs.Values.{members_of};
+ghost use Rattle.album_views.specs.Seen.{seen};
+ghost use Rattle.album_listing.specs.Basis.{AreGroups, members_seen};
+
+use album_eval::{Principal, members};
+use album_items::{ItemId, Kind};
+use album_lists::Member;
+use album_stamps::Refusal;
+use album_views::View;
+use std::alloc::{AllocError, Global};
+use std::collections::{BTreeMap, BTreeSet};
+
+/// The groups that the principal is in.
+pub(crate) fn groups_in(
+    alloc: Global,
+    view: &View,
+    principal: &Principal,
+) -> Result<BTreeSet<u64>, Refusal>
+    ensures groups { IfOk result (λ groups. AreGroups (seen view.now.rows) principal.now (set.contains nat_cmp groups)) }
+    ensures memory { IsOkUnless result Refusal.OutOfMemory }
+{
+    let listed = listed_in(alloc, view)?;
+    let groups = members(alloc, &listed, principal)?;
+    Ok(groups)
+}
+
+/// The members of each group that the view shows.
+fn listed_in(alloc: Global, view: &View) -> Result<BTreeMap<u64, Vec<Member>>, AllocError>
+    ensures { IfOk result (λ groups. (number : ℕ)
+        → listed_in groups number ≡ members_seen (seen view.now.rows) number) }
+{
+    let mut groups = BTreeMap::new(alloc);
+    for item in view.items() {
+        match item.kind() {
+            Kind::Group => {
+                add_group(alloc, &mut groups, item.number(), members_at(view, *item))?;
+            }
+            Kind::Picture | Kind::Album | Kind::List => {}
+        }
+    }
+    Ok(groups)
+}
+
+/// The members of a group that was read.
+#[tactic(auto, unfolding(album_views::specs::Seen::seen))]
+fn members_at(view: &View, group: ItemId) -> &[Member]
+    ensures { result.now ≡ members_of (seen view.now.rows group) }
+{
+    match view.at(group) {
+        Some((_, value)) => value.members(),
+        None => &[],
+    }
+}
+
+/// Lets the group have these members.
+fn add_group(
+    alloc: Global,
+    groups: &mut BTreeMap<u64, Vec<Member>>,
+    number: u64,
+    members: &[Member],
+) -> Result<(), AllocError>
+    ensures { OnOk result ((other : ℕ)
+        → listed_in groups.new other ≡ (if number == other then members.now else listed_in groups.old other)) }
+{
+    let members = copies(alloc, members)?;
+    groups.insert(number, members)?;
+    Ok(())
+}
+
+/// The same members once more.
+fn copies(alloc: Global, members: &[Member]) -> Result<Vec<Member>, AllocError>
+    ensures { IfOk result (λ copies. copies.items ≡ members.now) }
+{
+    let mut copies = Vec::new(alloc);
+    for member in members {
+        copies.push(member.clone()?)?;
+    }
+    Ok(copies)
+}

@@ -1,0 +1,25 @@
+//! What the policy shows of an album, and what every ruling is based on.
+//!
+//! What comes in: a view, and who asks. What goes out: the rows of the album's children that who asks may see.
+//! Read `sights`, `reasons` and `hearings` first, which rulings on other asks use too, then `listing`.
+#![tactic(auto)]
+
+// What a ruling is based on.
+mod groups;
+mod hearings;
+mod reasons;
+mod sights;
+
+// The rows of an album.
+mod listing;
+mod rows;
+
+// What holds of them.
+mod laws;
+
+pub use hearings::Hearing;
+pub use laws::{listings_are_alike, listings_look_at_what_is_named};
+pub use listing::list;
+pub use reasons::{Alternative, Reason};
+pub use rows::{Row, Rows};
+pub use sights::Sight;

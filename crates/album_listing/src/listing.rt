@@ -1,0 +1,127 @@
+// What is listed of an album.
+ghost use Rattle.std.specs.Prelude.{◌≡◌, ◌==◌, ◌++◌, ◌∷◌, [], false, IfOk, OnOk, IsOkUnless, IsTrue};
+ghost use Rattle.std.specs.List.{filter_map};
+ghost use Rattle.std.specs.Option.{option_copied, option_map_or};
+ghost use Rattle.album_listing.specs.Hearings.{basis_of};
+ghost use Rattle.album_listing.specs.Listing.{is_list, title_in, title_shown, row_for, listed, IsListing};
+ghost use Rattle.album_listing.specs.Masks.{READ_ATTRIBUTES};
+ghost use Rattle.album_listing.specs.Reasons.{is_granted_on};
+
+use crate::hearings::Hearing;
+use crate::reasons::Alternative;
+use crate::rows::{Row, Rows};
+use album_access::Mask;
+use album_eval::{Policy, Principal};
+use album_items::{ItemId, Title, Value};
+use album_stamps::Refusal;
+use album_views::{Ask, View};
+use std::alloc::Global;
+
+/// The children of the album that the ask of the view is to list, those on which the principal is granted
+/// READ_ATTRIBUTES, in the order of the album. A child is listed where its home is this album. It is judged
+/// under policy One; under Two the rows are the same.
+///
+/// # Errors
+///
+/// `OutOfMemory`.
+pub fn list(alloc: Global, view: &View, principal: &Principal) -> Result<Rows, Refusal>
+    requires { IsTrue (is_list view.now.ask) }
+    ensures rows { IfOk result (λ rows. IsListing view.now principal.now rows) }
+    ensures memory { IsOkUnless result Refusal.OutOfMemory }
+{
+    let hearing = Hearing::of(alloc, view, principal, Policy::One)?;
+    let Ask::List { album } = view.ask() else {
+        unreachable!();
+    };
+    let rows = listed(alloc, &hearing, *album)?;
+    Ok(Rows::of(rows))
+}
+
+/// The rows of the children that have one.
+fn listed(alloc: Global, hearing: &Hearing, album: ItemId) -> Result<Vec<Row>, Refusal>
+    ensures rows { IfOk result (λ rows. rows.items ≡ listed (basis_of hearing.now) album) }
+    ensures memory { IsOkUnless result Refusal.OutOfMemory }
+{
+    let mut rows = Vec::new(alloc);
+    for child in hearing.sight().value(album).children() {
+        add_row(&mut rows, hearing, album, *child)?;
+    }
+    Ok(rows)
+}
+
+/// Adds the row of the child, if its title is shown.
+fn add_row(
+    rows: &mut Vec<Row>,
+    hearing: &Hearing,
+    album: ItemId,
+    child: ItemId,
+) -> Result<(), Refusal>
+    ensures row { OnOk result (rows.new.items
+        ≡ rows.old.items ++ filter_map (row_for (basis_of hearing.now) album) (child ∷ [])) }
+    ensures memory { IsOkUnless result Refusal.OutOfMemory }
+{
+    if let Some(title) = title_shown(hearing, album, child) {
+        rows.push(Row {
+            item: child,
+            title: title.copy()?,
+        })?;
+    }
+    Ok(())
+}
+
+/// The title that is shown of the child.
+fn title_shown<'a>(hearing: &'a Hearing, album: ItemId, child: ItemId) -> Option<&'a Title>
+    ensures { option_copied result ≡ title_shown (basis_of hearing.now) album child }
+{
+    if !may_see(hearing, child) {
+        return None;
+    }
+    title_in(album.number(), hearing.sight().value(child))
+}
+
+/// Whether READ_ATTRIBUTES is granted on the child.
+fn may_see(hearing: &Hearing, child: ItemId) -> bool
+    ensures { result ≡ is_granted_on (basis_of hearing.now) child READ_ATTRIBUTES }
+{
+    let alternative = Alternative {
+        object: child,
+        mask: Mask::READ_ATTRIBUTES,
+    };
+    match hearing.reason(alternative) {
+        Some(reason) => reason.is_grant(),
+        None => false,
+    }
+}
+
+/// The title of what is there, and has the album of this number as its home.
+fn title_in(home: u64, value: &Value) -> Option<&Title>
+    ensures { option_copied result ≡ title_in home value.now }
+{
+    match value {
+        Value::Picture(picture) => {
+            if picture.home == home {
+                Some(&picture.title)
+            } else {
+                None
+            }
+        }
+        Value::Album(album) => {
+            if is_home(album.home, home) {
+                Some(&album.title)
+            } else {
+                None
+            }
+        }
+        Value::Missing | Value::List(_) | Value::Group(_) => None,
+    }
+}
+
+/// Whether the home is the album of this number.
+fn is_home(home: Option<u64>, number: u64) -> bool
+    ensures { result ≡ option_map_or (λ home. home == number) home false }
+{
+    match home {
+        Some(home) => home == number,
+        None => false,
+    }
+}

@@ -1,0 +1,4 @@
+pub mod Putting
+pub mod Agreeing
+pub mod Spending
+pub mod Rows

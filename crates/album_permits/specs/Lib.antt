@@ -1,0 +1,9 @@
+pub mod Needs
+pub mod Findings
+pub mod Notes
+pub mod Permits
+pub mod Rulings
+pub mod Serving
+pub mod Changes
+pub mod Effects
+pub mod Writes

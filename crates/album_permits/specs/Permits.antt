@@ -1,0 +1,29 @@
+-- What a permit holds.
+use Rattle.std.specs.Prelude.{◌≡◌, None, List}
+use Rattle.album_eval.specs.declared.facts.Principal.{Principal}
+use Rattle.album_eval.specs.declared.policies.Policy.{Policy}
+use Rattle.album_reader.specs.Answers.{Answer}
+use Rattle.album_views.specs.Checks.{refusal_of}
+use Rattle.album_views.specs.Views.{ViewState}
+use Rattle.album_views.specs.declared.asks.Ask.{Ask}
+use Rattle.album_listing.specs.Basis.{Basis, IsBasis}
+use Rattle.album_permits.specs.Findings.{ruling_of}
+use Rattle.album_permits.specs.declared.findings.Finding.TheVariants.{Granted}
+
+-- a view, for whom its ask is granted, and by which policy
+pub record PermitState : Type 0 where
+  pub view : ViewState
+  pub principal : Principal
+  pub policy : Policy
+
+-- the permit for an ask on a snapshot
+abbrev pub permit_on : Policy → Principal → Ask → List Answer → PermitState
+permit_on policy principal ask rows =
+    record { view = record { ask = ask; rows = rows }; principal = principal; policy = policy }
+
+-- What is true of each permit: its ask is one that the principal may ask, and it is granted on its view.
+pub record IsPermit (permit : PermitState) : Type 0 where
+  pub taken : refusal_of permit.view.ask permit.principal ≡ None
+  pub basis : Basis
+  pub based : IsBasis permit.policy permit.principal permit.view.rows basis
+  pub granted : ruling_of basis permit.view.ask ≡ Granted

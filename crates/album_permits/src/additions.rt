@@ -1,0 +1,175 @@
+// New objects in an album.
+ghost use Rattle.std.specs.Prelude.{◌≡◌, ◌∷◌, [], Some, IfOk, IsOkUnless, IsTrue};
+ghost use Rattle.album_lists.specs.declared.lists.Holder.TheVariants.{Plain, Folder};
+ghost use Rattle.album_eval.specs.Matching.{is_known};
+ghost use Rattle.album_items.specs.ItemIds.{picture, album, list, number_of};
+ghost use Rattle.album_views.specs.Seen.{seen};
+ghost use Rattle.album_permits.specs.Changes.{with_child};
+ghost use Rattle.album_permits.specs.Effects.{head_group_seen, new_head, heritage};
+
+use crate::changes::with_child;
+use album_eval::Principal;
+use album_items::{Album, Content, Head, ItemId, Items, Kind, Picture, Title, Value};
+use album_listing::Sight;
+use album_lists::{AccessList, Holder};
+use album_stamps::{Refusal, Stamp};
+use std::alloc::Global;
+
+/// A new picture of this title and content in the album, with its list; and the album with it.
+pub(crate) fn picture_added(
+    alloc: Global,
+    sight: &Sight,
+    principal: &Principal,
+    stamp: Stamp,
+    into: ItemId,
+    title: &Title,
+    content: &Content,
+) -> Result<Vec<(ItemId, Value)>, Refusal>
+    requires known { IsTrue (is_known principal.now) }
+    ensures writes { IfOk result (λ writes. writes.items ≡ (
+      picture stamp,
+      Value.Picture (record {
+        title = title.now;
+        content = content.now;
+        head = new_head (seen sight.now.view.now.rows) principal.now stamp into;
+        home = number_of into;
+      }),
+    )
+        ∷ (list stamp, Value.List (heritage (seen sight.now.view.now.rows) Plain into))
+        ∷ (into, with_child (picture stamp) (seen sight.now.view.now.rows into))
+        ∷ []) }
+    ensures memory { IsOkUnless result Refusal.OutOfMemory }
+{
+    let picture = Picture {
+        title: title.copy()?,
+        content: content.copy()?,
+        head: new_head(sight, principal, stamp, into)?,
+        home: into.number(),
+    };
+    let list = heritage(alloc, sight, Holder::Plain, into)?;
+    let album = with_child(alloc, sight.value(into), picture_at(stamp))?;
+    three(
+        alloc,
+        (picture_at(stamp), Value::Picture(picture)),
+        (list_at(stamp), Value::List(list)),
+        (into, album),
+    )
+}
+
+/// A new album of this title in the album, with its list; and the album with it.
+pub(crate) fn album_added(
+    alloc: Global,
+    sight: &Sight,
+    principal: &Principal,
+    stamp: Stamp,
+    into: ItemId,
+    title: &Title,
+) -> Result<Vec<(ItemId, Value)>, Refusal>
+    requires known { IsTrue (is_known principal.now) }
+    ensures writes { IfOk result (λ writes. writes.items ≡ (
+      album stamp,
+      Value.Album (record {
+        title = title.now;
+        head = new_head (seen sight.now.view.now.rows) principal.now stamp into;
+        home = Some (number_of into);
+        children = [];
+      }),
+    )
+        ∷ (list stamp, Value.List (heritage (seen sight.now.view.now.rows) Folder into))
+        ∷ (into, with_child (album stamp) (seen sight.now.view.now.rows into))
+        ∷ []) }
+    ensures memory { IsOkUnless result Refusal.OutOfMemory }
+{
+    let inner = Album {
+        title: title.copy()?,
+        head: new_head(sight, principal, stamp, into)?,
+        home: Some(into.number()),
+        children: Items::of(Vec::new(alloc)),
+    };
+    let list = heritage(alloc, sight, Holder::Folder, into)?;
+    let outer = with_child(alloc, sight.value(into), album_at(stamp))?;
+    three(
+        alloc,
+        (album_at(stamp), Value::Album(inner)),
+        (list_at(stamp), Value::List(list)),
+        (into, outer),
+    )
+}
+
+/// A new picture has the stamp's number.
+pub(crate) fn picture_at(stamp: Stamp) -> ItemId
+    ensures { result ≡ picture stamp }
+{
+    ItemId::new(Kind::Picture, stamp.value())
+}
+
+/// A new album has the stamp's number.
+pub(crate) fn album_at(stamp: Stamp) -> ItemId
+    ensures { result ≡ album stamp }
+{
+    ItemId::new(Kind::Album, stamp.value())
+}
+
+/// The list of a new object has the stamp's number.
+fn list_at(stamp: Stamp) -> ItemId
+    ensures { result ≡ list stamp }
+{
+    ItemId::new(Kind::List, stamp.value())
+}
+
+fn three(
+    alloc: Global,
+    first: (ItemId, Value),
+    second: (ItemId, Value),
+    third: (ItemId, Value),
+) -> Result<Vec<(ItemId, Value)>, Refusal>
+    ensures writes { IfOk result (λ writes. writes.items ≡ first ∷ second ∷ third ∷ []) }
+    ensures memory { IsOkUnless result Refusal.OutOfMemory }
+{
+    Ok(vec![in alloc; first, second, third]?)
+}
+
+/// A new object in the album is the principal's, in the album's head group.
+fn new_head(
+    sight: &Sight,
+    principal: &Principal,
+    stamp: Stamp,
+    into: ItemId,
+) -> Result<Head, Refusal>
+    requires known { IsTrue (is_known principal.now) }
+    ensures head { IfOk result (λ head.
+        head ≡ new_head (seen sight.now.view.now.rows) principal.now stamp into) }
+    ensures memory { IsOkUnless result Refusal.OutOfMemory }
+{
+    match principal {
+        Principal::User(name) => Ok(Head {
+            owner: name.copy()?,
+            group: head_group_seen(sight, into),
+            list: stamp.value(),
+        }),
+        Principal::Anonymous => unreachable!(),
+    }
+}
+
+/// The head group of the item.
+fn head_group_seen(sight: &Sight, item: ItemId) -> u64
+    ensures { result ≡ head_group_seen (seen sight.now.view.now.rows) item }
+{
+    match sight.value(item).head() {
+        Some(head) => head.group,
+        None => 0,
+    }
+}
+
+/// What a new object inherits of the list of the album.
+fn heritage(
+    alloc: Global,
+    sight: &Sight,
+    holder: Holder,
+    into: ItemId,
+) -> Result<AccessList, Refusal>
+    ensures list { IfOk result (λ list. list ≡ heritage (seen sight.now.view.now.rows) holder into) }
+    ensures memory { IsOkUnless result Refusal.OutOfMemory }
+{
+    sight.list_of(into).inherit(alloc, holder)
+}

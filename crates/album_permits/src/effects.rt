@@ -1,0 +1,270 @@
+// What a permit is spent on when its ask writes.
+ghost use Rattle.std.specs.Prelude.{◌≡◌, ◌++◌, ◌∷◌, [], None, IfOk, IfErr, OnOk, IsTrue, IsOkUnless, false, not, ◌==◌, count_by, if◌then◌else◌};
+ghost use Rattle.std.specs.List.{flat_map};
+ghost use Rattle.album_stamps.specs.declared.refusals.Refusal.TheVariants.{OutOfMemory, AlbumFull};
+ghost use Rattle.album_views.specs.Checks.{owner_flaw};
+ghost use Rattle.album_views.specs.Seen.{seen};
+ghost use Rattle.album_items.specs.ItemIds.{number_of};
+ghost use Rattle.album_permits.specs.Changes.{with_home, with_child};
+ghost use Rattle.album_permits.specs.Effects.{is_write, written, list_dropped, taken_out, list_written, effect_of, has_most_others, is_album_full, is_full_for};
+
+use crate::additions::{album_added, album_at, picture_added, picture_at};
+use crate::changes::{
+    with_child, with_content, with_home, with_members, with_owner, with_title, without_child,
+};
+use crate::merging::merged;
+use crate::permits::Permit;
+use crate::writes::Writes;
+use album_eval::Principal;
+use album_items::{ItemId, ItemValues, Kind, Value};
+use album_listing::Sight;
+use album_stamps::{MOST_CHILDREN, Refusal, Refused, Stamp};
+use album_views::{Ask, NewList};
+use std::alloc::{AllocError, Global};
+
+impl Permit {
+    /// Whether the ask writes.
+    pub fn writes(&self) -> bool
+        ensures { result ≡ is_write self.now.view.ask }
+    {
+        match self.view().ask() {
+            Ask::Read { .. } | Ask::List { .. } | Ask::GetList { .. } => false,
+            Ask::AddPicture { .. } | Ask::AddAlbum { .. } | Ask::Retitle { .. } => true,
+            Ask::Replace { .. } | Ask::Delete { .. } | Ask::Move { .. } => true,
+            Ask::SetLists { .. } | Ask::SetOwner { .. } | Ask::SetMembers { .. } => true,
+        }
+    }
+
+    /// Spends the permit on what its ask writes at the stamp.
+    ///
+    /// # Errors
+    ///
+    /// `AlbumFull` where the album that gets a child has `MOST_CHILDREN` others, and only there; else
+    /// `OutOfMemory`. The permit is handed back.
+    pub fn effect(self, alloc: Global, stamp: Stamp) -> Result<Writes, Refused<Permit>>
+        requires change { IsTrue (is_write self.view.ask) }
+        ensures writes { IfOk result (λ writes. writes ≡ record { permit = self; stamp = stamp }) }
+        ensures room { IfOk result (λ _. is_full_for self stamp ≡ false) }
+        ensures refused { IfErr result (λ e.
+            e.refusal ≡ (if is_full_for self stamp then AlbumFull else OutOfMemory)) }
+        ensures given { IfErr result (λ e. e.given ≡ self) }
+    {
+        if is_full_for(alloc, &self, stamp) {
+            return Err(Refused {
+                refusal: Refusal::AlbumFull,
+                given: self,
+            });
+        }
+        match effect_of(alloc, &self, stamp) {
+            Ok(writes) => Ok(Writes::of(self, stamp, writes)),
+            Err(refusal) => Err(Refused {
+                refusal,
+                given: self,
+            }),
+        }
+    }
+}
+
+/// Whether the album that gets a child by the permit's ask is full.
+fn is_full_for(alloc: Global, permit: &Permit, stamp: Stamp) -> bool
+    ensures { result ≡ is_full_for permit.now stamp }
+{
+    let sight = Sight::of(alloc, permit.view());
+    is_album_full(&sight, stamp, permit.view().ask())
+}
+
+/// Whether the album that gets a child by the ask is full.
+fn is_album_full(sight: &Sight, stamp: Stamp, ask: &Ask) -> bool
+    ensures { result ≡ is_album_full (seen sight.now.view.now.rows) stamp ask.now }
+{
+    match ask {
+        Ask::AddPicture { album, .. } => has_most_others(picture_at(stamp), sight.value(*album)),
+        Ask::AddAlbum { album, .. } => has_most_others(album_at(stamp), sight.value(*album)),
+        Ask::Move { object, to } => has_most_others(*object, sight.value(*to)),
+        Ask::Read { .. } | Ask::List { .. } | Ask::GetList { .. } => false,
+        Ask::Retitle { .. } | Ask::Replace { .. } | Ask::Delete { .. } => false,
+        Ask::SetLists { .. } | Ask::SetOwner { .. } | Ask::SetMembers { .. } => false,
+    }
+}
+
+/// Whether the album has the most children beside this one.
+fn has_most_others(child: ItemId, album: &Value) -> bool
+    ensures { result ≡ has_most_others child album.now }
+{
+    count_of_others(child, album.children()) >= MOST_CHILDREN
+}
+
+fn count_of_others(child: ItemId, children: &[ItemId]) -> usize
+    ensures { result ≡ count_by (λ other. not (child == other)) children.now }
+{
+    children.iter().filter(|other| !child.is(**other)).count()
+}
+
+/// What the ask of the permit writes at the stamp.
+fn effect_of(alloc: Global, permit: &Permit, stamp: Stamp) -> Result<ItemValues, Refusal>
+    ensures writes { IfOk result (λ writes. writes ≡ effect_of permit.now stamp) }
+    ensures memory { IsOkUnless result Refusal.OutOfMemory }
+{
+    let sight = Sight::of(alloc, permit.view());
+    let writes = written(
+        alloc,
+        &sight,
+        permit.principal(),
+        stamp,
+        permit.view().ask(),
+    )?;
+    let writes = merged(alloc, writes)?;
+    Ok(ItemValues::of(writes))
+}
+
+/// What the ask writes at the stamp, in order; an item may stand twice.
+fn written(
+    alloc: Global,
+    sight: &Sight,
+    principal: &Principal,
+    stamp: Stamp,
+    ask: &Ask,
+) -> Result<Vec<(ItemId, Value)>, Refusal>
+    requires owned { owner_flaw ask.now principal.now ≡ None }
+    ensures writes { IfOk result (λ writes.
+        writes.items ≡ written (seen sight.now.view.now.rows) principal.now stamp ask.now) }
+    ensures memory { IsOkUnless result Refusal.OutOfMemory }
+{
+    match ask {
+        Ask::Read { .. } | Ask::List { .. } | Ask::GetList { .. } => Ok(Vec::new(alloc)),
+        Ask::AddPicture {
+            album,
+            title,
+            content,
+        } => picture_added(alloc, sight, principal, stamp, *album, title, content),
+        Ask::AddAlbum { album, title } => {
+            album_added(alloc, sight, principal, stamp, *album, title)
+        }
+        Ask::Retitle { object, title } => {
+            one(alloc, *object, with_title(sight.value(*object), title)?)
+        }
+        Ask::Replace { object, content } => {
+            one(alloc, *object, with_content(sight.value(*object), content)?)
+        }
+        Ask::Delete { object } => deleted(alloc, sight, *object),
+        Ask::Move { object, to } => moved(alloc, sight, *object, *to),
+        Ask::SetLists { lists } => lists_written(alloc, sight, lists.as_slice()),
+        Ask::SetOwner {
+            object,
+            owner,
+            group,
+        } => one(
+            alloc,
+            *object,
+            with_owner(sight.value(*object), owner, *group)?,
+        ),
+        Ask::SetMembers { object, members } => {
+            one(alloc, *object, with_members(sight.value(*object), members)?)
+        }
+    }
+}
+
+/// The item with its value, and no other.
+fn one(alloc: Global, item: ItemId, value: Value) -> Result<Vec<(ItemId, Value)>, Refusal>
+    ensures write { IfOk result (λ writes. writes.items ≡ (item, value) ∷ []) }
+    ensures memory { IsOkUnless result Refusal.OutOfMemory }
+{
+    Ok(vec![in alloc; (item, value)]?)
+}
+
+/// The picture and its list are no more, and its home has it no more.
+fn deleted(alloc: Global, sight: &Sight, picture: ItemId) -> Result<Vec<(ItemId, Value)>, Refusal>
+    ensures writes { IfOk result (λ writes. writes.items ≡ (picture, Value.Missing)
+        ∷ (list_dropped (seen sight.now.view.now.rows) picture ++ taken_out (seen sight.now.view.now.rows) picture)) }
+    ensures memory { IsOkUnless result Refusal.OutOfMemory }
+{
+    let mut writes = one(alloc, picture, Value::Missing)?;
+    add_list_dropped(&mut writes, sight, picture)?;
+    add_taken_out(alloc, &mut writes, sight, picture)?;
+    Ok(writes)
+}
+
+/// The picture has another home, that it had has it no more, and the new one has it last.
+fn moved(
+    alloc: Global,
+    sight: &Sight,
+    picture: ItemId,
+    to: ItemId,
+) -> Result<Vec<(ItemId, Value)>, Refusal>
+    ensures writes { IfOk result (λ writes.
+        writes.items ≡ (picture, with_home (number_of to) (seen sight.now.view.now.rows picture))
+        ∷ (taken_out (seen sight.now.view.now.rows) picture
+        ++ (to, with_child picture (seen sight.now.view.now.rows to)) ∷ [])) }
+    ensures memory { IsOkUnless result Refusal.OutOfMemory }
+{
+    let mut writes = one(
+        alloc,
+        picture,
+        with_home(sight.value(picture), to.number())?,
+    )?;
+    add_taken_out(alloc, &mut writes, sight, picture)?;
+    writes.push((to, with_child(alloc, sight.value(to), picture)?))?;
+    Ok(writes)
+}
+
+/// Adds that the list of the item is no more.
+fn add_list_dropped(
+    writes: &mut Vec<(ItemId, Value)>,
+    sight: &Sight,
+    item: ItemId,
+) -> Result<(), AllocError>
+    ensures { OnOk result (writes.new.items
+        ≡ writes.old.items ++ list_dropped (seen sight.now.view.now.rows) item) }
+{
+    if let Some(head) = sight.value(item).head() {
+        writes.push((ItemId::new(Kind::List, head.list), Value::Missing))?;
+    }
+    Ok(())
+}
+
+/// Adds that the home of the picture has it no more.
+fn add_taken_out(
+    alloc: Global,
+    writes: &mut Vec<(ItemId, Value)>,
+    sight: &Sight,
+    picture: ItemId,
+) -> Result<(), Refusal>
+    ensures write { OnOk result (writes.new.items
+        ≡ writes.old.items ++ taken_out (seen sight.now.view.now.rows) picture) }
+    ensures memory { IsOkUnless result Refusal.OutOfMemory }
+{
+    if let Some(home) = sight.value(picture).home() {
+        let value = without_child(alloc, sight.value(home), picture)?;
+        writes.push((home, value))?;
+    }
+    Ok(())
+}
+
+/// Each of the lists, as the value of the item that the head of its object names.
+fn lists_written(
+    alloc: Global,
+    sight: &Sight,
+    lists: &[NewList],
+) -> Result<Vec<(ItemId, Value)>, Refusal>
+    ensures writes { IfOk result (λ writes.
+        writes.items ≡ flat_map (list_written (seen sight.now.view.now.rows)) lists.now) }
+    ensures memory { IsOkUnless result Refusal.OutOfMemory }
+{
+    let mut writes = Vec::new(alloc);
+    for new in lists {
+        add_list(&mut writes, sight, new)?;
+    }
+    Ok(writes)
+}
+
+fn add_list(writes: &mut Vec<(ItemId, Value)>, sight: &Sight, new: &NewList) -> Result<(), Refusal>
+    ensures write { OnOk result (writes.new.items
+        ≡ writes.old.items ++ list_written (seen sight.now.view.now.rows) new.now) }
+    ensures memory { IsOkUnless result Refusal.OutOfMemory }
+{
+    if let Some(head) = sight.value(new.object).head() {
+        let list = new.list.copy()?;
+        writes.push((ItemId::new(Kind::List, head.list), Value::List(list)))?;
+    }
+    Ok(())
+}

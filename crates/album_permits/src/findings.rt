@@ -1,0 +1,167 @@
+// What is found of the needs of an ask.
+ghost use Rattle.std.specs.Prelude.{◌≡◌, IfOk, IsOkUnless, is_none};
+ghost use Rattle.album_listing.specs.Hearings.{basis_of};
+ghost use Rattle.album_permits.specs.Findings.{is_missing, missing_in, reasons_of, is_met, need_found, needs_found, ruling_of};
+ghost use Rattle.album_permits.specs.Notes.{need_notes, needs_noted, notes_of};
+
+use crate::needs::{Need, needs};
+use crate::notes::{Note, notes_of};
+use album_items::ItemId;
+use album_listing::{Alternative, Hearing, Reason};
+use album_stamps::Refusal;
+use album_views::Ask;
+use std::alloc::{AllocError, Global};
+use std::marker::Model;
+
+/// What is said of each alternative of a need that fails. Contracts see it in order.
+#[derive(Debug, Drop)]
+pub struct Denial {
+    reasons: Vec<Reason>,
+}
+
+impl Model for Denial {
+    ghost use Rattle.std.specs.Prelude.{List};
+    ghost use Rattle.album_listing.specs.declared.reasons.Reason.{Reason};
+
+    ghost Value = { List Reason };
+
+    ghost view = { λ d. d.reasons.items };
+}
+
+impl Denial {
+    /// The reasons, in order.
+    pub fn as_slice(&self) -> &[Reason]
+        ensures { result.now ≡ self.now }
+    {
+        self.reasons.as_slice()
+    }
+}
+
+/// What is found of needs.
+#[derive(Debug, Drop)]
+pub enum Finding {
+    Granted,
+    /// None of the alternatives of a need is granted.
+    Denied(Denial),
+    /// This object of a need is not there.
+    Missing(ItemId),
+}
+
+/// What is found of needs, and what is noted of it.
+#[derive(Debug, Drop)]
+pub(crate) struct Found {
+    pub(crate) finding: Finding,
+    pub(crate) notes: Vec<Note>,
+}
+
+/// What is found of the ask.
+pub(crate) fn find_of(alloc: Global, hearing: &Hearing, ask: &Ask) -> Result<Found, Refusal>
+    ensures finding { IfOk result (λ found. found.finding ≡ ruling_of (basis_of hearing.now) ask.now) }
+    ensures notes { IfOk result (λ found. found.notes.items ≡ notes_of (basis_of hearing.now) ask.now) }
+    ensures memory { IsOkUnless result Refusal.OutOfMemory }
+{
+    let needs = needs(alloc, hearing.sight(), ask)?;
+    let found = find_all(alloc, hearing, needs.as_slice())?;
+    Ok(found)
+}
+
+/// What is found of the needs: the first that fails decides.
+fn find_all(alloc: Global, hearing: &Hearing, needs: &[Need]) -> Result<Found, Refusal>
+    ensures finding { IfOk result (λ found. found.finding ≡ needs_found (basis_of hearing.now) needs.now) }
+    ensures notes { IfOk result (λ found. found.notes.items ≡ needs_noted (basis_of hearing.now) needs.now) }
+    ensures memory { IsOkUnless result Refusal.OutOfMemory }
+{
+    let mut notes = Vec::new(alloc);
+    for need in needs {
+        let Found {
+            finding,
+            notes: more,
+        } = find_one(alloc, hearing, need.as_slice())?;
+        notes.extend_from_slice(more.as_slice())?;
+        match finding {
+            Finding::Granted => {}
+            Finding::Denied(denial) => {
+                return Ok(Found {
+                    finding: Finding::Denied(denial),
+                    notes,
+                });
+            }
+            Finding::Missing(object) => {
+                return Ok(Found {
+                    finding: Finding::Missing(object),
+                    notes,
+                });
+            }
+        }
+    }
+    Ok(Found {
+        finding: Finding::Granted,
+        notes,
+    })
+}
+
+/// What is found of one need.
+fn find_one(alloc: Global, hearing: &Hearing, need: &[Alternative]) -> Result<Found, Refusal>
+    ensures finding { IfOk result (λ found. found.finding ≡ need_found (basis_of hearing.now) need.now) }
+    ensures notes { IfOk result (λ found. found.notes.items ≡ need_notes (basis_of hearing.now) need.now) }
+    ensures memory { IsOkUnless result Refusal.OutOfMemory }
+{
+    if let Some(object) = missing_in(hearing, need) {
+        return Ok(Found {
+            finding: Finding::Missing(object),
+            notes: Vec::new(alloc),
+        });
+    }
+    let reasons = reasons_of(alloc, hearing, need)?;
+    let notes = notes_of(alloc, hearing, reasons.as_slice())?;
+    if is_met(reasons.as_slice()) {
+        return Ok(Found {
+            finding: Finding::Granted,
+            notes,
+        });
+    }
+    Ok(Found {
+        finding: Finding::Denied(Denial { reasons }),
+        notes,
+    })
+}
+
+/// The first object of the need that is not there.
+fn missing_in(hearing: &Hearing, need: &[Alternative]) -> Option<ItemId>
+    ensures { result ≡ missing_in (basis_of hearing.now) need.now }
+{
+    need.iter()
+        .map(|alternative| alternative.object)
+        .find(|object| is_missing(hearing, *object))
+}
+
+/// Whether the object is not there.
+fn is_missing(hearing: &Hearing, object: ItemId) -> bool
+    ensures { result ≡ is_missing (basis_of hearing.now) object }
+{
+    hearing.sight().value(object).head().is_none()
+}
+
+/// What is said of each alternative whose object is there.
+fn reasons_of(
+    alloc: Global,
+    hearing: &Hearing,
+    need: &[Alternative],
+) -> Result<Vec<Reason>, AllocError>
+    ensures { IfOk result (λ reasons. reasons.items ≡ reasons_of (basis_of hearing.now) need.now) }
+{
+    let mut reasons = Vec::new(alloc);
+    for alternative in need {
+        if let Some(reason) = hearing.reason(*alternative) {
+            reasons.push(reason)?;
+        }
+    }
+    Ok(reasons)
+}
+
+/// Whether one of the alternatives is granted.
+fn is_met(reasons: &[Reason]) -> bool
+    ensures { result ≡ is_met reasons.now }
+{
+    reasons.iter().any(|reason| reason.is_grant())
+}

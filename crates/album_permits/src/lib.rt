@@ -1,0 +1,36 @@
+//! Rulings on asks, and the permits that they grant: what a granted ask is served, and what it writes.
+//!
+//! What comes in: a view, and who asks. What goes out: a permit, which is spent on what the ask is served or on
+//! what it writes; or why it is denied; or which object is missing.
+//!
+//! Read `needs` and `findings` first, then `permits` with what they are spent on. Tables of what is needed, found,
+//! noted, served and written stand in specs/, a definition for each.
+#![tactic(auto)]
+
+// What is ruled on an ask, and what is noted of it.
+mod findings;
+mod needs;
+mod notes;
+mod rulings;
+
+// What a granted ask may do.
+mod permits;
+mod serving;
+
+// What it writes.
+mod additions;
+mod changes;
+mod effects;
+mod merging;
+mod writes;
+
+// What holds of rulings.
+mod laws;
+
+pub use findings::{Denial, Finding};
+pub use laws::{one_ruling, permits_are_spent_on_what_is_named, rulings_look_at_what_is_named};
+pub use notes::Note;
+pub use permits::Permit;
+pub use rulings::{Ruled, Ruling, rule_on};
+pub use serving::Served;
+pub use writes::Writes;

@@ -1,0 +1,114 @@
+// What an ask needs.
+ghost use Rattle.std.specs.Prelude.{◌≡◌, [], ◌∷◌, map, IfOk};
+ghost use Rattle.album_listing.specs.Masks.{WRITE_ACL};
+ghost use Rattle.album_views.specs.Seen.{seen};
+ghost use Rattle.album_permits.specs.Needs.{just, deletion, needs_of};
+
+use album_access::Mask;
+use album_items::ItemId;
+use album_listing::{Alternative, Sight};
+use album_views::{Ask, NewList};
+use std::alloc::{AllocError, Global};
+use std::marker::Model;
+
+/// Alternatives, one of which has to be granted. Contracts see them in order.
+#[derive(Debug, Drop)]
+pub(crate) struct Need {
+    alternatives: Vec<Alternative>,
+}
+
+impl Model for Need {
+    ghost use Rattle.std.specs.Prelude.{List};
+    ghost use Rattle.album_listing.specs.declared.reasons.Alternative.{Alternative};
+
+    ghost Value = { List Alternative };
+
+    ghost view = { λ n. n.alternatives.items };
+}
+
+impl Need {
+    /// The alternatives, in order.
+    pub(crate) fn as_slice(&self) -> &[Alternative]
+        ensures { result.now ≡ self.now }
+    {
+        self.alternatives.as_slice()
+    }
+}
+
+/// What the ask needs, in order.
+pub(crate) fn needs(alloc: Global, sight: &Sight, ask: &Ask) -> Result<Vec<Need>, AllocError>
+    ensures { IfOk result (λ needs. needs.items ≡ needs_of (seen sight.now.view.now.rows) ask.now) }
+{
+    match ask {
+        Ask::Read { object } => one(alloc, *object, Mask::READ_DATA),
+        // LIST_DIRECTORY
+        Ask::List { album } => one(alloc, *album, Mask::READ_DATA),
+        Ask::GetList { object } => one(alloc, *object, Mask::READ_ACL),
+        // ADD_FILE
+        Ask::AddPicture { album, .. } => one(alloc, *album, Mask::WRITE_DATA),
+        // ADD_SUBDIRECTORY
+        Ask::AddAlbum { album, .. } => one(alloc, *album, Mask::APPEND_DATA),
+        Ask::Retitle { object, .. } => one(alloc, *object, Mask::WRITE_ATTRIBUTES),
+        Ask::Replace { object, .. } => one(alloc, *object, Mask::WRITE_DATA),
+        Ask::Delete { object } => Ok(vec![in alloc; deletion(alloc, sight, *object)?]?),
+        Ask::Move { object, to } => {
+            let deletion = deletion(alloc, sight, *object)?;
+            // ADD_FILE
+            let addition = just(alloc, *to, Mask::WRITE_DATA)?;
+            Ok(vec![in alloc; deletion, addition]?)
+        }
+        Ask::SetLists { lists } => each_list(alloc, lists.as_slice()),
+        Ask::SetOwner { object, .. } => one(alloc, *object, Mask::WRITE_OWNER),
+        Ask::SetMembers { object, .. } => one(alloc, *object, Mask::WRITE_DATA),
+    }
+}
+
+/// This need, and no other.
+fn one(alloc: Global, object: ItemId, mask: Mask) -> Result<Vec<Need>, AllocError>
+    ensures { IfOk result (λ needs. needs.items ≡ just object mask ∷ []) }
+{
+    Ok(vec![in alloc; just(alloc, object, mask)?]?)
+}
+
+/// A need that has one alternative.
+fn just(alloc: Global, object: ItemId, mask: Mask) -> Result<Need, AllocError>
+    ensures { IfOk result (λ need. need ≡ just object mask) }
+{
+    let alternatives = vec![in alloc; Alternative { object, mask }]?;
+    Ok(Need { alternatives })
+}
+
+/// DELETE on the picture, or DELETE_CHILD on its home.
+fn deletion(alloc: Global, sight: &Sight, picture: ItemId) -> Result<Need, AllocError>
+    ensures { IfOk result (λ need. need ≡ deletion (seen sight.now.view.now.rows) picture) }
+{
+    let itself = Alternative {
+        object: picture,
+        mask: Mask::DELETE,
+    };
+    match sight.value(picture).home() {
+        Some(home) => {
+            let from_home = Alternative {
+                object: home,
+                mask: Mask::DELETE_CHILD,
+            };
+            let alternatives = vec![in alloc; itself, from_home]?;
+            Ok(Need { alternatives })
+        }
+        None => {
+            let alternatives = vec![in alloc; itself]?;
+            Ok(Need { alternatives })
+        }
+    }
+}
+
+/// WRITE_ACL on each of the objects.
+fn each_list(alloc: Global, lists: &[NewList]) -> Result<Vec<Need>, AllocError>
+    ensures { IfOk result (λ needs. needs.items ≡ map (λ new. just new.object WRITE_ACL) lists.now) }
+{
+    let mut needs = Vec::new(alloc);
+    for new in lists {
+        needs.push(just(alloc, new.object, Mask::WRITE_ACL)?)?;
+    }
+    Ok(needs)
+}

@@ -1,0 +1,109 @@
+// Rulings.
+ghost use Rattle.std.specs.Prelude.{◌≡◌, None, IfOk, IfErr, IsOkUnless};
+ghost use Rattle.album_views.specs.Checks.{refusal_of};
+ghost use Rattle.album_permits.specs.Rulings.{IsFound, IsRuled};
+
+use crate::findings::{Denial, Finding, Found, find_of};
+use crate::notes::Note;
+use crate::permits::Permit;
+use album_eval::{Policy, Principal};
+use album_items::ItemId;
+use album_listing::Hearing;
+use album_stamps::{Refusal, Refused};
+use album_views::View;
+use std::alloc::Global;
+
+/// What is ruled on the ask of a view.
+#[derive(Debug)]
+pub enum Ruling {
+    Granted(Permit),
+    /// With why, and the view.
+    Denied(Denial, View),
+    /// With which object is missing, and the view.
+    Missing(ItemId, View),
+}
+
+/// A ruling, and what is noted of it, in order.
+#[derive(Debug)]
+pub struct Ruled {
+    pub ruling: Ruling,
+    pub notes: Vec<Note>,
+}
+
+/// Rules on the ask of the view for the principal, by the policy. The first need of the ask that fails
+/// decides: where one of its objects is missing, that is told; else each of its alternatives with what the
+/// list of its object says.
+///
+/// # Errors
+///
+/// `OutOfMemory`, with the view handed back.
+pub fn rule_on(
+    alloc: Global,
+    view: View,
+    principal: &Principal,
+    policy: Policy,
+) -> Result<Ruled, Refused<View>>
+    requires taken { refusal_of view.ask principal.now ≡ None }
+    ensures ruled { IfOk result (IsRuled policy principal.now view) }
+    ensures memory { IfErr result (λ e. e.refusal ≡ Refusal.OutOfMemory) }
+    ensures given { IfErr result (λ e. e.given ≡ view) }
+{
+    match find_on(alloc, &view, principal, policy) {
+        Ok(found) => rule_by(view, principal, policy, found),
+        Err(refusal) => Err(Refused {
+            refusal,
+            given: view,
+        }),
+    }
+}
+
+/// What is found of the ask of the view.
+fn find_on(
+    alloc: Global,
+    view: &View,
+    principal: &Principal,
+    policy: Policy,
+) -> Result<Found, Refusal>
+    ensures found { IfOk result (IsFound policy principal.now view.now) }
+    ensures memory { IsOkUnless result Refusal.OutOfMemory }
+{
+    let hearing = Hearing::of(alloc, view, principal, policy)?;
+    let found = find_of(alloc, &hearing, view.ask())?;
+    Ok(found)
+}
+
+/// The ruling by what is found.
+fn rule_by(
+    view: View,
+    principal: &Principal,
+    policy: Policy,
+    found: Found,
+) -> Result<Ruled, Refused<View>>
+    requires taken { refusal_of view.ask principal.now ≡ None }
+    requires found { IsFound policy principal.now view found }
+    ensures ruled { IfOk result (IsRuled policy principal.now view) }
+    ensures memory { IfErr result (λ e. e.refusal ≡ Refusal.OutOfMemory) }
+    ensures given { IfErr result (λ e. e.given ≡ view) }
+{
+    let Found { finding, notes } = found;
+    match finding {
+        Finding::Granted => match principal.copy() {
+            Ok(principal) => Ok(Ruled {
+                ruling: Ruling::Granted(Permit::of(view, principal, policy)),
+                notes,
+            }),
+            Err(refusal) => Err(Refused {
+                refusal,
+                given: view,
+            }),
+        },
+        Finding::Denied(denial) => Ok(Ruled {
+            ruling: Ruling::Denied(denial, view),
+            notes,
+        }),
+        Finding::Missing(object) => Ok(Ruled {
+            ruling: Ruling::Missing(object, view),
+            notes,
+        }),
+    }
+}

@@ -1,0 +1,116 @@
+// What a granted ask is served that writes nothing.
+ghost use Rattle.std.specs.Prelude.{◌≡◌, IfOk, IfErr, IsOkUnless, IsTrue, false};
+ghost use Rattle.album_items.specs.Values.{members_of};
+ghost use Rattle.album_views.specs.Seen.{seen};
+ghost use Rattle.album_permits.specs.Effects.{is_write};
+ghost use Rattle.album_permits.specs.Serving.{read_of, IsServed};
+
+use crate::permits::Permit;
+use album_items::{Content, ItemId, Members, Title, Value};
+use album_listing::{Rows, Sight, list};
+use album_lists::AccessList;
+use album_stamps::{Refusal, Refused, Stamp};
+use album_views::Ask;
+use std::alloc::Global;
+
+/// What is served.
+#[derive(Debug, Drop)]
+pub enum Served {
+    Picture {
+        object: ItemId,
+        stamp: Stamp,
+        title: Title,
+        content: Content,
+    },
+    Group {
+        object: ItemId,
+        stamp: Stamp,
+        members: Members,
+    },
+    /// With the stamp of the object's list.
+    Entries {
+        object: ItemId,
+        stamp: Stamp,
+        list: AccessList,
+    },
+    Listed {
+        album: ItemId,
+        stamp: Stamp,
+        rows: Rows,
+    },
+}
+
+impl Permit {
+    /// Spends the permit on what its ask is served.
+    ///
+    /// # Errors
+    ///
+    /// `OutOfMemory`, with the permit handed back.
+    pub fn serve(self, alloc: Global) -> Result<Served, Refused<Permit>>
+        requires { is_write self.view.ask ≡ false }
+        ensures served { IfOk result (IsServed self) }
+        ensures memory { IfErr result (λ e. e.refusal ≡ Refusal.OutOfMemory) }
+        ensures given { IfErr result (λ e. e.given ≡ self) }
+    {
+        match serve_ask(alloc, &self) {
+            Ok(served) => {
+                drop(self.give_back());
+                Ok(served)
+            }
+            Err(refusal) => Err(Refused {
+                refusal,
+                given: self,
+            }),
+        }
+    }
+}
+
+/// What the ask of the permit is served.
+fn serve_ask(alloc: Global, permit: &Permit) -> Result<Served, Refusal>
+    requires { is_write permit.now.view.ask ≡ false }
+    ensures served { IfOk result (IsServed permit.now) }
+    ensures memory { IsOkUnless result Refusal.OutOfMemory }
+{
+    let sight = Sight::of(alloc, permit.view());
+    match permit.view().ask() {
+        Ask::Read { object } => read(alloc, *object, sight.stamp(*object), sight.value(*object)),
+        Ask::List { album } => Ok(Served::Listed {
+            album: *album,
+            stamp: sight.stamp(*album),
+            rows: list(alloc, permit.view(), permit.principal())?,
+        }),
+        Ask::GetList { object } => Ok(Served::Entries {
+            object: *object,
+            stamp: sight.stamp_of_list(*object),
+            list: sight.list_of(*object).copy()?,
+        }),
+        Ask::AddPicture { .. } | Ask::AddAlbum { .. } | Ask::Retitle { .. } => unreachable!(),
+        Ask::Replace { .. } | Ask::Delete { .. } | Ask::Move { .. } => unreachable!(),
+        Ask::SetLists { .. } | Ask::SetOwner { .. } | Ask::SetMembers { .. } => unreachable!(),
+    }
+}
+
+/// The title and the content of a picture, or the members of a group.
+fn read(alloc: Global, object: ItemId, stamp: Stamp, value: &Value) -> Result<Served, Refusal>
+    ensures served { IfOk result (λ served. served ≡ read_of object stamp value.now) }
+    ensures memory { IsOkUnless result Refusal.OutOfMemory }
+{
+    match value {
+        Value::Picture(picture) => Ok(Served::Picture {
+            object,
+            stamp,
+            title: picture.title.copy()?,
+            content: picture.content.copy()?,
+        }),
+        Value::Group(group) => Ok(Served::Group {
+            object,
+            stamp,
+            members: group.members.copy()?,
+        }),
+        Value::Missing | Value::Album(_) | Value::List(_) => Ok(Served::Group {
+            object,
+            stamp,
+            members: Members::of(Vec::new(alloc)),
+        }),
+    }
+}
