@@ -1,3 +1,4 @@
 mod ItemTexts
 mod Marked
 mod Fitting
+pub mod PlaceLemmas

@@ -3,3 +3,5 @@ pub mod ItemBack
 pub mod Texts
 pub mod Values
 pub mod Openings
+pub mod Places
+pub mod Transactions

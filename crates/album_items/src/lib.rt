@@ -1,17 +1,19 @@
 //! The items of the service, their values, and the state that the service opens with.
 //!
-//! Read `item_ids` first, then `values` with the lists and texts that they are made of, then `openings`.
+//! Read `item_ids` first, then `places`, then `values` with the lists and texts that they are made of, then `openings`.
 #![tactic(auto)]
 
 mod collections;
 mod item_ids;
 mod openings;
 mod pairs;
+mod places;
 mod texts;
 mod values;
 
 pub use collections::{ItemValues, Items, Members};
 pub use item_ids::{ItemId, Kind, items_by_text, place, read_item};
 pub use openings::{Opening, are_single, has_own_value, has_single_rows};
+pub use places::{lies_at, places_of};
 pub use texts::{Content, Title};
 pub use values::{Album, Group, Head, Picture, Value};

@@ -21,7 +21,7 @@ use Rattle.album_partition.specs.Answers.{Effect, nothing, says, marks, marks_an
 use Rattle.album_partition.specs.Laws.{IsClash}
 use Rattle.album_partition.specs.Marks.{state_of, is_pending, is_full, items_at}
 use Rattle.album_partition.specs.Partition.{PartitionState, value_at, stamp_for, read_at}
-use Rattle.album_partition.specs.Places.{is_placed, lies_at}
+use Rattle.album_items.specs.Places.{is_placed, lies_at}
 use Rattle.album_partition.specs.Proper.{is_proper}
 use Rattle.album_partition.proofs.StateLemmas.{is_pending_tells}
 use Rattle.album_partition.proofs.TrimLemmas.{read_high}

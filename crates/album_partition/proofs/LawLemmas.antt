@@ -33,7 +33,7 @@ use Rattle.album_partition.specs.Answers.{Effect, nothing, says, get_by, marks, 
 use Rattle.album_partition.specs.Laws.{IsTrueOf, IsClash, IsReplyTo, IsLatest, IsBest, IsReadAt, IsValueOf, IsReadOf, IsGoneFor, IsChecked, IsCause}
 use Rattle.album_partition.specs.Marks.{IsPromisedAgainst, is_mark_of, commits, state_of, is_pending, is_full, items_at, version, has_version, committed_stamps, latest}
 use Rattle.album_partition.specs.Partition.{PartitionState, IsPartition, value_at, stamp_for, read_at}
-use Rattle.album_partition.specs.Places.{is_placed, lies_at, others_of}
+use Rattle.album_items.specs.Places.{is_placed, lies_at, others_of}
 use Rattle.album_partition.specs.Proper.{is_proper}
 use Rattle.album_partition.specs.Votes.{NotedVote, heard}
 use Rattle.album_partition.proofs.AnswerLemmas.{IsSaid, Acts, idle, said, prepared, committed, refused, voted_committed, voted_never, voted_prepared, acts_here}

@@ -2,7 +2,6 @@ pub mod ListLemmas
 pub mod StateLemmas
 pub mod LegalLemmas
 pub mod LoadLemmas
-pub mod PlaceLemmas
 pub mod ProperLemmas
 pub mod VoteLemmas
 pub mod HistoryLemmas

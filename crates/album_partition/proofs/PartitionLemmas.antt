@@ -21,8 +21,9 @@ use Rattle.album_partition.specs.declared.marks.Mark.TheVariants.{Prepared, Comm
 use Rattle.album_partition.specs.Answers.{Effect, mark_by, mark_with, nothing, marks, to_part, to_body, effect_of, with_effect, after}
 use Rattle.album_partition.specs.Marks.{is_mark_of, prepares, mark_writes, state_of, latest, floor, may_follow, is_full, load, pending_stamps, items_at}
 use Rattle.album_partition.specs.Partition.{PartitionState, IsPartition, opening_state, opened, may_open}
-use Rattle.album_partition.specs.Places.{is_placed, lies_at, others_of, placed_at}
-use Rattle.album_partition.specs.Proper.{are_items, are_rows_of, are_own_writes, is_proper, is_proper_mark}
+use Rattle.album_items.specs.Places.{is_placed, lies_at, others_of, placed_at}
+use Rattle.album_items.specs.Transactions.{are_items}
+use Rattle.album_partition.specs.Proper.{are_rows_of, are_own_writes, is_proper, is_proper_mark}
 use Rattle.album_partition.specs.Stored.{CanFollow}
 use Rattle.album_partition.specs.Trims.{with_mark, trimmed}
 use Rattle.album_partition.specs.Votes.{NotedVote, has_vote, new_vote, heard, AreVotes}

@@ -11,8 +11,9 @@ use Rattle.album_items.specs.ItemIds.{place_of}
 use Rattle.album_stamps.specs.Distinct.{are_single}
 use Rattle.album_items.specs.Openings.{Row, has_single_rows}
 use Rattle.album_partition.specs.Marks.{value_in}
-use Rattle.album_partition.specs.Places.{is_placed, placed_at}
-use Rattle.album_partition.specs.Proper.{are_items, has_row, is_among, are_rows_of, has_right_kind, are_own_writes, is_proper}
+use Rattle.album_items.specs.Places.{is_placed, placed_at}
+use Rattle.album_items.specs.Transactions.{are_items, has_right_kind}
+use Rattle.album_partition.specs.Proper.{has_row, is_among, are_rows_of, are_own_writes, is_proper}
 use Rattle.album_partition.proofs.ListLemmas.{same_or_not, turned, list_all-any, any_from_contains, contains_from_any, kept_in, kept_out}
 
 -- ---- numbers that stand once, among others

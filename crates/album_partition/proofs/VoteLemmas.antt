@@ -11,7 +11,7 @@ use Rattle.album_terminate.specs.declared.deciding.StampState.TheVariants as sta
 use Rattle.album_partition.specs.declared.marks.Mark.{Mark}
 use Rattle.album_partition.specs.declared.marks.Mark.TheVariants.{Prepared, Committed, Discarded, Trimmed}
 use Rattle.album_partition.specs.Marks.{is_mark_of, prepares, commits, state_of, is_unknown, is_pending, may_follow, mark_items, items_at}
-use Rattle.album_partition.specs.Places.{lies_at, others_of}
+use Rattle.album_items.specs.Places.{lies_at, others_of}
 use Rattle.album_partition.specs.Votes.{NotedVote, has_vote, heard, same_vote, is_due, AreVotes}
 use Rattle.album_partition.proofs.ListLemmas.{no_two-push, list_all-push, list_all-weaker, list_all-any}
 use Rattle.album_partition.proofs.StateLemmas.{any_push, find_push_no, find_none, prepares_no, state_push_other, unknown_tells, is_unknown_tells, committed_is_committed, discarded_is_discarded}

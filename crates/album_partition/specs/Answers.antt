@@ -24,7 +24,7 @@ use Rattle.album_partition.specs.declared.marks.Mark.{Mark}
 use Rattle.album_partition.specs.declared.marks.Mark.TheVariants as mark
 use Rattle.album_partition.specs.Marks.{state_of, is_pending, is_full, writes_at, items_at}
 use Rattle.album_partition.specs.Partition.{PartitionState, value_at, read_at}
-use Rattle.album_partition.specs.Places.{is_placed, lies_at, others_of}
+use Rattle.album_items.specs.Places.{is_placed, lies_at, others_of}
 use Rattle.album_partition.specs.Proper.{is_proper}
 use Rattle.album_partition.specs.Votes.{NotedVote, new_vote, heard}
 

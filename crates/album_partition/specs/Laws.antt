@@ -19,7 +19,7 @@ use Rattle.album_partition.specs.declared.marks.Mark.TheVariants.{Prepared, Comm
 use Rattle.album_partition.specs.Answers.{is_same}
 use Rattle.album_partition.specs.Marks.{state_of, is_full, items_at, value_in, version, has_version, floor, kept_version, is_legal}
 use Rattle.album_partition.specs.Partition.{PartitionState}
-use Rattle.album_partition.specs.Places.{lies_at, others_of}
+use Rattle.album_items.specs.Places.{lies_at, others_of}
 use Rattle.album_partition.specs.Proper.{is_proper}
 use Rattle.album_partition.specs.Votes.{heard}
 

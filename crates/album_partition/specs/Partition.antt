@@ -11,7 +11,7 @@ use Rattle.album_items.specs.declared.values.Value.TheVariants.{Missing}
 use Rattle.album_versions.specs.Best.{best_of}
 use Rattle.album_partition.specs.declared.marks.Mark.{Mark}
 use Rattle.album_partition.specs.Marks.{value_in, version, has_version, latest, floor, load, is_legal}
-use Rattle.album_partition.specs.Places.{is_placed}
+use Rattle.album_items.specs.Places.{is_placed}
 use Rattle.album_partition.specs.Proper.{are_proper_marks}
 use Rattle.album_partition.specs.Votes.{NotedVote, AreVotes}
 

@@ -1,19 +1,11 @@
 -- Which Prepares a partition can follow.
 use Rattle.std.specs.Prelude.{ℕ, Bool, ◌==◌, ◌&&◌, not, nat_le, List, length}
 use Rattle.std.specs.List.{list_all, list_any}
-use Rattle.album_stamps.specs.declared.limits.TheConstants.{MOST_TRANSACTION_ITEMS}
-use Rattle.album_stamps.specs.Distinct.{are_single}
-use Rattle.album_items.specs.ItemIds.{kind_of}
 use Rattle.album_items.specs.Openings.{Row, has_single_rows}
-use Rattle.album_items.specs.Values.{is_of}
+use Rattle.album_items.specs.Places.{is_placed, placed_at}
+use Rattle.album_items.specs.Transactions.{are_items, has_right_kind}
 use Rattle.album_partition.specs.declared.marks.Mark.{Mark}
 use Rattle.album_partition.specs.declared.marks.Mark.TheVariants.{Prepared, Committed, Discarded, Trimmed}
-use Rattle.album_partition.specs.Places.{is_placed, placed_at}
-
--- some items, none twice, and not too many
-abbrev pub are_items : List ℕ → Bool
-are_items items =
-    not (length items == 0) && nat_le (length items) MOST_TRANSACTION_ITEMS && are_single items
 
 -- one of the rows is the item's
 abbrev pub has_row : List Row → ℕ → Bool
@@ -27,10 +19,6 @@ is_among items row = list_any (λ item. item == row.0) items
 abbrev pub are_rows_of : List ℕ → List Row → Bool
 are_rows_of items rows =
     has_single_rows rows && list_all (is_among items) rows && list_all (has_row rows) items
-
--- the value is of its item's kind, or is missing
-abbrev pub has_right_kind : Row → Bool
-has_right_kind row = is_of row.1 (kind_of row.0)
 
 -- the writes are of just those items that are placed at the partition, and each value is of its item's kind
 abbrev pub are_own_writes : ℕ → ℕ → List Row → List ℕ → Bool

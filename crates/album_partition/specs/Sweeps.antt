@@ -10,7 +10,7 @@ use Rattle.album_calls.specs.declared.replies.Reply.TheVariants.{Status}
 use Rattle.album_terminate.specs.Asking.{check_to}
 use Rattle.album_partition.specs.Marks.{state_of, is_pending, items_at}
 use Rattle.album_partition.specs.Partition.{PartitionState}
-use Rattle.album_partition.specs.Places.{others_of}
+use Rattle.album_items.specs.Places.{others_of}
 
 -- the partition tells itself that the stamp is prepared here
 abbrev pub own_vote : ℕ → ℕ → Message

@@ -7,7 +7,7 @@ use Rattle.album_partition.specs.declared.marks.Mark.{Mark}
 use Rattle.album_partition.specs.declared.marks.Mark.TheVariants.{Trimmed}
 use Rattle.album_partition.specs.Marks.{latest, floor, is_full}
 use Rattle.album_partition.specs.Partition.{PartitionState}
-use Rattle.album_partition.specs.Places.{is_placed}
+use Rattle.album_items.specs.Places.{is_placed}
 
 -- the mark that it makes: none where the floor is the latest stamp already
 abbrev pub trim_mark : PartitionState → ℕ → Result (Option Mark) Refusal

@@ -6,7 +6,7 @@ use Rattle.album_terminate.specs.Deciding.{have_told}
 use Rattle.album_terminate.specs.declared.deciding.StampState.TheVariants as state
 use Rattle.album_partition.specs.declared.marks.Mark.{Mark}
 use Rattle.album_partition.specs.Marks.{state_of, items_at}
-use Rattle.album_partition.specs.Places.{lies_at, others_of}
+use Rattle.album_items.specs.Places.{lies_at, others_of}
 
 -- a partition has told that the stamp is prepared there
 pub record NotedVote : Type 0 where

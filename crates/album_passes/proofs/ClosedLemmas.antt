@@ -15,7 +15,7 @@ use Rattle.album_items.specs.Openings.{Row}
 use Rattle.album_partition.specs.declared.marks.Mark.{Mark}
 use Rattle.album_partition.specs.declared.marks.Mark.TheVariants.{Prepared, Committed, Discarded, Trimmed}
 use Rattle.album_partition.specs.Marks.{is_mark_of, prepares, commits, discards, mark_items, items_at}
-use Rattle.album_partition.specs.Places.{is_placed, lies_at, placed_at, is_other, others_of}
+use Rattle.album_items.specs.Places.{is_placed, lies_at, placed_at, is_other, others_of}
 use Rattle.album_partition.specs.Proper.{is_among, is_proper}
 use Rattle.album_partition.proofs.GrowthLemmas.{promised_unprepared}
 use Rattle.album_partition.proofs.ListLemmas.{list_all-weaker, contains_from_any, any_from_contains, kept_in, kept_out}

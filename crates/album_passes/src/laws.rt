@@ -7,7 +7,7 @@ ghost use Rattle.album_terminate.specs.declared.deciding.StampState.TheVariants 
 ghost use Rattle.album_partition.specs.declared.marks.Mark.{Mark};
 ghost use Rattle.album_partition.specs.declared.marks.Mark.TheVariants as Made;
 ghost use Rattle.album_partition.specs.Marks.{is_mark_of, prepares, commits, discards, state_of, items_at};
-ghost use Rattle.album_partition.specs.Places.{others_of};
+ghost use Rattle.album_items.specs.Places.{others_of};
 ghost use Rattle.album_partition.specs.Proper.{is_proper};
 ghost use Rattle.album_reader.specs.Answers.{Answer};
 ghost use Rattle.album_passes.specs.Cuts.{Cut, prefix_at, announced_for, IsNamed, IsPreparedThroughout, IsPromisedSomewhere, IsBacked, IsClosedCut, IsSound, Extends};

@@ -1,7 +1,7 @@
 // What a partition sends for a stamp that is pending there.
 ghost use Rattle.std.specs.Prelude.{◌≡◌, ◌∷◌, [], IfOk, IsOkUnless};
 ghost use Rattle.album_partition.specs.Marks.{state_of, items_at};
-ghost use Rattle.album_partition.specs.Places.{others_of};
+ghost use Rattle.album_items.specs.Places.{others_of};
 ghost use Rattle.album_partition.specs.Sweeps.{own_vote, sent_by};
 
 use crate::partition::Partition;

@@ -1,7 +1,7 @@
 use Rattle.std.proofs.Common.{◌≡◌, ◌≢◌, ℕ, ◌==◌, ◌&&◌, true, false, Bool, length, refl, sym, ap, ◌∙◌}
 use Rattle.std.specs.List.{list_all}
 use Rattle.std.proofs.lemmas.Bool.Decides.{Decides-eqb}
-use Rattle.album_partition.specs.Places.{placed_at}
+use Rattle.album_items.specs.Places.{placed_at}
 use Rattle.album_partition.specs.Proper.{has_row}
 use Rattle.album_partition.proofs.ProperLemmas.{rows_counted}
 use Rattle.album_partition.proofs.proper.are_rows_of_placed.Goals as goal

@@ -1,7 +1,7 @@
 use Rattle.std.proofs.Common.{◌≡◌, ◌∙◌, true, false, sym, subst}
 use Rattle.album_partition.specs.Marks.{is_full}
 use Rattle.album_partition.specs.Partition.{PartitionState}
-use Rattle.album_partition.specs.Places.{is_placed}
+use Rattle.album_items.specs.Places.{is_placed}
 use Rattle.album_partition.specs.contracts.partition.Partition.{the_view}
 use Rattle.album_partition.proofs.PartitionLemmas.{trims_by}
 use Rattle.album_partition.proofs.partition.Partition.trim.Goals as goal

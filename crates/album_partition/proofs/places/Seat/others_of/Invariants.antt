@@ -1,6 +1,6 @@
 use Rattle.std.proofs.Common.{◌≡◌, filter}
 use Rattle.std.specs.List.{range_with_len}
-use Rattle.album_partition.specs.Places.{is_other}
+use Rattle.album_items.specs.Places.{is_other}
 use Rattle.album_partition.proofs.places.Seat.others_of.Given as goal
 
 abbrev pub invariant-loop-part : goal.invariant-loop-part

@@ -1,0 +1,7 @@
+pub mod Writing
+pub mod Told
+pub mod Rounds
+pub mod Given
+pub mod Strays
+pub mod Ready
+pub mod Steps

@@ -1,0 +1,80 @@
+-- A round of a write, how it begins, and what is sent in it.
+use Rattle.std.specs.Prelude.{ℕ, ◌+◌, List, map}
+use Rattle.album_items.specs.Openings.{Row}
+use Rattle.album_items.specs.Places.{places_of, rows_placed_at}
+use Rattle.album_items.specs.Transactions.{items_written}
+use Rattle.album_calls.specs.declared.messages.Body.TheVariants.{Request}
+use Rattle.album_calls.specs.declared.messages.Message.{Message}
+use Rattle.album_calls.specs.declared.nodes.Node.TheVariants.{Part, Client}
+use Rattle.album_calls.specs.declared.requests.Request.TheVariants.{Prepare, Commit}
+use Rattle.album_permits.specs.Effects.{effect_of}
+use Rattle.album_permits.specs.Permits.{PermitState}
+
+-- A round of a write: the permit that was spent on it, the stamp at which it writes, who writes under which tag, how
+-- many partitions there are, and those whose answers are awaited, rising.
+pub record WritingState : Type 0 where
+  pub permit : PermitState
+  pub stamp : ℕ
+  pub client : ℕ
+  pub tag : ℕ
+  pub parts : ℕ
+  pub awaited : List ℕ
+
+-- ---- what is written
+
+-- the effect of its permit at its stamp
+abbrev pub writes_in : WritingState → List Row
+writes_in writing = effect_of writing.permit writing.stamp
+
+-- the items of the whole transaction, in the order of the effect
+abbrev pub items_in : WritingState → List ℕ
+items_in writing = items_written (writes_in writing)
+
+-- the partitions concerned, rising: those of the items
+abbrev pub places_in : WritingState → List ℕ
+places_in writing = places_of writing.parts (items_in writing)
+
+-- ---- what is sent
+
+-- a Prepare, of just the writes that are placed at the partition, with the items of all
+abbrev pub prepare_to : WritingState → ℕ → Message
+prepare_to writing place = record {
+  from = Client writing.client;
+  to = Part place;
+  tag = writing.tag;
+  body = Request (Prepare writing.stamp (rows_placed_at place writing.parts (writes_in writing)) (items_in writing));
+}
+
+-- one for each partition concerned
+abbrev pub prepares_of : WritingState → List Message
+prepares_of writing = map (prepare_to writing) (places_in writing)
+
+-- a Commit
+abbrev pub commit_to : WritingState → ℕ → Message
+commit_to writing place = record {
+  from = Client writing.client;
+  to = Part place;
+  tag = writing.tag;
+  body = Request (Commit writing.stamp);
+}
+
+-- one for each partition concerned
+abbrev pub commits_of : WritingState → List Message
+commits_of writing = map (commit_to writing) (places_in writing)
+
+-- ---- how a round begins
+
+-- the round of the Prepares, before any answer
+abbrev pub prepare_round : PermitState → ℕ → ℕ → ℕ → ℕ → WritingState
+prepare_round permit stamp client tag parts = record {
+  permit = permit;
+  stamp = stamp;
+  client = client;
+  tag = tag;
+  parts = parts;
+  awaited = places_of parts (items_written (effect_of permit stamp));
+}
+
+-- the round of the Commits of the same write, under the tag one above, before any answer
+abbrev pub commit_round : WritingState → WritingState
+commit_round writing = record writing { tag = writing.tag + 1; awaited = places_in writing }

@@ -1,0 +1,146 @@
+// A write whose Prepares are sent.
+ghost use Rattle.std.specs.Prelude.{◌≡◌, List, []  , ◌∷◌, ◌++◌, length};
+ghost use Rattle.album_calls.specs.declared.messages.Message.{Message};
+ghost use Rattle.album_permits.specs.Permits.{IsPermit};
+ghost use Rattle.album_writer.specs.Given.{told_round, prepare_step_after};
+ghost use Rattle.album_writer.specs.Ready.{IsReady};
+ghost use Rattle.album_writer.specs.Rounds.{prepare_stepped};
+ghost use Rattle.album_writer.specs.Rounds.WriteStep.{Waits, Ends};
+ghost use Rattle.album_writer.specs.Steps.{step_of_prepares};
+ghost use Rattle.album_writer.specs.Strays.{IsStrayToPrepares};
+ghost use Rattle.album_writer.specs.Told.{tells_prepared};
+ghost use Rattle.album_writer.specs.Writing.{places_in};
+
+use crate::committing::Committing;
+use crate::outcomes::Outcome;
+use crate::told::Told;
+use crate::writing::Writing;
+use album_calls::Message;
+use album_permits::Permit;
+use album_stamps::Stamp;
+use std::marker::Model;
+
+/// A write whose Prepares are sent. It can't be copied; to let it go leaves the write where it stands. Contracts see the
+/// permit that was spent on it, its stamp, its client and tag, how many partitions there are, and those whose answers
+/// are awaited. Its Commits are made, so that no message to it takes memory.
+#[derive(Debug, Drop)]
+pub struct Preparing {
+    writing: Writing,
+    commits: Vec<Message>,
+    later: Vec<u16>,
+}
+
+impl Model for Preparing {
+    ghost use Rattle.album_writer.specs.Ready.{IsReady};
+    ghost use Rattle.album_writer.specs.Writing.{WritingState};
+
+    ghost Value = { WritingState };
+
+    ghost view = { λ p. p.writing };
+
+    ghost invariant = { λ p. IsReady p.writing p.commits.items p.later.items };
+}
+
+/// What comes of a message.
+#[derive(Debug, Drop)]
+pub enum PrepareStep {
+    /// The write waits for more answers.
+    Same(Preparing),
+    /// Each partition concerned has prepared, and these messages are the Commits.
+    Commit(Committing, Vec<Message>),
+    /// The write is over.
+    Ended(Outcome),
+}
+
+impl Preparing {
+    /// The round of Prepares of this write, of which the Commits are made, and the partitions listed whose answers will
+    /// be awaited then.
+    pub(crate) fn of(writing: Writing, commits: Vec<Message>, later: Vec<u16>) -> Preparing
+        requires { IsReady writing commits.items later.items }
+        ensures { result ≡ writing }
+    {
+        Preparing {
+            writing,
+            commits,
+            later,
+        }
+    }
+
+    /// Takes a message. The Commits come with the reply by which each partition concerned has prepared, one for each,
+    /// under the tag one above. A Discarded or a Full of the stamp from one of them ends the write, also from one that
+    /// has prepared. It takes no memory.
+    pub fn on_reply(self, message: &Message) -> PrepareStep
+        ensures step { step_of_prepares result ≡ prepare_stepped self message.now }
+
+        // Where the round is what a list of messages tells, the step is what these and this one tell: the Commits come
+        // once each partition concerned has told Prepared in one of them.
+        ensures all_given { (given : List Message) → self ≡ told_round tells_prepared self given
+            → step_of_prepares result ≡ prepare_step_after self given message.now }
+
+        // Nothing else changes anything.
+        ensures stray { IsStrayToPrepares self message.now → step_of_prepares result ≡ Waits self }
+    {
+        let Preparing {
+            writing,
+            commits,
+            later,
+        } = self;
+        Preparing::take(writing, commits, later, message)
+    }
+
+    /// The permit that was spent on the write.
+    pub fn permit(&self) -> &Permit
+        ensures permit { result.now ≡ self.now.permit }
+        ensures granted { IsPermit self.now.permit }
+    {
+        self.writing.permit()
+    }
+
+    /// The stamp at which it writes.
+    pub fn stamp(&self) -> Stamp
+        ensures { result ≡ self.now.stamp }
+    {
+        self.writing.stamp()
+    }
+
+    /// The tag of its Prepares.
+    pub fn tag(&self) -> u64
+        ensures { result ≡ self.now.tag }
+    {
+        self.writing.tag()
+    }
+
+    /// How many partitions are concerned, and so how many Commits it may send.
+    pub fn count(&self) -> usize
+        ensures { result ≡ length (places_in self.now) }
+    {
+        self.writing.count()
+    }
+
+    /// What comes of a message in a round that is not over.
+    fn take(
+        mut writing: Writing,
+        commits: Vec<Message>,
+        later: Vec<u16>,
+        message: &Message,
+    ) -> PrepareStep
+        requires { IsReady writing commits.items later.items }
+        ensures { step_of_prepares result ≡ prepare_stepped writing message.now }
+    {
+        match writing.told(message) {
+            Told::Prepared => {
+                writing.answered_by(message.from());
+                if writing.is_over() {
+                    PrepareStep::Commit(Committing::of(writing.next(later)), commits)
+                } else {
+                    PrepareStep::Same(Preparing::of(writing, commits, later))
+                }
+            }
+            Told::Discarded => PrepareStep::Ended(Outcome::Aborted(writing.stamp())),
+            Told::Full => PrepareStep::Ended(Outcome::Full(writing.stamp())),
+            Told::Committed | Told::Nothing => {
+                PrepareStep::Same(Preparing::of(writing, commits, later))
+            }
+        }
+    }
+}
