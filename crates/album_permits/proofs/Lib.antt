@@ -1,4 +1,5 @@
 pub mod Putting
 pub mod Agreeing
 pub mod Spending
+pub mod Transacting
 pub mod Rows

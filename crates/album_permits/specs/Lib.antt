@@ -7,3 +7,4 @@ pub mod Serving
 pub mod Changes
 pub mod Effects
 pub mod Writes
+pub mod Kinds

@@ -24,8 +24,9 @@ mod effects;
 mod merging;
 mod writes;
 
-// What holds of rulings.
+// What holds of rulings, and of what is written.
 mod laws;
+mod transactions;
 
 pub use findings::{Denial, Finding};
 pub use laws::{one_ruling, permits_are_spent_on_what_is_named, rulings_look_at_what_is_named};
@@ -33,4 +34,5 @@ pub use notes::Note;
 pub use permits::Permit;
 pub use rulings::{Ruled, Ruling, rule_on};
 pub use serving::Served;
+pub use transactions::an_effect_is_one_transaction;
 pub use writes::Writes;

@@ -129,11 +129,11 @@ to_other : (a b c : Bool) → b ≡ false → (a && b && c) ≡ false
 to_other true b c e = ap (λ (x : Bool). x && c) e
 to_other false b c e = refl
 
-is_client-other : (node : Node) (client : ℕ) → node ≢ Client client → is_client node client ≡ false
+pub is_client-other : (node : Node) (client : ℕ) → node ≢ Client client → is_client node client ≡ false
 is_client-other (Part part) client other = refl
 is_client-other (Client number) client other = ne_eqb number client (λ (e : number ≡ client). other (ap Client e))
 
-is_part-other : (node : Node) (part : ℕ) → node ≢ Part part → is_part node part ≡ false
+pub is_part-other : (node : Node) (part : ℕ) → node ≢ Part part → is_part node part ≡ false
 is_part-other (Part number) part other = ne_eqb number part (λ (e : number ≡ part). other (ap Part e))
 is_part-other (Client client) part other = refl
 
@@ -412,11 +412,11 @@ gone_body : (b : Body) (item : ℕ) → body_gone b ≡ Some item → b ≡ body
 gone_body (body.Request request) item e = absurd (cc)
 gone_body (body.Reply r) item e = ap body.Reply (gone_reply r item e)
 
-is_client-own : (node : Node) (client : ℕ) → is_client node client ≡ true → node ≡ Client client
+pub is_client-own : (node : Node) (client : ℕ) → is_client node client ≡ true → node ≡ Client client
 is_client-own (Part part) client e = absurd (cc)
 is_client-own (Client number) client e = ap Client (eqb-true number client e)
 
-is_part-own : (node : Node) (part : ℕ) → is_part node part ≡ true → node ≡ Part part
+pub is_part-own : (node : Node) (part : ℕ) → is_part node part ≡ true → node ≡ Part part
 is_part-own (Part number) part e = ap Part (eqb-true number part e)
 is_part-own (Client client) part e = absurd (cc)
 

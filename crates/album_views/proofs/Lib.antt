@@ -1,6 +1,6 @@
 pub mod Sets
 pub mod Growing
 pub mod Turns
-mod Flaws
+pub mod Flaws
 pub mod Closing
 mod Stepping

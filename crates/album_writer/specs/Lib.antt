@@ -2,6 +2,6 @@ pub mod Writing
 pub mod Told
 pub mod Rounds
 pub mod Given
-pub mod Strays
+pub mod Counting
 pub mod Ready
 pub mod Steps

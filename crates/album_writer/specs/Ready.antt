@@ -1,9 +1,17 @@
--- What a write has ready in the round of its Prepares.
-use Rattle.std.specs.Prelude.{◌≡◌, ◌≢◌, ℕ, ◌+◌, ◌<◌, ◌^◌, List, []}
+-- What a write has at hand.
+use Rattle.std.specs.Prelude.{◌≡◌, ◌≢◌, ℕ, ◌+◌, ◌<◌, ◌≤◌, ◌^◌, List, []}
+use Rattle.album_stamps.specs.declared.limits.TheConstants.{MOST_PARTS}
 use Rattle.album_calls.specs.declared.messages.Message.{Message}
 use Rattle.album_writer.specs.Writing.{WritingState, places_in, commit_round, commits_of}
 
--- some answer is awaited, and the Commits and the partitions whose answers will be awaited then are there
+-- there are neither too few partitions nor too many, and those that are concerned are there
+pub record HasPlaces (writing : WritingState) (places : List ℕ) : Type 0 where
+  pub low : 1 ≤ writing.parts
+  pub high : writing.parts ≤ MOST_PARTS
+  pub places : places ≡ places_in writing
+
+-- some answer to the Prepares is awaited, and the Commits are there, with the partitions whose answers will be awaited
+-- then
 pub record IsReady (writing : WritingState) (commits : List Message) (later : List ℕ) : Type 0 where
   pub awaited : writing.awaited ≢ []
   pub commits : commits ≡ commits_of (commit_round writing)

@@ -6,7 +6,7 @@ ghost use Rattle.album_writer.specs.Given.{told_round, commit_step_after};
 ghost use Rattle.album_writer.specs.Rounds.{commit_stepped};
 ghost use Rattle.album_writer.specs.Rounds.WriteStep.{Waits};
 ghost use Rattle.album_writer.specs.Steps.{step_of_commits};
-ghost use Rattle.album_writer.specs.Strays.{IsStrayToCommits};
+ghost use Rattle.album_writer.specs.Counting.{IsStrayToCommits};
 ghost use Rattle.album_writer.specs.Told.{tells_committed};
 
 use crate::outcomes::Outcome;

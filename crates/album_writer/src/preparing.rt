@@ -1,13 +1,13 @@
 // A write whose Prepares are sent.
-ghost use Rattle.std.specs.Prelude.{◌≡◌, List, []  , ◌∷◌, ◌++◌, length};
+ghost use Rattle.std.specs.Prelude.{◌≡◌, List, [], ◌∷◌, ◌++◌, length};
 ghost use Rattle.album_calls.specs.declared.messages.Message.{Message};
 ghost use Rattle.album_permits.specs.Permits.{IsPermit};
 ghost use Rattle.album_writer.specs.Given.{told_round, prepare_step_after};
 ghost use Rattle.album_writer.specs.Ready.{IsReady};
 ghost use Rattle.album_writer.specs.Rounds.{prepare_stepped};
-ghost use Rattle.album_writer.specs.Rounds.WriteStep.{Waits, Ends};
+ghost use Rattle.album_writer.specs.Rounds.WriteStep.{Waits};
 ghost use Rattle.album_writer.specs.Steps.{step_of_prepares};
-ghost use Rattle.album_writer.specs.Strays.{IsStrayToPrepares};
+ghost use Rattle.album_writer.specs.Counting.{IsStrayToPrepares};
 ghost use Rattle.album_writer.specs.Told.{tells_prepared};
 ghost use Rattle.album_writer.specs.Writing.{places_in};
 
@@ -114,7 +114,7 @@ impl Preparing {
     pub fn count(&self) -> usize
         ensures { result ≡ length (places_in self.now) }
     {
-        self.writing.count()
+        self.writing.places().len()
     }
 
     /// What comes of a message in a round that is not over.

@@ -1,5 +1,5 @@
 // One round of a write.
-ghost use Rattle.std.specs.Prelude.{◌≡◌, ◌+◌, ◌<◌, ◌^◌, ◌==◌, length};
+ghost use Rattle.std.specs.Prelude.{◌≡◌, ◌≤◌, ◌+◌, ◌<◌, ◌^◌, ◌==◌, IfOk, IfErr, length};
 ghost use Rattle.std.specs.List.{list_any};
 ghost use Rattle.album_items.specs.Places.{places_of};
 ghost use Rattle.album_items.specs.Transactions.{items_written};
@@ -8,16 +8,19 @@ ghost use Rattle.album_permits.specs.Effects.{effect_of};
 ghost use Rattle.album_permits.specs.Permits.{IsPermit};
 ghost use Rattle.album_writer.specs.Rounds.{answered_by};
 ghost use Rattle.album_writer.specs.Told.{concerns, told_of};
-ghost use Rattle.album_writer.specs.Writing.{places_in, commit_round};
+ghost use Rattle.album_writer.specs.Writing.{writes_in, places_in, prepare_round, commit_round};
 
+use crate::sending::items_written;
 use crate::told::Told;
 use album_calls::{Message, Node};
+use album_items::{ItemId, Value, places_of};
 use album_permits::{Permit, Writes};
-use album_stamps::{ClientNo, Stamp};
+use album_stamps::{ClientNo, MOST_PARTS, Refusal, Refused, Stamp};
+use std::alloc::{AllocError, Global};
 use std::marker::Model;
 
-/// One round of a write. Contracts see its permit and stamp, its client and tag, how many partitions there are, and
-/// those whose answers are awaited.
+/// One round of a write. Contracts see its permit and its stamp, its client and its tag, how many partitions there are,
+/// and those whose answers are awaited.
 #[derive(Debug)]
 pub struct Writing {
     writes: Writes,
@@ -29,9 +32,7 @@ pub struct Writing {
 }
 
 impl Model for Writing {
-    ghost use Rattle.album_items.specs.Places.{places_of};
-    ghost use Rattle.album_items.specs.Transactions.{items_written};
-    ghost use Rattle.album_permits.specs.Effects.{effect_of};
+    ghost use Rattle.album_writer.specs.Ready.{HasPlaces};
     ghost use Rattle.album_writer.specs.Writing.{WritingState};
 
     ghost Value = { WritingState };
@@ -45,53 +46,51 @@ impl Model for Writing {
         awaited = w.awaited.items;
     } };
 
-    ghost invariant = { λ w. w.places.items ≡ places_of w.parts (items_written (effect_of w.writes.permit w.writes.stamp)) };
+    ghost invariant = { λ w. HasPlaces (record {
+        permit = w.writes.permit;
+        stamp = w.writes.stamp;
+        client = w.client;
+        tag = w.tag;
+        parts = w.parts;
+        awaited = w.awaited.items;
+    }) w.places.items };
 }
 
-// A write that is let go stands where it is; its permit is given back to nobody.
+// By hand, since a permit has to be spent: what is let go stands where it is.
 impl Drop for Writing {
     fn drop(self) {
-        let Writing {
-            writes,
-            client: _,
-            tag: _,
-            parts: _,
-            places,
-            awaited,
-        } = self;
-        drop(writes.back().give_back());
-        drop(places);
-        drop(awaited);
+        drop(self.give_up().give_back());
     }
 }
 
 impl Writing {
-    /// The round of these writes, of which the partitions and those that are awaited are given.
-    pub fn new(
+    /// The round of the Prepares of these writes, or `OutOfMemory` and the permit.
+    pub fn first(
+        alloc: Global,
         writes: Writes,
         client: ClientNo,
         tag: u64,
         parts: u16,
-        places: Vec<u16>,
-        awaited: Vec<u16>,
-    ) -> Writing
-        requires { places.items ≡ places_of parts (items_written (effect_of writes.permit writes.stamp)) }
-        ensures { result ≡ record {
-            permit = writes.permit;
-            stamp = writes.stamp;
-            client = client;
-            tag = tag;
-            parts = parts;
-            awaited = awaited.items;
-        } }
+    ) -> Result<Writing, Refused<Permit>>
+        requires low { 1 ≤ parts }
+        requires high { parts ≤ MOST_PARTS }
+        ensures writing { IfOk result (λ writing. writing ≡ prepare_round writes.permit writes.stamp client tag parts) }
+        ensures refusal { IfErr result (λ e. e.refusal ≡ Refusal.OutOfMemory) }
+        ensures given { IfErr result (λ e. e.given ≡ writes.permit) }
     {
-        Writing {
-            writes,
-            client,
-            tag,
-            parts,
-            places,
-            awaited,
+        match places(alloc, &writes, parts) {
+            Ok((places, awaited)) => Ok(Writing {
+                writes,
+                client,
+                tag,
+                parts,
+                places,
+                awaited,
+            }),
+            Err(_) => Err(Refused {
+                refusal: Refusal::OutOfMemory,
+                given: writes.back(),
+            }),
         }
     }
 
@@ -131,7 +130,7 @@ impl Writing {
         }
     }
 
-    /// Whether one of the partitions concerned sends the message to the write's client, under its tag.
+    /// Whether one of the partitions concerned sends the message to the write's client, under the tag of the round.
     fn concerns(&self, message: &Message) -> bool
         ensures { result ≡ concerns self.now message.now }
     {
@@ -160,25 +159,20 @@ impl Writing {
         self.awaited.is_empty()
     }
 
-    /// How many partitions are concerned.
-    pub fn count(&self) -> usize
-        ensures { result ≡ length (places_in self.now) }
+    /// What is written, in order.
+    pub fn list(&self) -> &[(ItemId, Value)]
+        ensures { result.now ≡ writes_in self.now }
     {
-        self.places.len()
+        self.writes.list()
     }
 
-    /// The stamp at which it writes.
-    pub fn stamp(&self) -> Stamp
-        ensures { result ≡ self.now.stamp }
+    /// The partitions concerned, rising. There are neither too few partitions nor too many.
+    pub fn places(&self) -> &[u16]
+        ensures places { result.now ≡ places_in self.now }
+        ensures low { 1 ≤ self.now.parts }
+        ensures high { self.now.parts ≤ MOST_PARTS }
     {
-        self.writes.stamp()
-    }
-
-    /// The tag of the round.
-    pub fn tag(&self) -> u64
-        ensures { result ≡ self.now.tag }
-    {
-        self.tag
+        self.places.as_slice()
     }
 
     /// The permit that was spent on it.
@@ -188,4 +182,62 @@ impl Writing {
     {
         self.writes.permit()
     }
+
+    /// The stamp at which it writes.
+    pub fn stamp(&self) -> Stamp
+        ensures { result ≡ self.now.stamp }
+    {
+        self.writes.stamp()
+    }
+
+    /// Who writes.
+    pub fn client(&self) -> ClientNo
+        ensures { result ≡ self.now.client }
+    {
+        self.client
+    }
+
+    /// The tag of the round.
+    pub fn tag(&self) -> u64
+        ensures { result ≡ self.now.tag }
+    {
+        self.tag
+    }
+
+    /// How many partitions there are.
+    pub fn parts(&self) -> u16
+        ensures { result ≡ self.now.parts }
+    {
+        self.parts
+    }
+
+    /// Gives the permit back, and the write up.
+    pub fn give_up(self) -> Permit
+        ensures { result ≡ self.permit }
+    {
+        let Writing {
+            writes,
+            client: _,
+            tag: _,
+            parts: _,
+            places,
+            awaited,
+        } = self;
+        drop(places);
+        drop(awaited);
+        writes.back()
+    }
+}
+
+/// The partitions of the items that are written, rising, twice.
+fn places(alloc: Global, writes: &Writes, parts: u16) -> Result<(Vec<u16>, Vec<u16>), AllocError>
+    requires low { 1 ≤ parts }
+    requires high { parts ≤ MOST_PARTS }
+    ensures { IfOk result (λ r. (r.0.items ≡ places_of parts (items_written (effect_of writes.now.permit writes.now.stamp)))
+        × (r.1.items ≡ r.0.items)) }
+{
+    let items = items_written(alloc, writes.list())?;
+    let places = places_of(alloc, parts, items.as_slice())?;
+    let again = places.clone()?;
+    Ok((places, again))
 }

@@ -1,0 +1,59 @@
+-- The last answer of a round, and the answers before it, for `take` of both rounds.
+use Rattle.std.proofs.Common.{◌≡◌, ◌≢◌, ℕ, suc, ◌==◌, ◌+◌, length, arith, eqb-true, Bool, true, false, not, List, [], ◌∷◌, filter, refl, sym, ap, ◌∙◌}
+use Rattle.album_calls.specs.declared.messages.Message.{Message}
+use Rattle.album_writer.specs.declared.told.Told.{Told}
+use Rattle.album_writer.specs.declared.told.Told.TheVariants as told
+use Rattle.album_writer.specs.declared.outcomes.Outcome.TheVariants as outcome
+use Rattle.album_writer.specs.Ready.{IsReady}
+use Rattle.album_writer.specs.Rounds.{WriteStep, answered_by, prepares_left, prepares_by, prepare_stepped, commits_left, commits_by, commit_stepped}
+use Rattle.album_writer.specs.Rounds.WriteStep.{Waits, Commits, Ends}
+use Rattle.album_writer.specs.Told.{told_of}
+use Rattle.album_writer.specs.Writing.{WritingState, commit_round, commits_of}
+
+none_left : (ns : List ℕ) → (length ns == 0) ≡ true → ns ≡ []
+none_left [] h = refl
+none_left (n ∷ ns) h = let e : suc (length ns) ≡ 0 = eqb-true (suc (length ns)) 0 h in absurd (omega arith)
+
+pub some_left : (ns : List ℕ) → (length ns == 0) ≡ false → ns ≢ []
+some_left [] h = absurd (cc)
+some_left (n ∷ ns) h = λ e. absurd (cc)
+
+module _ (x next : WritingState) (m : Message) (what : Told) (is : what ≡ told_of x m) (answered : next ≡ answered_by x m.from) where
+  pub all_prepared :
+      (messages : List Message) → what ≡ told.Prepared → (length next.awaited == 0) ≡ true
+      → messages ≡ commits_of (commit_round x)
+      → Commits (commit_round next) messages ≡ prepare_stepped x m
+  all_prepared messages e h sent =
+      ap (λ (z : WritingState). Commits (commit_round z) messages) answered
+      ∙ ap (Commits (commit_round x)) sent
+      ∙ ap (prepares_left (answered_by x m.from)) (sym (none_left (answered_by x m.from).awaited (ap (λ (z : WritingState). length z.awaited == 0) (sym answered) ∙ h)))
+      ∙ ap (prepares_by x m.from) (sym e ∙ is)
+
+  pub some_prepared : what ≡ told.Prepared → (length next.awaited == 0) ≡ false → Waits next ≡ prepare_stepped x m
+  some_prepared e h =
+      ap Waits answered
+      ∙ go (answered_by x m.from).awaited (ap (λ (z : WritingState). length z.awaited == 0) (sym answered) ∙ h)
+      ∙ ap (prepares_by x m.from) (sym e ∙ is)
+    where
+      go :
+          (ns : List ℕ) → (length ns == 0) ≡ false → Waits (answered_by x m.from) ≡ prepares_left (answered_by x m.from) ns
+      go [] k = absurd (cc)
+      go (n ∷ ns) k = refl
+
+  pub all_committed :
+      what ≡ told.Committed → (length next.awaited == 0) ≡ true → Ends (outcome.Committed next.stamp) ≡ commit_stepped x m
+  all_committed e h =
+      ap (λ (z : WritingState). Ends (outcome.Committed z.stamp)) answered
+      ∙ ap (commits_left (answered_by x m.from)) (sym (none_left (answered_by x m.from).awaited (ap (λ (z : WritingState). length z.awaited == 0) (sym answered) ∙ h)))
+      ∙ ap (commits_by x m.from) (sym e ∙ is)
+
+  pub some_committed : what ≡ told.Committed → (length next.awaited == 0) ≡ false → Waits next ≡ commit_stepped x m
+  some_committed e h =
+      ap Waits answered
+      ∙ go (answered_by x m.from).awaited (ap (λ (z : WritingState). length z.awaited == 0) (sym answered) ∙ h)
+      ∙ ap (commits_by x m.from) (sym e ∙ is)
+    where
+      go :
+          (ns : List ℕ) → (length ns == 0) ≡ false → Waits (answered_by x m.from) ≡ commits_left (answered_by x m.from) ns
+      go [] k = absurd (cc)
+      go (n ∷ ns) k = refl

@@ -1,0 +1,141 @@
+-- How far a write is depends on the messages that were given: `prepare-told` and `commit-told`, for the clauses
+-- `all_given` and the law `a_write_is_what_it_was_told`.
+use Rattle.std.proofs.Common.{◌≡◌, ℕ, Bool, true, false, not, ◌&&◌, ◌||◌, cond, List, [], ◌∷◌, ◌++◌, filter, refl, sym, ap, ◌∙◌}
+use Rattle.std.specs.List.{list_any}
+use Rattle.std.proofs.Math.Bool.{or-false}
+use Rattle.std.proofs.lemmas.List.Folds.{list_any-append}
+use Rattle.album_calls.specs.Nodes.{is_part}
+use Rattle.album_calls.specs.declared.messages.Message.{Message}
+use Rattle.album_permits.specs.Permits.{PermitState}
+use Rattle.album_writer.specs.declared.told.Told.{Told}
+use Rattle.album_writer.specs.declared.told.Told.TheVariants as told
+use Rattle.album_writer.specs.Given.{has_told, told_round, prepares_then, prepare_step_after, commits_then, commit_step_after}
+use Rattle.album_writer.specs.Rounds.{WriteStep, prepares_left, prepares_by, prepare_stepped, commits_left, commits_by, commit_stepped}
+use Rattle.album_writer.specs.Rounds.WriteStep.{Waits}
+use Rattle.album_writer.specs.Told.{told_of, tells_prepared, tells_committed}
+use Rattle.album_writer.specs.Writing.{WritingState, places_in, prepare_round, commit_round}
+
+-- ---- filters
+
+pub filter_all : (test : ℕ → Bool) → ((n : ℕ) → test n ≡ true) → (ns : List ℕ) → ns ≡ filter test ns
+filter_all test all [] = refl
+filter_all test all (n ∷ ns) =
+    ap (λ (z : List ℕ). n ∷ z) (filter_all test all ns)
+    ∙ ap (λ (b : Bool). cond b (n ∷ filter test ns) (filter test ns)) (sym (all n))
+
+filter_twice :
+    (p q r : ℕ → Bool) → ((n : ℕ) → r n ≡ (q n && p n)) → (ns : List ℕ) → filter p (filter q ns) ≡ filter r ns
+filter_twice p q r both [] = refl
+filter_twice p q r both (n ∷ ns) = go (q n) (p n) (r n) (both n) refl refl (filter_twice p q r both ns)
+  where
+    go :
+        (a b c : Bool) → c ≡ (a && b) → q n ≡ a → p n ≡ b → filter p (filter q ns) ≡ filter r ns
+        → filter p (cond a (n ∷ filter q ns) (filter q ns)) ≡ cond c (n ∷ filter r ns) (filter r ns)
+    go true true c e f g rec = rw (e, g) (ap (λ (z : List ℕ). n ∷ z) rec)
+    go true false c e f g rec = rw (e, g) rec
+    go false b c e f g rec = rw e rec
+
+filter_alike : (p q : ℕ → Bool) → ((n : ℕ) → p n ≡ q n) → (ns : List ℕ) → filter p ns ≡ filter q ns
+filter_alike p q same [] = refl
+filter_alike p q same (n ∷ ns) =
+    ap (λ (b : Bool). cond b (n ∷ filter p ns) (filter p ns)) (same n)
+    ∙ ap (λ (z : List ℕ). cond (q n) (n ∷ z) z) (filter_alike p q same ns)
+
+not_or : (a b : Bool) → not (a || b) ≡ (not a && not b)
+not_or true b = refl
+not_or false b = refl
+
+-- ---- one message more
+
+module _ (tells : Told → Bool) (x : WritingState) (given : List Message) (m : Message) where
+  abbrev unheard : List Message → List ℕ
+  unheard ms = filter (λ place. not (has_told tells x ms place)) (places_in x)
+
+  pushed :
+      (n : ℕ)
+      → has_told tells x (given ++ m ∷ []) n ≡ (has_told tells x given n || (tells (told_of x m) && is_part m.from n))
+  pushed n =
+      list_any-append (λ (message : Message). tells (told_of x message) && is_part message.from n) given (m ∷ [])
+      ∙ ap (λ (b : Bool). has_told tells x given n || b) (or-false (tells (told_of x m) && is_part m.from n))
+
+  -- who answers is awaited no longer
+  answer-push :
+      tells (told_of x m) ≡ true
+      → filter (λ place. not (is_part m.from place)) (unheard given) ≡ unheard (given ++ m ∷ [])
+  answer-push e =
+      filter_twice (λ place. not (is_part m.from place)) (λ place. not (has_told tells x given place))
+      (λ place. not (has_told tells x (given ++ m ∷ []) place))
+      (λ n. ap not (pushed n ∙ ap (λ (b : Bool). has_told tells x given n || (b && is_part m.from n)) e)
+      ∙ not_or (has_told tells x given n) (is_part m.from n))
+      (places_in x)
+
+  -- another message changes nothing
+  other-push : tells (told_of x m) ≡ false → unheard given ≡ unheard (given ++ m ∷ [])
+  other-push e =
+      filter_alike (λ place. not (has_told tells x given place))
+      (λ place. not (has_told tells x (given ++ m ∷ []) place))
+      (λ n. ap not (sym (pushed n ∙ ap (λ (b : Bool). has_told tells x given n || (b && is_part m.from n)) e
+      ∙ or-false (has_told tells x given n))))
+      (places_in x)
+
+-- ---- how a round begins
+
+pub first-told :
+    (permit : PermitState) (stamp client tag parts : ℕ)
+    → prepare_round permit stamp client tag parts
+    ≡ told_round tells_prepared (prepare_round permit stamp client tag parts) []
+first-told permit stamp client tag parts =
+    ap (λ (z : List ℕ). let a : WritingState = record (prepare_round permit stamp client tag parts) { awaited = z } in a)
+    (filter_all (λ place. true) (λ n. refl) (places_in (prepare_round permit stamp client tag parts)))
+
+pub second-told : (x : WritingState) → commit_round x ≡ told_round tells_committed (commit_round x) []
+second-told x =
+    ap (λ (z : List ℕ). let a : WritingState = record (commit_round x) { awaited = z } in a)
+    (filter_all (λ place. true) (λ n. refl) (places_in x))
+
+-- ---- what comes of a message
+
+module _ (x : WritingState) (given : List Message) (m : Message) where
+  abbrev with : List ℕ → WritingState
+  with z = record x { awaited = z }
+
+  pub prepare-told : prepare_stepped (told_round tells_prepared x given) m ≡ prepare_step_after x given m
+  prepare-told = go (told_of x m) refl
+    where
+      go :
+          (what : Told) → told_of x m ≡ what
+          → prepares_by (told_round tells_prepared x given) m.from what
+          ≡ prepares_then (told_round tells_prepared x (given ++ m ∷ [])) what
+      go told.Prepared e =
+          ap (λ (z : List ℕ). prepares_left (with z) z) (answer-push tells_prepared x given m (ap tells_prepared e))
+      go told.Committed e = ap (λ (z : List ℕ). Waits (with z)) (other-push tells_prepared x given m (ap tells_prepared e))
+      go told.Discarded e = refl
+      go told.Full e = refl
+      go told.Nothing e = ap (λ (z : List ℕ). Waits (with z)) (other-push tells_prepared x given m (ap tells_prepared e))
+
+  pub commit-told : commit_stepped (told_round tells_committed x given) m ≡ commit_step_after x given m
+  commit-told = go (told_of x m) refl
+    where
+      go :
+          (what : Told) → told_of x m ≡ what
+          → commits_by (told_round tells_committed x given) m.from what
+          ≡ commits_then (told_round tells_committed x (given ++ m ∷ [])) what
+      go told.Prepared e = ap (λ (z : List ℕ). Waits (with z)) (other-push tells_committed x given m (ap tells_committed e))
+      go told.Committed e =
+          ap (λ (z : List ℕ). commits_left (with z) z) (answer-push tells_committed x given m (ap tells_committed e))
+      go told.Discarded e = ap (λ (z : List ℕ). Waits (with z)) (other-push tells_committed x given m (ap tells_committed e))
+      go told.Full e = ap (λ (z : List ℕ). Waits (with z)) (other-push tells_committed x given m (ap tells_committed e))
+      go told.Nothing e = ap (λ (z : List ℕ). Waits (with z)) (other-push tells_committed x given m (ap tells_committed e))
+
+-- the clauses: what a step is by the round's own fields, it is by the messages given
+pub prepare-step :
+    (x : WritingState) (m : Message) (step : WriteStep) → step ≡ prepare_stepped x m
+    → (given : List Message) → x ≡ told_round tells_prepared x given → step ≡ prepare_step_after x given m
+prepare-step x m step e given same =
+    e ∙ ap (λ (z : WritingState). prepare_stepped z m) same ∙ prepare-told x given m
+
+pub commit-step :
+    (x : WritingState) (m : Message) (step : WriteStep) → step ≡ commit_stepped x m
+    → (given : List Message) → x ≡ told_round tells_committed x given → step ≡ commit_step_after x given m
+commit-step x m step e given same =
+    e ∙ ap (λ (z : WritingState). commit_stepped z m) same ∙ commit-told x given m

@@ -1,0 +1,84 @@
+// How a write begins.
+ghost use Rattle.std.specs.Prelude.{◌≡◌, ◌+◌, ◌<◌, ◌≤◌, ◌^◌, Some, IfOk, IfErr, IsTrue, IsOkUnless, false, if◌then◌else◌};
+ghost use Rattle.album_stamps.specs.Stamps.{client_of};
+ghost use Rattle.album_stamps.specs.declared.refusals.Refusal.TheVariants.{OutOfMemory, AlbumFull};
+ghost use Rattle.album_permits.specs.Effects.{is_write, is_full_for};
+ghost use Rattle.album_writer.specs.Writing.{places_in, prepare_round, prepares_of, commit_round, commits_of};
+
+use crate::preparing::Preparing;
+use crate::writing::Writing;
+use album_calls::Message;
+use album_permits::Permit;
+use album_stamps::{ClientNo, MOST_PARTS, Refusal, Refused, Stamp};
+use std::alloc::Global;
+
+impl Preparing {
+    /// Spends the permit on a write at the stamp: one Prepare for each partition of the items that its ask writes, in
+    /// rising order, each with just the writes that are placed there and with the items of all. Together they are what
+    /// the permit's ask writes at the stamp. The Commits are made too, and all room, so nothing later wants memory.
+    ///
+    /// # Errors
+    ///
+    /// `AlbumFull` where the album that gets a child has `MOST_CHILDREN` others, and only there; else `OutOfMemory`.
+    /// The permit is handed back.
+    pub fn begin(
+        alloc: Global,
+        permit: Permit,
+        stamp: Stamp,
+        client: ClientNo,
+        tag: u64,
+        parts: u16,
+    ) -> Result<(Preparing, Vec<Message>), Refused<Permit>>
+        requires change { IsTrue (is_write permit.view.ask) }
+        requires own { client_of stamp ≡ Some client }
+        requires low { 1 ≤ parts }
+        requires high { parts ≤ MOST_PARTS }
+        requires low_tag { 1 ≤ tag }
+        requires high_tag { tag + 1 < 2 ^ 64 }
+        ensures preparing { IfOk result (λ r. r.0 ≡ prepare_round permit stamp client tag parts) }
+        ensures messages { IfOk result (λ r. r.1.items ≡ prepares_of (prepare_round permit stamp client tag parts)) }
+        ensures room { IfOk result (λ _. is_full_for permit stamp ≡ false) }
+        ensures refusal { IfErr result (λ e.
+            e.refusal ≡ (if is_full_for permit stamp then AlbumFull else OutOfMemory)) }
+        ensures given { IfErr result (λ e. e.given ≡ permit) }
+    {
+        let writes = permit.effect(alloc, stamp)?;
+        let writing = Writing::first(alloc, writes, client, tag, parts)?;
+        match plan_of(alloc, &writing) {
+            Ok(Plan {
+                prepares,
+                commits,
+                later,
+            }) => Ok((Preparing::of(writing, commits, later), prepares)),
+            Err(refusal) => Err(Refused {
+                refusal,
+                given: writing.give_up(),
+            }),
+        }
+    }
+}
+
+/// What a write sends, and the partitions whose answers to its Commits will be awaited.
+#[derive(Drop)]
+struct Plan {
+    prepares: Vec<Message>,
+    commits: Vec<Message>,
+    later: Vec<u16>,
+}
+
+fn plan_of(alloc: Global, writing: &Writing) -> Result<Plan, Refusal>
+    requires { writing.now.tag + 1 < 2 ^ 64 }
+    ensures prepares { IfOk result (λ plan. plan.prepares.items ≡ prepares_of writing.now) }
+    ensures commits { IfOk result (λ plan. plan.commits.items ≡ commits_of (commit_round writing.now)) }
+    ensures later { IfOk result (λ plan. plan.later.items ≡ places_in writing.now) }
+    ensures memory { IsOkUnless result Refusal.OutOfMemory }
+{
+    let prepares = writing.prepares(alloc)?;
+    let commits = writing.commits(alloc)?;
+    let later = Vec::from_slice(alloc, writing.places())?;
+    Ok(Plan {
+        prepares,
+        commits,
+        later,
+    })
+}
