@@ -1,5 +1,5 @@
--- What a permit writes is what one transaction may write: `effect-items` and `effect-kinds`, for the law
--- `an_effect_is_one_transaction`; `effect-some` is for whoever begins a write.
+-- What a permit writes is what one transaction may write: `effect_items` and `effect_kinds`, for the law
+-- `an_effect_is_one_transaction`; `Permit::effect` needs `effect_items` too.
 use Rattle.std.proofs.Common.{◌≡◌, ◌≢◌, ◌++◌, ◌==◌, ◌||◌, ◌&&◌, not, ℕ, zero, suc, ◌+◌, ◌<◌, ◌≤◌, nat_le, List, [], ◌∷◌, Bool, true, false, Option, Some, None, is_none, IsTrue, cond, fold, map, find, option_map, length, refl, sym, ap, subst, ◌∙◌, arith, eqb-true, true≢false}
 use Rattle.std.specs.List.{list_any, list_all, flat_map}
 use Rattle.std.specs.Option.{option_map_or}
@@ -8,6 +8,7 @@ use Rattle.std.proofs.lemmas.List.{length-append, length-map}
 use Rattle.album_stamps.specs.Distinct.{are_single}
 use Rattle.album_stamps.specs.declared.refusals.Refusal.{Refusal}
 use Rattle.album_lists.specs.Whos.{or_else}
+use Rattle.album_lists.specs.declared.lists.Holder.TheVariants.{Plain, Folder}
 use Rattle.album_lists.specs.declared.whos.Member.{Member}
 use Rattle.album_eval.specs.declared.facts.Principal.{Principal}
 use Rattle.album_items.specs.ItemBack.{kind_of-item}
@@ -28,7 +29,7 @@ use Rattle.album_views.specs.declared.asks.NewList.{NewList}
 use Rattle.album_listing.specs.Basis.{Basis}
 use Rattle.album_listing.specs.Masks.{WRITE_ACL}
 use Rattle.album_permits.specs.Changes.{with_title, with_content, with_home, with_owner, with_members, without_child, with_child}
-use Rattle.album_permits.specs.Effects.{Write, is_write, list_dropped, taken_out, list_written, written, put, merged, effect_of}
+use Rattle.album_permits.specs.Effects.{Write, is_write, new_head, heritage, list_dropped, taken_out, list_written, written, put, merged, effect_of}
 use Rattle.album_permits.specs.Findings.{and_then_found, is_missing, missing_in, reasons_of, found_by, need_found, needs_found, ruling_of}
 use Rattle.album_permits.specs.Kinds.{shows_right_kinds}
 use Rattle.album_permits.specs.Needs.{just, needs_of}
@@ -134,7 +135,7 @@ module _ (shown : ℕ → Value) (p : Principal) (stamp : ℕ) where
   few-at : (new : NewList) → length (list_written shown new) ≤ 1
   few-at new = go (shown new.object)
     where
-      go : (v : Value) → length (map (λ (item : ℕ). (item, value.List new.list)) (list_of v)) ≤ 1
+      go : (v : Value) → length {A = Write} (map (λ (item : ℕ). (item, value.List new.list)) (list_of v)) ≤ 1
       go value.Missing = omega arith
       go (value.Picture x) = omega arith
       go (value.Album x) = omega arith
@@ -146,14 +147,14 @@ module _ (shown : ℕ → Value) (p : Principal) (stamp : ℕ) where
   few-lists (new ∷ lists) =
       omega (arith, few-at new, few-lists lists, length-append (list_written shown new) (flat_map (list_written shown) lists))
 
-  few-deleted : (object : ℕ) (v : Value) → length (map (λ (item : ℕ). (item, value.Missing)) (list_of v) ++ map (λ (home : ℕ). (home, without_child object (shown home))) (home_of v)) ≤ 2
+  few-deleted : (object : ℕ) (v : Value) → length {A = Write} (map (λ (item : ℕ). (item, value.Missing)) (list_of v) ++ map (λ (home : ℕ). (home, without_child object (shown home))) (home_of v)) ≤ 2
   few-deleted object value.Missing = omega arith
   few-deleted object (value.Picture x) = omega arith
   few-deleted object (value.Album x) = omega arith
   few-deleted object (value.List x) = omega arith
   few-deleted object (value.Group x) = omega arith
 
-  few-moved : (object to : ℕ) (v : Value) → length (map (λ (home : ℕ). (home, without_child object (shown home))) (home_of v) ++ (to, with_child object (shown to)) ∷ []) ≤ 2
+  few-moved : (object to : ℕ) (v : Value) → length {A = Write} (map (λ (home : ℕ). (home, without_child object (shown home))) (home_of v) ++ (to, with_child object (shown to)) ∷ []) ≤ 2
   few-moved object to value.Missing = omega arith
   few-moved object to (value.Picture x) = omega arith
   few-moved object to (value.Album x) = omega arith
@@ -193,7 +194,7 @@ module _ (basis : Basis) (p : Principal) (stamp : ℕ) where
       go :
           (v : Value)
           → found_by (cond (is_none (head_of v)) (Some new.object) None) (reasons_of basis (just new.object WRITE_ACL)) ≡ Granted
-          → 1 ≤ length (map (λ (item : ℕ). (item, value.List new.list)) (list_of v))
+          → 1 ≤ length {A = Write} (map (λ (item : ℕ). (item, value.List new.list)) (list_of v))
       go value.Missing e = absurd (cc)
       go (value.Picture x) e = omega arith
       go (value.Album x) e = omega arith
@@ -215,7 +216,7 @@ module _ (basis : Basis) (p : Principal) (stamp : ℕ) where
   some-written (ask.SetLists []) change some granted = absurd (some refl)
   some-written (ask.SetLists (new ∷ lists)) change some granted =
       let met : need_found basis (just new.object WRITE_ACL) ≡ Granted =
-          need-met (need_found basis (just new.object WRITE_ACL)) (needs_found basis (needs_of basis.seen (ask.SetLists lists))) granted
+      need-met (need_found basis (just new.object WRITE_ACL)) (needs_found basis (needs_of basis.seen (ask.SetLists lists))) granted
       in
       omega (arith, some-at new met, length-append (list_written basis.seen new) (flat_map (list_written basis.seen) lists))
   some-written (ask.SetOwner object owner group) change some granted = omega arith
@@ -298,84 +299,111 @@ both-right (write ∷ one) other h k =
 module _
     (shown : ℕ → Value) (right : (item : ℕ) → is_of (shown item) (kind_of item) ≡ true) (p : Principal) (stamp : ℕ)
   where
-  dropped-right : (object : ℕ) → list_all has_right_kind (list_dropped shown object) ≡ true
-  dropped-right object = go (shown object)
-    where
-      go : (v : Value) → list_all has_right_kind (map (λ (item : ℕ). (item, value.Missing)) (list_of v)) ≡ true
-      go value.Missing = refl
-      go (value.Picture x) = refl
-      go (value.Album x) = refl
-      go (value.List x) = refl
-      go (value.Group x) = refl
+    dropped-right : (object : ℕ) → list_all has_right_kind (list_dropped shown object) ≡ true
+    dropped-right object = go (shown object)
+      where
+        go : (v : Value) → list_all has_right_kind (map (λ (item : ℕ). (item, value.Missing)) (list_of v)) ≡ true
+        go value.Missing = refl
+        go (value.Picture x) = refl
+        go (value.Album x) = refl
+        go (value.List x) = refl
+        go (value.Group x) = refl
 
-  taken-right : (object : ℕ) → list_all has_right_kind (taken_out shown object) ≡ true
-  taken-right object = go (shown object)
-    where
-      out : (home : ℕ) → list_all has_right_kind ((home, without_child object (shown home)) ∷ []) ≡ true
-      out home =
-          one-right (home, without_child object (shown home))
-          (kept-without object (shown home) (kind_of home) (right home))
+    taken-right : (object : ℕ) → list_all has_right_kind (taken_out shown object) ≡ true
+    taken-right object = go (shown object)
+      where
+        out : (home : ℕ) → list_all has_right_kind ((home, without_child object (shown home)) ∷ []) ≡ true
+        out home =
+            one-right (home, without_child object (shown home))
+            (kept-without object (shown home) (kind_of home) (right home))
 
-      go :
-          (v : Value)
-          → list_all has_right_kind (map (λ (home : ℕ). (home, without_child object (shown home))) (home_of v)) ≡ true
-      go value.Missing = refl
-      go (value.Picture x) = out (album x.home)
-      go (value.Album x) = refl
-      go (value.List x) = refl
-      go (value.Group x) = refl
+        go :
+            (v : Value)
+            → list_all has_right_kind (map (λ (home : ℕ). (home, without_child object (shown home))) (home_of v)) ≡ true
+        go value.Missing = refl
+        go (value.Picture x) = out (album x.home)
+        go (value.Album x) = refl
+        go (value.List x) = refl
+        go (value.Group x) = refl
 
-  listed-right : (new : NewList) → list_all has_right_kind (list_written shown new) ≡ true
-  listed-right new = go (shown new.object)
-    where
-      out : (number : ℕ) → list_all has_right_kind ((list number, value.List new.list) ∷ []) ≡ true
-      out number = one-right (list number, value.List new.list) (own-code 2 number (omega arith))
+    listed-right : (new : NewList) → list_all has_right_kind (list_written shown new) ≡ true
+    listed-right new = go (shown new.object)
+      where
+        out : (number : ℕ) → list_all has_right_kind ((list number, value.List new.list) ∷ []) ≡ true
+        out number = one-right (list number, value.List new.list) (own-code 2 number (omega arith))
 
-      go : (v : Value) → list_all has_right_kind (map (λ (item : ℕ). (item, value.List new.list)) (list_of v)) ≡ true
-      go value.Missing = refl
-      go (value.Picture x) = out x.head.list
-      go (value.Album x) = out x.head.list
-      go (value.List x) = refl
-      go (value.Group x) = out x.head.list
+        go : (v : Value) → list_all has_right_kind (map (λ (item : ℕ). (item, value.List new.list)) (list_of v)) ≡ true
+        go value.Missing = refl
+        go (value.Picture x) = out x.head.list
+        go (value.Album x) = out x.head.list
+        go (value.List x) = refl
+        go (value.Group x) = out x.head.list
 
-  lists-right : (lists : List NewList) → list_all has_right_kind (flat_map (list_written shown) lists) ≡ true
-  lists-right [] = refl
-  lists-right (new ∷ lists) =
-      both-right (list_written shown new) (flat_map (list_written shown) lists) (listed-right new) (lists-right lists)
+    lists-right : (lists : List NewList) → list_all has_right_kind (flat_map (list_written shown) lists) ≡ true
+    lists-right [] = refl
+    lists-right (new ∷ lists) =
+        both-right (list_written shown new) (flat_map (list_written shown) lists) (listed-right new) (lists-right lists)
 
-  added-right :
-      (into child : ℕ) (made heritage : Write) → has_right_kind made ≡ true → has_right_kind heritage ≡ true
-      → list_all has_right_kind (made ∷ heritage ∷ (into, with_child child (shown into)) ∷ []) ≡ true
-  added-right into child made heritage h k =
-      all-right made (heritage ∷ (into, with_child child (shown into)) ∷ []) h
-      (all-right heritage ((into, with_child child (shown into)) ∷ []) k
-      (one-right (into, with_child child (shown into)) (kept-child child (shown into) (kind_of into) (right into))))
+    added-right :
+        (into child : ℕ) (made heritage : Write) → has_right_kind made ≡ true → has_right_kind heritage ≡ true
+        → list_all has_right_kind (made ∷ heritage ∷ (into, with_child child (shown into)) ∷ []) ≡ true
+    added-right into child made heritage h k =
+        all-right made (heritage ∷ (into, with_child child (shown into)) ∷ []) h
+        (all-right heritage ((into, with_child child (shown into)) ∷ []) k
+        (one-right (into, with_child child (shown into)) (kept-child child (shown into) (kind_of into) (right into))))
 
-  written-right : (asked : Ask) → list_all has_right_kind (written shown p stamp asked) ≡ true
-  written-right (ask.Read object) = refl
-  written-right (ask.List object) = refl
-  written-right (ask.GetList object) = refl
-  written-right (ask.AddPicture into title content) =
-      added-right into (picture stamp) _ _ (own-code 0 stamp (omega arith)) (own-code 2 stamp (omega arith))
-  written-right (ask.AddAlbum into title) =
-      added-right into (album stamp) _ _ (own-code 1 stamp (omega arith)) (own-code 2 stamp (omega arith))
-  written-right (ask.Retitle object title) =
-      one-right _ (kept-title title (shown object) (kind_of object) (right object))
-  written-right (ask.Replace object content) =
-      one-right _ (kept-content content (shown object) (kind_of object) (right object))
-  written-right (ask.Delete object) =
-      all-right (object, value.Missing) _ refl
-      (both-right (list_dropped shown object) (taken_out shown object) (dropped-right object) (taken-right object))
-  written-right (ask.Move object to) =
-      all-right (object, with_home (number_of to) (shown object)) _
-      (kept-home (number_of to) (shown object) (kind_of object) (right object))
-      (both-right (taken_out shown object) ((to, with_child object (shown to)) ∷ []) (taken-right object)
-      (one-right (to, with_child object (shown to)) (kept-child object (shown to) (kind_of to) (right to))))
-  written-right (ask.SetLists lists) = lists-right lists
-  written-right (ask.SetOwner object owner group) =
-      one-right _ (kept-owner owner group (shown object) (kind_of object) (right object))
-  written-right (ask.SetMembers object members) =
-      one-right _ (kept-members members (shown object) (kind_of object) (right object))
+    written-right : (asked : Ask) → list_all has_right_kind (written shown p stamp asked) ≡ true
+    written-right (ask.Read object) = refl
+    written-right (ask.List object) = refl
+    written-right (ask.GetList object) = refl
+    written-right (ask.AddPicture into title content) =
+        let made : Write = (
+          picture stamp,
+          value.Picture (record {
+            title = title;
+            content = content;
+            head = new_head shown p stamp into;
+            home = number_of into;
+          }),
+        )
+        in
+        let inherits : Write = (list stamp, value.List (heritage shown Plain into)) in
+        added-right into (picture stamp) made inherits (own-code 0 stamp (omega arith)) (own-code 2 stamp (omega arith))
+    written-right (ask.AddAlbum into title) =
+        let made : Write = (
+          album stamp,
+          value.Album (record {
+            title = title;
+            head = new_head shown p stamp into;
+            home = Some (number_of into);
+            children = [];
+          }),
+        )
+        in
+        let inherits : Write = (list stamp, value.List (heritage shown Folder into)) in
+        added-right into (album stamp) made inherits (own-code 1 stamp (omega arith)) (own-code 2 stamp (omega arith))
+    written-right (ask.Retitle object title) =
+        one-right (object, with_title title (shown object))
+        (kept-title title (shown object) (kind_of object) (right object))
+    written-right (ask.Replace object content) =
+        one-right (object, with_content content (shown object))
+        (kept-content content (shown object) (kind_of object) (right object))
+    written-right (ask.Delete object) =
+        all-right (object, value.Missing) (list_dropped shown object ++ taken_out shown object) refl
+        (both-right (list_dropped shown object) (taken_out shown object) (dropped-right object) (taken-right object))
+    written-right (ask.Move object to) =
+        all-right (object, with_home (number_of to) (shown object))
+        (taken_out shown object ++ (to, with_child object (shown to)) ∷ [])
+        (kept-home (number_of to) (shown object) (kind_of object) (right object))
+        (both-right (taken_out shown object) ((to, with_child object (shown to)) ∷ []) (taken-right object)
+        (one-right (to, with_child object (shown to)) (kept-child object (shown to) (kind_of to) (right to))))
+    written-right (ask.SetLists lists) = lists-right lists
+    written-right (ask.SetOwner object owner group) =
+        one-right (object, with_owner owner group (shown object))
+        (kept-owner owner group (shown object) (kind_of object) (right object))
+    written-right (ask.SetMembers object members) =
+        one-right (object, with_members members (shown object))
+        (kept-members members (shown object) (kind_of object) (right object))
 
 -- ---- what is seen is of its item's kind
 
@@ -393,7 +421,6 @@ seen-right (row ∷ rows) item right =
         → is_of (option_map_or (λ (version : ℕ × Value). version.1)
         (option_map version_of (cond b (Some row) (find (λ answer. answer.item == item) rows))) value.Missing)
         (kind_of item) ≡ true
-    unfolding seen
     go true same own rest =
         subst (λ (i : ℕ). is_of row.value (kind_of i) ≡ true) (eqb-true row.item item same) own
     go false same own rest = rest
@@ -410,17 +437,17 @@ no-flaw-of asked p e = go (flaw_of asked) refl
         some-none : Some flaw ≡ None → ⊥
         some-none q = absurd (cc)
 
-pub effect-items :
+pub effect_items :
     (permit : PermitState) (stamp : ℕ) → IsPermit permit → IsTrue (is_write permit.view.ask)
     → IsTrue (are_items (items_written (effect_of permit stamp)))
-effect-items permit stamp kept change =
+effect_items permit stamp kept change =
     let asked = permit.view.ask in
     let shown = seen permit.view.rows in
     let flawless = no-flaw-of asked permit.principal kept.taken in
     let ws = written shown permit.principal stamp asked in
     let some : 1 ≤ length ws =
-        subst (λ (s : ℕ → Value). 1 ≤ length (written s permit.principal stamp asked)) kept.based.shown
-        (some-written kept.basis permit.principal stamp asked change (asks_objects asked flawless).0 kept.granted)
+    subst (λ (s : ℕ → Value). 1 ≤ length (written s permit.principal stamp asked)) kept.based.shown
+    (some-written kept.basis permit.principal stamp asked change (asks_objects asked flawless).0 kept.granted)
     in
     let few : length ws ≤ 16 = few-written shown permit.principal stamp asked (objects_few asked flawless) in
     counted (merged ws) (some-merged ws some) (omega (arith, few, few-fold ws [])) (single-fold ws [] refl)
@@ -438,18 +465,10 @@ effect-items permit stamp kept change =
         (le-leb (length (items_written vs)) 16 (omega (arith, few, same))))
         single
 
-pub effect-kinds :
+pub effect_kinds :
     (permit : PermitState) (stamp : ℕ) → IsTrue (shows_right_kinds permit.view.rows)
     → IsTrue (list_all has_right_kind (effect_of permit stamp))
-effect-kinds permit stamp right =
+effect_kinds permit stamp right =
     kinds-fold (written (seen permit.view.rows) permit.principal stamp permit.view.ask) [] refl
     (written-right (seen permit.view.rows) (λ item. seen-right permit.view.rows item right) permit.principal stamp
     permit.view.ask)
-
--- something is written
-pub effect-some :
-    (permit : PermitState) (stamp : ℕ) → IsPermit permit → IsTrue (is_write permit.view.ask)
-    → effect_of permit stamp ≢ []
-effect-some permit stamp kept change none =
-    let items : are_items (items_written (effect_of permit stamp)) ≡ true = effect-items permit stamp kept change in
-    true≢false (sym items ∙ ap (λ (vs : List Write). are_items (items_written vs)) none)

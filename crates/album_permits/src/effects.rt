@@ -5,6 +5,7 @@ ghost use Rattle.album_stamps.specs.declared.refusals.Refusal.TheVariants.{OutOf
 ghost use Rattle.album_views.specs.Checks.{owner_flaw};
 ghost use Rattle.album_views.specs.Seen.{seen};
 ghost use Rattle.album_items.specs.ItemIds.{number_of};
+ghost use Rattle.album_items.specs.Transactions.{items_written, are_items};
 ghost use Rattle.album_permits.specs.Changes.{with_home, with_child};
 ghost use Rattle.album_permits.specs.Effects.{is_write, written, list_dropped, taken_out, list_written, effect_of, has_most_others, is_album_full, is_full_for};
 
@@ -45,6 +46,7 @@ impl Permit {
         requires change { IsTrue (is_write self.view.ask) }
         ensures writes { IfOk result (λ writes. writes ≡ record { permit = self; stamp = stamp }) }
         ensures room { IfOk result (λ _. is_full_for self stamp ≡ false) }
+        ensures items { IfOk result (λ _. IsTrue (are_items (items_written (effect_of self stamp)))) }
         ensures refused { IfErr result (λ e.
             e.refusal ≡ (if is_full_for self stamp then AlbumFull else OutOfMemory)) }
         ensures given { IfErr result (λ e. e.given ≡ self) }
@@ -101,7 +103,10 @@ fn count_of_others(child: ItemId, children: &[ItemId]) -> usize
 }
 
 /// What the ask of the permit writes at the stamp.
+#[tactic(auto, using(crate::proofs::Transacting::effect_items))]
 fn effect_of(alloc: Global, permit: &Permit, stamp: Stamp) -> Result<ItemValues, Refusal>
+    requires change { IsTrue (is_write permit.now.view.ask) }
+    ensures items { IfOk result (λ _. IsTrue (are_items (items_written (effect_of permit.now stamp)))) }
     ensures writes { IfOk result (λ writes. writes ≡ effect_of permit.now stamp) }
     ensures memory { IsOkUnless result Refusal.OutOfMemory }
 {

@@ -1,3 +1,5 @@
+pub mod Placing
 pub mod Giving
-pub mod Ending
+pub mod Readiness
 pub mod Strays
+pub mod Lasts

@@ -79,6 +79,21 @@ body-tells :
 body-tells stamp (body.Request request) what e some = absurd (some (sym e))
 body-tells stamp (body.Reply r) what e some = ap body.Reply (reply-tells stamp r what e some)
 
+own-told : (kind : Told) (stamp : ℕ) → (if stamp == stamp then kind else told.Nothing) ≡ kind
+own-told kind stamp = ap (λ (b : Bool). if b then kind else told.Nothing) (eq-eqb stamp stamp refl)
+
+the_reply-told : (stamp : ℕ) (kind : Told) → reply_told stamp (the_reply stamp kind) ≡ kind
+the_reply-told stamp told.Prepared = own-told told.Prepared stamp
+the_reply-told stamp told.Committed = own-told told.Committed stamp
+the_reply-told stamp told.Discarded = own-told told.Discarded stamp
+the_reply-told stamp told.Full = own-told told.Full stamp
+the_reply-told stamp told.Nothing = refl
+
+-- this reply tells this
+pub told-kind :
+    (x : WritingState) (m : Message) (kind : Told) → IsTold x m (the_reply x.stamp kind) → told_of x m ≡ kind
+told-kind x m kind (place, t) = told-by x m (the_reply x.stamp kind) place t ∙ the_reply-told x.stamp kind
+
 -- what is told is told by a reply of a partition concerned
 pub told-is :
     (x : WritingState) (m : Message) (what : Told) → told_of x m ≡ what → what ≢ told.Nothing
@@ -105,7 +120,7 @@ told-is x m what e some = go (concerns x m) refl e
 
 -- ---- a stray tells nothing that counts, but what was told before
 
-part-number : (a b : ℕ) → Part a ≡ Part b → a ≡ b
+pub part-number : (a b : ℕ) → Part a ≡ Part b → a ≡ b
 part-number a b e = cc
 
 same-reply : (r s : Reply) → body.Reply r ≡ body.Reply s → r ≡ s
@@ -190,3 +205,160 @@ module _ (x : WritingState) (m : Message) where
       go told.Discarded e = ap (commits_by x m.from) e
       go told.Full e = ap (commits_by x m.from) e
       go told.Nothing e = ap (commits_by x m.from) e
+
+-- ---- and whatever leaves a round as it is, is one
+
+-- it tells nothing that counts
+module _
+    (replies : List Reply) (once : Reply) (counts : Told → Bool) (x : WritingState) (m : Message)
+    (known : (r : Reply) → Contains replies r → counts (reply_told x.stamp r) ≡ true)
+  where
+    stray-from : counts (told_of x m) ≡ false → counts told.Nothing ≡ false → IsStray replies once x m
+    stray-from e none = go (concerns x m) refl e
+      where
+        of-other-kind : counts (body_told x.stamp m.body) ≡ false → IsStray replies once x m
+        of-other-kind f =
+            OfOtherKind (λ r among tells. false≢true
+            (sym f ∙ ap (λ (b : Body). counts (body_told x.stamp b)) tells ∙ known r among))
+
+        from-elsewhere : list_any (is_part m.from) (places_in x) ≡ false → IsStray replies once x m
+        from-elsewhere f =
+            FromOtherNode (λ place there sender.
+            let (at, inside, here) = at_from_Contains (places_in x) place there in
+            false≢true (sym f ∙ list_any_at (is_part m.from) (places_in x) at 0 inside
+            (ap (λ (n : Node). is_part n (get_or (places_in x) at 0)) sender ∙ eq-eqb place (get_or (places_in x) at 0) (sym (here 0)))))
+
+        elsewhere :
+            (a : Bool) → (m.tag == x.tag) ≡ a → (b : Bool) → is_client m.to x.client ≡ b
+            → (c : Bool) → list_any (is_part m.from) (places_in x) ≡ c → (a && b && c) ≡ false → IsStray replies once x m
+        elsewhere false f b g c h all = UnderOtherTag (eqb-false m.tag x.tag f)
+        elsewhere true f false g c h all =
+            ToOtherNode (λ same. false≢true
+            (sym g ∙ ap (λ (n : Node). is_client n x.client) same ∙ eq-eqb x.client x.client refl))
+        elsewhere true f true g false h all = from-elsewhere h
+        elsewhere true f true g true h all = absurd (true≢false all)
+
+        go :
+            (b : Bool) → concerns x m ≡ b → counts (if b then body_told x.stamp m.body else told.Nothing) ≡ false
+            → IsStray replies once x m
+        go true f g = of-other-kind g
+        go false f g =
+            elsewhere (m.tag == x.tag) refl (is_client m.to x.client) refl (list_any (is_part m.from) (places_in x)) refl f
+
+abbrev counts_in_prepares : Told → Bool
+counts_in_prepares told.Prepared = true
+counts_in_prepares told.Committed = false
+counts_in_prepares told.Discarded = true
+counts_in_prepares told.Full = true
+counts_in_prepares told.Nothing = false
+
+abbrev counts_in_commits : Told → Bool
+counts_in_commits told.Prepared = false
+counts_in_commits told.Committed = true
+counts_in_commits told.Discarded = false
+counts_in_commits told.Full = false
+counts_in_commits told.Nothing = false
+
+prepares-known :
+    (stamp : ℕ) (r : Reply) → Contains (told_of_prepares stamp) r → counts_in_prepares (reply_told stamp r) ≡ true
+prepares-known stamp r (k, inside, here) = go k inside here
+  where
+    by : (s : Reply) → s ≡ r → counts_in_prepares (reply_told stamp s) ≡ true → counts_in_prepares (reply_told stamp r) ≡ true
+    by s same e = subst (λ (z : Reply). counts_in_prepares (reply_told stamp z) ≡ true) same e
+
+    go :
+        (k : ℕ) → k < 3 → get_or (told_of_prepares stamp) k r ≡ r
+        → counts_in_prepares (reply_told stamp r) ≡ true
+    go zero l same = by (reply.Prepared stamp) same (ap counts_in_prepares (own-told told.Prepared stamp))
+    go (suc zero) l same = by (reply.Discarded stamp) same (ap counts_in_prepares (own-told told.Discarded stamp))
+    go (suc (suc zero)) l same = by (reply.Full stamp) same (ap counts_in_prepares (own-told told.Full stamp))
+    go (suc (suc (suc k))) l same = absurd (omega (arith, l))
+
+commits-known :
+    (stamp : ℕ) (r : Reply) → Contains (told_of_commits stamp) r → counts_in_commits (reply_told stamp r) ≡ true
+commits-known stamp r (k, inside, here) = go k inside here
+  where
+    go :
+        (k : ℕ) → k < 1 → get_or (told_of_commits stamp) k r ≡ r
+        → counts_in_commits (reply_told stamp r) ≡ true
+    go zero l same =
+        subst (λ (z : Reply). counts_in_commits (reply_told stamp z) ≡ true) same
+        (ap counts_in_commits (own-told told.Committed stamp))
+    go (suc k) l same = absurd (omega (arith, l))
+
+-- what a filter leaves has passed it
+pub filter-passed : (p : ℕ → Bool) (ns : List ℕ) (n : ℕ) → Contains (filter p ns) n → p n ≡ true
+filter-passed p [] n there = absurd (omega (arith, there.1))
+filter-passed p (k ∷ ns) n there = go (p k) refl there (filter-passed p ns n)
+  where
+    first : p k ≡ true → (i : ℕ) → i < length (k ∷ filter p ns) → get_or (k ∷ filter p ns) i n ≡ n
+        → (Contains (filter p ns) n → p n ≡ true) → p n ≡ true
+    first e zero l same rec = subst (λ (m : ℕ). p m ≡ true) same e
+    first e (suc i) l same rec = rec (i, omega (arith, l), same)
+
+    go :
+        (b : Bool) → p k ≡ b → Contains (cond b (k ∷ filter p ns) (filter p ns)) n
+        → (Contains (filter p ns) n → p n ≡ true) → p n ≡ true
+    go true e c rec = first e c.0 c.1 c.2 rec
+    go false e c rec = rec c
+
+-- who is awaited is left out
+left-out :
+    (node : Node) (place : ℕ) (ns : List ℕ) → node ≡ Part place
+    → filter (λ n. not (is_part node n)) ns ≡ ns → Contains ns place → ⊥
+left-out node place ns from same there =
+    let passed = filter-passed (λ n. not (is_part node n)) ns place (subst (λ (z : List ℕ). Contains z place) (sym same) there) in
+    false≢true (sym (ap not (ap (λ (k : Node). is_part k place) from ∙ eq-eqb place place refl)) ∙ passed)
+
+abbrev awaited_of : WriteStep → List ℕ
+awaited_of (Waits x) = x.awaited
+awaited_of (Commits x messages) = []
+awaited_of (Ends outcome) = []
+
+abbrev is_waits : WriteStep → Bool
+is_waits (Waits x) = true
+is_waits (Commits x messages) = false
+is_waits (Ends outcome) = false
+
+module _ (x : WritingState) (m : Message) where
+  pub stray-prepares : prepare_stepped x m ≡ Waits x → IsStrayToPrepares x m
+  stray-prepares e = go (told_of x m) refl e
+    where
+      none-counts : counts_in_prepares (told_of x m) ≡ false → IsStrayToPrepares x m
+      none-counts f =
+          stray-from (told_of_prepares x.stamp) (reply.Prepared x.stamp) counts_in_prepares x m (prepares-known x.stamp) f refl
+
+      waits : (ns : List ℕ) → prepares_left (answered_by x m.from) ns ≡ Waits x → (answered_by x m.from).awaited ≡ x.awaited
+      waits [] f = absurd (false≢true (ap is_waits f))
+      waits (n ∷ ns) f = ap awaited_of f
+
+      go : (what : Told) → told_of x m ≡ what → prepares_by x m.from (told_of x m) ≡ Waits x → IsStrayToPrepares x m
+      go told.Prepared f g =
+          let (place, t) = told-is x m told.Prepared f (λ q. absurd (cc)) in
+          let same = waits (answered_by x m.from).awaited (sym (ap (prepares_by x m.from) f) ∙ g) in
+          Repeated place t.sender t.tells (left-out m.from place x.awaited t.sender same)
+      go told.Committed f g = none-counts (ap counts_in_prepares f)
+      go told.Discarded f g = absurd (false≢true (ap is_waits (sym (ap (prepares_by x m.from) f) ∙ g)))
+      go told.Full f g = absurd (false≢true (ap is_waits (sym (ap (prepares_by x m.from) f) ∙ g)))
+      go told.Nothing f g = none-counts (ap counts_in_prepares f)
+
+  pub stray-commits : commit_stepped x m ≡ Waits x → IsStrayToCommits x m
+  stray-commits e = go (told_of x m) refl e
+    where
+      none-counts : counts_in_commits (told_of x m) ≡ false → IsStrayToCommits x m
+      none-counts f =
+          stray-from (told_of_commits x.stamp) (reply.Committed x.stamp) counts_in_commits x m (commits-known x.stamp) f refl
+
+      waits : (ns : List ℕ) → commits_left (answered_by x m.from) ns ≡ Waits x → (answered_by x m.from).awaited ≡ x.awaited
+      waits [] f = absurd (false≢true (ap is_waits f))
+      waits (n ∷ ns) f = ap awaited_of f
+
+      go : (what : Told) → told_of x m ≡ what → commits_by x m.from (told_of x m) ≡ Waits x → IsStrayToCommits x m
+      go told.Prepared f g = none-counts (ap counts_in_commits f)
+      go told.Committed f g =
+          let (place, t) = told-is x m told.Committed f (λ q. absurd (cc)) in
+          let same = waits (answered_by x m.from).awaited (sym (ap (commits_by x m.from) f) ∙ g) in
+          Repeated place t.sender t.tells (left-out m.from place x.awaited t.sender same)
+      go told.Discarded f g = none-counts (ap counts_in_commits f)
+      go told.Full f g = none-counts (ap counts_in_commits f)
+      go told.Nothing f g = none-counts (ap counts_in_commits f)

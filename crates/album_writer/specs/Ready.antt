@@ -8,12 +8,12 @@ use Rattle.album_writer.specs.Writing.{WritingState, places_in, commit_round, co
 pub record HasPlaces (writing : WritingState) (places : List ℕ) : Type 0 where
   pub low : 1 ≤ writing.parts
   pub high : writing.parts ≤ MOST_PARTS
-  pub places : places ≡ places_in writing
+  pub same : places ≡ places_in writing
 
 -- some answer to the Prepares is awaited, and the Commits are there, with the partitions whose answers will be awaited
 -- then
 pub record IsReady (writing : WritingState) (commits : List Message) (later : List ℕ) : Type 0 where
   pub awaited : writing.awaited ≢ []
-  pub commits : commits ≡ commits_of (commit_round writing)
-  pub later : later ≡ places_in writing
+  pub sent : commits ≡ commits_of (commit_round writing)
+  pub next : later ≡ places_in writing
   pub tag : writing.tag + 1 < 2 ^ 64

@@ -45,11 +45,13 @@ impl Preparing {
         let writes = permit.effect(alloc, stamp)?;
         let writing = Writing::first(alloc, writes, client, tag, parts)?;
         match plan_of(alloc, &writing) {
-            Ok(Plan {
-                prepares,
-                commits,
-                later,
-            }) => Ok((Preparing::of(writing, commits, later), prepares)),
+            Ok(
+                Plan {
+                    prepares,
+                    commits,
+                    later,
+                },
+            ) => Ok((Preparing::of(writing, commits, later), prepares)),
             Err(refusal) => Err(Refused {
                 refusal,
                 given: writing.give_up(),

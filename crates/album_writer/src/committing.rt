@@ -1,7 +1,6 @@
 // A write whose Commits are sent.
 ghost use Rattle.std.specs.Prelude.{◌≡◌, ◌≢◌, List, [], ◌∷◌, ◌++◌};
 ghost use Rattle.album_calls.specs.declared.messages.Message.{Message};
-ghost use Rattle.album_permits.specs.Permits.{IsPermit};
 ghost use Rattle.album_writer.specs.Given.{told_round, commit_step_after};
 ghost use Rattle.album_writer.specs.Rounds.{commit_stepped};
 ghost use Rattle.album_writer.specs.Rounds.WriteStep.{Waits};
@@ -73,8 +72,7 @@ impl Committing {
 
     /// The permit that was spent on the write.
     pub fn permit(&self) -> &Permit
-        ensures permit { result.now ≡ self.now.permit }
-        ensures granted { IsPermit self.now.permit }
+        ensures { result.now ≡ self.now.permit }
     {
         self.writing.permit()
     }

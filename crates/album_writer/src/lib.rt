@@ -19,6 +19,13 @@ mod beginning;
 mod committing;
 mod preparing;
 
+// What holds of it.
+mod laws;
+
 pub use committing::{CommitStep, Committing};
+pub use laws::{
+    a_message_counts_or_is_stray, a_write_ends_by_what_it_is_told, a_write_is_what_it_was_told,
+    writes_go_to_their_places,
+};
 pub use outcomes::Outcome;
 pub use preparing::{PrepareStep, Preparing};

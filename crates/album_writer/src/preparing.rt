@@ -1,7 +1,6 @@
 // A write whose Prepares are sent.
 ghost use Rattle.std.specs.Prelude.{◌≡◌, List, [], ◌∷◌, ◌++◌, length};
 ghost use Rattle.album_calls.specs.declared.messages.Message.{Message};
-ghost use Rattle.album_permits.specs.Permits.{IsPermit};
 ghost use Rattle.album_writer.specs.Given.{told_round, prepare_step_after};
 ghost use Rattle.album_writer.specs.Ready.{IsReady};
 ghost use Rattle.album_writer.specs.Rounds.{prepare_stepped};
@@ -90,8 +89,7 @@ impl Preparing {
 
     /// The permit that was spent on the write.
     pub fn permit(&self) -> &Permit
-        ensures permit { result.now ≡ self.now.permit }
-        ensures granted { IsPermit self.now.permit }
+        ensures { result.now ≡ self.now.permit }
     {
         self.writing.permit()
     }

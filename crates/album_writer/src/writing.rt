@@ -5,7 +5,6 @@ ghost use Rattle.album_items.specs.Places.{places_of};
 ghost use Rattle.album_items.specs.Transactions.{items_written};
 ghost use Rattle.album_calls.specs.Nodes.{is_part};
 ghost use Rattle.album_permits.specs.Effects.{effect_of};
-ghost use Rattle.album_permits.specs.Permits.{IsPermit};
 ghost use Rattle.album_writer.specs.Rounds.{answered_by};
 ghost use Rattle.album_writer.specs.Told.{concerns, told_of};
 ghost use Rattle.album_writer.specs.Writing.{writes_in, places_in, prepare_round, commit_round};
@@ -38,21 +37,21 @@ impl Model for Writing {
     ghost Value = { WritingState };
 
     ghost view = { λ w. record {
-        permit = w.writes.permit;
-        stamp = w.writes.stamp;
-        client = w.client;
-        tag = w.tag;
-        parts = w.parts;
-        awaited = w.awaited.items;
+      permit = w.writes.permit;
+      stamp = w.writes.stamp;
+      client = w.client;
+      tag = w.tag;
+      parts = w.parts;
+      awaited = w.awaited.items;
     } };
 
     ghost invariant = { λ w. HasPlaces (record {
-        permit = w.writes.permit;
-        stamp = w.writes.stamp;
-        client = w.client;
-        tag = w.tag;
-        parts = w.parts;
-        awaited = w.awaited.items;
+      permit = w.writes.permit;
+      stamp = w.writes.stamp;
+      client = w.client;
+      tag = w.tag;
+      parts = w.parts;
+      awaited = w.awaited.items;
     }) w.places.items };
 }
 
@@ -177,8 +176,7 @@ impl Writing {
 
     /// The permit that was spent on it.
     pub fn permit(&self) -> &Permit
-        ensures permit { result.now ≡ self.now.permit }
-        ensures granted { IsPermit self.now.permit }
+        ensures { result.now ≡ self.now.permit }
     {
         self.writes.permit()
     }

@@ -1,6 +1,12 @@
--- The last answer of a round, and the answers before it, for `take` of both rounds.
-use Rattle.std.proofs.Common.{◌≡◌, ◌≢◌, ℕ, suc, ◌==◌, ◌+◌, length, arith, eqb-true, Bool, true, false, not, List, [], ◌∷◌, filter, refl, sym, ap, ◌∙◌}
+-- A round of Prepares is ready as it begins (`begun-ready`, for `begin`) and after an answer that is not the last one
+-- (`some_ready`); what comes of an answer, by whether it is the last one, for `take` of both rounds.
+use Rattle.std.proofs.Common.{◌≡◌, ◌≢◌, ℕ, suc, ◌==◌, ◌+◌, ◌<◌, ◌≤◌, ◌^◌, length, arith, eqb-true, Bool, true, false, not, List, [], ◌∷◌, filter, refl, sym, ap, subst, ◌∙◌}
 use Rattle.album_calls.specs.declared.messages.Message.{Message}
+use Rattle.album_calls.specs.declared.nodes.Node.{Node}
+use Rattle.album_items.specs.Transactions.{items_written, are_items}
+use Rattle.album_permits.specs.Effects.{effect_of}
+use Rattle.album_permits.specs.Permits.{PermitState}
+use Rattle.album_writer.proofs.Placing.{some-place}
 use Rattle.album_writer.specs.declared.told.Told.{Told}
 use Rattle.album_writer.specs.declared.told.Told.TheVariants as told
 use Rattle.album_writer.specs.declared.outcomes.Outcome.TheVariants as outcome
@@ -8,7 +14,7 @@ use Rattle.album_writer.specs.Ready.{IsReady}
 use Rattle.album_writer.specs.Rounds.{WriteStep, answered_by, prepares_left, prepares_by, prepare_stepped, commits_left, commits_by, commit_stepped}
 use Rattle.album_writer.specs.Rounds.WriteStep.{Waits, Commits, Ends}
 use Rattle.album_writer.specs.Told.{told_of}
-use Rattle.album_writer.specs.Writing.{WritingState, commit_round, commits_of}
+use Rattle.album_writer.specs.Writing.{WritingState, places_in, prepare_round, commit_round, commits_of}
 
 none_left : (ns : List ℕ) → (length ns == 0) ≡ true → ns ≡ []
 none_left [] h = refl
@@ -57,3 +63,30 @@ module _ (x next : WritingState) (m : Message) (what : Told) (is : what ≡ told
           (ns : List ℕ) → (length ns == 0) ≡ false → Waits (answered_by x m.from) ≡ commits_left (answered_by x m.from) ns
       go [] k = absurd (cc)
       go (n ∷ ns) k = refl
+
+-- a round that is not over is ready as it was
+pub some_ready :
+    (x next : WritingState) (node : Node) (commits : List Message) (later : List ℕ) → IsReady x commits later
+    → next ≡ answered_by x node → (length next.awaited == 0) ≡ false → IsReady next commits later
+some_ready x next node commits later ready answered h =
+    subst (λ (z : WritingState). IsReady z commits later) (sym answered) (record {
+      awaited = some_left (answered_by x node).awaited (ap (λ (z : WritingState). length z.awaited == 0) (sym answered) ∙ h);
+      sent = ready.sent;
+      next = ready.next;
+      tag = ready.tag;
+    })
+
+-- a round that begins is ready
+pub begun-ready :
+    (permit : PermitState) (stamp client tag parts : ℕ) (x : WritingState) (commits : List Message) (later : List ℕ)
+    → 1 ≤ parts → tag + 1 < 2 ^ 64 → are_items (items_written (effect_of permit stamp)) ≡ true
+    → x ≡ prepare_round permit stamp client tag parts → commits ≡ commits_of (commit_round x) → later ≡ places_in x
+    → IsReady x commits later
+begun-ready permit stamp client tag parts x commits later low high items is sent next = record {
+  awaited = λ none.
+      some-place parts (items_written (effect_of permit stamp)) low items
+      (sym (ap (λ (z : WritingState). z.awaited) is) ∙ none);
+  sent = sent;
+  next = next;
+  tag = subst (λ (z : WritingState). z.tag + 1 < 2 ^ 64) (sym is) high;
+}
