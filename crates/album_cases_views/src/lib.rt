@@ -1,4 +1,4 @@
-//! Tests of asks and of the reads that are made for them, over a store that a table spells.
+//! Tests of asks, of the reads that are made for them and of the writes, over a store that a table spells.
 #![tactic(auto)]
 
 #[cfg(test)]
@@ -9,3 +9,5 @@ mod checks;
 mod store;
 #[cfg(test)]
 mod views;
+#[cfg(test)]
+mod writes;

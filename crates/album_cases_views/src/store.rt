@@ -69,13 +69,13 @@ fn album(alloc: Global, list: u64, len: u64) -> Result<Value, Refusal> {
     }))
 }
 
-/// The entry of this type, who and flags, with READ_DATA.
+/// The entry of this type, who and flags, with READ_DATA and WRITE_DATA: for an album LIST_DIRECTORY and ADD_FILE.
 pub fn entry_of(alloc: Global, (sort, who, flags): Entry) -> Result<Ace, Refusal> {
     let flags = AceFlags::of(flags)?;
     Ok(Ace {
         sort,
         who: Who::read(alloc, who, flags)?,
-        mask: Mask::of(1)?,
+        mask: Mask::of(3)?,
         flags,
     })
 }

@@ -20,13 +20,13 @@ fn started(alloc: Global, verb: Verb, text: &str) -> Result<(Viewing, Items), Re
 }
 
 /// What comes of a read of the items, for a copy of the viewing.
-fn read(alloc: Global, store: Store, viewing: Viewing, items: &Items) -> Result<ViewStep, Refusal> {
+pub fn read(alloc: Global, store: Store, viewing: Viewing, items: &Items) -> Result<ViewStep, Refusal> {
     let snapshot = snapshot(alloc, store, items)?;
     Ok(viewing.copy()?.on_snapshot(alloc, snapshot)?)
 }
 
 /// One more read, where one is wanted.
-fn next(alloc: Global, store: Store, step: ViewStep) -> Result<ViewStep, Refusal> {
+pub fn next(alloc: Global, store: Store, step: ViewStep) -> Result<ViewStep, Refusal> {
     match step {
         ViewStep::Again(viewing, items) => read(alloc, store, viewing, &items),
         ViewStep::Closed(view) => Ok(ViewStep::Closed(view)),

@@ -1,7 +1,6 @@
 -- How far a write is depends on the messages that were given: `prepare-told` and `commit-told`, for the clauses
 -- `all_given` and the law `a_write_is_what_it_was_told`.
 use Rattle.std.proofs.Common.{◌≡◌, ℕ, Bool, true, false, not, ◌&&◌, ◌||◌, cond, List, [], ◌∷◌, ◌++◌, filter, refl, sym, ap, ◌∙◌}
-use Rattle.std.specs.List.{list_any}
 use Rattle.std.proofs.Math.Bool.{or-false}
 use Rattle.std.proofs.lemmas.List.Folds.{list_any-append}
 use Rattle.album_calls.specs.Nodes.{is_part}

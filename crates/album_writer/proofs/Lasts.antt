@@ -1,14 +1,11 @@
 -- With which reply a round goes on or a write ends, for the law `a_write_ends_by_what_it_is_told`.
-use Rattle.std.proofs.Common.{◌≡◌, ◌≢◌, ◌↔◌, ℕ, zero, suc, ◌+◌, ◌<◌, Bool, true, false, not, ◌&&◌, ◌==◌, cond, ◌⊎◌, inl, inr, List, [], ◌∷◌, ◌++◌, filter, get_or, length, Contains, refl, sym, ap, ◌∙◌, subst, arith, true≢false}
-use Rattle.std.specs.List.{list_any}
-use Rattle.std.proofs.lemmas.Bool.{false≢true, and_parts, and_from, eq-eqb, not-false, not_from_true, true_from_ne_false}
+use Rattle.std.proofs.Common.{◌≡◌, ◌≢◌, ◌↔◌, ℕ, zero, suc, ◌<◌, Bool, true, false, not, ◌&&◌, cond, ◌⊎◌, inl, inr, List, [], ◌∷◌, ◌++◌, filter, get_or, length, Contains, refl, sym, ap, ◌∙◌, subst, arith}
+use Rattle.std.proofs.lemmas.Bool.{false≢true, and_parts, and_from, eq-eqb, not-false, not_from_true}
 use Rattle.std.proofs.lemmas.List.Elements.{at_from_Contains}
 use Rattle.std.proofs.lemmas.List.Folds.{Any-from_list_any, list_any_at}
 use Rattle.album_calls.specs.Nodes.{is_part}
 use Rattle.album_calls.specs.declared.messages.Message.{Message}
 use Rattle.album_calls.specs.declared.nodes.Node.{Node}
-use Rattle.album_calls.specs.declared.nodes.Node.TheVariants.{Part, Client}
-use Rattle.album_calls.specs.declared.replies.Reply.{Reply}
 use Rattle.album_calls.specs.declared.replies.Reply.TheVariants as reply
 use Rattle.album_reader.proofs.Others.{is_part-own}
 use Rattle.album_writer.proofs.Giving.{prepare-told, commit-told}
@@ -16,7 +13,7 @@ use Rattle.album_writer.proofs.Strays.{told-is, told-kind, the_reply, part-numbe
 use Rattle.album_writer.specs.Counting.{IsToldBy, IsTold, IsToldAmong, IsLastOf}
 use Rattle.album_writer.specs.Given.{has_told, told_round, prepares_then, prepare_step_after, commits_then, commit_step_after}
 use Rattle.album_writer.specs.Rounds.{WriteStep, answered_by, prepares_left, prepares_by, prepare_stepped, commits_left, commits_by, commit_stepped}
-use Rattle.album_writer.specs.Rounds.WriteStep.{Waits, Commits, Ends}
+use Rattle.album_writer.specs.Rounds.WriteStep.{Commits, Ends}
 use Rattle.album_writer.specs.Told.{told_of, tells_prepared, tells_committed}
 use Rattle.album_writer.specs.Writing.{WritingState, places_in, commit_round, commits_of}
 use Rattle.album_writer.specs.declared.told.Told.{Told}

@@ -7,7 +7,7 @@ ghost use Rattle.album_writer.specs.Writing.{prepare_to, prepares_of, commit_to,
 use crate::writing::Writing;
 use album_calls::{Body, Message, Node, Request};
 use album_items::{ItemId, ItemValues, Items, Value, place};
-use album_stamps::{ClientNo, MOST_PARTS, Refusal, Stamp};
+use album_stamps::{MOST_PARTS, Refusal};
 use std::alloc::{AllocError, Global};
 
 impl Writing {

@@ -1,0 +1,412 @@
+// Writes over three partitions (docs/PROTOCOL.md, "A write"): what is sent, and what comes of the replies. amy sets other
+// lists of her two pictures, so list/0 and list/1 are written: at the partitions 2 and 0.
+ghost use Rattle.std.specs.Prelude.{◌≡◌, Some, IfOk, IsTrue};
+ghost use Rattle.album_stamps.specs.Stamps.{client_of};
+ghost use Rattle.album_permits.specs.Effects.{is_write};
+
+use crate::asks::{Verb, ask_of, many_lists, set_lists};
+use crate::store::{Is, Store, item_of, list_of};
+use crate::views::{next, read};
+use album_access::AceType;
+use album_calls::{Body, Message, Node, Reply, Request, Vote, same_items, same_values};
+use album_eval::{Policy, Principal};
+use album_items::{Kind, Value};
+use album_lists::Name;
+use album_permits::{Permit, Ruled, Ruling, rule_on};
+use album_stamps::{ClientNo, Refusal, Refused, Stamp};
+use album_views::{Ask, View, ViewStep, Viewing};
+use album_writer::{CommitStep, Committing, Outcome, PrepareStep, Preparing};
+use std::alloc::Global;
+
+/// Counter 1 of client 1, and its next one.
+const T: u64 = 65_537;
+
+const LATER: u64 = 131_073;
+
+/// Two pictures, and an album with all the children that it may have, to which everyone may add.
+const STORE: Store = &[
+    ("picture/0", Is::Picture(0)),
+    ("picture/1", Is::Picture(1)),
+    ("album/0", Is::Album(2, 128)),
+    ("list/0", Is::List(&[])),
+    ("list/1", Is::List(&[])),
+    ("list/2", Is::List(&[(AceType::Allowed, "EVERYONE@", 0)])),
+];
+
+/// What a partition tells of a stamp.
+#[derive(Clone, Copy)]
+enum Tells {
+    Prepared,
+    Committed,
+    Discarded,
+    Full,
+    NotPrepared,
+    Status,
+    Clash,
+    Gone,
+}
+
+/// A reply: by which partition, to which client, under which tag.
+#[derive(Clone, Copy)]
+struct Told {
+    from: u16,
+    to: u16,
+    tag: u64,
+    tells: Tells,
+    stamp: u64,
+}
+
+/// Other lists of the two pictures.
+fn lists(alloc: Global) -> Result<Ask, Refusal> {
+    Ok(set_lists(many_lists(alloc, Kind::Picture, 2, 0)?))
+}
+
+fn closed(step: ViewStep) -> Result<View, Refusal> {
+    match step {
+        ViewStep::Closed(view) => Ok(view),
+        ViewStep::Again(_, _) | ViewStep::Busy(_) => Err(Refusal::Clash),
+    }
+}
+
+/// The view of the ask, which takes two reads.
+fn view_of(alloc: Global, ask: Ask, principal: &Principal) -> Result<View, Refusal> {
+    ask.check(principal)?;
+    let (viewing, items) = Viewing::start(alloc, ask)?;
+    let step = read(alloc, STORE, viewing, &items)?;
+    closed(next(alloc, STORE, step)?)
+}
+
+fn granted(ruled: Ruled) -> Result<Permit, Refusal> {
+    let Ruled { ruling, notes } = ruled;
+    drop(notes);
+    match ruling {
+        Ruling::Granted(permit) => Ok(permit),
+        Ruling::Denied(_, _) | Ruling::Missing(_, _) => Err(Refusal::Clash),
+    }
+}
+
+/// amy's permit for the ask.
+fn permit_of(alloc: Global, ask: Ask) -> Result<Permit, Refusal> {
+    let amy = Principal::User(Name::of(alloc, "amy")?);
+    let view = view_of(alloc, ask, &amy)?;
+    view.ask().check(&amy)?;
+    granted(rule_on(alloc, view, &amy, Policy::Two)?)
+}
+
+/// A stamp, and whose it is.
+fn stamp_of(value: u64) -> Result<(Stamp, ClientNo), Refusal>
+    ensures { IfOk result (λ r. client_of r.0 ≡ Some r.1) }
+{
+    let stamp = Stamp::read(value).ok_or(Refusal::BadRequest)?;
+    let client = stamp.client().ok_or(Refusal::BadRequest)?;
+    Ok((stamp, client))
+}
+
+/// The permit's write at the stamp `T`, its Prepares under the tag 5.
+fn begin(alloc: Global, permit: Permit) -> Result<(Preparing, Vec<Message>), Refused<Permit>>
+    requires { IsTrue (is_write permit.view.ask) }
+{
+    match stamp_of(T) {
+        Ok((stamp, client)) => Preparing::begin(alloc, permit, stamp, client, 5, 3),
+        Err(refusal) => Err(Refused {
+            refusal,
+            given: permit,
+        }),
+    }
+}
+
+/// Why a write was refused; its permit is given back.
+fn refused(refused: Refused<Permit>) -> Refusal {
+    let Refused { refusal, given } = refused;
+    drop(given.give_back());
+    refusal
+}
+
+/// amy's write of the ask.
+fn begun(alloc: Global, ask: Ask) -> Result<(Preparing, Vec<Message>), Refusal> {
+    let permit = permit_of(alloc, ask)?;
+    if !permit.writes() {
+        drop(permit.give_back());
+        return Err(Refusal::BadRequest);
+    }
+    begin(alloc, permit).map_err(refused)
+}
+
+/// Whether client 1 sends it to this partition, under this tag.
+fn is_sent(message: &Message, part: u16, tag: u64) -> bool {
+    match message.from() {
+        Node::Client(client) => {
+            client.number() == 1 && message.to().is_part(part) && message.tag() == tag
+        }
+        Node::Part(_) => false,
+    }
+}
+
+/// Whether it asks to prepare another list/`number` of all that amy writes.
+fn asks_prepare(alloc: Global, body: &Body, list: &str) -> Result<bool, Refusal> {
+    let entries = list_of(alloc, &[(AceType::Allowed, "EVERYONE@", 0)])?;
+    let rows = [(item_of(list)?, Value::List(entries))];
+    let all = [item_of("list/0")?, item_of("list/1")?];
+    match body {
+        Body::Request(Request::Prepare(stamp, writes, items)) => Ok(stamp.value() == T
+            && same_values(writes.as_slice(), &rows)
+            && same_items(items.as_slice(), &all)),
+        Body::Request(Request::Commit(_) | Request::Get(_, _) | Request::Check(_)) => Ok(false),
+        Body::Reply(_) => Ok(false),
+    }
+}
+
+fn is_prepare(alloc: Global, message: &Message, part: u16, list: &str) -> Result<bool, Refusal> {
+    Ok(is_sent(message, part, 5) && asks_prepare(alloc, message.body(), list)?)
+}
+
+/// How many Prepares are sent, and whether the one at the index is this partition's, of this list.
+fn prepare_at(alloc: Global, at: usize, part: u16, list: &str) -> Result<(usize, bool), Refusal> {
+    let (_preparing, prepares) = begun(alloc, lists(alloc)?)?;
+    match prepares.get(at) {
+        Some(message) => Ok((prepares.len(), is_prepare(alloc, message, part, list)?)),
+        None => Err(Refusal::Clash),
+    }
+}
+
+/// One Prepare for each partition concerned, rising, each with its own write and with the items of both.
+#[test]
+fn each_partition_is_sent_its_writes(rt: HostRuntime) {
+    assert_eq!(rt; prepare_at(rt.alloc(), 0, 0, "list/1"), Ok((2, true)));
+    assert_eq!(rt; prepare_at(rt.alloc(), 1, 2, "list/0"), Ok((2, true)));
+}
+
+/// Whether a write to the full album is refused for that, and its permit handed back.
+fn full_album(alloc: Global) -> Result<bool, Refusal> {
+    let permit = permit_of(alloc, ask_of(alloc, Verb::AddPicture, "album/0")?)?;
+    if !permit.writes() {
+        drop(permit.give_back());
+        return Err(Refusal::BadRequest);
+    }
+    match begin(alloc, permit) {
+        Ok((_preparing, _prepares)) => Ok(false),
+        Err(refused) => Ok(is_handed_back(refused)),
+    }
+}
+
+fn is_handed_back(refused: Refused<Permit>) -> bool {
+    let Refused { refusal, given } = refused;
+    let view = given.give_back();
+    refusal == Refusal::AlbumFull && matches!(view.ask(), Ask::AddPicture { .. })
+}
+
+/// The album has 128 children beside the new one.
+#[test]
+fn full_album_gives_the_permit_back(rt: HostRuntime) {
+    assert_eq!(rt; full_album(rt.alloc()), Ok(true));
+}
+
+fn reply_of(tells: Tells, stamp: Stamp) -> Result<Reply, Refusal> {
+    match tells {
+        Tells::Prepared => Ok(Reply::Prepared(stamp)),
+        Tells::Committed => Ok(Reply::Committed(stamp)),
+        Tells::Discarded => Ok(Reply::Discarded(stamp)),
+        Tells::Full => Ok(Reply::Full(stamp)),
+        Tells::NotPrepared => Ok(Reply::NotPrepared(stamp)),
+        Tells::Status => Ok(Reply::Status(stamp, Vote::Prepared)),
+        Tells::Clash => Ok(Reply::Clash),
+        Tells::Gone => Ok(Reply::Gone(item_of("list/0")?)),
+    }
+}
+
+fn message_of(told: Told) -> Result<Message, Refusal> {
+    let stamp = Stamp::read(told.stamp).ok_or(Refusal::BadRequest)?;
+    let client = ClientNo::of(told.to).ok_or(Refusal::BadRequest)?;
+    let body = Body::Reply(reply_of(told.tells, stamp)?);
+    Ok(Message::new(
+        Node::Part(told.from),
+        Node::Client(client),
+        told.tag,
+        body,
+    ))
+}
+
+/// How far a write is.
+#[derive(Drop)]
+enum Phase {
+    Prepares(Preparing),
+    Commits(Committing),
+    Over(Outcome),
+}
+
+fn prepare_given(preparing: Preparing, message: &Message) -> Phase {
+    match preparing.on_reply(message) {
+        PrepareStep::Same(preparing) => Phase::Prepares(preparing),
+        PrepareStep::Commit(committing, _) => Phase::Commits(committing),
+        PrepareStep::Ended(outcome) => Phase::Over(outcome),
+    }
+}
+
+fn commit_given(committing: Committing, message: &Message) -> Phase {
+    match committing.on_reply(message) {
+        CommitStep::Same(committing) => Phase::Commits(committing),
+        CommitStep::Ended(outcome) => Phase::Over(outcome),
+    }
+}
+
+fn given(phase: Phase, message: &Message) -> Phase {
+    match phase {
+        Phase::Prepares(preparing) => prepare_given(preparing, message),
+        Phase::Commits(committing) => commit_given(committing, message),
+        Phase::Over(outcome) => Phase::Over(outcome),
+    }
+}
+
+fn word(phase: &Phase) -> (&'static str, u64) {
+    match phase {
+        Phase::Prepares(preparing) => ("prepares", preparing.stamp().value()),
+        Phase::Commits(committing) => ("commits", committing.stamp().value()),
+        Phase::Over(Outcome::Committed(stamp)) => ("committed", stamp.value()),
+        Phase::Over(Outcome::Aborted(stamp)) => ("aborted", stamp.value()),
+        Phase::Over(Outcome::Full(stamp)) => ("full", stamp.value()),
+    }
+}
+
+/// How far the write is after these replies, and at which stamp.
+fn after(alloc: Global, replies: &[Told]) -> Result<(&'static str, u64), Refusal> {
+    let (preparing, _prepares) = begun(alloc, lists(alloc)?)?;
+    let mut phase = Phase::Prepares(preparing);
+    for told in replies {
+        let message = message_of(*told)?;
+        phase = given(phase, &message);
+    }
+    Ok(word(&phase))
+}
+
+/// Replies, and how far the write is then.
+type Row = (&'static [Told], &'static str);
+
+/// What partitions 0 and 2 tell client 1 of their Prepares of `T`, and of their Commits.
+const P0: Told = Told {
+    from: 0,
+    to: 1,
+    tag: 5,
+    tells: Tells::Prepared,
+    stamp: T,
+};
+
+const P2: Told = Told { from: 2, ..P0 };
+
+const C0: Told = Told {
+    tag: 6,
+    tells: Tells::Committed,
+    ..P0
+};
+
+const C2: Told = Told { from: 2, ..C0 };
+
+/// The same of partition 1, which is not concerned.
+const P1: Told = Told { from: 1, ..P0 };
+
+const C1: Told = Told { from: 1, ..C0 };
+
+const ROWS: &[Row] = &[
+    (&[], "prepares"),
+    (&[P0], "prepares"),
+    // Both have prepared, in either order.
+    (&[P0, P2], "commits"),
+    (&[P2, P0], "commits"),
+    // A Commit is lost, and the other is answered.
+    (&[P0, P2, C0], "commits"),
+    // Partition 2 has committed by a sweep meanwhile, and tells so of its Commit.
+    (&[P0, P2, C2, C0], "committed"),
+    // Partition 2 was asked by a sweep of partition 0 before its Prepare came.
+    (&[P0, Told { tells: Tells::Discarded, ..P2 }], "aborted"),
+    // The sweep came to partition 0 after it had prepared, and its Prepare twice.
+    (&[P0, Told { tells: Tells::Discarded, ..P0 }], "aborted"),
+    // No room at partition 2; and told by one that has prepared.
+    (&[Told { tells: Tells::Full, ..P2 }], "full"),
+    (&[P0, Told { tells: Tells::Full, ..P0 }], "full"),
+    // One partition tells Prepared twice, and Committed twice.
+    (&[P0, P0], "prepares"),
+    (&[P0, P2, C0, C0], "commits"),
+    // Strays to the Prepares: of another tag, another stamp, a partition that is not concerned, to another client.
+    (&[P0, Told { tag: 6, ..P2 }], "prepares"),
+    (&[P0, Told { stamp: LATER, ..P2 }], "prepares"),
+    (&[P0, P1], "prepares"),
+    (&[P0, Told { to: 2, ..P2 }], "prepares"),
+    (
+        &[Told {
+            tells: Tells::Discarded,
+            stamp: LATER,
+            ..P2
+        }],
+        "prepares",
+    ),
+    (&[Told { tells: Tells::Discarded, ..P1 }], "prepares"),
+    (&[Told { tells: Tells::Full, ..P1 }], "prepares"),
+    (&[Told { tells: Tells::Full, ..C2 }], "prepares"),
+    // Replies of other kinds; Committed, of a Prepare.
+    (&[P0, Told { tells: Tells::Committed, ..P2 }], "prepares"),
+    (&[P0, Told { tells: Tells::NotPrepared, ..P2 }], "prepares"),
+    (&[P0, Told { tells: Tells::Status, ..P2 }], "prepares"),
+    (&[P0, Told { tells: Tells::Clash, ..P2 }], "prepares"),
+    (&[P0, Told { tells: Tells::Gone, ..P2 }], "prepares"),
+    // Strays to the Commits.
+    (&[P0, P2, C0, Told { tag: 5, ..C2 }], "commits"),
+    (
+        &[
+            P0,
+            P2,
+            C0,
+            Told {
+                stamp: LATER,
+                ..C2
+            },
+        ],
+        "commits",
+    ),
+    (&[P0, P2, C0, C1], "commits"),
+    (&[P0, P2, C0, Told { to: 2, ..C2 }], "commits"),
+    (&[P0, P2, C0, Told { tells: Tells::Prepared, ..C2 }], "commits"),
+    (&[P0, P2, C0, Told { tells: Tells::Discarded, ..C2 }], "commits"),
+    (&[P0, P2, C0, Told { tells: Tells::Full, ..C2 }], "commits"),
+    (&[P0, P2, C0, Told { tells: Tells::NotPrepared, ..C2 }], "commits"),
+];
+
+/// Each row begins anew.
+#[test]
+fn replies_carry_a_write_on(rt: HostRuntime) {
+    for (replies, end) in ROWS {
+        assert_eq!(rt; after(rt.alloc(), replies), Ok((*end, T)));
+    }
+}
+
+/// The partitions to which Commits of `T` are sent under the tag 6, once both have prepared.
+fn commits(alloc: Global) -> Result<(usize, bool), Refusal> {
+    let (preparing, _prepares) = begun(alloc, lists(alloc)?)?;
+    match prepare_given_twice(preparing)? {
+        PrepareStep::Commit(_, messages) => Ok((messages.len(), are_commits(&messages))),
+        PrepareStep::Same(_) | PrepareStep::Ended(_) => Err(Refusal::Clash),
+    }
+}
+
+fn prepare_given_twice(preparing: Preparing) -> Result<PrepareStep, Refusal> {
+    match preparing.on_reply(&message_of(P2)?) {
+        PrepareStep::Same(preparing) => Ok(preparing.on_reply(&message_of(P0)?)),
+        PrepareStep::Commit(_, _) | PrepareStep::Ended(_) => Err(Refusal::Clash),
+    }
+}
+
+fn are_commits(messages: &[Message]) -> bool {
+    match messages {
+        [one, other] => is_commit(one, 0) && is_commit(other, 2),
+        _ => false,
+    }
+}
+
+fn is_commit(message: &Message, part: u16) -> bool {
+    is_sent(message, part, 6)
+        && matches!(message.body(), Body::Request(Request::Commit(stamp)) if stamp.value() == T)
+}
+
+/// Whoever prepared last.
+#[test]
+fn commits_go_to_the_same_partitions(rt: HostRuntime) {
+    assert_eq!(rt; commits(rt.alloc()), Ok((2, true)));
+}
