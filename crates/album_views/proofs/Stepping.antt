@@ -1,13 +1,14 @@
--- What each step of a viewing is, for `Viewing::on_names` (`step-closed`, `step-wide`, `step-again`, `again-readable`) and
--- for the law `a_view_is_the_first_closed_read` (`closed-by`, `wide-by`, `rounds-by`, `again-by`).
-use Rattle.std.proofs.Common.{◌≡◌, ◌≤◌, ◌<◌, ◌+◌, ◌↔◌, ℕ, Bool, true, false, List, length, nat_le, if◌then◌else◌, refl, sym, ap, ◌∙◌}
+-- What each step of a viewing is, for `Viewing::on_names` (`step-closed`, `step-unclosed`, `unclosed-readable`) and for
+-- the law `a_view_is_the_first_closed_read` (`closed-by`, `wide-by`, `rounds-by`, `again-by`).
+use Rattle.std.proofs.Common.{◌≡◌, ◌≤◌, ◌<◌, ◌+◌, ◌↔◌, ℕ, Bool, true, false, None, List, length, nat_le, nat_lt, if◌then◌else◌, refl, sym, ap, ◌∙◌}
 use Rattle.std.proofs.lemmas.Bool.{lt-ltb, le-ltb, ltb-true, ltb-false, le-leb, lt-leb, leb-true, leb-false}
 use Rattle.album_stamps.specs.declared.limits.TheConstants.{MOST_READ_ITEMS, MOST_READS}
 use Rattle.album_reader.specs.Answers.{Answer}
+use Rattle.album_views.specs.Checks.{flaw_of}
 use Rattle.album_views.specs.Naming.{names_of}
 use Rattle.album_views.specs.Steps.{again, unclosed, stepped, AreReadable, AsksReadable}
 use Rattle.album_views.specs.Views.{ViewState, ViewingState, IsClosed, is_closed}
-use Rattle.album_views.proofs.Closing.{closed-is, is-closed, not-closed}
+use Rattle.album_views.proofs.Closing.{closed-is, is-closed, not-closed, names-readable}
 use Rattle.album_views.specs.declared.viewing.ViewStep.{ViewStep}
 use Rattle.album_views.specs.declared.viewing.ViewStep.TheVariants.{Again, Closed, Busy}
 use Rattle.album_views.specs.declared.viewing.Why.TheVariants.{Rounds, Wide}
@@ -40,6 +41,20 @@ again-readable viewing items readable = go (nat_le MOST_READS (viewing.reads + 1
     go : (b : Bool) → AsksReadable (if b then Busy Rounds else Again (record viewing { reads = viewing.reads + 1 }) items)
     go true = tt
     go false = readable
+
+pub unclosed-readable :
+    (viewing : ViewingState) (rows : List Answer) → flaw_of viewing.ask ≡ None
+    → AsksReadable (unclosed viewing (names_of rows viewing.ask))
+unclosed-readable viewing rows sound = go (nat_lt MOST_READ_ITEMS (length names)) refl
+  where
+    names : List ℕ
+    names = names_of rows viewing.ask
+
+    go :
+        (b : Bool) → nat_lt MOST_READ_ITEMS (length names) ≡ b
+        → AsksReadable (if b then Busy Wide else again viewing names)
+    go true e = tt
+    go false e = again-readable viewing names (names-readable rows viewing.ask sound (ltb-false _ _ e))
 
 -- ---- what a step says of the snapshot
 

@@ -1,5 +1,5 @@
 // Reads until one is a view.
-ghost use Rattle.std.specs.Prelude.{◌≡◌, ◌≢◌, ◌≤◌, None, IfOk, IfErr, IsTrue, IsOkUnless, length, Contains};
+ghost use Rattle.std.specs.Prelude.{◌≡◌, ◌≢◌, ◌≤◌, None, IfOk, IfErr, IsTrue, IsOkUnless, length, nat_lt, Contains};
 ghost use Rattle.std.specs.List.{list_all};
 ghost use Rattle.album_stamps.specs.Distinct.{are_single};
 ghost use Rattle.album_reader.specs.Snapshots.{items_read};
@@ -111,7 +111,14 @@ impl Viewing {
         if has_all(&snapshot, &names) {
             return ViewStep::Closed(View::of(self.ask, snapshot));
         }
-        if names.len() > MOST_READ_ITEMS {
+        self.unclosed(names)
+    }
+
+    /// What comes of a snapshot that lacks one of its names.
+    fn unclosed(self, names: Vec<ItemId>) -> ViewStep
+        ensures { result ≡ unclosed self names.items }
+    {
+        if is_wide(&names) {
             return ViewStep::Busy(Why::Wide);
         }
         self.again(Items::of(names))
@@ -150,6 +157,13 @@ impl Viewing {
     {
         Ok(self.clone()?)
     }
+}
+
+/// Whether they are more than a read may have.
+fn is_wide(names: &[ItemId]) -> bool
+    ensures { result ≡ nat_lt MOST_READ_ITEMS (length names.now) }
+{
+    names.len() > MOST_READ_ITEMS
 }
 
 /// Whether each of the items was read.
