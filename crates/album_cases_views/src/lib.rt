@@ -4,6 +4,8 @@
 #[cfg(test)]
 mod asks;
 #[cfg(test)]
+mod audits;
+#[cfg(test)]
 mod checks;
 #[cfg(test)]
 mod store;
