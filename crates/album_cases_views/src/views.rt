@@ -20,7 +20,12 @@ fn started(alloc: Global, verb: Verb, text: &str) -> Result<(Viewing, Items), Re
 }
 
 /// What comes of a read of the items, for a copy of the viewing.
-pub fn read(alloc: Global, store: Store, viewing: Viewing, items: &Items) -> Result<ViewStep, Refusal> {
+pub fn read(
+    alloc: Global,
+    store: Store,
+    viewing: Viewing,
+    items: &Items,
+) -> Result<ViewStep, Refusal> {
     let snapshot = snapshot(alloc, store, items)?;
     Ok(viewing.copy()?.on_snapshot(alloc, snapshot)?)
 }

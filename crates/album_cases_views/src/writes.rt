@@ -1,5 +1,5 @@
-// Writes over three partitions (docs/PROTOCOL.md, "A write"): what is sent, and what comes of the replies. amy sets other
-// lists of her two pictures, so list/0 and list/1 are written: at the partitions 2 and 0.
+// Writes over three partitions (docs/PROTOCOL.md, "A write"): what is sent, and what comes of the replies. amy sets
+// other lists of her two pictures, so list/0 and list/1 are written: at the partitions 2 and 0.
 ghost use Rattle.std.specs.Prelude.{◌≡◌, Some, IfOk, IsTrue};
 ghost use Rattle.album_stamps.specs.Stamps.{client_of};
 ghost use Rattle.album_permits.specs.Effects.{is_write};
@@ -148,9 +148,11 @@ fn asks_prepare(alloc: Global, body: &Body, list: &str) -> Result<bool, Refusal>
     let rows = [(item_of(list)?, Value::List(entries))];
     let all = [item_of("list/0")?, item_of("list/1")?];
     match body {
-        Body::Request(Request::Prepare(stamp, writes, items)) => Ok(stamp.value() == T
-            && same_values(writes.as_slice(), &rows)
-            && same_items(items.as_slice(), &all)),
+        Body::Request(Request::Prepare(stamp, writes, items)) => Ok(
+            stamp.value() == T
+                && same_values(writes.as_slice(), &rows)
+                && same_items(items.as_slice(), &all),
+        ),
         Body::Request(Request::Commit(_) | Request::Get(_, _) | Request::Check(_)) => Ok(false),
         Body::Reply(_) => Ok(false),
     }
@@ -218,12 +220,7 @@ fn message_of(told: Told) -> Result<Message, Refusal> {
     let stamp = Stamp::read(told.stamp).ok_or(Refusal::BadRequest)?;
     let client = ClientNo::of(told.to).ok_or(Refusal::BadRequest)?;
     let body = Body::Reply(reply_of(told.tells, stamp)?);
-    Ok(Message::new(
-        Node::Part(told.from),
-        Node::Client(client),
-        told.tag,
-        body,
-    ))
+    Ok(Message::new(Node::Part(told.from), Node::Client(client), told.tag, body))
 }
 
 /// How far a write is.
@@ -316,12 +313,45 @@ const ROWS: &[Row] = &[
     // Partition 2 has committed by a sweep meanwhile, and tells so of its Commit.
     (&[P0, P2, C2, C0], "committed"),
     // Partition 2 was asked by a sweep of partition 0 before its Prepare came.
-    (&[P0, Told { tells: Tells::Discarded, ..P2 }], "aborted"),
+    (
+        &[
+            P0,
+            Told {
+                tells: Tells::Discarded,
+                ..P2
+            },
+        ],
+        "aborted",
+    ),
     // The sweep came to partition 0 after it had prepared, and its Prepare twice.
-    (&[P0, Told { tells: Tells::Discarded, ..P0 }], "aborted"),
+    (
+        &[
+            P0,
+            Told {
+                tells: Tells::Discarded,
+                ..P0
+            },
+        ],
+        "aborted",
+    ),
     // No room at partition 2; and told by one that has prepared.
-    (&[Told { tells: Tells::Full, ..P2 }], "full"),
-    (&[P0, Told { tells: Tells::Full, ..P0 }], "full"),
+    (
+        &[Told {
+            tells: Tells::Full,
+            ..P2
+        }],
+        "full",
+    ),
+    (
+        &[
+            P0,
+            Told {
+                tells: Tells::Full,
+                ..P0
+            },
+        ],
+        "full",
+    ),
     // One partition tells Prepared twice, and Committed twice.
     (&[P0, P0], "prepares"),
     (&[P0, P2, C0, C0], "commits"),
@@ -338,35 +368,131 @@ const ROWS: &[Row] = &[
         }],
         "prepares",
     ),
-    (&[Told { tells: Tells::Discarded, ..P1 }], "prepares"),
-    (&[Told { tells: Tells::Full, ..P1 }], "prepares"),
-    (&[Told { tells: Tells::Full, ..C2 }], "prepares"),
+    (
+        &[Told {
+            tells: Tells::Discarded,
+            ..P1
+        }],
+        "prepares",
+    ),
+    (
+        &[Told {
+            tells: Tells::Full,
+            ..P1
+        }],
+        "prepares",
+    ),
+    (
+        &[Told {
+            tells: Tells::Full,
+            ..C2
+        }],
+        "prepares",
+    ),
     // Replies of other kinds; Committed, of a Prepare.
-    (&[P0, Told { tells: Tells::Committed, ..P2 }], "prepares"),
-    (&[P0, Told { tells: Tells::NotPrepared, ..P2 }], "prepares"),
-    (&[P0, Told { tells: Tells::Status, ..P2 }], "prepares"),
-    (&[P0, Told { tells: Tells::Clash, ..P2 }], "prepares"),
-    (&[P0, Told { tells: Tells::Gone, ..P2 }], "prepares"),
+    (
+        &[
+            P0,
+            Told {
+                tells: Tells::Committed,
+                ..P2
+            },
+        ],
+        "prepares",
+    ),
+    (
+        &[
+            P0,
+            Told {
+                tells: Tells::NotPrepared,
+                ..P2
+            },
+        ],
+        "prepares",
+    ),
+    (
+        &[
+            P0,
+            Told {
+                tells: Tells::Status,
+                ..P2
+            },
+        ],
+        "prepares",
+    ),
+    (
+        &[
+            P0,
+            Told {
+                tells: Tells::Clash,
+                ..P2
+            },
+        ],
+        "prepares",
+    ),
+    (
+        &[
+            P0,
+            Told {
+                tells: Tells::Gone,
+                ..P2
+            },
+        ],
+        "prepares",
+    ),
     // Strays to the Commits.
     (&[P0, P2, C0, Told { tag: 5, ..C2 }], "commits"),
+    (&[P0, P2, C0, Told { stamp: LATER, ..C2 }], "commits"),
+    (&[P0, P2, C0, C1], "commits"),
+    (&[P0, P2, C0, Told { to: 2, ..C2 }], "commits"),
     (
         &[
             P0,
             P2,
             C0,
             Told {
-                stamp: LATER,
+                tells: Tells::Prepared,
                 ..C2
             },
         ],
         "commits",
     ),
-    (&[P0, P2, C0, C1], "commits"),
-    (&[P0, P2, C0, Told { to: 2, ..C2 }], "commits"),
-    (&[P0, P2, C0, Told { tells: Tells::Prepared, ..C2 }], "commits"),
-    (&[P0, P2, C0, Told { tells: Tells::Discarded, ..C2 }], "commits"),
-    (&[P0, P2, C0, Told { tells: Tells::Full, ..C2 }], "commits"),
-    (&[P0, P2, C0, Told { tells: Tells::NotPrepared, ..C2 }], "commits"),
+    (
+        &[
+            P0,
+            P2,
+            C0,
+            Told {
+                tells: Tells::Discarded,
+                ..C2
+            },
+        ],
+        "commits",
+    ),
+    (
+        &[
+            P0,
+            P2,
+            C0,
+            Told {
+                tells: Tells::Full,
+                ..C2
+            },
+        ],
+        "commits",
+    ),
+    (
+        &[
+            P0,
+            P2,
+            C0,
+            Told {
+                tells: Tells::NotPrepared,
+                ..C2
+            },
+        ],
+        "commits",
+    ),
 ];
 
 /// Each row begins anew.

@@ -145,16 +145,27 @@ module _ (shown : ℕ → Value) (p : Principal) (stamp : ℕ) where
   few-lists : (lists : List NewList) → length (flat_map (list_written shown) lists) ≤ length lists
   few-lists [] = omega arith
   few-lists (new ∷ lists) =
-      omega (arith, few-at new, few-lists lists, length-append (list_written shown new) (flat_map (list_written shown) lists))
+      omega (
+        arith,
+        few-at new,
+        few-lists lists,
+        length-append (list_written shown new) (flat_map (list_written shown) lists),
+      )
 
-  few-deleted : (object : ℕ) (v : Value) → length {A = Write} (map (λ (item : ℕ). (item, value.Missing)) (list_of v) ++ map (λ (home : ℕ). (home, without_child object (shown home))) (home_of v)) ≤ 2
+  few-deleted :
+      (object : ℕ) (v : Value)
+      → length {A = Write} (map (λ (item : ℕ). (item, value.Missing)) (list_of v)
+      ++ map (λ (home : ℕ). (home, without_child object (shown home))) (home_of v)) ≤ 2
   few-deleted object value.Missing = omega arith
   few-deleted object (value.Picture x) = omega arith
   few-deleted object (value.Album x) = omega arith
   few-deleted object (value.List x) = omega arith
   few-deleted object (value.Group x) = omega arith
 
-  few-moved : (object to : ℕ) (v : Value) → length {A = Write} (map (λ (home : ℕ). (home, without_child object (shown home))) (home_of v) ++ (to, with_child object (shown to)) ∷ []) ≤ 2
+  few-moved :
+      (object to : ℕ) (v : Value)
+      → length {A = Write} (map (λ (home : ℕ). (home, without_child object (shown home))) (home_of v)
+      ++ (to, with_child object (shown to)) ∷ []) ≤ 2
   few-moved object to value.Missing = omega arith
   few-moved object to (value.Picture x) = omega arith
   few-moved object to (value.Album x) = omega arith
@@ -188,12 +199,15 @@ need-met (Denied reasons) later e = absurd (cc)
 need-met (Missing object) later e = absurd (cc)
 
 module _ (basis : Basis) (p : Principal) (stamp : ℕ) where
-  some-at : (new : NewList) → need_found basis (just new.object WRITE_ACL) ≡ Granted → 1 ≤ length (list_written basis.seen new)
+  some-at :
+      (new : NewList) → need_found basis (just new.object WRITE_ACL) ≡ Granted
+      → 1 ≤ length (list_written basis.seen new)
   some-at new met = go (basis.seen new.object) met
     where
       go :
           (v : Value)
-          → found_by (cond (is_none (head_of v)) (Some new.object) None) (reasons_of basis (just new.object WRITE_ACL)) ≡ Granted
+          → found_by (cond (is_none (head_of v)) (Some new.object) None)
+          (reasons_of basis (just new.object WRITE_ACL)) ≡ Granted
           → 1 ≤ length {A = Write} (map (λ (item : ℕ). (item, value.List new.list)) (list_of v))
       go value.Missing e = absurd (cc)
       go (value.Picture x) e = omega arith
@@ -216,9 +230,14 @@ module _ (basis : Basis) (p : Principal) (stamp : ℕ) where
   some-written (ask.SetLists []) change some granted = absurd (some refl)
   some-written (ask.SetLists (new ∷ lists)) change some granted =
       let met : need_found basis (just new.object WRITE_ACL) ≡ Granted =
-      need-met (need_found basis (just new.object WRITE_ACL)) (needs_found basis (needs_of basis.seen (ask.SetLists lists))) granted
+      need-met (need_found basis (just new.object WRITE_ACL))
+      (needs_found basis (needs_of basis.seen (ask.SetLists lists))) granted
       in
-      omega (arith, some-at new met, length-append (list_written basis.seen new) (flat_map (list_written basis.seen) lists))
+      omega (
+        arith,
+        some-at new met,
+        length-append (list_written basis.seen new) (flat_map (list_written basis.seen) lists),
+      )
   some-written (ask.SetOwner object owner group) change some granted = omega arith
   some-written (ask.SetMembers object members) change some granted = omega arith
 
@@ -432,7 +451,8 @@ no-flaw-of asked p e = go (flaw_of asked) refl
   where
     go : (o : Option Refusal) → flaw_of asked ≡ o → flaw_of asked ≡ None
     go None same = same
-    go (Some flaw) same = absurd (some-none (sym (ap (λ (z : Option Refusal). or_else z (owner_flaw asked p)) same) ∙ e))
+    go (Some flaw) same =
+        absurd (some-none (sym (ap (λ (z : Option Refusal). or_else z (owner_flaw asked p)) same) ∙ e))
       where
         some-none : Some flaw ≡ None → ⊥
         some-none q = absurd (cc)

@@ -84,7 +84,8 @@ pub first-told :
     → prepare_round permit stamp client tag parts
     ≡ told_round tells_prepared (prepare_round permit stamp client tag parts) []
 first-told permit stamp client tag parts =
-    ap (λ (z : List ℕ). let a : WritingState = record (prepare_round permit stamp client tag parts) { awaited = z } in a)
+    ap (λ (z : List ℕ). let a : WritingState = record (prepare_round permit stamp client tag parts) { awaited = z }
+    in a)
     (filter_all (λ place. true) (λ n. refl) (places_in (prepare_round permit stamp client tag parts)))
 
 pub second-told : (x : WritingState) → commit_round x ≡ told_round tells_committed (commit_round x) []
@@ -107,10 +108,12 @@ module _ (x : WritingState) (given : List Message) (m : Message) where
           ≡ prepares_then (told_round tells_prepared x (given ++ m ∷ [])) what
       go told.Prepared e =
           ap (λ (z : List ℕ). prepares_left (with z) z) (answer-push tells_prepared x given m (ap tells_prepared e))
-      go told.Committed e = ap (λ (z : List ℕ). Waits (with z)) (other-push tells_prepared x given m (ap tells_prepared e))
+      go told.Committed e =
+          ap (λ (z : List ℕ). Waits (with z)) (other-push tells_prepared x given m (ap tells_prepared e))
       go told.Discarded e = refl
       go told.Full e = refl
-      go told.Nothing e = ap (λ (z : List ℕ). Waits (with z)) (other-push tells_prepared x given m (ap tells_prepared e))
+      go told.Nothing e =
+          ap (λ (z : List ℕ). Waits (with z)) (other-push tells_prepared x given m (ap tells_prepared e))
 
   pub commit-told : commit_stepped (told_round tells_committed x given) m ≡ commit_step_after x given m
   commit-told = go (told_of x m) refl
@@ -119,12 +122,16 @@ module _ (x : WritingState) (given : List Message) (m : Message) where
           (what : Told) → told_of x m ≡ what
           → commits_by (told_round tells_committed x given) m.from what
           ≡ commits_then (told_round tells_committed x (given ++ m ∷ [])) what
-      go told.Prepared e = ap (λ (z : List ℕ). Waits (with z)) (other-push tells_committed x given m (ap tells_committed e))
+      go told.Prepared e =
+          ap (λ (z : List ℕ). Waits (with z)) (other-push tells_committed x given m (ap tells_committed e))
       go told.Committed e =
           ap (λ (z : List ℕ). commits_left (with z) z) (answer-push tells_committed x given m (ap tells_committed e))
-      go told.Discarded e = ap (λ (z : List ℕ). Waits (with z)) (other-push tells_committed x given m (ap tells_committed e))
-      go told.Full e = ap (λ (z : List ℕ). Waits (with z)) (other-push tells_committed x given m (ap tells_committed e))
-      go told.Nothing e = ap (λ (z : List ℕ). Waits (with z)) (other-push tells_committed x given m (ap tells_committed e))
+      go told.Discarded e =
+          ap (λ (z : List ℕ). Waits (with z)) (other-push tells_committed x given m (ap tells_committed e))
+      go told.Full e =
+          ap (λ (z : List ℕ). Waits (with z)) (other-push tells_committed x given m (ap tells_committed e))
+      go told.Nothing e =
+          ap (λ (z : List ℕ). Waits (with z)) (other-push tells_committed x given m (ap tells_committed e))
 
 -- the clauses: what a step is by the round's own fields, it is by the messages given
 pub prepare-step :

@@ -50,17 +50,21 @@ module _
         (ms : List Message) (place : ℕ) → has_told tells x ms place ≡ true
         → IsToldAmong x ms (the_reply x.stamp kind) place
     has_told-among ms place e =
-        let (at, message, inside, here, same) = Any-from_list_any (λ (message : Message). tells (told_of x message) && is_part message.from place) ms e in
+        let (at, message, inside, here, same) =
+        Any-from_list_any (λ (message : Message). tells (told_of x message) && is_part message.from place) ms e
+        in
         let both = and_parts (tells (told_of x message)) (is_part message.from place) same in
         let (other, t) = told-is x message kind (tells-is (told_of x message) both.0) some in
         let own : other ≡ place = part-number other place (sym t.sender ∙ is_part-own message.from place both.1) in
         (message, (at, inside, here), subst (λ (n : ℕ). IsToldBy x message (the_reply x.stamp kind) n) own t)
 
     among-has_told :
-        (ms : List Message) (place : ℕ) → IsToldAmong x ms (the_reply x.stamp kind) place → has_told tells x ms place ≡ true
+        (ms : List Message) (place : ℕ) → IsToldAmong x ms (the_reply x.stamp kind) place
+        → has_told tells x ms place ≡ true
     among-has_told ms place (message, there, t) =
         let (at, inside, here) = at_from_Contains ms message there in
-        list_any_at (λ (message : Message). tells (told_of x message) && is_part message.from place) ms at message inside
+        list_any_at (λ (message : Message). tells (told_of x message) && is_part message.from place) ms at message
+        inside
         (subst (λ (k : Message). (tells (told_of x k) && is_part k.from place) ≡ true) (sym (here message))
         (and_from (tells (told_of x message)) (is_part message.from place)
         (ap tells (told-kind x message kind (place, t)) ∙ tells-own)
@@ -72,7 +76,8 @@ module _
         → (place : ℕ) → Contains (places_in x) place → IsToldAmong x ms (the_reply x.stamp kind) place
     each-told ms none place there =
         has_told-among ms place
-        (not-false (has_told tells x ms place) (none-left (λ place. not (has_told tells x ms place)) (places_in x) none place there))
+        (not-false (has_told tells x ms place)
+        (none-left (λ place. not (has_told tells x ms place)) (places_in x) none place there))
 
     told-each :
         (ms : List Message)

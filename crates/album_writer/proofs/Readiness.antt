@@ -1,6 +1,6 @@
 -- A round of Prepares is ready as it begins (`begun-ready`, for `begin`) and after an answer that is not the last one
--- (`some_ready`); what comes of an answer, by whether it is the last one, for `take` of both rounds.
-use Rattle.std.proofs.Common.{◌≡◌, ◌≢◌, ℕ, suc, ◌==◌, ◌+◌, ◌<◌, ◌≤◌, ◌^◌, length, arith, eqb-true, true, false, List, [], ◌∷◌, refl, sym, ap, subst, ◌∙◌}
+-- (`some_ready`), after which it waits (`some_prepared`): for `take`.
+use Rattle.std.proofs.Common.{◌≡◌, ◌≢◌, ℕ, ◌==◌, ◌+◌, ◌<◌, ◌≤◌, ◌^◌, Bool, length, true, false, List, [], ◌∷◌, refl, sym, ap, subst, ◌∙◌}
 use Rattle.album_calls.specs.declared.messages.Message.{Message}
 use Rattle.album_calls.specs.declared.nodes.Node.{Node}
 use Rattle.album_items.specs.Transactions.{items_written, are_items}
@@ -9,60 +9,34 @@ use Rattle.album_permits.specs.Permits.{PermitState}
 use Rattle.album_writer.proofs.Placing.{some-place}
 use Rattle.album_writer.specs.declared.told.Told.{Told}
 use Rattle.album_writer.specs.declared.told.Told.TheVariants as told
-use Rattle.album_writer.specs.declared.outcomes.Outcome.TheVariants as outcome
 use Rattle.album_writer.specs.Ready.{IsReady}
-use Rattle.album_writer.specs.Rounds.{answered_by, prepares_left, prepares_by, prepare_stepped, commits_left, commits_by, commit_stepped}
-use Rattle.album_writer.specs.Rounds.WriteStep.{Waits, Commits, Ends}
+use Rattle.album_writer.specs.Rounds.{answered_by, prepares_left, prepares_by, prepare_stepped}
+use Rattle.album_writer.specs.Rounds.WriteStep.{Waits}
 use Rattle.album_writer.specs.Told.{told_of}
 use Rattle.album_writer.specs.Writing.{WritingState, places_in, prepare_round, commit_round, commits_of}
 
-none_left : (ns : List ℕ) → (length ns == 0) ≡ true → ns ≡ []
-none_left [] h = refl
-none_left (n ∷ ns) h = let e : suc (length ns) ≡ 0 = eqb-true (suc (length ns)) 0 h in absurd (omega arith)
-
-pub some_left : (ns : List ℕ) → (length ns == 0) ≡ false → ns ≢ []
+some_left : (ns : List ℕ) → (length ns == 0) ≡ false → ns ≢ []
 some_left [] h = absurd (cc)
 some_left (n ∷ ns) h = λ e. absurd (cc)
 
-module _ (x next : WritingState) (m : Message) (what : Told) (is : what ≡ told_of x m) (answered : next ≡ answered_by x m.from) where
-  pub all_prepared :
-      (messages : List Message) → what ≡ told.Prepared → (length next.awaited == 0) ≡ true
-      → messages ≡ commits_of (commit_round x)
-      → Commits (commit_round next) messages ≡ prepare_stepped x m
-  all_prepared messages e h sent =
-      ap (λ (z : WritingState). Commits (commit_round z) messages) answered
-      ∙ ap (Commits (commit_round x)) sent
-      ∙ ap (prepares_left (answered_by x m.from)) (sym (none_left (answered_by x m.from).awaited (ap (λ (z : WritingState). length z.awaited == 0) (sym answered) ∙ h)))
-      ∙ ap (prepares_by x m.from) (sym e ∙ is)
+module _
+    (x next : WritingState) (m : Message) (what : Told) (is : what ≡ told_of x m)
+    (answered : next ≡ answered_by x m.from)
+  where
+    still : {b : Bool} → (length next.awaited == 0) ≡ b → (length (answered_by x m.from).awaited == 0) ≡ b
+    still h = ap (λ (z : WritingState). length z.awaited == 0) (sym answered) ∙ h
 
-  pub some_prepared : what ≡ told.Prepared → (length next.awaited == 0) ≡ false → Waits next ≡ prepare_stepped x m
-  some_prepared e h =
-      ap Waits answered
-      ∙ go (answered_by x m.from).awaited (ap (λ (z : WritingState). length z.awaited == 0) (sym answered) ∙ h)
-      ∙ ap (prepares_by x m.from) (sym e ∙ is)
-    where
-      go :
-          (ns : List ℕ) → (length ns == 0) ≡ false → Waits (answered_by x m.from) ≡ prepares_left (answered_by x m.from) ns
-      go [] k = absurd (cc)
-      go (n ∷ ns) k = refl
-
-  pub all_committed :
-      what ≡ told.Committed → (length next.awaited == 0) ≡ true → Ends (outcome.Committed next.stamp) ≡ commit_stepped x m
-  all_committed e h =
-      ap (λ (z : WritingState). Ends (outcome.Committed z.stamp)) answered
-      ∙ ap (commits_left (answered_by x m.from)) (sym (none_left (answered_by x m.from).awaited (ap (λ (z : WritingState). length z.awaited == 0) (sym answered) ∙ h)))
-      ∙ ap (commits_by x m.from) (sym e ∙ is)
-
-  pub some_committed : what ≡ told.Committed → (length next.awaited == 0) ≡ false → Waits next ≡ commit_stepped x m
-  some_committed e h =
-      ap Waits answered
-      ∙ go (answered_by x m.from).awaited (ap (λ (z : WritingState). length z.awaited == 0) (sym answered) ∙ h)
-      ∙ ap (commits_by x m.from) (sym e ∙ is)
-    where
-      go :
-          (ns : List ℕ) → (length ns == 0) ≡ false → Waits (answered_by x m.from) ≡ commits_left (answered_by x m.from) ns
-      go [] k = absurd (cc)
-      go (n ∷ ns) k = refl
+    pub some_prepared : what ≡ told.Prepared → (length next.awaited == 0) ≡ false → Waits next ≡ prepare_stepped x m
+    some_prepared e h =
+        ap Waits answered
+        ∙ go (answered_by x m.from).awaited (still h)
+        ∙ ap (prepares_by x m.from) (sym e ∙ is)
+      where
+        go :
+            (ns : List ℕ) → (length ns == 0) ≡ false
+            → Waits (answered_by x m.from) ≡ prepares_left (answered_by x m.from) ns
+        go [] k = absurd (cc)
+        go (n ∷ ns) k = refl
 
 -- a round that is not over is ready as it was
 pub some_ready :
@@ -70,7 +44,9 @@ pub some_ready :
     → next ≡ answered_by x node → (length next.awaited == 0) ≡ false → IsReady next commits later
 some_ready x next node commits later ready answered h =
     subst (λ (z : WritingState). IsReady z commits later) (sym answered) (record {
-      awaited = some_left (answered_by x node).awaited (ap (λ (z : WritingState). length z.awaited == 0) (sym answered) ∙ h);
+      awaited =
+          some_left (answered_by x node).awaited
+          (ap (λ (z : WritingState). length z.awaited == 0) (sym answered) ∙ h);
       sent = ready.sent;
       next = ready.next;
       tag = ready.tag;

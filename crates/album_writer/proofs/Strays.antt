@@ -33,7 +33,8 @@ concerns-from x m r place t =
     (ap (λ (n : Node). is_client n x.client) t.receiver ∙ eq-eqb x.client x.client refl))
     (let (at, inside, here) = at_from_Contains (places_in x) place t.concerned in
     list_any_at (is_part m.from) (places_in x) at 0 inside
-    (ap (λ (n : Node). is_part n (get_or (places_in x) at 0)) t.sender ∙ eq-eqb place (get_or (places_in x) at 0) (sym (here 0))))
+    (ap (λ (n : Node). is_part n (get_or (places_in x) at 0)) t.sender
+    ∙ eq-eqb place (get_or (places_in x) at 0) (sym (here 0))))
 
 -- a reply of a partition concerned tells what it tells of the stamp
 pub told-by :
@@ -146,7 +147,8 @@ unmoved :
 unmoved node place [] from absent = refl
 unmoved node place (n ∷ ns) from absent =
     go (is_part node n) refl
-    (unmoved node place ns from (λ there. let (at, inside, here) = there in absent (suc at, omega (arith, inside), here)))
+    (unmoved node place ns from
+    (λ there. let (at, inside, here) = there in absent (suc at, omega (arith, inside), here)))
   where
     go :
         (b : Bool) → is_part node n ≡ b → filter (λ n. not (is_part node n)) ns ≡ ns
@@ -174,19 +176,28 @@ module _ (x : WritingState) (m : Message) where
       go : (what : Told) → told_of x m ≡ what → prepare_stepped x m ≡ Waits x
       go told.Prepared e =
           let (place, t) = told-is x m told.Prepared e (λ q. absurd (cc)) in
-          let heard = stray-told (told_of_prepares x.stamp) (reply.Prepared x.stamp) x m (reply.Prepared x.stamp) place stray t (0, omega arith, refl) in
+          let heard =
+          stray-told (told_of_prepares x.stamp) (reply.Prepared x.stamp) x m (reply.Prepared x.stamp) place stray t
+          (0, omega arith, refl)
+          in
           ap (prepares_by x m.from) e
           ∙ ap (λ (z : List ℕ). prepares_left (with z) z) (unmoved m.from place x.awaited t.sender heard.1)
           ∙ prepares-wait x.awaited some
       go told.Committed e = ap (prepares_by x m.from) e
       go told.Discarded e =
           let (place, t) = told-is x m told.Discarded e (λ q. absurd (cc)) in
-          let heard = stray-told (told_of_prepares x.stamp) (reply.Prepared x.stamp) x m (reply.Discarded x.stamp) place stray t (1, omega arith, refl) in
+          let heard =
+          stray-told (told_of_prepares x.stamp) (reply.Prepared x.stamp) x m (reply.Discarded x.stamp) place stray t
+          (1, omega arith, refl)
+          in
           let wrong = heard.0 in
           absurd (cc)
       go told.Full e =
           let (place, t) = told-is x m told.Full e (λ q. absurd (cc)) in
-          let heard = stray-told (told_of_prepares x.stamp) (reply.Prepared x.stamp) x m (reply.Full x.stamp) place stray t (2, omega arith, refl) in
+          let heard =
+          stray-told (told_of_prepares x.stamp) (reply.Prepared x.stamp) x m (reply.Full x.stamp) place stray t
+          (2, omega arith, refl)
+          in
           let wrong = heard.0 in
           absurd (cc)
       go told.Nothing e = ap (prepares_by x m.from) e
@@ -198,7 +209,10 @@ module _ (x : WritingState) (m : Message) where
       go told.Prepared e = ap (commits_by x m.from) e
       go told.Committed e =
           let (place, t) = told-is x m told.Committed e (λ q. absurd (cc)) in
-          let heard = stray-told (told_of_commits x.stamp) (reply.Committed x.stamp) x m (reply.Committed x.stamp) place stray t (0, omega arith, refl) in
+          let heard =
+          stray-told (told_of_commits x.stamp) (reply.Committed x.stamp) x m (reply.Committed x.stamp) place stray t
+          (0, omega arith, refl)
+          in
           ap (commits_by x m.from) e
           ∙ ap (λ (z : List ℕ). commits_left (with z) z) (unmoved m.from place x.awaited t.sender heard.1)
           ∙ commits-wait x.awaited some
@@ -226,11 +240,13 @@ module _
             FromOtherNode (λ place there sender.
             let (at, inside, here) = at_from_Contains (places_in x) place there in
             false≢true (sym f ∙ list_any_at (is_part m.from) (places_in x) at 0 inside
-            (ap (λ (n : Node). is_part n (get_or (places_in x) at 0)) sender ∙ eq-eqb place (get_or (places_in x) at 0) (sym (here 0)))))
+            (ap (λ (n : Node). is_part n (get_or (places_in x) at 0)) sender
+            ∙ eq-eqb place (get_or (places_in x) at 0) (sym (here 0)))))
 
         elsewhere :
             (a : Bool) → (m.tag == x.tag) ≡ a → (b : Bool) → is_client m.to x.client ≡ b
-            → (c : Bool) → list_any (is_part m.from) (places_in x) ≡ c → (a && b && c) ≡ false → IsStray replies once x m
+            → (c : Bool) → list_any (is_part m.from) (places_in x) ≡ c → (a && b && c) ≡ false
+            → IsStray replies once x m
         elsewhere false f b g c h all = UnderOtherTag (eqb-false m.tag x.tag f)
         elsewhere true f false g c h all =
             ToOtherNode (λ same. false≢true
@@ -243,7 +259,8 @@ module _
             → IsStray replies once x m
         go true f g = of-other-kind g
         go false f g =
-            elsewhere (m.tag == x.tag) refl (is_client m.to x.client) refl (list_any (is_part m.from) (places_in x)) refl f
+            elsewhere (m.tag == x.tag) refl (is_client m.to x.client) refl (list_any (is_part m.from) (places_in x))
+            refl f
 
 abbrev counts_in_prepares : Told → Bool
 counts_in_prepares told.Prepared = true
@@ -263,7 +280,9 @@ prepares-known :
     (stamp : ℕ) (r : Reply) → Contains (told_of_prepares stamp) r → counts_in_prepares (reply_told stamp r) ≡ true
 prepares-known stamp r (k, inside, here) = go k inside here
   where
-    by : (s : Reply) → s ≡ r → counts_in_prepares (reply_told stamp s) ≡ true → counts_in_prepares (reply_told stamp r) ≡ true
+    by :
+        (s : Reply) → s ≡ r → counts_in_prepares (reply_told stamp s) ≡ true
+        → counts_in_prepares (reply_told stamp r) ≡ true
     by s same e = subst (λ (z : Reply). counts_in_prepares (reply_told stamp z) ≡ true) same e
 
     go :
@@ -307,7 +326,10 @@ left-out :
     (node : Node) (place : ℕ) (ns : List ℕ) → node ≡ Part place
     → filter (λ n. not (is_part node n)) ns ≡ ns → Contains ns place → ⊥
 left-out node place ns from same there =
-    let passed = filter-passed (λ n. not (is_part node n)) ns place (subst (λ (z : List ℕ). Contains z place) (sym same) there) in
+    let passed =
+    filter-passed (λ n. not (is_part node n)) ns place
+    (subst (λ (z : List ℕ). Contains z place) (sym same) there)
+    in
     false≢true (sym (ap not (ap (λ (k : Node). is_part k place) from ∙ eq-eqb place place refl)) ∙ passed)
 
 abbrev awaited_of : WriteStep → List ℕ
@@ -326,9 +348,12 @@ module _ (x : WritingState) (m : Message) where
     where
       none-counts : counts_in_prepares (told_of x m) ≡ false → IsStrayToPrepares x m
       none-counts f =
-          stray-from (told_of_prepares x.stamp) (reply.Prepared x.stamp) counts_in_prepares x m (prepares-known x.stamp) f refl
+          stray-from (told_of_prepares x.stamp) (reply.Prepared x.stamp) counts_in_prepares x m (prepares-known x.stamp)
+          f refl
 
-      waits : (ns : List ℕ) → prepares_left (answered_by x m.from) ns ≡ Waits x → (answered_by x m.from).awaited ≡ x.awaited
+      waits :
+          (ns : List ℕ) → prepares_left (answered_by x m.from) ns ≡ Waits x
+          → (answered_by x m.from).awaited ≡ x.awaited
       waits [] f = absurd (false≢true (ap is_waits f))
       waits (n ∷ ns) f = ap awaited_of f
 
@@ -347,9 +372,12 @@ module _ (x : WritingState) (m : Message) where
     where
       none-counts : counts_in_commits (told_of x m) ≡ false → IsStrayToCommits x m
       none-counts f =
-          stray-from (told_of_commits x.stamp) (reply.Committed x.stamp) counts_in_commits x m (commits-known x.stamp) f refl
+          stray-from (told_of_commits x.stamp) (reply.Committed x.stamp) counts_in_commits x m (commits-known x.stamp)
+          f refl
 
-      waits : (ns : List ℕ) → commits_left (answered_by x m.from) ns ≡ Waits x → (answered_by x m.from).awaited ≡ x.awaited
+      waits :
+          (ns : List ℕ) → commits_left (answered_by x m.from) ns ≡ Waits x
+          → (answered_by x m.from).awaited ≡ x.awaited
       waits [] f = absurd (false≢true (ap is_waits f))
       waits (n ∷ ns) f = ap awaited_of f
 

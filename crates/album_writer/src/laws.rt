@@ -32,7 +32,8 @@ pub fn a_write_is_what_it_was_told()
     ensures first { (permit : PermitState) (stamp client tag parts : ℕ)
         → prepare_round permit stamp client tag parts
         ≡ told_round tells_prepared (prepare_round permit stamp client tag parts) [] }
-    ensures second { (writing : WritingState) → commit_round writing ≡ told_round tells_committed (commit_round writing) [] }
+    ensures second { (writing : WritingState)
+        → commit_round writing ≡ told_round tells_committed (commit_round writing) [] }
     ensures prepares { (writing : WritingState) (given : List Message) (message : Message)
         → prepare_stepped (told_round tells_prepared writing given) message
         ≡ prepare_step_after writing given message }

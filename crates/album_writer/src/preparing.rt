@@ -19,9 +19,9 @@ use album_permits::Permit;
 use album_stamps::Stamp;
 use std::marker::Model;
 
-/// A write whose Prepares are sent. It can't be copied; to let it go leaves the write where it stands. Contracts see the
-/// permit that was spent on it, its stamp, its client and tag, how many partitions there are, and those whose answers
-/// are awaited. Its Commits are made, so that no message to it takes memory.
+/// A write whose Prepares are sent. It can't be copied; to let it go leaves the write where it stands. Contracts see
+/// the permit that was spent on it, its stamp, its client and tag, how many partitions there are, and those whose
+/// answers are awaited. Its Commits are made, so that no message to it takes memory.
 #[derive(Debug, Drop)]
 pub struct Preparing {
     writing: Writing,

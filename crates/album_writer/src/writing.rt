@@ -231,8 +231,9 @@ impl Writing {
 fn places(alloc: Global, writes: &Writes, parts: u16) -> Result<(Vec<u16>, Vec<u16>), AllocError>
     requires low { 1 ≤ parts }
     requires high { parts ≤ MOST_PARTS }
-    ensures { IfOk result (λ r. (r.0.items ≡ places_of parts (items_written (effect_of writes.now.permit writes.now.stamp)))
-        × (r.1.items ≡ r.0.items)) }
+    ensures places { IfOk result (λ r.
+        r.0.items ≡ places_of parts (items_written (effect_of writes.now.permit writes.now.stamp))) }
+    ensures twice { IfOk result (λ r. r.1.items ≡ r.0.items) }
 {
     let items = items_written(alloc, writes.list())?;
     let places = places_of(alloc, parts, items.as_slice())?;
