@@ -1,5 +1,5 @@
 -- What is listed of an album.
-use Rattle.std.specs.Prelude.{◌≡◌, ◌==◌, ℕ, List, Bool, true, false, Option, Some, None, option_map, if◌then◌else◌}
+use Rattle.std.specs.Prelude.{◌≡◌, ◌==◌, ℕ, List, false, Option, Some, None, option_map, if◌then◌else◌}
 use Rattle.std.specs.List.{filter_map}
 use Rattle.std.specs.Option.{option_map_or}
 use Rattle.album_eval.specs.declared.facts.Principal.{Principal}
@@ -15,21 +15,6 @@ use Rattle.album_listing.specs.Basis.{Basis, IsBasis}
 use Rattle.album_listing.specs.Masks.{READ_ATTRIBUTES}
 use Rattle.album_listing.specs.Reasons.{is_granted_on}
 use Rattle.album_listing.specs.declared.rows.Row.{Row}
-
--- the ask is to list an album
-abbrev pub is_list : Ask → Bool
-is_list (ask.Read object) = false
-is_list (ask.List album) = true
-is_list (ask.GetList object) = false
-is_list (ask.AddPicture album title content) = false
-is_list (ask.AddAlbum album title) = false
-is_list (ask.Retitle object title) = false
-is_list (ask.Replace object content) = false
-is_list (ask.Delete object) = false
-is_list (ask.Move object to) = false
-is_list (ask.SetLists lists) = false
-is_list (ask.SetOwner object owner group) = false
-is_list (ask.SetMembers object members) = false
 
 -- the title of what is there, and has the album of this number as its home
 abbrev pub title_in : ℕ → Value → Option (List ℕ)

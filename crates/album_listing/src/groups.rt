@@ -21,7 +21,8 @@ pub(crate) fn groups_in(
     view: &View,
     principal: &Principal,
 ) -> Result<BTreeSet<u64>, Refusal>
-    ensures groups { IfOk result (λ groups. AreGroups (seen view.now.rows) principal.now (set.contains nat_cmp groups)) }
+    ensures groups { IfOk result (λ groups.
+        AreGroups (seen view.now.rows) principal.now (set.contains nat_cmp groups)) }
     ensures memory { IsOkUnless result Refusal.OutOfMemory }
 {
     let listed = listed_in(alloc, view)?;

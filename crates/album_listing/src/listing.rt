@@ -2,8 +2,9 @@
 ghost use Rattle.std.specs.Prelude.{◌≡◌, ◌==◌, ◌++◌, ◌∷◌, [], false, IfOk, OnOk, IsOkUnless, IsTrue};
 ghost use Rattle.std.specs.List.{filter_map};
 ghost use Rattle.std.specs.Option.{option_copied, option_map_or};
+ghost use Rattle.album_views.specs.Asks.{is_list};
 ghost use Rattle.album_listing.specs.Hearings.{basis_of};
-ghost use Rattle.album_listing.specs.Listing.{is_list, title_in, title_shown, row_for, listed, IsListing};
+ghost use Rattle.album_listing.specs.Listing.{title_in, title_shown, row_for, listed, IsListing};
 ghost use Rattle.album_listing.specs.Masks.{READ_ATTRIBUTES};
 ghost use Rattle.album_listing.specs.Reasons.{is_granted_on};
 

@@ -1,6 +1,7 @@
 -- Values with one thing changed. What does not have it stays as it is.
 use Rattle.std.specs.Prelude.{ℕ, List, [], ◌∷◌, ◌++◌, ◌==◌, not, filter}
 use Rattle.album_lists.specs.declared.whos.Member.{Member}
+use Rattle.album_items.specs.Values.{children_of}
 use Rattle.album_items.specs.declared.values.Head.{Head}
 use Rattle.album_items.specs.declared.values.Value.{Value}
 use Rattle.album_items.specs.declared.values.Value.TheVariants as value
@@ -48,23 +49,22 @@ with_members members (value.Album album) = value.Album album
 with_members members (value.List entries) = value.List entries
 with_members members (value.Group group) = value.Group (record group { members = members })
 
+-- other children of an album
+abbrev pub with_children : List ℕ → Value → Value
+with_children children value.Missing = value.Missing
+with_children children (value.Picture picture) = value.Picture picture
+with_children children (value.Album album) = value.Album (record album { children = children })
+with_children children (value.List entries) = value.List entries
+with_children children (value.Group group) = value.Group group
+
 -- the children but this one
 abbrev pub others : ℕ → List ℕ → List ℕ
 others child children = filter (λ other. not (child == other)) children
 
 -- an album without this child
 abbrev pub without_child : ℕ → Value → Value
-without_child child value.Missing = value.Missing
-without_child child (value.Picture picture) = value.Picture picture
-without_child child (value.Album album) = value.Album (record album { children = others child album.children })
-without_child child (value.List entries) = value.List entries
-without_child child (value.Group group) = value.Group group
+without_child child value = with_children (others child (children_of value)) value
 
 -- an album with this child, as its last
 abbrev pub with_child : ℕ → Value → Value
-with_child child value.Missing = value.Missing
-with_child child (value.Picture picture) = value.Picture picture
-with_child child (value.Album album) =
-    value.Album (record album { children = others child album.children ++ child ∷ [] })
-with_child child (value.List entries) = value.List entries
-with_child child (value.Group group) = value.Group group
+with_child child value = with_children (others child (children_of value) ++ child ∷ []) value

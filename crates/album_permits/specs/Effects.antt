@@ -1,5 +1,5 @@
 -- What a granted ask writes.
-use Rattle.std.specs.Prelude.{ℕ, List, [], ◌∷◌, ◌++◌, ◌==◌, Bool, true, false, not, nat_le, count_by, map, fold, Some, if◌then◌else◌}
+use Rattle.std.specs.Prelude.{ℕ, List, [], ◌∷◌, ◌++◌, ◌==◌, Bool, false, not, nat_le, count_by, map, fold, Some, if◌then◌else◌}
 use Rattle.std.specs.List.{flat_map}
 use Rattle.std.specs.Option.{option_map_or}
 use Rattle.album_stamps.specs.declared.limits.TheConstants.{MOST_CHILDREN}
@@ -25,21 +25,6 @@ use Rattle.album_permits.specs.Permits.{PermitState}
 -- an item, and the value that it is to have
 abbrev pub Write : Type 0
 Write = ℕ × Value
-
--- the ask writes
-abbrev pub is_write : Ask → Bool
-is_write (ask.Read object) = false
-is_write (ask.List album) = false
-is_write (ask.GetList object) = false
-is_write (ask.AddPicture album title content) = true
-is_write (ask.AddAlbum album title) = true
-is_write (ask.Retitle object title) = true
-is_write (ask.Replace object content) = true
-is_write (ask.Delete object) = true
-is_write (ask.Move object to) = true
-is_write (ask.SetLists lists) = true
-is_write (ask.SetOwner object owner group) = true
-is_write (ask.SetMembers object members) = true
 
 -- ---- parts of the table
 

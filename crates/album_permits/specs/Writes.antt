@@ -1,6 +1,7 @@
 -- A permit that is spent on what its ask writes.
 use Rattle.std.specs.Prelude.{◌≡◌, ℕ, List, IsTrue, false}
-use Rattle.album_permits.specs.Effects.{Write, is_write, effect_of, is_full_for}
+use Rattle.album_views.specs.Asks.{is_write}
+use Rattle.album_permits.specs.Effects.{Write, effect_of, is_full_for}
 use Rattle.album_permits.specs.Permits.{PermitState}
 
 -- a permit, and the stamp at which its ask writes

@@ -1,6 +1,6 @@
 // Values with one thing changed.
 ghost use Rattle.std.specs.Prelude.{◌≡◌, ◌++◌, ◌∷◌, [], IfOk, IsOkUnless};
-ghost use Rattle.album_permits.specs.Changes.{with_title, with_content, with_home, owned, with_owner, with_members, others, without_child, with_child};
+ghost use Rattle.album_permits.specs.Changes.{with_title, with_content, with_home, owned, with_owner, with_members, with_children, others, without_child, with_child};
 
 use album_items::{Content, Head, ItemId, Items, Members, Title, Value};
 use album_lists::Name;
@@ -114,15 +114,8 @@ pub(crate) fn without_child(alloc: Global, value: &Value, child: ItemId) -> Resu
     ensures value { IfOk result (λ new. new ≡ without_child child value.now) }
     ensures memory { IsOkUnless result Refusal.OutOfMemory }
 {
-    match value {
-        Value::Album(album) => {
-            let children = others(alloc, child, album.children.as_slice())?;
-            let mut album = album.copy()?;
-            album.children = Items::of(children);
-            Ok(Value::Album(album))
-        }
-        Value::Missing | Value::Picture(_) | Value::List(_) | Value::Group(_) => value.copy(),
-    }
+    let children = others(alloc, child, value.children())?;
+    with_children(value, children)
 }
 
 /// The album with the child, as its last.
@@ -130,10 +123,18 @@ pub(crate) fn with_child(alloc: Global, value: &Value, child: ItemId) -> Result<
     ensures value { IfOk result (λ new. new ≡ with_child child value.now) }
     ensures memory { IsOkUnless result Refusal.OutOfMemory }
 {
+    let mut children = others(alloc, child, value.children())?;
+    children.push(child)?;
+    with_children(value, children)
+}
+
+/// The album with other children.
+fn with_children(value: &Value, children: Vec<ItemId>) -> Result<Value, Refusal>
+    ensures value { IfOk result (λ new. new ≡ with_children children.items value.now) }
+    ensures memory { IsOkUnless result Refusal.OutOfMemory }
+{
     match value {
         Value::Album(album) => {
-            let mut children = others(alloc, child, album.children.as_slice())?;
-            children.push(child)?;
             let mut album = album.copy()?;
             album.children = Items::of(children);
             Ok(Value::Album(album))

@@ -2,12 +2,13 @@
 ghost use Rattle.std.specs.Prelude.{◌≡◌, ◌++◌, ◌∷◌, [], None, IfOk, IfErr, OnOk, IsTrue, IsOkUnless, false, not, ◌==◌, count_by, if◌then◌else◌};
 ghost use Rattle.std.specs.List.{flat_map};
 ghost use Rattle.album_stamps.specs.declared.refusals.Refusal.TheVariants.{OutOfMemory, AlbumFull};
+ghost use Rattle.album_views.specs.Asks.{is_write};
 ghost use Rattle.album_views.specs.Checks.{owner_flaw};
 ghost use Rattle.album_views.specs.Seen.{seen};
 ghost use Rattle.album_items.specs.ItemIds.{number_of};
 ghost use Rattle.album_items.specs.Transactions.{items_written, are_items};
 ghost use Rattle.album_permits.specs.Changes.{with_home, with_child};
-ghost use Rattle.album_permits.specs.Effects.{is_write, written, list_dropped, taken_out, list_written, effect_of, has_most_others, is_album_full, is_full_for};
+ghost use Rattle.album_permits.specs.Effects.{written, list_dropped, taken_out, list_written, effect_of, has_most_others, is_album_full, is_full_for};
 
 use crate::additions::{album_added, album_at, picture_added, picture_at};
 use crate::changes::{
@@ -28,12 +29,7 @@ impl Permit {
     pub fn writes(&self) -> bool
         ensures { result ≡ is_write self.now.view.ask }
     {
-        match self.view().ask() {
-            Ask::Read { .. } | Ask::List { .. } | Ask::GetList { .. } => false,
-            Ask::AddPicture { .. } | Ask::AddAlbum { .. } | Ask::Retitle { .. } => true,
-            Ask::Replace { .. } | Ask::Delete { .. } | Ask::Move { .. } => true,
-            Ask::SetLists { .. } | Ask::SetOwner { .. } | Ask::SetMembers { .. } => true,
-        }
+        self.view().ask().is_write()
     }
 
     /// Spends the permit on what its ask writes at the stamp.

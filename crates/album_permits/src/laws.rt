@@ -32,13 +32,17 @@ pub fn rulings_look_at_what_is_named()
 pub fn permits_are_spent_on_what_is_named()
     ensures effect { (policy : Policy) (principal : Principal) (ask : Ask) (one other : List Answer) (stamp : ℕ)
         → AgreeOn ask one other
-        → effect_of (permit_on policy principal ask one) stamp ≡ effect_of (permit_on policy principal ask other) stamp }
+        → effect_of (permit_on policy principal ask one) stamp
+        ≡ effect_of (permit_on policy principal ask other) stamp }
     ensures room { (policy : Policy) (principal : Principal) (ask : Ask) (one other : List Answer) (stamp : ℕ)
         → AgreeOn ask one other
-        → is_full_for (permit_on policy principal ask one) stamp ≡ is_full_for (permit_on policy principal ask other) stamp }
-    ensures served { (policy : Policy) (principal : Principal) (ask : Ask) (one other : List Answer) (served more : Served)
+        → is_full_for (permit_on policy principal ask one) stamp
+        ≡ is_full_for (permit_on policy principal ask other) stamp }
+    ensures served { (policy : Policy) (principal : Principal) (ask : Ask) (one other : List Answer)
+        (served more : Served)
         → AgreeOn ask one other
-        → IsServed (permit_on policy principal ask one) served → IsServed (permit_on policy principal ask other) more
+        → IsServed (permit_on policy principal ask one) served
+        → IsServed (permit_on policy principal ask other) more
         → served ≡ more }
 {}
 

@@ -30,7 +30,8 @@ pub(crate) fn notes_of(
     hearing: &Hearing,
     reasons: &[Reason],
 ) -> Result<Vec<Note>, Refusal>
-    ensures notes { IfOk result (λ notes. notes.items ≡ flat_map (notes_for (basis_of hearing.now)) (checked reasons.now)) }
+    ensures notes { IfOk result (λ notes.
+        notes.items ≡ flat_map (notes_for (basis_of hearing.now)) (checked reasons.now)) }
     ensures memory { IsOkUnless result Refusal.OutOfMemory }
 {
     let mut notes = Vec::new(alloc);

@@ -1,8 +1,8 @@
 // What a granted ask is served that writes nothing.
 ghost use Rattle.std.specs.Prelude.{◌≡◌, IfOk, IfErr, IsOkUnless, IsTrue, false};
 ghost use Rattle.album_items.specs.Values.{members_of};
+ghost use Rattle.album_views.specs.Asks.{is_write};
 ghost use Rattle.album_views.specs.Seen.{seen};
-ghost use Rattle.album_permits.specs.Effects.{is_write};
 ghost use Rattle.album_permits.specs.Serving.{read_of, IsServed};
 
 use crate::permits::Permit;

@@ -1,4 +1,4 @@
--- What a client asks: of which items, of what kinds they may be, and whether it writes.
+-- What a client asks: of which items, of what kinds they may be, and whether it lists, writes or makes something.
 use Rattle.std.specs.Prelude.{ℕ, List, [], ◌∷◌, Bool, true, false, map}
 use Rattle.album_items.specs.declared.item_ids.Kind.{Kind}
 use Rattle.album_items.specs.declared.item_ids.Kind.TheVariants.{Picture, Album, Group}
@@ -36,6 +36,36 @@ wanted (ask.SetMembers object members) = want (Group ∷ []) object ∷ []
 -- the objects of an ask
 abbrev pub objects_of : Ask → List ℕ
 objects_of ask = map (λ wanted. wanted.object) (wanted ask)
+
+-- the ask is to list an album
+abbrev pub is_list : Ask → Bool
+is_list (ask.Read object) = false
+is_list (ask.List album) = true
+is_list (ask.GetList object) = false
+is_list (ask.AddPicture album title content) = false
+is_list (ask.AddAlbum album title) = false
+is_list (ask.Retitle object title) = false
+is_list (ask.Replace object content) = false
+is_list (ask.Delete object) = false
+is_list (ask.Move object to) = false
+is_list (ask.SetLists lists) = false
+is_list (ask.SetOwner object owner group) = false
+is_list (ask.SetMembers object members) = false
+
+-- the ask writes
+abbrev pub is_write : Ask → Bool
+is_write (ask.Read object) = false
+is_write (ask.List album) = false
+is_write (ask.GetList object) = false
+is_write (ask.AddPicture album title content) = true
+is_write (ask.AddAlbum album title) = true
+is_write (ask.Retitle object title) = true
+is_write (ask.Replace object content) = true
+is_write (ask.Delete object) = true
+is_write (ask.Move object to) = true
+is_write (ask.SetLists lists) = true
+is_write (ask.SetOwner object owner group) = true
+is_write (ask.SetMembers object members) = true
 
 -- the ask makes a new object
 abbrev pub is_adding : Ask → Bool

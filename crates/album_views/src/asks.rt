@@ -1,6 +1,6 @@
 // What a client asks.
 ghost use Rattle.std.specs.Prelude.{◌≡◌, List, IfOk, IsOkUnless, map};
-ghost use Rattle.album_views.specs.Asks.{objects_of};
+ghost use Rattle.album_views.specs.Asks.{objects_of, is_list, is_write, is_adding};
 
 use album_items::{Content, ItemId, Members, Title};
 use album_lists::{AccessList, Name};
@@ -127,6 +127,44 @@ impl Ask {
             Ask::SetLists { lists } => objects_of(alloc, lists.as_slice()),
             Ask::SetOwner { object, .. } => Ok(vec![in alloc; *object]?),
             Ask::SetMembers { object, .. } => Ok(vec![in alloc; *object]?),
+        }
+    }
+
+    /// Whether the ask lists an album.
+    pub fn is_list(&self) -> bool
+        ensures { result ≡ is_list self.now }
+    {
+        match self {
+            Ask::List { .. } => true,
+            Ask::Read { .. } | Ask::GetList { .. } => false,
+            Ask::AddPicture { .. } | Ask::AddAlbum { .. } | Ask::Retitle { .. } => false,
+            Ask::Replace { .. } | Ask::Delete { .. } | Ask::Move { .. } => false,
+            Ask::SetLists { .. } | Ask::SetOwner { .. } | Ask::SetMembers { .. } => false,
+        }
+    }
+
+    /// Whether the ask writes.
+    pub fn is_write(&self) -> bool
+        ensures { result ≡ is_write self.now }
+    {
+        match self {
+            Ask::Read { .. } | Ask::List { .. } | Ask::GetList { .. } => false,
+            Ask::AddPicture { .. } | Ask::AddAlbum { .. } | Ask::Retitle { .. } => true,
+            Ask::Replace { .. } | Ask::Delete { .. } | Ask::Move { .. } => true,
+            Ask::SetLists { .. } | Ask::SetOwner { .. } | Ask::SetMembers { .. } => true,
+        }
+    }
+
+    /// Whether the ask makes a new object.
+    pub(crate) fn is_adding(&self) -> bool
+        ensures { result ≡ is_adding self.now }
+    {
+        match self {
+            Ask::AddPicture { .. } | Ask::AddAlbum { .. } => true,
+            Ask::Read { .. } | Ask::List { .. } | Ask::GetList { .. } => false,
+            Ask::Retitle { .. } | Ask::Replace { .. } | Ask::Delete { .. } => false,
+            Ask::Move { .. } | Ask::SetLists { .. } => false,
+            Ask::SetOwner { .. } | Ask::SetMembers { .. } => false,
         }
     }
 

@@ -3,7 +3,7 @@ ghost use Rattle.std.specs.Prelude.{◌≡◌, ◌==◌, ◌&&◌, None, Some, I
 ghost use Rattle.std.specs.List.{list_all, list_any};
 ghost use Rattle.album_stamps.specs.Distinct.{no_two};
 ghost use Rattle.album_lists.specs.Entries.{fits};
-ghost use Rattle.album_views.specs.Asks.{headed, objects_of, is_adding};
+ghost use Rattle.album_views.specs.Asks.{headed, objects_of};
 ghost use Rattle.album_views.specs.Checks.{is_one_of, has_kinds, has_single_objects, same_object, new_members, new_lists, holder_of, has_fitting_lists, flaw_of, refusal_of};
 
 use crate::asks::{Ask, NewList};
@@ -146,19 +146,6 @@ impl Ask {
         self.new_lists()
             .iter()
             .all(|new| new.list.fits(holder_of(new.object)))
-    }
-
-    /// Whether the ask makes a new object.
-    fn is_adding(&self) -> bool
-        ensures { result ≡ is_adding self.now }
-    {
-        match self {
-            Ask::AddPicture { .. } | Ask::AddAlbum { .. } => true,
-            Ask::Read { .. } | Ask::List { .. } | Ask::GetList { .. } | Ask::Retitle { .. } =>
-                false,
-            Ask::Replace { .. } | Ask::Delete { .. } | Ask::Move { .. } => false,
-            Ask::SetLists { .. } | Ask::SetOwner { .. } | Ask::SetMembers { .. } => false,
-        }
     }
 }
 
