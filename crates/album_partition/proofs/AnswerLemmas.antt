@@ -17,7 +17,7 @@ use Rattle.album_calls.specs.declared.replies.Reply.TheVariants as reply
 use Rattle.album_terminate.specs.declared.deciding.StampState.{StampState}
 use Rattle.album_terminate.specs.declared.deciding.StampState.TheVariants as state
 use Rattle.album_partition.specs.declared.marks.Mark.TheVariants.{Prepared, Committed, Discarded}
-use Rattle.album_partition.specs.Answers.{Effect, nothing, says, marks, marks_and_says, is_same, prepare_by, to_prepare, commit_by, to_commit, check_by, to_check, get_by, to_get, says_version, to_part, to_prepared, to_vote, to_status, to_body, effect_of}
+use Rattle.album_partition.specs.Answers.{Action, nothing, says, marks, marks_and_says, is_same, prepare_by, to_prepare, commit_by, to_commit, check_by, to_check, get_by, to_get, says_version, to_part, to_prepared, to_vote, to_status, to_body, action_of}
 use Rattle.album_partition.specs.Laws.{IsClash}
 use Rattle.album_partition.specs.Marks.{state_of, is_pending, is_full, items_at}
 use Rattle.album_partition.specs.Partition.{PartitionState, value_at, stamp_for, read_at}
@@ -45,7 +45,7 @@ IsSaid p b (reply.Gone item) = (stamps : List ℕ) × (b ≡ body.Request (Get i
 -- ---- each way in which a message can act
 
 -- a Prepare that is followed
-pub record IsPrepared (p : PartitionState) (b : Body) (e : Effect) : Type 0 where
+pub record IsPrepared (p : PartitionState) (b : Body) (e : Action) : Type 0 where
   pub t : ℕ
   pub ws : List Row
   pub is : List ℕ
@@ -56,7 +56,7 @@ pub record IsPrepared (p : PartitionState) (b : Body) (e : Effect) : Type 0 wher
   pub unknown : state_of p.marks t ≡ state.Unknown
 
 -- a Commit of a pending stamp
-pub record IsCommitted (p : PartitionState) (b : Body) (e : Effect) : Type 0 where
+pub record IsCommitted (p : PartitionState) (b : Body) (e : Action) : Type 0 where
   pub t : ℕ
   pub asked : b ≡ body.Request (Commit t)
   pub done : e ≡ marks_and_says (Committed t) (reply.Committed t)
@@ -64,7 +64,7 @@ pub record IsCommitted (p : PartitionState) (b : Body) (e : Effect) : Type 0 whe
   pub pending : state_of p.marks t ≡ state.Pending
 
 -- a Check of an unknown stamp
-pub record IsRefused (p : PartitionState) (b : Body) (e : Effect) : Type 0 where
+pub record IsRefused (p : PartitionState) (b : Body) (e : Action) : Type 0 where
   pub t : ℕ
   pub asked : b ≡ body.Request (Check t)
   pub done : e ≡ marks_and_says (Discarded t) (reply.Status t vote.Never)
@@ -73,20 +73,20 @@ pub record IsRefused (p : PartitionState) (b : Body) (e : Effect) : Type 0 where
   pub unknown : state_of p.marks t ≡ state.Unknown
 
 -- a vote Committed, or Never, on a pending stamp
-pub record IsVotedCommitted (p : PartitionState) (b : Body) (e : Effect) : Type 0 where
+pub record IsVotedCommitted (p : PartitionState) (b : Body) (e : Action) : Type 0 where
   pub t : ℕ
   pub told : b ≡ body.Reply (reply.Status t vote.Committed)
   pub done : e ≡ marks (Committed t)
   pub pending : state_of p.marks t ≡ state.Pending
 
-pub record IsVotedNever (p : PartitionState) (b : Body) (e : Effect) : Type 0 where
+pub record IsVotedNever (p : PartitionState) (b : Body) (e : Action) : Type 0 where
   pub t : ℕ
   pub told : b ≡ body.Reply (reply.Status t vote.Never)
   pub done : e ≡ marks (Discarded t)
   pub pending : state_of p.marks t ≡ state.Pending
 
 -- a vote Prepared of one of the partitions of a pending stamp's items
-pub record IsVotedPrepared (p : PartitionState) (from : Node) (b : Body) (e : Effect) : Type 0 where
+pub record IsVotedPrepared (p : PartitionState) (from : Node) (b : Body) (e : Action) : Type 0 where
   pub t : ℕ
   pub part : ℕ
   pub sender : from ≡ Part part
@@ -95,7 +95,7 @@ pub record IsVotedPrepared (p : PartitionState) (from : Node) (b : Body) (e : Ef
   pub due : lies_at part p.parts (items_at p.marks t) ≡ true
   pub pending : state_of p.marks t ≡ state.Pending
 
-pub data Acts (p : PartitionState) (from : Node) (b : Body) (e : Effect) : Type 0 where
+pub data Acts (p : PartitionState) (from : Node) (b : Body) (e : Action) : Type 0 where
   idle : e ≡ nothing → Acts p from b e
   said : (r : Reply) → e ≡ says r → IsSaid p b r → Acts p from b e
   prepared : IsPrepared p b e → Acts p from b e
@@ -215,7 +215,7 @@ acts p from (body.Reply (reply.Full t)) = idle refl
 acts p from (body.Reply (reply.Gone i)) = idle refl
 
 -- a message to another node does nothing
-pub acts_here : (p : PartitionState) (message : Message) → Acts p message.from message.body (effect_of p message)
+pub acts_here : (p : PartitionState) (message : Message) → Acts p message.from message.body (action_of p message)
 acts_here p message = go (is_part message.to p.number)
   where
     go : (b : Bool) → Acts p message.from message.body (if b then to_body p message.from message.body else nothing)

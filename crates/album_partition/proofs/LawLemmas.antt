@@ -29,7 +29,7 @@ use Rattle.album_versions.specs.Best.{best_of}
 use Rattle.album_versions.proofs.Greatest.{best_of-passes, Contains-best_of, All-best_of}
 use Rattle.album_partition.specs.declared.marks.Mark.{Mark}
 use Rattle.album_partition.specs.declared.marks.Mark.TheVariants.{Prepared, Committed, Discarded, Trimmed}
-use Rattle.album_partition.specs.Answers.{Effect, nothing, says, get_by, marks, marks_and_says, mark_by, is_same, prepare_by, commit_by, check_by, to_prepare, to_check, to_part, to_vote, to_status, to_request, to_body, effect_of, with_effect, after, reply_to, answer}
+use Rattle.album_partition.specs.Answers.{Action, nothing, says, get_by, marks, marks_and_says, mark_by, is_same, prepare_by, commit_by, check_by, to_prepare, to_check, to_part, to_vote, to_status, to_request, to_body, action_of, with_action, after, reply_to, answer}
 use Rattle.album_partition.specs.Laws.{IsTrueOf, IsClash, IsReplyTo, IsLatest, IsBest, IsReadAt, IsValueOf, IsReadOf, IsGoneFor, IsChecked, IsCause}
 use Rattle.album_partition.specs.Marks.{IsPromisedAgainst, is_mark_of, commits, state_of, is_pending, is_full, items_at, version, has_version, committed_stamps, latest}
 use Rattle.album_partition.specs.Partition.{PartitionState, IsPartition, value_at, stamp_for, read_at}
@@ -58,17 +58,17 @@ said_true p b reply.Clash h = tt
 said_true p b (reply.Full t) h = h.1
 said_true p b (reply.Gone i) h = gone_trimmed p.marks i h.0 h.2
 
--- what an effect that is known says
-tells : (p : PartitionState) (e known : Effect) (r told : Reply) → e ≡ known → known.reply ≡ Some told
-    → IsTrueOf (p.marks ++ option_to_list known.mark) told → e.reply ≡ Some r → IsTrueOf (with_effect p e).marks r
+-- what an action that is known says
+tells : (p : PartitionState) (e known : Action) (r told : Reply) → e ≡ known → known.reply ≡ Some told
+    → IsTrueOf (p.marks ++ option_to_list known.mark) told → e.reply ≡ Some r → IsTrueOf (with_action p e).marks r
 tells p e known r told is says_it h f =
-    let same : told ≡ r = (let g : known.reply ≡ Some r = subst (λ (x : Effect). x.reply ≡ Some r) is f in cc) in
-    subst (λ (x : Effect). IsTrueOf (with_effect p x).marks r) (sym is) (subst (IsTrueOf (p.marks ++ option_to_list known.mark)) same h)
+    let same : told ≡ r = (let g : known.reply ≡ Some r = subst (λ (x : Action). x.reply ≡ Some r) is f in cc) in
+    subst (λ (x : Action). IsTrueOf (with_action p x).marks r) (sym is) (subst (IsTrueOf (p.marks ++ option_to_list known.mark)) same h)
 
-silent : (e known : Effect) (r : Reply) {X : Type 0} → e ≡ known → known.reply ≡ None → e.reply ≡ Some r → X
-silent e known r is none f = absurd (let g : known.reply ≡ Some r = subst (λ (x : Effect). x.reply ≡ Some r) is f in cc)
+silent : (e known : Action) (r : Reply) {X : Type 0} → e ≡ known → known.reply ≡ None → e.reply ≡ Some r → X
+silent e known r is none f = absurd (let g : known.reply ≡ Some r = subst (λ (x : Action). x.reply ≡ Some r) is f in cc)
 
-true_by : (p : PartitionState) (from : Node) (b : Body) (e : Effect) → Acts p from b e → (r : Reply) → e.reply ≡ Some r → IsTrueOf (with_effect p e).marks r
+true_by : (p : PartitionState) (from : Node) (b : Body) (e : Action) → Acts p from b e → (r : Reply) → e.reply ≡ Some r → IsTrueOf (with_action p e).marks r
 true_by p from b e (idle is) r f = silent e nothing r is refl f
 true_by p from b e (said told is h) r f =
     tells p e (says told) r told is refl (subst (λ (ms : List Mark). IsTrueOf ms told) (sym (append-nil p.marks)) (said_true p b told h)) f
@@ -93,14 +93,14 @@ answered_by p m told (Some r) e = (r, refl, cc)
 pub replies_are_true : (p : PartitionState) (m told : Message) → answer p m ≡ Some told
     → (r : Reply) × (told.body ≡ body.Reply r) × IsTrueOf (after p m).marks r
 replies_are_true p m told e =
-    let found = answered_by p m told (effect_of p m).reply e in
-    (found.0, ap (λ (x : Message). x.body) found.2, true_by p m.from m.body (effect_of p m) (acts_here p m) found.0 found.1)
+    let found = answered_by p m told (action_of p m).reply e in
+    (found.0, ap (λ (x : Message). x.body) found.2, true_by p m.from m.body (action_of p m) (acts_here p m) found.0 found.1)
 
 -- ---- to whom it goes
 
 pub to_the_sender : (p : PartitionState) (m told : Message) → answer p m ≡ Some told → IsReplyTo p m told
 to_the_sender p m told e =
-    let found = answered_by p m told (effect_of p m).reply e in
+    let found = answered_by p m told (action_of p m).reply e in
     record { sender = ap (λ (x : Message). x.from) found.2; receiver = ap (λ (x : Message). x.to) found.2; tag = ap (λ (x : Message). x.tag) found.2 }
 
 status_silent : (p : PartitionState) (from : Node) (t : ℕ) (v : Vote) → (to_status p from t v).reply ≡ None
@@ -158,14 +158,14 @@ others_do_nothing p m e = (rw e (same_partition p), rw e refl)
 
 -- ---- why a mark is made
 
--- what an effect that is known marks
-marks_by : (p : PartitionState) (m : Message) (e known : Effect) (made mark : Mark) → e ≡ known → known.mark ≡ Some made
+-- what an action that is known marks
+marks_by : (p : PartitionState) (m : Message) (e known : Action) (made mark : Mark) → e ≡ known → known.mark ≡ Some made
     → IsCause p m made → e.mark ≡ Some mark → IsCause p m mark
 marks_by p m e known made mark is marked h f =
-    subst (IsCause p m) (let g : known.mark ≡ Some mark = subst (λ (x : Effect). x.mark ≡ Some mark) is f in cc) h
+    subst (IsCause p m) (let g : known.mark ≡ Some mark = subst (λ (x : Action). x.mark ≡ Some mark) is f in cc) h
 
-unmarked : (e known : Effect) (mark : Mark) {X : Type 0} → e ≡ known → known.mark ≡ None → e.mark ≡ Some mark → X
-unmarked e known mark is none f = absurd (let g : known.mark ≡ Some mark = subst (λ (x : Effect). x.mark ≡ Some mark) is f in cc)
+unmarked : (e known : Action) (mark : Mark) {X : Type 0} → e ≡ known → known.mark ≡ None → e.mark ≡ Some mark → X
+unmarked e known mark is none f = absurd (let g : known.mark ≡ Some mark = subst (λ (x : Action). x.mark ≡ Some mark) is f in cc)
 
 last_vote : (p : PartitionState) (m : Message) (part t : ℕ) (mark : Mark)
     → m.from ≡ Part part → m.body ≡ body.Reply (reply.Status t vote.Prepared)
@@ -185,7 +185,7 @@ last_vote p m part t mark sender told due pending true all f =
     )
 last_vote p m part t mark sender told due pending false all f = absurd (cc)
 
-cause_by : (p : PartitionState) (m : Message) (e : Effect) → Acts p m.from m.body e → (mark : Mark) → e.mark ≡ Some mark → IsCause p m mark
+cause_by : (p : PartitionState) (m : Message) (e : Action) → Acts p m.from m.body e → (mark : Mark) → e.mark ≡ Some mark → IsCause p m mark
 cause_by p m e (idle is) mark f = unmarked e nothing mark is refl f
 cause_by p m e (said told is h) mark f = unmarked e (says told) mark is refl f
 cause_by p m e (prepared a) mark f =
@@ -201,31 +201,31 @@ cause_by p m e (voted_never a) mark f = marks_by p m e (marks (Discarded a.t)) (
 cause_by p m e (voted_prepared a) mark f =
     last_vote p m a.part a.t mark a.sender a.told a.due a.pending
     (have_told (a.part ∷ heard p.votes a.t) (others_of p.number p.parts (items_at p.marks a.t))) refl
-    (subst (λ (x : Effect). x.mark ≡ Some mark) a.done f)
+    (subst (λ (x : Action). x.mark ≡ Some mark) a.done f)
 
-pub marks_are_caused : (p : PartitionState) (m : Message) (mark : Mark) → (effect_of p m).mark ≡ Some mark → IsCause p m mark
-marks_are_caused p m mark f = cause_by p m (effect_of p m) (acts_here p m) mark f
+pub marks_are_caused : (p : PartitionState) (m : Message) (mark : Mark) → (action_of p m).mark ≡ Some mark → IsCause p m mark
+marks_are_caused p m mark f = cause_by p m (action_of p m) (acts_here p m) mark f
 
 -- ---- a promise against a stamp
 
-promised_by : (p : PartitionState) (from : Node) (b : Body) (e : Effect) (t : ℕ) → Acts p from b e → state_of p.marks t ≡ state.Unknown
-    → e.reply ≡ Some (reply.Status t vote.Never) → IsPromisedAgainst (with_effect p e).marks t
+promised_by : (p : PartitionState) (from : Node) (b : Body) (e : Action) (t : ℕ) → Acts p from b e → state_of p.marks t ≡ state.Unknown
+    → e.reply ≡ Some (reply.Status t vote.Never) → IsPromisedAgainst (with_action p e).marks t
 promised_by p from b e t (idle is) unknown f = silent e nothing (reply.Status t vote.Never) is refl f
 promised_by p from b e t (said told is h) unknown f =
     absurd (
-    let same : told ≡ reply.Status t vote.Never = (let g : Some told ≡ Some (reply.Status t vote.Never) = subst (λ (x : Effect). x.reply ≡ Some (reply.Status t vote.Never)) is f in cc) in
+    let same : told ≡ reply.Status t vote.Never = (let g : Some told ≡ Some (reply.Status t vote.Never) = subst (λ (x : Action). x.reply ≡ Some (reply.Status t vote.Never)) is f in cc) in
     let gone : state_of p.marks t ≡ state.Discarded = subst (IsSaid p b) same h in
     cc)
 promised_by p from b e t (prepared a) unknown f =
-    absurd (let g : Some (reply.Prepared a.t) ≡ Some (reply.Status t vote.Never) = subst (λ (x : Effect). x.reply ≡ Some (reply.Status t vote.Never)) a.done f in cc)
+    absurd (let g : Some (reply.Prepared a.t) ≡ Some (reply.Status t vote.Never) = subst (λ (x : Action). x.reply ≡ Some (reply.Status t vote.Never)) a.done f in cc)
 promised_by p from b e t (committed a) unknown f =
-    absurd (let g : Some (reply.Committed a.t) ≡ Some (reply.Status t vote.Never) = subst (λ (x : Effect). x.reply ≡ Some (reply.Status t vote.Never)) a.done f in cc)
+    absurd (let g : Some (reply.Committed a.t) ≡ Some (reply.Status t vote.Never) = subst (λ (x : Action). x.reply ≡ Some (reply.Status t vote.Never)) a.done f in cc)
 promised_by p from b e t (refused a) unknown f =
-    let same : a.t ≡ t = (let g : Some (reply.Status a.t vote.Never) ≡ Some (reply.Status t vote.Never) = subst (λ (x : Effect). x.reply ≡ Some (reply.Status t vote.Never)) a.done f in cc) in
+    let same : a.t ≡ t = (let g : Some (reply.Status a.t vote.Never) ≡ Some (reply.Status t vote.Never) = subst (λ (x : Action). x.reply ≡ Some (reply.Status t vote.Never)) a.done f in cc) in
     record {
       before = p.marks;
       later = [];
-      discarded = ap (λ (x : Effect). p.marks ++ option_to_list x.mark) a.done ∙ ap (λ (u : ℕ). p.marks ++ Discarded u ∷ []) same;
+      discarded = ap (λ (x : Action). p.marks ++ option_to_list x.mark) a.done ∙ ap (λ (u : ℕ). p.marks ++ Discarded u ∷ []) same;
       unprepared = (unknown_tells _ _ _ unknown).2;
     }
 promised_by p from b e t (voted_committed a) unknown f = silent e (marks (Committed a.t)) (reply.Status t vote.Never) a.done refl f
@@ -233,8 +233,8 @@ promised_by p from b e t (voted_never a) unknown f = silent e (marks (Discarded 
 promised_by p from b e t (voted_prepared a) unknown f = silent e (to_part p a.part a.t) (reply.Status t vote.Never) a.done refl f
 
 pub never_is_a_promise : (p : PartitionState) (m : Message) (t : ℕ) → state_of p.marks t ≡ state.Unknown
-    → (effect_of p m).reply ≡ Some (reply.Status t vote.Never) → IsPromisedAgainst (after p m).marks t
-never_is_a_promise p m t unknown f = promised_by p m.from m.body (effect_of p m) t (acts_here p m) unknown f
+    → (action_of p m).reply ≡ Some (reply.Status t vote.Never) → IsPromisedAgainst (after p m).marks t
+never_is_a_promise p m t unknown f = promised_by p m.from m.body (action_of p m) t (acts_here p m) unknown f
 
 -- ---- where there is no room
 
@@ -251,25 +251,25 @@ ComesWithMark (reply.Full t) = ⊥
 ComesWithMark (reply.Gone i) = ⊥
 
 -- any other reply is all that the message does
-only_said : (p : PartitionState) (from : Node) (b : Body) (e : Effect) (r : Reply) → (ComesWithMark r → ⊥)
+only_said : (p : PartitionState) (from : Node) (b : Body) (e : Action) (r : Reply) → (ComesWithMark r → ⊥)
     → Acts p from b e → e.reply ≡ Some r → IsSaid p b r
 only_said p from b e r alone (idle is) f = silent e nothing r is refl f
 only_said p from b e r alone (said told is h) f =
-    let same : told ≡ r = (let g : Some told ≡ Some r = subst (λ (x : Effect). x.reply ≡ Some r) is f in cc) in subst (IsSaid p b) same h
+    let same : told ≡ r = (let g : Some told ≡ Some r = subst (λ (x : Action). x.reply ≡ Some r) is f in cc) in subst (IsSaid p b) same h
 only_said p from b e r alone (prepared a) f =
-    let same : (reply.Prepared a.t) ≡ r = (let g : Some (reply.Prepared a.t) ≡ Some r = subst (λ (x : Effect). x.reply ≡ Some r) a.done f in cc) in absurd (alone (subst ComesWithMark same tt))
+    let same : (reply.Prepared a.t) ≡ r = (let g : Some (reply.Prepared a.t) ≡ Some r = subst (λ (x : Action). x.reply ≡ Some r) a.done f in cc) in absurd (alone (subst ComesWithMark same tt))
 only_said p from b e r alone (committed a) f =
-    let same : (reply.Committed a.t) ≡ r = (let g : Some (reply.Committed a.t) ≡ Some r = subst (λ (x : Effect). x.reply ≡ Some r) a.done f in cc) in absurd (alone (subst ComesWithMark same tt))
+    let same : (reply.Committed a.t) ≡ r = (let g : Some (reply.Committed a.t) ≡ Some r = subst (λ (x : Action). x.reply ≡ Some r) a.done f in cc) in absurd (alone (subst ComesWithMark same tt))
 only_said p from b e r alone (refused a) f =
-    let same : (reply.Status a.t vote.Never) ≡ r = (let g : Some (reply.Status a.t vote.Never) ≡ Some r = subst (λ (x : Effect). x.reply ≡ Some r) a.done f in cc) in absurd (alone (subst ComesWithMark same tt))
+    let same : (reply.Status a.t vote.Never) ≡ r = (let g : Some (reply.Status a.t vote.Never) ≡ Some r = subst (λ (x : Action). x.reply ≡ Some r) a.done f in cc) in absurd (alone (subst ComesWithMark same tt))
 only_said p from b e r alone (voted_committed a) f = silent e (marks (Committed a.t)) r a.done refl f
 only_said p from b e r alone (voted_never a) f = silent e (marks (Discarded a.t)) r a.done refl f
 only_said p from b e r alone (voted_prepared a) f = silent e (to_part p a.part a.t) r a.done refl f
 
-said_here : (p : PartitionState) (m : Message) (r : Reply) → (ComesWithMark r → ⊥) → (effect_of p m).reply ≡ Some r → IsSaid p m.body r
-said_here p m r alone f = only_said p m.from m.body (effect_of p m) r alone (acts_here p m) f
+said_here : (p : PartitionState) (m : Message) (r : Reply) → (ComesWithMark r → ⊥) → (action_of p m).reply ≡ Some r → IsSaid p m.body r
+said_here p m r alone f = only_said p m.from m.body (action_of p m) r alone (acts_here p m) f
 
-pub full_only : (p : PartitionState) (m : Message) (t : ℕ) → (effect_of p m).reply ≡ Some (reply.Full t)
+pub full_only : (p : PartitionState) (m : Message) (t : ℕ) → (action_of p m).reply ≡ Some (reply.Full t)
     → (is_full p.limit p.marks ≡ true) × (state_of p.marks t ≡ state.Unknown)
 full_only p m t f = said_here p m (reply.Full t) (λ x. x) f
 
@@ -292,7 +292,7 @@ full_prepare p t ws is proper full unknown = rw (proper, full, unknown) refl
 -- it stays so
 pub still_full : (p : PartitionState) (m : Message) → IsPartition p → is_full p.limit p.marks ≡ true
     → is_full p.limit (after p m).marks ≡ true
-still_full p m h full = full_still p.marks (option_to_list (effect_of p m).mark) p.limit (stays_after p m h).legal full
+still_full p m h full = full_still p.marks (option_to_list (action_of p m).mark) p.limit (stays_after p m h).legal full
 
 -- a mark is of a stamp that is pending, where there is no room for another's
 pending_cause : (p : PartitionState) (m : Message) (mark : Mark) (t : ℕ) → is_full p.limit p.marks ≡ true → IsCause p m mark
@@ -306,9 +306,9 @@ pending_cause p m (Trimmed i) t full cause own = absurd (cc)
 
 pub still_unknown : (p : PartitionState) (m : Message) (t : ℕ) → is_full p.limit p.marks ≡ true → state_of p.marks t ≡ state.Unknown
     → state_of (after p m).marks t ≡ state.Unknown
-still_unknown p m t full unknown = go (effect_of p m).mark refl
+still_unknown p m t full unknown = go (action_of p m).mark refl
   where
-    go : (o : Option Mark) → (effect_of p m).mark ≡ o → state_of (p.marks ++ option_to_list o) t ≡ state.Unknown
+    go : (o : Option Mark) → (action_of p m).mark ≡ o → state_of (p.marks ++ option_to_list o) t ≡ state.Unknown
     go None e = rw (append-nil p.marks) unknown
     go (Some mark) e = state_push_other p.marks mark t (apart (is_mark_of t mark) refl) ∙ unknown
       where
@@ -369,7 +369,7 @@ value_read p item t there =
     written some None e f = absurd (cc)
     written some (Some v) e f = e ∙ ap Some (sym (rw (other t some, e) refl))
 
-pub version_is_read : (p : PartitionState) (m : Message) (item t : ℕ) (v : Value) → (effect_of p m).reply ≡ Some (reply.Version item t v) → IsReadOf p m item t v
+pub version_is_read : (p : PartitionState) (m : Message) (item t : ℕ) (v : Value) → (action_of p m).reply ≡ Some (reply.Version item t v) → IsReadOf p m item t v
 version_is_read p m item t v f = read_of (said_here p m (reply.Version item t v) (λ x. x) f)
   where
     read_of : IsSaid p m.body (reply.Version item t v) → IsReadOf p m item t v
@@ -382,7 +382,7 @@ version_is_read p m item t v f = read_of (said_here p m (reply.Version item t v)
               (value_read p item t (λ (some : t ≢ 0). subst (λ (u : ℕ). has_version p.marks item u ≡ true) (sym at) (has_read p.marks item stamps (λ zero. some (at ∙ zero)))));
         }
 
-pub gone_is_trimmed : (p : PartitionState) (m : Message) (item : ℕ) → (effect_of p m).reply ≡ Some (reply.Gone item) → IsGoneFor p.marks m item
+pub gone_is_trimmed : (p : PartitionState) (m : Message) (item : ℕ) → (action_of p m).reply ≡ Some (reply.Gone item) → IsGoneFor p.marks m item
 gone_is_trimmed p m item f =
     let (stamps, asked, none) = said_here p m (reply.Gone item) (λ x. x) f in record {
       stamps = stamps;
@@ -394,21 +394,21 @@ gone_is_trimmed p m item f =
 
 pub get_is_answered : (p : PartitionState) (m : Message) (item : ℕ) (stamps : List ℕ)
     → m.body ≡ body.Request (Get item stamps) → is_part m.to p.number ≡ true → place_of p.parts item ≡ p.number
-    → ((t : ℕ) × (v : Value) × ((effect_of p m).reply ≡ Some (reply.Version item t v))) ⊎ ((effect_of p m).reply ≡ Some (reply.Gone item))
+    → ((t : ℕ) × (v : Value) × ((action_of p m).reply ≡ Some (reply.Version item t v))) ⊎ ((action_of p m).reply ≡ Some (reply.Gone item))
 get_is_answered p m item stamps asked here placed = go (read_at p.marks item stamps) (
     ap (λ (b : Bool). (if b then to_body p m.from m.body else nothing).reply) here
     ∙ ap (λ (x : Body). (to_body p m.from x).reply) asked
     ∙ ap (λ (b : Bool). (if b then get_by p item (read_at p.marks item stamps) else says reply.Clash).reply) ((Decides-eqb (place_of p.parts item) p.number).1 placed)
     )
   where
-    go : (o : Option ℕ) → (effect_of p m).reply ≡ (get_by p item o).reply
-        → ((t : ℕ) × (v : Value) × ((effect_of p m).reply ≡ Some (reply.Version item t v))) ⊎ ((effect_of p m).reply ≡ Some (reply.Gone item))
+    go : (o : Option ℕ) → (action_of p m).reply ≡ (get_by p item o).reply
+        → ((t : ℕ) × (v : Value) × ((action_of p m).reply ≡ Some (reply.Version item t v))) ⊎ ((action_of p m).reply ≡ Some (reply.Gone item))
     go (Some t) e = inl (t, value_at p item t, e)
     go None e = inr e
 
 -- ---- a Clash, and that each request is answered
 
-pub clash_only : (p : PartitionState) (m : Message) → (effect_of p m).reply ≡ Some reply.Clash → IsClash p m.body
+pub clash_only : (p : PartitionState) (m : Message) → (action_of p m).reply ≡ Some reply.Clash → IsClash p m.body
 clash_only p m f = said_here p m reply.Clash (λ x. x) f
 
 prepare_replies : (full same : Bool) (s : StampState) (t : ℕ) (ws : List Row) (is : List ℕ) → is_some (prepare_by full same s t ws is).reply ≡ true
@@ -433,8 +433,8 @@ check_replies full state.Pending t = refl
 check_replies full state.Committed t = refl
 check_replies full state.Discarded t = refl
 
--- one of two effects that reply replies
-either : (b : Bool) (d e : Effect) → is_some d.reply ≡ true → is_some e.reply ≡ true → is_some (if b then d else e).reply ≡ true
+-- one of two actions that reply replies
+either : (b : Bool) (d e : Action) → is_some d.reply ≡ true → is_some e.reply ≡ true → is_some (if b then d else e).reply ≡ true
 either true d e f g = f
 either false d e f g = g
 
@@ -454,7 +454,7 @@ request_replies p (Check t) =
 
 pub requests_are_answered : (p : PartitionState) (m : Message) (q : Request) → m.body ≡ body.Request q → is_part m.to p.number ≡ true → is_some (answer p m) ≡ true
 requests_are_answered p m q asked here =
-    mapped (effect_of p m).reply
+    mapped (action_of p m).reply
     ∙ ap (λ (b : Bool). is_some (if b then to_body p m.from m.body else nothing).reply) here
     ∙ ap (λ (x : Body). is_some (to_body p m.from x).reply) asked
     ∙ request_replies p q

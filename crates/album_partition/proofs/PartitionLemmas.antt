@@ -18,7 +18,7 @@ use Rattle.album_terminate.specs.declared.deciding.Decision.TheVariants as decis
 use Rattle.album_terminate.specs.declared.deciding.StampState.TheVariants as state
 use Rattle.album_partition.specs.declared.marks.Mark.{Mark}
 use Rattle.album_partition.specs.declared.marks.Mark.TheVariants.{Prepared, Committed, Discarded, Trimmed}
-use Rattle.album_partition.specs.Answers.{Effect, mark_by, mark_with, nothing, marks, to_part, to_body, effect_of, with_effect, after}
+use Rattle.album_partition.specs.Answers.{Action, mark_by, mark_with, nothing, marks, to_part, to_body, action_of, with_action, after}
 use Rattle.album_partition.specs.Marks.{is_mark_of, prepares, mark_writes, state_of, latest, floor, may_follow, is_full, load, pending_stamps, items_at}
 use Rattle.album_partition.specs.Partition.{PartitionState, IsPartition, opening_state, opened, may_open}
 use Rattle.album_items.specs.Places.{is_placed, lies_at, others_of, placed_at}
@@ -163,10 +163,10 @@ pub new_is_noted : (p : PartitionState) (part t : ℕ) (mark : Option Mark) (not
 new_is_noted p part t mark noted marked new = rw (marked, new) refl
 
 -- nothing changes where there is neither mark nor vote
-pub same_partition : (p : PartitionState) → with_effect p nothing ≡ p
+pub same_partition : (p : PartitionState) → with_action p nothing ≡ p
 same_partition p = rw (append-nil p.marks, append-nil p.votes) refl
 
-unchanged : (p : PartitionState) → IsPartition p → IsPartition (with_effect p nothing)
+unchanged : (p : PartitionState) → IsPartition p → IsPartition (with_action p nothing)
 unchanged p h = subst IsPartition (sym (same_partition p)) h
 
 with_votes : (p : PartitionState) (votes : List NotedVote) → IsPartition p
@@ -179,7 +179,7 @@ waits : (p : PartitionState) (part t : ℕ) → IsPartition p
     → lies_at part p.parts (items_at p.marks t) ≡ true
     → has_vote p.votes t part ≡ false
     → have_told (part ∷ heard p.votes t) (others_of p.number p.parts (items_at p.marks t)) ≡ false
-    → IsPartition (with_effect p (to_part p part t))
+    → IsPartition (with_action p (to_part p part t))
 waits p part t h due new not_all =
     rw (new, not_all) (rw (append-nil p.marks)
     (with_votes p (p.votes ++ record { stamp = t; part = part } ∷ []) h
@@ -190,7 +190,7 @@ settles : (p : PartitionState) (part t : ℕ) → IsPartition p → state_of p.m
     → lies_at part p.parts (items_at p.marks t) ≡ true
     → has_vote p.votes t part ≡ false
     → have_told (part ∷ heard p.votes t) (others_of p.number p.parts (items_at p.marks t)) ≡ true
-    → IsPartition (with_effect p (to_part p part t))
+    → IsPartition (with_action p (to_part p part t))
 settles p part t h pending due new all =
     let made = stays_with p (Committed t) h (fits_commit p t h (some_stamp p t h pending) pending) in
     let items : items_at (p.marks ++ Committed t ∷ []) t ≡ items_at p.marks t = items_stay p.marks (Committed t) t (pending_tells _ _ _ pending).2 in
@@ -203,13 +203,13 @@ settles p part t h pending due new all =
 
 with_vote : (p : PartitionState) (part t : ℕ) → IsPartition p → state_of p.marks t ≡ state.Pending
     → lies_at part p.parts (items_at p.marks t) ≡ true
-    → IsPartition (with_effect p (to_part p part t))
+    → IsPartition (with_action p (to_part p part t))
 with_vote p part t h pending due = go (has_vote p.votes t part) (have_told (part ∷ heard p.votes t) (others_of p.number p.parts (items_at p.marks t))) refl refl
   where
     go : (a b : Bool) → has_vote p.votes t part ≡ a
         → have_told (part ∷ heard p.votes t) (others_of p.number p.parts (items_at p.marks t)) ≡ b
-        → IsPartition (with_effect p (to_part p part t))
-    go true b e f = subst (λ (effect : Effect). IsPartition (with_effect p effect)) (heard_is_nothing p part t h pending e) (unchanged p h)
+        → IsPartition (with_action p (to_part p part t))
+    go true b e f = subst (λ (action : Action). IsPartition (with_action p action)) (heard_is_nothing p part t h pending e) (unchanged p h)
     go false false e f = waits p part t h due e f
     go false true e f = settles p part t h pending due e f
 
@@ -218,34 +218,34 @@ with_vote p part t h pending due = go (has_vote p.votes t part) (have_told (part
 marked : (p : PartitionState) (mark : Mark) → IsPartition (record p { marks = p.marks ++ mark ∷ [] }) → IsPartition (record p { marks = p.marks ++ mark ∷ []; votes = p.votes ++ [] })
 marked p mark h = rw (append-nil p.votes) h
 
-stays_by : (p : PartitionState) (from : Node) (b : Body) (e : Effect) → IsPartition p → Acts p from b e → IsPartition (with_effect p e)
-stays_by p from b e h (idle is) = subst (λ (effect : Effect). IsPartition (with_effect p effect)) (sym is) (unchanged p h)
-stays_by p from b e h (said r is true_of) = subst (λ (effect : Effect). IsPartition (with_effect p effect)) (sym is) (unchanged p h)
+stays_by : (p : PartitionState) (from : Node) (b : Body) (e : Action) → IsPartition p → Acts p from b e → IsPartition (with_action p e)
+stays_by p from b e h (idle is) = subst (λ (action : Action). IsPartition (with_action p action)) (sym is) (unchanged p h)
+stays_by p from b e h (said r is true_of) = subst (λ (action : Action). IsPartition (with_action p action)) (sym is) (unchanged p h)
 stays_by p from b e h (prepared a) =
-    subst (λ (effect : Effect). IsPartition (with_effect p effect)) (sym a.done)
+    subst (λ (action : Action). IsPartition (with_action p action)) (sym a.done)
     (marked p (Prepared a.t a.ws a.is) (stays_with p (Prepared a.t a.ws a.is) h (fits_prepare p a.t a.ws a.is a.proper a.room a.unknown)))
 stays_by p from b e h (committed a) =
-    subst (λ (effect : Effect). IsPartition (with_effect p effect)) (sym a.done)
+    subst (λ (action : Action). IsPartition (with_action p action)) (sym a.done)
     (marked p (Committed a.t) (stays_with p (Committed a.t) h (fits_commit p a.t h a.some a.pending)))
 stays_by p from b e h (refused a) =
-    subst (λ (effect : Effect). IsPartition (with_effect p effect)) (sym a.done)
+    subst (λ (action : Action). IsPartition (with_action p action)) (sym a.done)
     (marked p (Discarded a.t) (stays_with p (Discarded a.t) h (fits_refusal p a.t a.some a.room a.unknown)))
 stays_by p from b e h (voted_committed a) =
-    subst (λ (effect : Effect). IsPartition (with_effect p effect)) (sym a.done)
+    subst (λ (action : Action). IsPartition (with_action p action)) (sym a.done)
     (marked p (Committed a.t) (stays_with p (Committed a.t) h (fits_commit p a.t h (some_stamp p a.t h a.pending) a.pending)))
 stays_by p from b e h (voted_never a) =
-    subst (λ (effect : Effect). IsPartition (with_effect p effect)) (sym a.done)
+    subst (λ (action : Action). IsPartition (with_action p action)) (sym a.done)
     (marked p (Discarded a.t) (stays_with p (Discarded a.t) h (fits_discard p a.t h (some_stamp p a.t h a.pending) a.pending)))
 stays_by p from b e h (voted_prepared a) =
-    subst (λ (effect : Effect). IsPartition (with_effect p effect)) (sym a.done) (with_vote p a.part a.t h a.pending a.due)
+    subst (λ (action : Action). IsPartition (with_action p action)) (sym a.done) (with_vote p a.part a.t h a.pending a.due)
 
-pub stays : (p : PartitionState) (from : Node) (b : Body) → IsPartition p → IsPartition (with_effect p (to_body p from b))
+pub stays : (p : PartitionState) (from : Node) (b : Body) → IsPartition p → IsPartition (with_action p (to_body p from b))
 stays p from b h = stays_by p from b (to_body p from b) h (acts p from b)
 
 pub stays_after : (p : PartitionState) (message : Message) → IsPartition p → IsPartition (after p message)
-stays_after p message h = stays_by p message.from message.body (effect_of p message) h (acts_here p message)
+stays_after p message h = stays_by p message.from message.body (action_of p message) h (acts_here p message)
 
-follow_by : (p : PartitionState) (from : Node) (b : Body) (e : Effect) → IsPartition p → Acts p from b e → IfSome e.mark (CanFollow p.marks)
+follow_by : (p : PartitionState) (from : Node) (b : Body) (e : Action) → IsPartition p → Acts p from b e → IfSome e.mark (CanFollow p.marks)
 follow_by p from b e h (idle is) = rw is tt
 follow_by p from b e h (said r is true_of) = rw is tt
 follow_by p from b e h (prepared a) =

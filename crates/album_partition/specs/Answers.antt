@@ -29,21 +29,21 @@ use Rattle.album_partition.specs.Proper.{is_proper}
 use Rattle.album_partition.specs.Votes.{NotedVote, new_vote, heard}
 
 -- what a message does: the mark that it makes, the vote that is noted, and the reply
-pub record Effect : Type 0 where
+pub record Action : Type 0 where
   pub mark : Option Mark
   pub vote : Option NotedVote
   pub reply : Option Reply
 
-abbrev pub nothing : Effect
+abbrev pub nothing : Action
 nothing = record { mark = None; vote = None; reply = None }
 
-abbrev pub says : Reply → Effect
+abbrev pub says : Reply → Action
 says reply = record { mark = None; vote = None; reply = Some reply }
 
-abbrev pub marks : Mark → Effect
+abbrev pub marks : Mark → Action
 marks mark = record { mark = Some mark; vote = None; reply = None }
 
-abbrev pub marks_and_says : Mark → Reply → Effect
+abbrev pub marks_and_says : Mark → Reply → Action
 marks_and_says mark reply = record { mark = Some mark; vote = None; reply = Some reply }
 
 -- ---- a Prepare
@@ -54,7 +54,7 @@ is_same marks stamp writes items =
     same_rows writes (writes_at marks stamp) && same_numbers items (items_at marks stamp)
 
 -- by whether the partition is full, whether it prepared the same already, and how the stamp stands
-abbrev pub prepare_by : Bool → Bool → StampState → ℕ → List Row → List ℕ → Effect
+abbrev pub prepare_by : Bool → Bool → StampState → ℕ → List Row → List ℕ → Action
 prepare_by full same state.Unknown stamp writes items =
     if full then says (reply.Full stamp)
     else marks_and_says (mark.Prepared stamp writes items) (reply.Prepared stamp)
@@ -64,7 +64,7 @@ prepare_by full same state.Committed stamp writes items =
     if same then says (reply.Prepared stamp) else says reply.Clash
 prepare_by full same state.Discarded stamp writes items = says (reply.Discarded stamp)
 
-abbrev pub to_prepare : PartitionState → ℕ → List Row → List ℕ → Effect
+abbrev pub to_prepare : PartitionState → ℕ → List Row → List ℕ → Action
 to_prepare partition stamp writes items =
     if is_proper partition.number partition.parts stamp writes items
     then prepare_by
@@ -75,19 +75,19 @@ to_prepare partition stamp writes items =
 
 -- ---- a Commit
 
-abbrev pub commit_by : StampState → ℕ → Effect
+abbrev pub commit_by : StampState → ℕ → Action
 commit_by state.Unknown stamp = says (reply.NotPrepared stamp)
 commit_by state.Pending stamp = marks_and_says (mark.Committed stamp) (reply.Committed stamp)
 commit_by state.Committed stamp = says (reply.Committed stamp)
 commit_by state.Discarded stamp = says (reply.Discarded stamp)
 
-abbrev pub to_commit : PartitionState → ℕ → Effect
+abbrev pub to_commit : PartitionState → ℕ → Action
 to_commit partition stamp =
     if stamp == 0 then says reply.Clash else commit_by (state_of partition.marks stamp) stamp
 
 -- ---- a Check
 
-abbrev pub check_by : Bool → StampState → ℕ → Effect
+abbrev pub check_by : Bool → StampState → ℕ → Action
 check_by full state.Unknown stamp =
     if full then says (reply.Full stamp)
     else marks_and_says (mark.Discarded stamp) (reply.Status stamp vote.Never)
@@ -95,7 +95,7 @@ check_by full state.Pending stamp = says (reply.Status stamp vote.Prepared)
 check_by full state.Committed stamp = says (reply.Status stamp vote.Committed)
 check_by full state.Discarded stamp = says (reply.Status stamp vote.Never)
 
-abbrev pub to_check : PartitionState → ℕ → Effect
+abbrev pub to_check : PartitionState → ℕ → Action
 to_check partition stamp =
     if stamp == 0 then says reply.Clash
     else check_by (is_full partition.limit partition.marks) (state_of partition.marks stamp) stamp
@@ -103,15 +103,15 @@ to_check partition stamp =
 -- ---- a Get
 
 -- the item, as it is read at the stamp
-abbrev pub says_version : PartitionState → ℕ → ℕ → Effect
+abbrev pub says_version : PartitionState → ℕ → ℕ → Action
 says_version partition item stamp = says (reply.Version item stamp (value_at partition item stamp))
 
 -- by the stamp at which it is read: where there is none, it is gone
-abbrev pub get_by : PartitionState → ℕ → Option ℕ → Effect
+abbrev pub get_by : PartitionState → ℕ → Option ℕ → Action
 get_by partition item None = says (reply.Gone item)
 get_by partition item (Some stamp) = says_version partition item stamp
 
-abbrev pub to_get : PartitionState → ℕ → List ℕ → Effect
+abbrev pub to_get : PartitionState → ℕ → List ℕ → Action
 to_get partition item stamps =
     if is_placed partition.number partition.parts item
     then get_by partition item (read_at partition.marks item stamps)
@@ -135,36 +135,36 @@ mark_with partition part stamp =
     stamp
 
 -- a vote Prepared, which one of the partitions of the items has told
-abbrev pub to_part : PartitionState → ℕ → ℕ → Effect
+abbrev pub to_part : PartitionState → ℕ → ℕ → Action
 to_part partition part stamp =
     record { mark = mark_with partition part stamp; vote = new_vote partition.votes stamp part; reply = None }
 
-abbrev pub to_prepared : PartitionState → Node → ℕ → Effect
+abbrev pub to_prepared : PartitionState → Node → ℕ → Action
 to_prepared partition (Part part) stamp =
     if lies_at part partition.parts (items_at partition.marks stamp)
     then to_part partition part stamp
     else nothing
 to_prepared partition (Client client) stamp = nothing
 
-abbrev pub to_vote : PartitionState → Node → ℕ → Vote → Effect
+abbrev pub to_vote : PartitionState → Node → ℕ → Vote → Action
 to_vote partition from stamp vote.Prepared = to_prepared partition from stamp
 to_vote partition from stamp vote.Committed = marks (mark.Committed stamp)
 to_vote partition from stamp vote.Never = marks (mark.Discarded stamp)
 
 -- a vote counts where the stamp is pending
-abbrev pub to_status : PartitionState → Node → ℕ → Vote → Effect
+abbrev pub to_status : PartitionState → Node → ℕ → Vote → Action
 to_status partition from stamp vote =
     if is_pending (state_of partition.marks stamp) then to_vote partition from stamp vote else nothing
 
 -- ---- a message
 
-abbrev pub to_request : PartitionState → Request → Effect
+abbrev pub to_request : PartitionState → Request → Action
 to_request partition (Prepare stamp writes items) = to_prepare partition stamp writes items
 to_request partition (Commit stamp) = to_commit partition stamp
 to_request partition (Get item stamps) = to_get partition item stamps
 to_request partition (Check stamp) = to_check partition stamp
 
-abbrev pub to_reply : PartitionState → Node → Reply → Effect
+abbrev pub to_reply : PartitionState → Node → Reply → Action
 to_reply partition from (reply.Status stamp vote) = to_status partition from stamp vote
 to_reply partition from (reply.Prepared stamp) = nothing
 to_reply partition from (reply.Committed stamp) = nothing
@@ -175,25 +175,25 @@ to_reply partition from reply.Clash = nothing
 to_reply partition from (reply.Full stamp) = nothing
 to_reply partition from (reply.Gone item) = nothing
 
-abbrev pub to_body : PartitionState → Node → Body → Effect
+abbrev pub to_body : PartitionState → Node → Body → Action
 to_body partition from (body.Request request) = to_request partition request
 to_body partition from (body.Reply reply) = to_reply partition from reply
 
 -- what a message does here: nothing where it is another's
-abbrev pub effect_of : PartitionState → Message → Effect
-effect_of partition message =
+abbrev pub action_of : PartitionState → Message → Action
+action_of partition message =
     if is_part message.to partition.number then to_body partition message.from message.body else nothing
 
 -- the partition once that is done
-abbrev pub with_effect : PartitionState → Effect → PartitionState
-with_effect partition effect =
+abbrev pub with_action : PartitionState → Action → PartitionState
+with_action partition action =
     record partition {
-      marks = partition.marks ++ option_to_list effect.mark;
-      votes = partition.votes ++ option_to_list effect.vote;
+      marks = partition.marks ++ option_to_list action.mark;
+      votes = partition.votes ++ option_to_list action.vote;
     }
 
 abbrev pub after : PartitionState → Message → PartitionState
-after partition message = with_effect partition (effect_of partition message)
+after partition message = with_action partition (action_of partition message)
 
 -- a reply goes to the sender, with the request's tag
 abbrev pub reply_to : PartitionState → Message → Reply → Message
@@ -201,7 +201,7 @@ reply_to partition message reply =
     record { from = Part partition.number; to = message.from; tag = message.tag; body = body.Reply reply }
 
 abbrev pub answer : PartitionState → Message → Option Message
-answer partition message = option_map (reply_to partition message) (effect_of partition message).reply
+answer partition message = option_map (reply_to partition message) (action_of partition message).reply
 
 -- ---- what memory is wanted for
 
@@ -218,10 +218,10 @@ is_version (reply.Full stamp) = false
 is_version (reply.Gone item) = false
 
 -- something is kept or copied
-abbrev pub wants_memory : Effect → Bool
-wants_memory effect = is_some effect.mark || is_some effect.vote || option_map_or is_version effect.reply false
+abbrev pub wants_memory : Action → Bool
+wants_memory action = is_some action.mark || is_some action.vote || option_map_or is_version action.reply false
 
--- the effect is this one, unless memory ran out: then something is kept or copied
-abbrev pub Does : {E : Type 0} → Result Effect E → Effect → Type 0
-Does (Ok effect) is = effect ≡ is
+-- the action is this one, unless memory ran out: then something is kept or copied
+abbrev pub Does : {E : Type 0} → Result Action E → Action → Type 0
+Does (Ok action) is = action ≡ is
 Does (Err e) is = wants_memory is ≡ true

@@ -17,7 +17,7 @@ ghost use Rattle.album_versions.specs.Best.{best_of, unless_gone};
 ghost use Rattle.album_terminate.specs.declared.deciding.StampState.TheVariants as StampState;
 ghost use Rattle.album_partition.specs.declared.marks.Mark.{Mark};
 ghost use Rattle.album_partition.specs.declared.marks.Mark.TheVariants as Made;
-ghost use Rattle.album_partition.specs.Answers.{says, to_prepare, to_check, effect_of, after, answer};
+ghost use Rattle.album_partition.specs.Answers.{says, to_prepare, to_check, action_of, after, answer};
 ghost use Rattle.album_partition.specs.Laws.{IsTrueOf, IsClash, IsReplyTo, IsReadOf, IsGoneFor, IsCause};
 ghost use Rattle.album_partition.specs.Marks.{IsPromisedAgainst, prepares, commits, discards, decides, trims, state_of, value_in, version, latest, floor, has_kept_version, may_follow, is_legal, load, is_full};
 ghost use Rattle.album_partition.specs.Partition.{PartitionState, IsPartition, opened, read_at};
@@ -76,7 +76,7 @@ pub fn promises_against_are_kept()
         → IsPromisedAgainst marks stamp → IsPromisedAgainst (marks ++ later) stamp }
     ensures told { (partition : PartitionState) (message : Message) (stamp : ℕ)
         → state_of partition.marks stamp ≡ StampState.Unknown
-        → (effect_of partition message).reply ≡ Some (Reply.Status stamp Vote.Never)
+        → (action_of partition message).reply ≡ Some (Reply.Status stamp Vote.Never)
         → IsPromisedAgainst (after partition message).marks stamp }
 {}
 
@@ -88,9 +88,9 @@ pub fn partitions_stay_partitions()
     ensures after { (partition : PartitionState) (message : Message)
         → IsPartition partition → IsPartition (after partition message) }
     ensures marks { (partition : PartitionState) (message : Message)
-        → (after partition message).marks ≡ partition.marks ++ option_to_list (effect_of partition message).mark }
+        → (after partition message).marks ≡ partition.marks ++ option_to_list (action_of partition message).mark }
     ensures votes { (partition : PartitionState) (message : Message)
-        → (after partition message).votes ≡ partition.votes ++ option_to_list (effect_of partition message).vote }
+        → (after partition message).votes ≡ partition.votes ++ option_to_list (action_of partition message).vote }
     ensures trimmed { (old new : PartitionState) (item : ℕ)
         → IsPartition old → trimmed old item ≡ Ok new → IsPartition new }
 {}
@@ -98,7 +98,7 @@ pub fn partitions_stay_partitions()
 /// A law: why each mark is made. A vote Prepared commits only where it is the last of all others'.
 pub fn marks_have_their_causes()
     ensures { (partition : PartitionState) (message : Message) (mark : Mark)
-        → (effect_of partition message).mark ≡ Some mark → IsCause partition message mark }
+        → (action_of partition message).mark ≡ Some mark → IsCause partition message mark }
 {}
 
 /// A law: what a reply tells of a stamp is so, once the message was received.
@@ -114,7 +114,7 @@ pub fn requests_are_answered()
         → message.body ≡ Body.Request request → is_part message.to partition.number ≡ true
         → is_some (answer partition message) ≡ true }
     ensures clash { (partition : PartitionState) (message : Message)
-        → (effect_of partition message).reply ≡ Some Reply.Clash → IsClash partition message.body }
+        → (action_of partition message).reply ≡ Some Reply.Clash → IsClash partition message.body }
 {}
 
 /// A law: to whom a reply goes. The votes that were noted don't change it, a reply is never replied
@@ -148,17 +148,17 @@ pub fn trims_raise_the_floor()
 /// answered so, or told that the item is gone.
 pub fn gets_read_what_is_written()
     ensures version { (partition : PartitionState) (message : Message) (item stamp : ℕ) (value : Value)
-        → (effect_of partition message).reply ≡ Some (Reply.Version item stamp value)
+        → (action_of partition message).reply ≡ Some (Reply.Version item stamp value)
         → IsReadOf partition message item stamp value }
     ensures answered { (partition : PartitionState) (message : Message) (item : ℕ) (stamps : List ℕ)
         → message.body ≡ Body.Request (Request.Get item stamps)
         → is_part message.to partition.number ≡ true
         → place_of partition.parts item ≡ partition.number
         → ((stamp : ℕ) × (value : Value)
-        × ((effect_of partition message).reply ≡ Some (Reply.Version item stamp value)))
-        ⊎ ((effect_of partition message).reply ≡ Some (Reply.Gone item)) }
+        × ((action_of partition message).reply ≡ Some (Reply.Version item stamp value)))
+        ⊎ ((action_of partition message).reply ≡ Some (Reply.Gone item)) }
     ensures gone { (partition : PartitionState) (message : Message) (item : ℕ)
-        → (effect_of partition message).reply ≡ Some (Reply.Gone item)
+        → (action_of partition message).reply ≡ Some (Reply.Gone item)
         → IsGoneFor partition.marks message item }
 {}
 
@@ -188,7 +188,7 @@ pub fn proper_writes_are_those_placed_here()
 /// there. It tells so to each Check, and to each Prepare that it could follow otherwise.
 pub fn full_has_its_cause()
     ensures only { (partition : PartitionState) (message : Message) (stamp : ℕ)
-        → (effect_of partition message).reply ≡ Some (Reply.Full stamp)
+        → (action_of partition message).reply ≡ Some (Reply.Full stamp)
         → (is_full partition.limit partition.marks ≡ true)
         × (state_of partition.marks stamp ≡ StampState.Unknown) }
     ensures check { (partition : PartitionState) (stamp : ℕ) → stamp ≢ 0

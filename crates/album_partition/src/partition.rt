@@ -1,7 +1,7 @@
 // A partition, and what it does with a message.
 ghost use Rattle.std.specs.Prelude.{◌≡◌, ◌≤◌, true, IfOk, IfErr, OnOk, OnErr, IfSome, is_some, ◌||◌, ◌≢◌, IsOk, Some, IsOkUnless, Ok, Err};
 ghost use Rattle.album_stamps.specs.Outcome.{Makes};
-ghost use Rattle.album_partition.specs.Answers.{with_effect, effect_of, after, answer, reply_to, wants_memory};
+ghost use Rattle.album_partition.specs.Answers.{with_action, action_of, after, answer, reply_to, wants_memory};
 ghost use Rattle.album_partition.specs.Marks.{ArePending, state_of, is_legal, load, latest};
 ghost use Rattle.album_partition.specs.Partition.{IsPartition, may_open, opening_state, opened};
 ghost use Rattle.album_partition.specs.Proper.{are_proper_marks};
@@ -21,7 +21,7 @@ use album_calls::{Body, Message, Node, Reply};
 use album_items::{ItemId, ItemValues};
 use album_stamps::{Refusal, Refused, Stamp};
 use album_terminate::StampState;
-use answers::Effect;
+use answers::Action;
 use std::alloc::{AllocError, Global};
 use std::marker::Model;
 
@@ -108,13 +108,13 @@ impl Partition {
         ensures answered { IfOk result (λ reply. reply ≡ answer self.old message.now) }
         ensures unchanged { OnErr result (self.new ≡ self.old) }
         ensures memory { IsOkUnless result Refusal.OutOfMemory }
-        ensures wanted { OnErr result (wants_memory (effect_of self.old message.now) ≡ true) }
+        ensures wanted { OnErr result (wants_memory (action_of self.old message.now) ≡ true) }
     {
         if !message.to().is_part(self.seat.number) {
             return Ok(None);
         }
-        let effect = self.to_body(message.from(), message.body())?;
-        match self.apply(effect)? {
+        let action = self.to_body(message.from(), message.body())?;
+        match self.apply(action)? {
             None => Ok(None),
             Some(reply) => Ok(Some(self.reply_to(message, reply))),
         }
@@ -240,16 +240,16 @@ impl Partition {
         }
     }
 
-    /// Keeps what the effect adds, and gives its reply.
-    fn apply(&mut self, effect: Effect) -> Result<Option<Reply>, AllocError>
-        requires follows { IfSome effect.mark (CanFollow self.old.marks) }
-        requires partition { IsPartition (with_effect self.old effect) }
-        ensures ok { OnOk result (self.new ≡ with_effect self.old effect) }
-        ensures reply { IfOk result (λ reply. reply ≡ effect.reply) }
+    /// Keeps what the action adds, and gives its reply.
+    fn apply(&mut self, action: Action) -> Result<Option<Reply>, AllocError>
+        requires follows { IfSome action.mark (CanFollow self.old.marks) }
+        requires partition { IsPartition (with_action self.old action) }
+        ensures ok { OnOk result (self.new ≡ with_action self.old action) }
+        ensures reply { IfOk result (λ reply. reply ≡ action.reply) }
         ensures err { OnErr result (self.new ≡ self.old) }
-        ensures wanted { OnErr result ((is_some effect.mark || is_some effect.vote) ≡ true) }
+        ensures wanted { OnErr result ((is_some action.mark || is_some action.vote) ≡ true) }
     {
-        let Effect { mark, vote, reply } = effect;
+        let Action { mark, vote, reply } = action;
         match vote {
             None => self.stored.add(mark)?,
             Some(vote) => {

@@ -20,55 +20,55 @@ use std::marker::Model;
 
 /// What a message does at a partition: the mark that it makes, the vote that is noted, and the reply.
 #[derive(Debug, Drop)]
-pub(super) struct Effect {
+pub(super) struct Action {
     pub(super) mark: Option<Mark>,
     pub(super) vote: Option<Noted>,
     pub(super) reply: Option<Reply>,
 }
 
-impl Model for Effect {
-    ghost use Rattle.album_partition.specs.Answers.{Effect as EffectOf};
+impl Model for Action {
+    ghost use Rattle.album_partition.specs.Answers.{Action as ActionOf};
 
-    ghost Value = { EffectOf };
+    ghost Value = { ActionOf };
 
     ghost view = { λ e. record { mark = e.mark; vote = e.vote; reply = e.reply } };
 }
 
-impl Effect {
-    fn nothing() -> Effect
+impl Action {
+    fn nothing() -> Action
         ensures { result ≡ nothing }
     {
-        Effect {
+        Action {
             mark: None,
             vote: None,
             reply: None,
         }
     }
 
-    fn says(reply: Reply) -> Effect
+    fn says(reply: Reply) -> Action
         ensures { result ≡ says reply }
     {
-        Effect {
+        Action {
             mark: None,
             vote: None,
             reply: Some(reply),
         }
     }
 
-    fn marks(mark: Mark) -> Effect
+    fn marks(mark: Mark) -> Action
         ensures { result ≡ marks mark }
     {
-        Effect {
+        Action {
             mark: Some(mark),
             vote: None,
             reply: None,
         }
     }
 
-    fn marks_and_says(mark: Mark, reply: Reply) -> Effect
+    fn marks_and_says(mark: Mark, reply: Reply) -> Action
         ensures { result ≡ marks_and_says mark reply }
     {
-        Effect {
+        Action {
             mark: Some(mark),
             vote: None,
             reply: Some(reply),
@@ -78,7 +78,7 @@ impl Effect {
 
 impl Partition {
     /// What the message does that this node sends.
-    pub(super) fn to_body(&self, from: Node, body: &Body) -> Result<Effect, AllocError>
+    pub(super) fn to_body(&self, from: Node, body: &Body) -> Result<Action, AllocError>
         ensures { Does result (to_body self.now from body.now) }
     {
         match body {
@@ -87,7 +87,7 @@ impl Partition {
         }
     }
 
-    fn to_request(&self, request: &Request) -> Result<Effect, AllocError>
+    fn to_request(&self, request: &Request) -> Result<Action, AllocError>
         ensures { Does result (to_request self.now request.now) }
     {
         match request {
@@ -103,18 +103,18 @@ impl Partition {
         stamp: Stamp,
         writes: &ItemValues,
         items: &Items,
-    ) -> Result<Effect, AllocError>
+    ) -> Result<Action, AllocError>
         ensures { Does result (to_prepare self.now stamp writes.now items.now) }
     {
         if !self.is_proper(stamp, writes, items) {
-            return Ok(Effect::says(Reply::Clash));
+            return Ok(Action::says(Reply::Clash));
         }
         match self.state(stamp) {
             StampState::Unknown => self.prepare(stamp, writes, items),
             StampState::Pending | StampState::Committed => {
                 Ok(self.prepare_again(stamp, writes, items))
             }
-            StampState::Discarded => Ok(Effect::says(Reply::Discarded(stamp))),
+            StampState::Discarded => Ok(Action::says(Reply::Discarded(stamp))),
         }
     }
 
@@ -131,19 +131,19 @@ impl Partition {
         stamp: Stamp,
         writes: &ItemValues,
         items: &Items,
-    ) -> Result<Effect, AllocError>
+    ) -> Result<Action, AllocError>
         ensures { (same : Bool) → Does result (prepare_by
             (is_full self.now.limit self.now.marks) same StampState.Unknown stamp writes.now items.now) }
     {
         if self.is_full() {
-            return Ok(Effect::says(Reply::Full(stamp)));
+            return Ok(Action::says(Reply::Full(stamp)));
         }
         let mark = Mark::prepared(stamp, writes, items)?;
-        Ok(Effect::marks_and_says(mark, Reply::Prepared(stamp)))
+        Ok(Action::marks_and_says(mark, Reply::Prepared(stamp)))
     }
 
     /// A stamp that is prepared here already, and is pending or committed.
-    fn prepare_again(&self, stamp: Stamp, writes: &ItemValues, items: &Items) -> Effect
+    fn prepare_again(&self, stamp: Stamp, writes: &ItemValues, items: &Items) -> Action
         requires { is_kept (state_of self.now.marks stamp) ≡ true }
         ensures { result ≡ (if is_same self.now.marks stamp writes.now items.now
             then says (Reply.Prepared stamp) else says Reply.Clash) }
@@ -152,9 +152,9 @@ impl Partition {
         if same_values(writes.as_slice(), stored.writes(stamp))
             && same_items(items.as_slice(), stored.items(stamp))
         {
-            Effect::says(Reply::Prepared(stamp))
+            Action::says(Reply::Prepared(stamp))
         } else {
-            Effect::says(Reply::Clash)
+            Action::says(Reply::Clash)
         }
     }
 
@@ -165,43 +165,43 @@ impl Partition {
         self.limit < self.stored.load() + 2
     }
 
-    fn to_commit(&self, stamp: Stamp) -> Effect
+    fn to_commit(&self, stamp: Stamp) -> Action
         ensures { result ≡ to_commit self.now stamp }
     {
         if stamp.value() == 0 {
-            return Effect::says(Reply::Clash);
+            return Action::says(Reply::Clash);
         }
         commit_by(self.state(stamp), stamp)
     }
 
-    fn to_check(&self, stamp: Stamp) -> Effect
+    fn to_check(&self, stamp: Stamp) -> Action
         ensures { result ≡ to_check self.now stamp }
     {
         if stamp.value() == 0 {
-            return Effect::says(Reply::Clash);
+            return Action::says(Reply::Clash);
         }
         check_by(self.is_full(), self.state(stamp), stamp)
     }
 
-    fn to_get(&self, item: ItemId, stamps: &Stamps) -> Result<Effect, AllocError>
+    fn to_get(&self, item: ItemId, stamps: &Stamps) -> Result<Action, AllocError>
         ensures { Does result (to_get self.now item stamps.now) }
     {
         if !self.seat.has(item) {
-            return Ok(Effect::says(Reply::Clash));
+            return Ok(Action::says(Reply::Clash));
         }
         match self.stored.read_at(item, stamps.as_slice()) {
-            None => Ok(Effect::says(Reply::Gone(item))),
+            None => Ok(Action::says(Reply::Gone(item))),
             Some(stamp) => self.says_version(item, stamp),
         }
     }
 
     /// The item, as it is read at the stamp.
-    fn says_version(&self, item: ItemId, stamp: Stamp) -> Result<Effect, AllocError>
+    fn says_version(&self, item: ItemId, stamp: Stamp) -> Result<Action, AllocError>
         requires { floor self.now.marks item ≤ stamp }
         ensures { Does result (says_version self.now item stamp) }
     {
         let value = clone_or_missing(self.value_at(item, stamp))?;
-        Ok(Effect::says(Reply::Version(item, stamp, value)))
+        Ok(Action::says(Reply::Version(item, stamp, value)))
     }
 
     /// The item's value at the stamp: at the zero stamp its first value.
@@ -217,7 +217,7 @@ impl Partition {
     }
 
     /// A vote is the one reply that a partition takes.
-    fn to_reply(&self, from: Node, reply: &Reply) -> Result<Effect, AllocError>
+    fn to_reply(&self, from: Node, reply: &Reply) -> Result<Action, AllocError>
         ensures { Does result (to_reply self.now from reply.now) }
     {
         match reply {
@@ -229,35 +229,35 @@ impl Partition {
             | Reply::NotPrepared(_)
             | Reply::Clash
             | Reply::Full(_)
-            | Reply::Gone(_) => Ok(Effect::nothing()),
+            | Reply::Gone(_) => Ok(Action::nothing()),
         }
     }
 
     /// A vote counts where the stamp is pending here.
-    fn to_status(&self, from: Node, stamp: Stamp, vote: Vote) -> Result<Effect, AllocError>
+    fn to_status(&self, from: Node, stamp: Stamp, vote: Vote) -> Result<Action, AllocError>
         ensures { Does result (to_status self.now from stamp vote) }
     {
         match self.state(stamp) {
             StampState::Pending => self.to_vote(from, stamp, vote),
             StampState::Unknown | StampState::Committed | StampState::Discarded => {
-                Ok(Effect::nothing())
+                Ok(Action::nothing())
             }
         }
     }
 
-    fn to_vote(&self, from: Node, stamp: Stamp, vote: Vote) -> Result<Effect, AllocError>
+    fn to_vote(&self, from: Node, stamp: Stamp, vote: Vote) -> Result<Action, AllocError>
         requires { state_of self.now.marks stamp ≡ StampState.Pending }
         ensures { Does result (to_vote self.now from stamp vote) }
     {
         match vote {
             Vote::Prepared => self.to_prepared(from, stamp),
-            Vote::Committed => Ok(Effect::marks(Mark::Committed(stamp))),
-            Vote::Never => Ok(Effect::marks(Mark::Discarded(stamp))),
+            Vote::Committed => Ok(Action::marks(Mark::Committed(stamp))),
+            Vote::Never => Ok(Action::marks(Mark::Discarded(stamp))),
         }
     }
 
     /// A vote Prepared counts where one of the partitions of the items tells it.
-    fn to_prepared(&self, from: Node, stamp: Stamp) -> Result<Effect, AllocError>
+    fn to_prepared(&self, from: Node, stamp: Stamp) -> Result<Action, AllocError>
         requires { state_of self.now.marks stamp ≡ StampState.Pending }
         ensures { Does result (to_prepared self.now from stamp) }
     {
@@ -265,22 +265,22 @@ impl Partition {
             Node::Part(part) if self.seat.lies_at(part, self.stored.items(stamp)) => {
                 self.to_part(part, stamp)
             }
-            Node::Part(_) | Node::Client(_) => Ok(Effect::nothing()),
+            Node::Part(_) | Node::Client(_) => Ok(Action::nothing()),
         }
     }
 
     /// The partition's vote is noted, and settles the stamp if it was the last that was waited for.
-    fn to_part(&self, part: u16, stamp: Stamp) -> Result<Effect, AllocError>
+    fn to_part(&self, part: u16, stamp: Stamp) -> Result<Action, AllocError>
         requires { state_of self.now.marks stamp ≡ StampState.Pending }
         ensures { Does result (to_part self.now part stamp) }
     {
         // A vote that was heard already changes nothing: had all been heard, the stamp would not be
         // pending. So it takes no memory either.
         let Some(vote) = new_vote(&self.votes, stamp, part) else {
-            return Ok(Effect::nothing());
+            return Ok(Action::nothing());
         };
         let mark = self.mark_with(part, stamp)?;
-        Ok(Effect {
+        Ok(Action {
             mark,
             vote: Some(vote),
             reply: None,
@@ -300,33 +300,33 @@ impl Partition {
 }
 
 /// A Commit of a stamp that stands so.
-fn commit_by(state: StampState, stamp: Stamp) -> Effect
+fn commit_by(state: StampState, stamp: Stamp) -> Action
     ensures { result ≡ commit_by state stamp }
 {
     match state {
-        StampState::Unknown => Effect::says(Reply::NotPrepared(stamp)),
+        StampState::Unknown => Action::says(Reply::NotPrepared(stamp)),
         StampState::Pending => {
-            Effect::marks_and_says(Mark::Committed(stamp), Reply::Committed(stamp))
+            Action::marks_and_says(Mark::Committed(stamp), Reply::Committed(stamp))
         }
-        StampState::Committed => Effect::says(Reply::Committed(stamp)),
-        StampState::Discarded => Effect::says(Reply::Discarded(stamp)),
+        StampState::Committed => Action::says(Reply::Committed(stamp)),
+        StampState::Discarded => Action::says(Reply::Discarded(stamp)),
     }
 }
 
 /// A Check of a stamp that stands so. A stamp that is unknown is discarded, so that it never is
 /// prepared here once this was told.
-fn check_by(full: bool, state: StampState, stamp: Stamp) -> Effect
+fn check_by(full: bool, state: StampState, stamp: Stamp) -> Action
     ensures { result ≡ check_by full state stamp }
 {
     match state {
-        StampState::Unknown if full => Effect::says(Reply::Full(stamp)),
+        StampState::Unknown if full => Action::says(Reply::Full(stamp)),
         StampState::Unknown => {
             let never = Reply::Status(stamp, Vote::Never);
-            Effect::marks_and_says(Mark::Discarded(stamp), never)
+            Action::marks_and_says(Mark::Discarded(stamp), never)
         }
-        StampState::Pending => Effect::says(Reply::Status(stamp, Vote::Prepared)),
-        StampState::Committed => Effect::says(Reply::Status(stamp, Vote::Committed)),
-        StampState::Discarded => Effect::says(Reply::Status(stamp, Vote::Never)),
+        StampState::Pending => Action::says(Reply::Status(stamp, Vote::Prepared)),
+        StampState::Committed => Action::says(Reply::Status(stamp, Vote::Committed)),
+        StampState::Discarded => Action::says(Reply::Status(stamp, Vote::Never)),
     }
 }
 
