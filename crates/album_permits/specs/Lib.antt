@@ -8,3 +8,4 @@ pub mod Changes
 pub mod Effects
 pub mod Writes
 pub mod Kinds
+pub mod Meaning

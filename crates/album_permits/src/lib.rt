@@ -27,9 +27,11 @@ mod writes;
 // What holds of rulings, and of what is written.
 mod laws;
 mod transactions;
+mod meaning;
 
 pub use findings::{Denial, Finding};
 pub use laws::{one_ruling, permits_are_spent_on_what_is_named, rulings_look_at_what_is_named};
+pub use meaning::{granted_where_each_need_is_met, what_is_written_is_needed};
 pub use notes::Note;
 pub use permits::Permit;
 pub use rulings::{Ruled, Ruling, rule_on};

@@ -1,0 +1,157 @@
+-- What is written stands among what an ask may write (`written-may`, `effect-may`), for the law
+-- `what_is_written_is_needed`.
+use Rattle.std.proofs.Common.{◌≡◌, ◌<◌, ◌==◌, ℕ, zero, suc, List, [], ◌∷◌, ◌++◌, Bool, true, false, Contains, map, filter, fold, length, refl, subst, arith, if◌then◌else◌}
+use Rattle.std.specs.List.{flat_map, slice_index_or}
+use Rattle.album_eval.specs.declared.facts.Principal.{Principal}
+use Rattle.album_items.specs.ItemIds.{picture, album, list}
+use Rattle.album_items.specs.Values.{home_of, list_of}
+use Rattle.album_items.specs.declared.values.Value.{Value}
+use Rattle.album_items.specs.declared.values.Value.TheVariants as value
+use Rattle.album_views.specs.Seen.{seen}
+use Rattle.album_views.specs.declared.asks.Ask.{Ask}
+use Rattle.album_views.specs.declared.asks.Ask.TheVariants as ask
+use Rattle.album_views.specs.declared.asks.NewList.{NewList}
+use Rattle.album_listing.specs.Masks.{DELETE_CHILD, ADD_FILE}
+use Rattle.album_listing.specs.Reasons.{on}
+use Rattle.album_listing.specs.declared.reasons.Alternative.{Alternative}
+use Rattle.album_listing.proofs.Judging.{first-of}
+use Rattle.album_permits.specs.Changes.{with_child, without_child}
+use Rattle.album_permits.specs.Effects.{Write, list_written, list_dropped, taken_out, written, put, effect_of}
+use Rattle.album_permits.specs.Meaning.{is_of_change, objects_changed, MayWrite}
+use Rattle.album_permits.specs.Meaning.MayWrite.{New, Object, ListOf}
+use Rattle.album_permits.specs.Permits.{PermitState}
+
+-- each of the writes is of an item that passes
+abbrev AllOf : (ℕ → Type 0) → List Write → Type 0
+AllOf may [] = Unit {0}
+AllOf may (w ∷ ws) = may w.0 × AllOf may ws
+
+append-of : (may : ℕ → Type 0) (ws vs : List Write) → AllOf may ws → AllOf may vs → AllOf may (ws ++ vs)
+append-of may [] vs h l = l
+append-of may (w ∷ ws) vs h l = (h.0, append-of may ws vs h.1 l)
+
+put-of : (may : ℕ → Type 0) (ws : List Write) (w : Write) → AllOf may ws → may w.0 → AllOf may (put ws w)
+put-of may [] w h here = (here, tt)
+put-of may (e ∷ ws) w h here = go (e.0 == w.0) (put-of may ws w h.1 here)
+  where
+    go : (b : Bool) → AllOf may (put ws w) → AllOf may (if b then w ∷ ws else e ∷ put ws w)
+    go true rest = (here, h.1)
+    go false rest = (h.0, rest)
+
+fold-of : (may : ℕ → Type 0) (so_far ws : List Write) → AllOf may so_far → AllOf may ws → AllOf may (fold put so_far ws)
+fold-of may so_far [] h l = h
+fold-of may so_far (w ∷ ws) h l = fold-of may (put so_far w) ws (put-of may so_far w h l.0) l.1
+
+one-of : (may : ℕ → Type 0) (ws : List Write) (w : Write) → AllOf may ws → Contains ws w → may w.0
+one-of may [] w h c = absurd (omega (arith, c.1))
+one-of may (v ∷ ws) w h c = go (λ d. one-of may ws w h.1 d) c.0 c.1 c.2
+  where
+    go : (Contains ws w → may w.0) → (k : ℕ) → k < length (v ∷ ws) → slice_index_or (v ∷ ws) k w ≡ w → may w.0
+    go rest zero below same = subst (λ (x : Write). may x.0) same h.0
+    go rest (suc k) below same = rest (k, omega (arith, below), same)
+
+-- the items of a list, each with a value
+mapped-of :
+    (may : ℕ → Type 0) (f : ℕ → Value) (items : List ℕ) → ((item : ℕ) → Contains items item → may item)
+    → AllOf may (map (λ item. (item, f item)) items)
+mapped-of may f [] each = tt
+mapped-of may f (item ∷ items) each = (
+  each item (first-of item items),
+  mapped-of may f items (λ x c. each x (suc c.0, omega (arith, c.1), c.2)),
+)
+
+-- ---- what is needed
+
+abbrev changed : List Alternative → List ℕ
+changed alternatives =
+    map (λ (a : Alternative). a.object) (filter (λ (a : Alternative). is_of_change a.mask) alternatives)
+
+-- a home whose child may be deleted
+homes-changed :
+    (homes : List ℕ) (more : List Alternative) (home : ℕ) → Contains homes home
+    → Contains (changed (map (λ h. on h DELETE_CHILD) homes ++ more)) home
+homes-changed [] more home c = absurd (omega (arith, c.1))
+homes-changed (h ∷ homes) more home c = go (λ d. homes-changed homes more home d) c.0 c.1 c.2
+  where
+    go :
+        (Contains homes home → Contains (changed (map (λ h. on h DELETE_CHILD) homes ++ more)) home)
+        → (k : ℕ) → k < length (h ∷ homes) → slice_index_or (h ∷ homes) k home ≡ home
+        → Contains (h ∷ changed (map (λ h. on h DELETE_CHILD) homes ++ more)) home
+    go rest zero below same = (0, omega arith, same)
+    go rest (suc k) below same = let c = rest (k, omega (arith, below), same) in (suc c.0, omega (arith, c.1), c.2)
+
+-- what stands behind them
+behind-homes :
+    (homes : List ℕ) (more : List Alternative) (object : ℕ) → Contains (changed more) object
+    → Contains (changed (map (λ h. on h DELETE_CHILD) homes ++ more)) object
+behind-homes [] more object c = c
+behind-homes (h ∷ homes) more object c =
+    let d = behind-homes homes more object c in (suc d.0, omega (arith, d.1), d.2)
+
+module _ (sight : ℕ → Value) (me : Principal) (stamp : ℕ) where
+  abbrev May : Ask → ℕ → Type 0
+  May asked = MayWrite sight stamp asked
+
+  lists-may :
+      (lists all : List NewList)
+      → ((object : ℕ) → Contains (objects_changed sight (ask.SetLists lists)) object
+      → Contains (objects_changed sight (ask.SetLists all)) object)
+      → AllOf (May (ask.SetLists all)) (flat_map (list_written sight) lists)
+  lists-may [] all each = tt
+  lists-may (new ∷ lists) all each =
+      append-of (May (ask.SetLists all)) (list_written sight new) (flat_map (list_written sight) lists)
+      (mapped-of (May (ask.SetLists all)) (λ item. value.List new.list) (list_of (sight new.object))
+      (λ item c. ListOf new.object item
+      (each new.object (first-of new.object (objects_changed sight (ask.SetLists lists)))) c))
+      (lists-may lists all (λ object c. each object (suc c.0, omega (arith, c.1), c.2)))
+
+  written-may : (asked : Ask) → AllOf (May asked) (written sight me stamp asked)
+  written-may (ask.Read object) = tt
+  written-may (ask.List album) = tt
+  written-may (ask.GetList object) = tt
+  written-may (ask.AddPicture into title content) = (
+    New (picture stamp) refl (0, omega arith, refl),
+    (New (list stamp) refl (2, omega arith, refl), (Object into (first-of into []), tt)),
+  )
+  written-may (ask.AddAlbum into title) = (
+    New (album stamp) refl (1, omega arith, refl),
+    (New (list stamp) refl (2, omega arith, refl), (Object into (first-of into []), tt)),
+  )
+  written-may (ask.Retitle object title) = (Object object (first-of object []), tt)
+  written-may (ask.Replace object content) = (Object object (first-of object []), tt)
+  written-may (ask.Delete object) = (
+    Object object (first-of object (changed (map (λ h. on h DELETE_CHILD) (home_of (sight object)) ++ []))),
+    append-of (May (ask.Delete object)) (list_dropped sight object) (taken_out sight object)
+        (mapped-of (May (ask.Delete object)) (λ item. value.Missing) (list_of (sight object))
+        (λ item c. ListOf object item
+        (first-of object (changed (map (λ h. on h DELETE_CHILD) (home_of (sight object)) ++ []))) c))
+        (mapped-of (May (ask.Delete object)) (λ home. without_child object (sight home)) (home_of (sight object))
+        (λ home c.
+        let d = homes-changed (home_of (sight object)) [] home c in Object home (suc d.0, omega (arith, d.1), d.2))),
+  )
+  written-may (ask.Move object to) = (
+    Object object
+        (first-of object (changed (map (λ h. on h DELETE_CHILD) (home_of (sight object)) ++ on to ADD_FILE ∷ []))),
+    append-of (May (ask.Move object to)) (taken_out sight object) ((to, with_child object (sight to)) ∷ [])
+        (mapped-of (May (ask.Move object to)) (λ home. without_child object (sight home)) (home_of (sight object))
+        (λ home c.
+        let d = homes-changed (home_of (sight object)) (on to ADD_FILE ∷ []) home c in
+        Object home (suc d.0, omega (arith, d.1), d.2))) (
+          let d = behind-homes (home_of (sight object)) (on to ADD_FILE ∷ []) to (first-of to []) in
+              Object to (suc d.0, omega (arith, d.1), d.2),
+          tt,
+        ),
+  )
+  written-may (ask.SetLists lists) = lists-may lists lists (λ object c. c)
+  written-may (ask.SetOwner object owner number) = (Object object (first-of object []), tt)
+  written-may (ask.SetMembers object members) = (Object object (first-of object []), tt)
+
+pub effect-may :
+    (permit : PermitState) (stamp : ℕ) (write : Write) → Contains (effect_of permit stamp) write
+    → MayWrite (seen permit.view.rows) stamp permit.view.ask write.0
+effect-may permit stamp write c =
+    one-of (MayWrite (seen permit.view.rows) stamp permit.view.ask) (effect_of permit stamp) write
+    (fold-of (MayWrite (seen permit.view.rows) stamp permit.view.ask) []
+    (written (seen permit.view.rows) permit.principal stamp permit.view.ask) tt
+    (written-may (seen permit.view.rows) permit.principal stamp permit.view.ask))
+    c

@@ -1,0 +1,46 @@
+-- What a grant means, and what it lets be written.
+use Rattle.std.specs.Prelude.{ℕ, List, [], ◌∷◌, Bool, not, ◌&&◌, ◌==◌, IsTrue, Contains, map, filter}
+use Rattle.std.specs.List.{list_all, list_any, flat_map}
+use Rattle.album_access.specs.declared.masks.Mask.{Mask}
+use Rattle.album_items.specs.ItemIds.{picture, album, list}
+use Rattle.album_items.specs.Values.{list_of}
+use Rattle.album_items.specs.declared.values.Value.{Value}
+use Rattle.album_views.specs.Asks.{is_adding}
+use Rattle.album_views.specs.declared.asks.Ask.{Ask}
+use Rattle.album_listing.specs.Basis.{Basis}
+use Rattle.album_listing.specs.Masks.{READ_DATA, READ_ATTRIBUTES, READ_ACL}
+use Rattle.album_listing.specs.Reasons.{is_granted_on}
+use Rattle.album_listing.specs.declared.reasons.Alternative.{Alternative}
+use Rattle.album_permits.specs.Findings.{is_missing}
+use Rattle.album_permits.specs.Needs.{needs_of}
+
+-- a need is met: each of its objects is there, and one of its alternatives is granted
+abbrev pub is_need_met : Basis → List Alternative → Bool
+is_need_met basis need =
+    list_all (λ (a : Alternative). not (is_missing basis a.object)) need
+    && list_any (λ (a : Alternative). is_granted_on basis a.object a.mask) need
+
+-- each need of an ask is met
+abbrev pub has_needs_met : Basis → Ask → Bool
+has_needs_met basis ask = list_all (is_need_met basis) (needs_of basis.seen ask)
+
+-- who has the mask may do more than read
+abbrev pub is_of_change : Mask → Bool
+is_of_change mask = not (mask.0 == READ_DATA.0) && not (mask.0 == READ_ATTRIBUTES.0) && not (mask.0 == READ_ACL.0)
+
+-- the objects of which an ask needs more than to read them
+abbrev pub objects_changed : (ℕ → Value) → Ask → List ℕ
+objects_changed seen ask =
+    map (λ (a : Alternative). a.object)
+    (filter (λ (a : Alternative). is_of_change a.mask) (flat_map (λ need. need) (needs_of seen ask)))
+
+-- What an ask may write at a stamp: the new picture or album with its list, if it makes one; an object of which it
+-- needs more than to read it; and the list of such an object.
+pub data MayWrite (seen : ℕ → Value) (stamp : ℕ) (ask : Ask) : ℕ → Type 0 where
+  New :
+      (item : ℕ) → IsTrue (is_adding ask) → Contains (picture stamp ∷ album stamp ∷ list stamp ∷ []) item
+      → MayWrite seen stamp ask item
+  Object : (object : ℕ) → Contains (objects_changed seen ask) object → MayWrite seen stamp ask object
+  ListOf :
+      (object item : ℕ) → Contains (objects_changed seen ask) object → Contains (list_of (seen object)) item
+      → MayWrite seen stamp ask item

@@ -1,0 +1,23 @@
+// Laws of what a grant means, and of what it lets be written.
+ghost use Rattle.std.specs.Prelude.{◌≡◌, ◌↔◌, ℕ, IsTrue, Contains};
+ghost use Rattle.album_listing.specs.Basis.{Basis};
+ghost use Rattle.album_views.specs.Seen.{seen};
+ghost use Rattle.album_views.specs.declared.asks.Ask.{Ask};
+ghost use Rattle.album_permits.specs.Effects.{Write, effect_of};
+ghost use Rattle.album_permits.specs.Findings.{ruling_of};
+ghost use Rattle.album_permits.specs.Meaning.{has_needs_met, MayWrite};
+ghost use Rattle.album_permits.specs.Permits.{PermitState};
+ghost use Rattle.album_permits.specs.declared.findings.Finding.TheVariants.{Granted};
+
+/// A law: an ask is granted just where each of its needs is met: its objects are there, and the list of one of them
+/// grants what is needed of it.
+pub fn granted_where_each_need_is_met()
+    ensures { (basis : Basis) (ask : Ask) → (ruling_of basis ask ≡ Granted) ↔ IsTrue (has_needs_met basis ask) }
+{}
+
+/// A law: an ask writes nothing but what it makes, the objects of which it needs more than to read them, and their
+/// lists.
+pub fn what_is_written_is_needed()
+    ensures { (permit : PermitState) (stamp : ℕ) (write : Write) → Contains (effect_of permit stamp) write
+        → MayWrite (seen permit.view.rows) stamp permit.view.ask write.0 }
+{}
