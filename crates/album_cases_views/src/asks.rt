@@ -24,13 +24,15 @@ pub enum Verb {
     /// picture/7 moves to it.
     MoveTo,
     SetLists,
+    /// Other lists of the first sixteen items of its kind.
+    SetSixteen,
     SetOwner,
     SetMembers,
 }
 
 /// An entry that everyone may have, with these flags.
 const fn entry(flags: u32) -> Entry {
-    (AceType::Allowed, "EVERYONE@", flags)
+    (AceType::Allowed, "EVERYONE@", 1, flags)
 }
 
 /// The object, and a list of one entry with these flags.
@@ -137,6 +139,7 @@ pub fn ask_of(alloc: Global, verb: Verb, text: &str) -> Result<Ask, Refusal> {
             let lists = one_list(alloc, item)?;
             Ok(Ask::SetLists { lists })
         }
+        Verb::SetSixteen => Ok(set_lists(many_lists(alloc, item.kind(), 16, 0)?)),
         Verb::SetOwner => set_owner(alloc, item),
         Verb::SetMembers => set_members(alloc, item, 2),
     }

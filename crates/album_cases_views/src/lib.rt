@@ -1,4 +1,5 @@
-//! Tests of asks, of the reads that are made for them and of the writes, over a store that a table spells.
+//! Tests of asks, of the reads that are made for them, of what is ruled on their views, served and written, of
+//! writes and of the audit book, over a store that a table spells.
 #![tactic(auto)]
 
 #[cfg(test)]
@@ -8,7 +9,19 @@ mod audits;
 #[cfg(test)]
 mod checks;
 #[cfg(test)]
+mod effects;
+#[cfg(test)]
+mod listings;
+#[cfg(test)]
+mod ruling;
+#[cfg(test)]
+mod rulings;
+#[cfg(test)]
+mod serving;
+#[cfg(test)]
 mod store;
+#[cfg(test)]
+mod viewing;
 #[cfg(test)]
 mod views;
 #[cfg(test)]

@@ -1,43 +1,17 @@
 // The reads that are made for an ask, one after another, until one is a view (docs/PROTOCOL.md, "A view").
 use crate::asks::{Verb, ask_of};
-use crate::store::{Entry, Is, Store, item_of, snapshot};
+use crate::store::{AlbumRow, Entry, Is, PictureRow, SEA, Store, TRIP, item_of, snapshot};
+use crate::viewing::{next, started};
 use album_access::AceType;
 use album_eval::Principal;
 use album_items::{ItemId, Items};
 use album_stamps::Refusal;
-use album_views::{View, ViewStep, Viewing, Why, names};
+use album_views::{View, ViewStep, Why, names};
 use std::alloc::Global;
 use std::test::Fail;
 
 /// A store, what is asked, and what is to be read after each read, or what comes of the ask.
 type Row = (Store, (Verb, &'static str), &'static [&'static str]);
-
-/// The ask's first read.
-fn started(alloc: Global, verb: Verb, text: &str) -> Result<(Viewing, Items), Refusal> {
-    let ask = ask_of(alloc, verb, text)?;
-    ask.check(&Principal::Anonymous)?;
-    Ok(Viewing::start(alloc, ask)?)
-}
-
-/// What comes of a read of the items, for a copy of the viewing.
-pub fn read(
-    alloc: Global,
-    store: Store,
-    viewing: Viewing,
-    items: &Items,
-) -> Result<ViewStep, Refusal> {
-    let snapshot = snapshot(alloc, store, items)?;
-    Ok(viewing.copy()?.on_snapshot(alloc, snapshot)?)
-}
-
-/// One more read, where one is wanted.
-pub fn next(alloc: Global, store: Store, step: ViewStep) -> Result<ViewStep, Refusal> {
-    match step {
-        ViewStep::Again(viewing, items) => read(alloc, store, viewing, &items),
-        ViewStep::Closed(view) => Ok(ViewStep::Closed(view)),
-        ViewStep::Busy(why) => Ok(ViewStep::Busy(why)),
-    }
-}
 
 /// What comes of the ask after so many reads.
 fn after(
@@ -46,7 +20,8 @@ fn after(
     (verb, text): (Verb, &str),
     times: usize,
 ) -> Result<ViewStep, Refusal> {
-    let (viewing, items) = started(alloc, verb, text)?;
+    let ask = ask_of(alloc, verb, text)?;
+    let (viewing, items) = started(alloc, ask, &Principal::Anonymous)?;
     let mut step = ViewStep::Again(viewing, items);
     for _ in 0..times {
         step = next(alloc, store, step)?;
@@ -98,20 +73,34 @@ fn text_after(
     step_text(alloc, &step)
 }
 
-const GROUP_7: &[Entry] = &[(AceType::Allowed, "7@groups", 64)];
+/// Albums of one picture, and of three.
+const ONE: AlbumRow = AlbumRow {
+    pictures: 1,
+    ..TRIP
+};
+
+const THREE: AlbumRow = AlbumRow {
+    pictures: 3,
+    ..TRIP
+};
+
+/// A picture under another list.
+const OTHER: Is = Is::Picture(PictureRow { list: 2, ..SEA });
+
+const GROUP_7: &[Entry] = &[(AceType::Allowed, "7@groups", 1, 64)];
 
 /// Entries that count nowhere in an album's own verdict, and name groups all the same.
 const NAMING: &[Entry] = &[
-    (AceType::Audit, "3@groups", 80),
-    (AceType::Allowed, "4@groups", 73),
-    (AceType::Alarm, "3@groups", 96),
-    (AceType::Denied, "5@groups", 64),
+    (AceType::Audit, "3@groups", 1, 80),
+    (AceType::Allowed, "4@groups", 1, 73),
+    (AceType::Alarm, "3@groups", 1, 96),
+    (AceType::Denied, "5@groups", 1, 64),
 ];
 
 const PLAIN: Store = &[
-    ("picture/0", Is::Picture(0)),
-    ("picture/1", Is::Picture(2)),
-    ("album/0", Is::Album(1, 3)),
+    ("picture/0", Is::Picture(SEA)),
+    ("picture/1", OTHER),
+    ("album/0", Is::Album(THREE)),
     ("list/0", Is::List(&[])),
     ("list/1", Is::List(NAMING)),
     ("list/2", Is::List(GROUP_7)),
@@ -153,9 +142,9 @@ const READS: &[Row] = &[
     // An album that is listed, its children, and then their lists. The third child is missing.
     (
         &[
-            ("picture/0", Is::Picture(0)),
-            ("picture/1", Is::Picture(2)),
-            ("album/0", Is::Album(1, 3)),
+            ("picture/0", Is::Picture(SEA)),
+            ("picture/1", OTHER),
+            ("album/0", Is::Album(THREE)),
         ],
         (Verb::List, "album/0"),
         &[
@@ -167,7 +156,7 @@ const READS: &[Row] = &[
     ),
     // A picture that is deleted, its home, and then the home's list.
     (
-        &[("picture/0", Is::Picture(0)), ("album/0", Is::Album(1, 1))],
+        &[("picture/0", Is::Picture(SEA)), ("album/0", Is::Album(ONE))],
         (Verb::Delete, "picture/0"),
         &[
             "picture/0",
@@ -179,9 +168,9 @@ const READS: &[Row] = &[
     // A picture that moves, with both albums.
     (
         &[
-            ("picture/0", Is::Picture(0)),
-            ("album/0", Is::Album(1, 1)),
-            ("album/7", Is::Album(8, 0)),
+            ("picture/0", Is::Picture(SEA)),
+            ("album/0", Is::Album(ONE)),
+            ("album/7", Is::Album(AlbumRow { list: 8, ..TRIP })),
         ],
         (Verb::Move, "picture/0"),
         &[
@@ -205,69 +194,52 @@ fn reads_of_what_is_named(rt: HostRuntime) -> Result<(), Fail> {
     Ok(())
 }
 
-const GROUP_1: &[Entry] = &[(AceType::Allowed, "1@groups", 64)];
+const GROUP_1: &[Entry] = &[(AceType::Allowed, "1@groups", 1, 64)];
 
 const FIVE_GROUPS: &[Entry] = &[
-    (AceType::Allowed, "1@groups", 64),
-    (AceType::Allowed, "2@groups", 64),
-    (AceType::Allowed, "3@groups", 64),
-    (AceType::Allowed, "4@groups", 64),
-    (AceType::Allowed, "5@groups", 64),
+    (AceType::Allowed, "1@groups", 1, 64),
+    (AceType::Allowed, "2@groups", 1, 64),
+    (AceType::Allowed, "3@groups", 1, 64),
+    (AceType::Allowed, "4@groups", 1, 64),
+    (AceType::Allowed, "5@groups", 1, 64),
 ];
 
 /// Group 1 lists group 2, and so on to group 7.
 const CHAIN: Store = &[
-    ("picture/0", Is::Picture(0)),
+    ("picture/0", Is::Picture(SEA)),
     ("list/0", Is::List(GROUP_1)),
-    ("group/1", Is::Group(2, 1)),
-    ("group/2", Is::Group(3, 1)),
-    ("group/3", Is::Group(4, 1)),
-    ("group/4", Is::Group(5, 1)),
-    ("group/5", Is::Group(6, 1)),
-    ("group/6", Is::Group(7, 1)),
+    ("group/1", Is::Chain(6)),
 ];
 
 /// The same to group 6.
 const SHORTER: Store = &[
-    ("picture/0", Is::Picture(0)),
+    ("picture/0", Is::Picture(SEA)),
     ("list/0", Is::List(GROUP_1)),
-    ("group/1", Is::Group(2, 1)),
-    ("group/2", Is::Group(3, 1)),
-    ("group/3", Is::Group(4, 1)),
-    ("group/4", Is::Group(5, 1)),
-    ("group/5", Is::Group(6, 1)),
+    ("group/1", Is::Chain(5)),
     ("group/6", Is::Group(0, 0)),
 ];
 
 /// Five groups of 128 groups each.
 const WIDE: Store = &[
-    ("picture/0", Is::Picture(0)),
+    ("picture/0", Is::Picture(SEA)),
     ("list/0", Is::List(FIVE_GROUPS)),
-    ("group/1", Is::Group(1000, 128)),
-    ("group/2", Is::Group(2000, 128)),
-    ("group/3", Is::Group(3000, 128)),
-    ("group/4", Is::Group(4000, 128)),
-    ("group/5", Is::Group(5000, 128)),
+    ("group/1", Is::Groups(5)),
 ];
 
 /// The picture, its list, its head group, five groups, and 504 in them: 512 names.
 const NEARLY_WIDE: Store = &[
-    ("picture/0", Is::Picture(0)),
+    ("picture/0", Is::Picture(SEA)),
     ("list/0", Is::List(FIVE_GROUPS)),
-    ("group/1", Is::Group(1000, 128)),
-    ("group/2", Is::Group(2000, 128)),
-    ("group/3", Is::Group(3000, 128)),
+    ("group/1", Is::Groups(3)),
     ("group/4", Is::Group(4000, 120)),
     ("group/5", Is::Group(4000, 120)),
 ];
 
 /// One name more.
 const JUST_WIDE: Store = &[
-    ("picture/0", Is::Picture(0)),
+    ("picture/0", Is::Picture(SEA)),
     ("list/0", Is::List(FIVE_GROUPS)),
-    ("group/1", Is::Group(1000, 128)),
-    ("group/2", Is::Group(2000, 128)),
-    ("group/3", Is::Group(3000, 128)),
+    ("group/1", Is::Groups(3)),
     ("group/4", Is::Group(4000, 120)),
     ("group/5", Is::Group(4000, 121)),
 ];

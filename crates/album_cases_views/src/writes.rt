@@ -2,19 +2,18 @@
 // other lists of her two pictures, so list/0 and list/1 are written: at the partitions 2 and 0.
 ghost use Rattle.std.specs.Prelude.{◌≡◌, Some, IfOk, IsTrue};
 ghost use Rattle.album_stamps.specs.Stamps.{client_of};
-ghost use Rattle.album_permits.specs.Effects.{is_write};
+ghost use Rattle.album_views.specs.Asks.{is_write};
 
 use crate::asks::{Verb, ask_of, many_lists, set_lists};
-use crate::store::{Is, Store, item_of, list_of};
-use crate::views::{next, read};
-use album_access::AceType;
+use crate::ruling::permit_on;
+use crate::store::{ALLOW, AMY, AlbumRow, Is, PictureRow, SEA, Store, TRIP, item_of, list_of};
+use crate::viewing::view_of;
 use album_calls::{Body, Message, Node, Reply, Request, Vote, same_items, same_values};
 use album_eval::{Policy, Principal};
 use album_items::{Kind, Value};
-use album_lists::Name;
-use album_permits::{Permit, Ruled, Ruling, rule_on};
+use album_permits::Permit;
 use album_stamps::{ClientNo, Refusal, Refused, Stamp};
-use album_views::{Ask, View, ViewStep, Viewing};
+use album_views::Ask;
 use album_writer::{CommitStep, Committing, Outcome, PrepareStep, Preparing};
 use std::alloc::Global;
 
@@ -25,12 +24,12 @@ const LATER: u64 = 131_073;
 
 /// Two pictures, and an album with all the children that it may have, to which everyone may add.
 const STORE: Store = &[
-    ("picture/0", Is::Picture(0)),
-    ("picture/1", Is::Picture(1)),
-    ("album/0", Is::Album(2, 128)),
+    ("picture/0", Is::Picture(SEA)),
+    ("picture/1", Is::Picture(PictureRow { list: 1, ..SEA })),
+    ("album/0", Is::Album(AlbumRow { list: 2, pictures: 128, ..TRIP })),
     ("list/0", Is::List(&[])),
     ("list/1", Is::List(&[])),
-    ("list/2", Is::List(&[(AceType::Allowed, "EVERYONE@", 0)])),
+    ("list/2", Is::List(&[(ALLOW, "EVERYONE@", 2, 0)])),
 ];
 
 /// What a partition tells of a stamp.
@@ -61,36 +60,11 @@ fn lists(alloc: Global) -> Result<Ask, Refusal> {
     Ok(set_lists(many_lists(alloc, Kind::Picture, 2, 0)?))
 }
 
-fn closed(step: ViewStep) -> Result<View, Refusal> {
-    match step {
-        ViewStep::Closed(view) => Ok(view),
-        ViewStep::Again(_, _) | ViewStep::Busy(_) => Err(Refusal::Clash),
-    }
-}
-
-/// The view of the ask, which takes two reads.
-fn view_of(alloc: Global, ask: Ask, principal: &Principal) -> Result<View, Refusal> {
-    ask.check(principal)?;
-    let (viewing, items) = Viewing::start(alloc, ask)?;
-    let step = read(alloc, STORE, viewing, &items)?;
-    closed(next(alloc, STORE, step)?)
-}
-
-fn granted(ruled: Ruled) -> Result<Permit, Refusal> {
-    let Ruled { ruling, notes } = ruled;
-    drop(notes);
-    match ruling {
-        Ruling::Granted(permit) => Ok(permit),
-        Ruling::Denied(_, _) | Ruling::Missing(_, _) => Err(Refusal::Clash),
-    }
-}
-
 /// amy's permit for the ask.
 fn permit_of(alloc: Global, ask: Ask) -> Result<Permit, Refusal> {
-    let amy = Principal::User(Name::of(alloc, "amy")?);
-    let view = view_of(alloc, ask, &amy)?;
-    view.ask().check(&amy)?;
-    granted(rule_on(alloc, view, &amy, Policy::Two)?)
+    let amy = Principal::read(alloc, AMY)?;
+    let view = view_of(alloc, STORE, ask, &amy)?;
+    permit_on(alloc, view, &amy, Policy::Two)
 }
 
 /// A stamp, and whose it is.
@@ -144,7 +118,7 @@ fn is_sent(message: &Message, part: u16, tag: u64) -> bool {
 
 /// Whether it asks to prepare another list/`number` of all that amy writes.
 fn asks_prepare(alloc: Global, body: &Body, list: &str) -> Result<bool, Refusal> {
-    let entries = list_of(alloc, &[(AceType::Allowed, "EVERYONE@", 0)])?;
+    let entries = list_of(alloc, &[(ALLOW, "EVERYONE@", 1, 0)])?;
     let rows = [(item_of(list)?, Value::List(entries))];
     let all = [item_of("list/0")?, item_of("list/1")?];
     match body {

@@ -1,0 +1,62 @@
+// What is ruled on an ask over a store, and the permit that comes of it. Where a call is refused for want of memory it
+// is made once more, with what it handed back: so `rt try --test --fail-alloc 1..` tells whether that is what went in.
+use crate::asks::{Verb, ask_of};
+use crate::store::Store;
+use crate::viewing::view_of;
+use album_eval::{Policy, Principal};
+use album_permits::{Permit, Ruled, Ruling, rule_on};
+use album_stamps::Refusal;
+use album_views::View;
+use std::alloc::Global;
+
+/// A store, who asks, and what of which item.
+pub type Asked = (Store, &'static str, Verb, &'static str);
+
+/// What is ruled on the view.
+fn rule(
+    alloc: Global,
+    view: View,
+    principal: &Principal,
+    policy: Policy,
+) -> Result<Ruled, Refusal> {
+    view.ask().check(principal)?;
+    match rule_on(alloc, view, principal, policy) {
+        Ok(ruled) => Ok(ruled),
+        Err(refused) => Ok(rule_on(alloc, refused.given, principal, policy)?),
+    }
+}
+
+/// The view of what is asked, and who asks.
+pub fn seen_by(alloc: Global, asked: Asked) -> Result<(View, Principal), Refusal> {
+    let (store, who, verb, text) = asked;
+    let principal = Principal::read(alloc, who)?;
+    let ask = ask_of(alloc, verb, text)?;
+    let view = view_of(alloc, store, ask, &principal)?;
+    Ok((view, principal))
+}
+
+/// What is ruled on what is asked.
+pub fn ruled(alloc: Global, asked: Asked, policy: Policy) -> Result<Ruled, Refusal> {
+    let (view, principal) = seen_by(alloc, asked)?;
+    rule(alloc, view, &principal, policy)
+}
+
+/// The permit for the ask of the view, where it is granted.
+pub fn permit_on(
+    alloc: Global,
+    view: View,
+    principal: &Principal,
+    policy: Policy,
+) -> Result<Permit, Refusal> {
+    let Ruled { ruling, notes: _ } = rule(alloc, view, principal, policy)?;
+    match ruling {
+        Ruling::Granted(permit) => Ok(permit),
+        Ruling::Denied(_, _) | Ruling::Missing(_, _) => Err(Refusal::Clash),
+    }
+}
+
+/// The permit for what is asked, where it is granted.
+pub fn permit_of(alloc: Global, asked: Asked, policy: Policy) -> Result<Permit, Refusal> {
+    let (view, principal) = seen_by(alloc, asked)?;
+    permit_on(alloc, view, &principal, policy)
+}
