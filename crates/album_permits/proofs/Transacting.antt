@@ -20,7 +20,7 @@ use Rattle.album_items.specs.declared.values.Value.TheVariants as value
 use Rattle.album_reader.specs.Answers.{Answer}
 use Rattle.album_reader.specs.Snapshots.{version_of, version_read}
 use Rattle.album_views.proofs.Flaws.{asks_objects, objects_few}
-use Rattle.album_views.specs.Asks.{objects_of}
+use Rattle.album_views.specs.Asks.{objects_of, is_write}
 use Rattle.album_views.specs.Checks.{flaw_of, owner_flaw, refusal_of}
 use Rattle.album_views.specs.Seen.{seen}
 use Rattle.album_views.specs.declared.asks.Ask.{Ask}
@@ -29,7 +29,7 @@ use Rattle.album_views.specs.declared.asks.NewList.{NewList}
 use Rattle.album_listing.specs.Basis.{Basis}
 use Rattle.album_listing.specs.Masks.{WRITE_ACL}
 use Rattle.album_permits.specs.Changes.{with_title, with_content, with_home, with_owner, with_members, without_child, with_child}
-use Rattle.album_permits.specs.Effects.{Write, is_write, new_head, heritage, list_dropped, taken_out, list_written, written, put, merged, effect_of}
+use Rattle.album_permits.specs.Effects.{Write, new_head, heritage, list_dropped, taken_out, list_written, written, put, merged, effect_of}
 use Rattle.album_permits.specs.Findings.{and_then_found, is_missing, missing_in, reasons_of, found_by, need_found, needs_found, ruling_of}
 use Rattle.album_permits.specs.Kinds.{shows_right_kinds}
 use Rattle.album_permits.specs.Needs.{just, needs_of}

@@ -2,7 +2,8 @@
 ghost use Rattle.std.specs.Prelude.{◌≡◌, ℕ, IsTrue};
 ghost use Rattle.std.specs.List.{list_all};
 ghost use Rattle.album_items.specs.Transactions.{items_written, are_items, has_right_kind};
-ghost use Rattle.album_permits.specs.Effects.{is_write, effect_of};
+ghost use Rattle.album_permits.specs.Effects.{effect_of};
+ghost use Rattle.album_views.specs.Asks.{is_write};
 ghost use Rattle.album_permits.specs.Kinds.{shows_right_kinds};
 ghost use Rattle.album_permits.specs.Permits.{PermitState, IsPermit};
 

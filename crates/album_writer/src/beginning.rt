@@ -2,7 +2,8 @@
 ghost use Rattle.std.specs.Prelude.{◌≡◌, ◌+◌, ◌<◌, ◌≤◌, ◌^◌, Some, IfOk, IfErr, IsTrue, IsOkUnless, false, if◌then◌else◌};
 ghost use Rattle.album_stamps.specs.Stamps.{client_of};
 ghost use Rattle.album_stamps.specs.declared.refusals.Refusal.TheVariants.{OutOfMemory, AlbumFull};
-ghost use Rattle.album_permits.specs.Effects.{is_write, is_full_for};
+ghost use Rattle.album_permits.specs.Effects.{is_full_for};
+ghost use Rattle.album_views.specs.Asks.{is_write};
 ghost use Rattle.album_writer.specs.Writing.{places_in, prepare_round, prepares_of, commit_round, commits_of};
 
 use crate::preparing::Preparing;
