@@ -1,3 +1,4 @@
 pub mod Gathering
+pub mod GroupsFoundLemmas
 pub mod Judging
 pub mod Looking

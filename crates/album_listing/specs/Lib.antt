@@ -1,5 +1,6 @@
 pub mod Masks
 pub mod Basis
+pub mod GroupsFound
 pub mod Reasons
 pub mod Sights
 pub mod Hearings

@@ -15,8 +15,10 @@ mod listing;
 mod rows;
 
 // What holds of them.
+mod bases;
 mod laws;
 
+pub use bases::a_ruling_has_a_basis;
 pub use hearings::Hearing;
 pub use laws::{listings_are_alike, listings_look_at_what_is_named};
 pub use listing::list;
