@@ -1,0 +1,59 @@
+-- Busy has its cause: an ask has no view only where it looks at too much, or where eight reads did not do.
+use Rattle.std.specs.Prelude.{◌≡◌, ◌<◌, ◌≤◌, ◌⊎◌, ℕ, List, Option, Some, None, length, Contains}
+use Rattle.album_stamps.specs.declared.limits.TheConstants.{MOST_READ_ITEMS, MOST_READS}
+use Rattle.album_reader.specs.Answers.{Answer as Row}
+use Rattle.album_views.specs.Naming.{names_of}
+use Rattle.album_views.specs.Views.{IsClosed}
+use Rattle.album_views.specs.declared.viewing.Why.{Why}
+use Rattle.album_views.specs.declared.viewing.Why.TheVariants.{Rounds, Wide}
+use Rattle.album_world.specs.Past.{Read, Told, World}
+use Rattle.album_world.specs.declared.outs.Answer.{Answer}
+use Rattle.album_world.specs.declared.outs.Answer.TheVariants as answer
+
+-- the snapshot of the read is not closed
+pub record IsOpen (read : Read) (rows : List Row) : Type 0 where
+  pub shown : read.rows ≡ Some rows
+  pub lacking : IsClosed read.ask rows → ⊥
+
+-- and it names more items than can be read
+pub record IsWide (read : Read) : Type 0 where
+  pub rows : List Row
+  pub lacking : IsOpen read rows
+  pub wide : MOST_READ_ITEMS < length (names_of rows read.ask)
+
+-- or not more
+pub record IsNarrow (read : Read) : Type 0 where
+  pub rows : List Row
+  pub lacking : IsOpen read rows
+  pub narrow : length (names_of rows read.ask) ≤ MOST_READ_ITEMS
+
+-- it was the last read that the ask may have, and an item was gone, or its snapshot is not closed
+pub record IsLastRead (read : Read) : Type 0 where
+  pub nth : read.begun.nth ≡ MOST_READS
+  pub in_vain : (read.rows ≡ None) ⊎ IsNarrow read
+
+abbrev pub IsCause : Why → Read → Type 0
+IsCause Wide read = IsWide read
+IsCause Rounds read = IsLastRead read
+
+-- the cause is in the read that the client had made last
+pub record HasCause (world : World) (told : Told) (why : Why) : Type 0 where
+  pub read : Read
+  pub last_is : told.last ≡ Some read
+  pub made : Contains world.past.reads read
+  pub own : read.begun.client ≡ told.client
+  pub cause : IsCause why read
+
+abbrev pub IsCaused : World → Told → Answer → Type 0
+IsCaused world told (answer.Busy why) = HasCause world told why
+IsCaused world told (answer.Served served) = Unit {0}
+IsCaused world told (answer.Denied reasons) = Unit {0}
+IsCaused world told (answer.Missing object) = Unit {0}
+IsCaused world told (answer.Committed stamp) = Unit {0}
+IsCaused world told (answer.Aborted stamp) = Unit {0}
+IsCaused world told (answer.Unsettled stamp why) = Unit {0}
+IsCaused world told (answer.Refused why) = Unit {0}
+
+-- each answer Busy that was ever told has its cause
+abbrev pub BusyHasItsCause : World → Type 0
+BusyHasItsCause world = (told : Told) → Contains world.past.told told → IsCaused world told told.answer

@@ -1,0 +1,16 @@
+pub mod Terms
+pub mod Clients
+pub mod State
+pub mod Past
+pub mod Grants
+pub mod Turns
+pub mod Changes
+pub mod Runs
+pub mod Committing
+pub mod Atomic
+pub mod Fresh
+pub mod Viewed
+pub mod Rulings
+pub mod Granted
+pub mod Outcomes
+pub mod Busy

@@ -1,0 +1,72 @@
+-- What has happened to a world. No code keeps it: it is for contracts alone.
+use Rattle.std.specs.Prelude.{ℕ, ◌==◌, List, [], ◌∷◌, Option, Some, None, if◌then◌else◌}
+use Rattle.album_eval.specs.declared.facts.Principal.{Principal}
+use Rattle.album_partition.specs.Partition.{PartitionState}
+use Rattle.album_reader.specs.Answers.{Answer as Row}
+use Rattle.album_views.specs.declared.asks.Ask.{Ask}
+use Rattle.album_permits.specs.Effects.{Write}
+use Rattle.album_permits.specs.Permits.{PermitState}
+use Rattle.album_permits.specs.declared.notes.Note.{Note}
+use Rattle.album_world.specs.State.{Now}
+use Rattle.album_world.specs.declared.outs.Answer.{Answer}
+
+-- a write that a client began: who did, under which tag it sent its Prepares, at which stamp, by which permit, and all
+-- that it writes
+pub record Transaction : Type 0 where
+  pub client : ℕ
+  pub tag : ℕ
+  pub stamp : ℕ
+  pub permit : PermitState
+  pub writes : List Write
+
+-- a read that a client began: which one it is of those that are made for one ask, from 1, and the partitions just
+-- before the event that began it
+pub record Begun : Type 0 where
+  pub client : ℕ
+  pub nth : ℕ
+  pub partitions : List PartitionState
+
+-- a read that is over: how it began, for which ask and whom it was made, and what was read; or nothing, where an item
+-- was gone
+pub record Read : Type 0 where
+  pub begun : Begun
+  pub ask : Ask
+  pub principal : Principal
+  pub rows : Option (List Row)
+
+-- an answer that a client was told, and the read that it had made last
+pub record Told : Type 0 where
+  pub client : ℕ
+  pub last : Option Read
+  pub answer : Answer
+
+-- all that was noted as a client's ask was ruled on, and the read that it had made last
+pub record Noted : Type 0 where
+  pub client : ℕ
+  pub last : Option Read
+  pub notes : List Note
+
+-- all of these, of reads the last ones first
+pub record Past : Type 0 where
+  pub transactions : List Transaction
+  pub begun : List Begun
+  pub reads : List Read
+  pub told : List Told
+  pub noted : List Noted
+
+-- a world: what it keeps, and what has happened to it
+pub record World : Type 0 where
+  pub now : Now
+  pub past : Past
+
+-- ---- the last ones of a client
+
+-- the read that a client began last; before its first one, a read that is number 0
+abbrev pub last_begun : List Begun → ℕ → Begun
+last_begun [] client = record { client = client; nth = 0; partitions = [] }
+last_begun (begun ∷ more) client = if begun.client == client then begun else last_begun more client
+
+-- the last of its reads that are over
+abbrev pub last_read : List Read → ℕ → Option Read
+last_read [] client = None
+last_read (read ∷ more) client = if read.begun.client == client then Some read else last_read more client

@@ -1,0 +1,48 @@
+-- Rulings hold: what is answered, and what is noted, is what the written policy says of the view.
+use Rattle.std.specs.Prelude.{◌≡◌, ℕ, Contains}
+use Rattle.album_permits.specs.Permits.{PermitState, IsPermit}
+use Rattle.album_permits.specs.Serving.{IsServed}
+use Rattle.album_permits.specs.declared.findings.Finding.TheVariants as finding
+use Rattle.album_permits.specs.declared.serving.Served.{Served}
+use Rattle.album_world.specs.Terms.{Terms}
+use Rattle.album_world.specs.Past.{Transaction, Told, Noted, World}
+use Rattle.album_world.specs.Viewed.{IsOnView, Finds, Notes}
+use Rattle.album_world.specs.declared.outs.Answer.{Answer}
+use Rattle.album_world.specs.declared.outs.Answer.TheVariants as answer
+
+-- it is granted, and this is what the view has for it
+pub record IsServedBy (permit : PermitState) (served : Served) : Type 0 where
+  pub granted : IsPermit permit
+  pub is : IsServed permit served
+
+-- it is granted, and the client began its write of this stamp with just this permit
+pub record IsBegunBy (world : World) (client stamp : ℕ) (permit : PermitState) : Type 0 where
+  pub granted : IsPermit permit
+  pub by : Transaction
+  pub begun : Contains world.past.transactions by
+  pub own : by.client ≡ client
+  pub at : by.stamp ≡ stamp
+  pub with_it : by.permit ≡ permit
+
+-- the view has led to the answer
+abbrev pub IsRuledSo : World → ℕ → Answer → PermitState → Type 0
+IsRuledSo world client (answer.Served served) case = IsServedBy case served
+IsRuledSo world client (answer.Denied reasons) case = Finds case (finding.Denied reasons)
+IsRuledSo world client (answer.Missing object) case = Finds case (finding.Missing object)
+IsRuledSo world client (answer.Busy why) case = Unit {0}
+IsRuledSo world client (answer.Committed stamp) case = IsBegunBy world client stamp case
+IsRuledSo world client (answer.Aborted stamp) case = IsBegunBy world client stamp case
+IsRuledSo world client (answer.Unsettled stamp why) case = IsBegunBy world client stamp case
+IsRuledSo world client (answer.Refused why) case = IsPermit case
+
+-- An answer is what the view has led to that its client had read last. (An ask that is answered Busy has no view.)
+abbrev pub IsRuledBy : Terms → World → Told → Answer → Type 0
+IsRuledBy terms world told (answer.Busy why) = Unit {0}
+IsRuledBy terms world told answer = IsOnView terms world told.client told.last (IsRuledSo world told.client answer)
+
+-- each answer that was ever told is, and all that was ever noted is noted of such a view
+pub record RulingsHold (terms : Terms) (world : World) : Type 0 where
+  pub answers : (told : Told) → Contains world.past.told told → IsRuledBy terms world told told.answer
+  pub notes :
+      (noted : Noted) → Contains world.past.noted noted
+      → IsOnView terms world noted.client noted.last (λ case. Notes case noted.notes)

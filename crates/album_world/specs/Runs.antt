@@ -1,0 +1,145 @@
+-- How a world opens, what happens to it, and what is told of that.
+use Rattle.std.specs.Prelude.{ℕ, zero, suc, ◌+◌, Bool, true, false, List, [], ◌∷◌, ◌++◌, map, filter, length, Option, Some, None, Result, Ok, Err, option_to_list, option_map, slice_set, if◌then◌else◌}
+use Rattle.std.specs.List.{range_with_len}
+use Rattle.std.specs.Option.{option_map_or, unwrap_or}
+use Rattle.album_stamps.specs.declared.refusals.Refusal.{Refusal}
+use Rattle.album_items.specs.declared.openings.Opening.{Opening}
+use Rattle.album_calls.specs.declared.messages.Message.{Message}
+use Rattle.album_partition.specs.Partition.{PartitionState, opening_state}
+use Rattle.album_items.specs.Places.{is_placed}
+use Rattle.album_permits.specs.declared.notes.Note.{Note}
+use Rattle.album_world.specs.declared.events.Event.{Event}
+use Rattle.album_world.specs.declared.outs.Answer.{Answer}
+use Rattle.album_world.specs.declared.outs.Out.{Out}
+use Rattle.album_world.specs.declared.outs.Out.TheVariants as out
+use Rattle.album_world.specs.Terms.{Terms, terms_of}
+use Rattle.album_world.specs.State.{Now, with_client, with_number}
+use Rattle.album_world.specs.Past.{Begun, Read, Told, Noted, Past, World, last_begun, last_read}
+use Rattle.album_world.specs.Turns.{Ended, Turn}
+use Rattle.album_world.specs.Changes.{Change, change_of}
+use Rattle.album_world.specs.Changes.Change.{Nothing, AtPart, AtClient, Stops}
+
+-- ---- what it keeps
+
+abbrev pub now_after : Now → Change → Now
+now_after now Nothing = now
+now_after now (AtPart part partition messages) =
+    record now { partitions = slice_set now.partitions part partition; messages = now.messages ++ messages }
+now_after now (AtClient number turn) =
+    record now { messages = now.messages ++ turn.sent; clients = with_client turn.client now.clients }
+now_after now (Stops number) = record now { stopped = with_number number now.stopped }
+
+-- ---- what has happened to it
+
+-- a read that is over, with how it began
+abbrev pub read_over : Begun → Ended → Read
+read_over begun ended =
+    record { begun = begun; ask = ended.ask; principal = ended.principal; rows = ended.rows }
+
+-- the reads that are over, once the client had its turn
+abbrev pub reads_after : Past → ℕ → Turn → List Read
+reads_after past number turn =
+    option_to_list (option_map (read_over (last_begun past.begun number)) turn.over) ++ past.reads
+
+-- the first read of an ask is number 1, and one that follows another counts on
+abbrev pub nth_after : Past → ℕ → Option Ended → ℕ
+nth_after past number None = 1
+nth_after past number (Some ended) = (last_begun past.begun number).nth + 1
+
+abbrev pub begun_after : Now → Past → ℕ → Turn → List Begun
+begun_after now past number turn =
+    if turn.reads
+    then record { client = number; nth = nth_after past number turn.over; partitions = now.partitions } ∷ past.begun
+    else past.begun
+
+-- an answer, or notes, with the read that its client had made last
+abbrev pub told_to : List Read → ℕ → Answer → Told
+told_to reads number answer = record { client = number; last = last_read reads number; answer = answer }
+
+abbrev pub noted_of : List Read → ℕ → List Note → Noted
+noted_of reads number notes = record { client = number; last = last_read reads number; notes = notes }
+
+abbrev pub past_after : Now → Past → Change → Past
+past_after now past Nothing = past
+past_after now past (AtPart part partition messages) = past
+past_after now past (AtClient number turn) =
+    record {
+      transactions = past.transactions ++ option_to_list turn.writes;
+      begun = begun_after now past number turn;
+      reads = reads_after past number turn;
+      told = past.told ++ option_to_list (option_map (told_to (reads_after past number turn) number) turn.answer);
+      noted = past.noted ++ option_to_list (option_map (noted_of (reads_after past number turn) number) turn.noted);
+    }
+past_after now past (Stops number) = past
+
+-- ---- an event
+
+abbrev pub changed : World → Change → World
+changed world change = record { now = now_after world.now change; past = past_after world.now world.past change }
+
+-- one that is refused changes nothing
+abbrev pub changed_by : World → Result Change Refusal → World
+changed_by world (Ok change) = changed world change
+changed_by world (Err refusal) = world
+
+abbrev pub happens : Terms → World → Event → World
+happens terms world event = changed_by world (change_of terms world.now event)
+
+-- ---- what it tells
+
+-- messages that are sent, by their numbers, where so many were sent before
+abbrev pub numbers_after : ℕ → ℕ → List Out
+numbers_after before zero = []
+numbers_after before (suc count) = numbers_after before count ++ out.Sent (before + count + 1) ∷ []
+
+abbrev pub sent_after : Now → List Message → List Out
+sent_after now messages = numbers_after (length now.messages) (length messages)
+
+-- what a client's turn tells: first the notes, then the messages, then the answer
+abbrev pub outs_of_turn : Now → ℕ → Turn → List Out
+outs_of_turn now number turn =
+    map (out.Noted number) (unwrap_or turn.noted [])
+    ++ (sent_after now turn.sent ++ option_to_list (option_map (out.Answered number) turn.answer))
+
+abbrev pub outs_of : Now → Change → List Out
+outs_of now Nothing = []
+outs_of now (AtPart part partition messages) = sent_after now messages
+outs_of now (AtClient number turn) = outs_of_turn now number turn
+outs_of now (Stops number) = []
+
+-- what an event tells: nothing, where it is refused
+abbrev pub outs_by : Now → Result Change Refusal → List Out
+outs_by now (Ok change) = outs_of now change
+outs_by now (Err refusal) = []
+
+abbrev pub tells : Terms → World → Event → List Out
+tells terms world event = outs_by world.now (change_of terms world.now event)
+
+-- ---- a run
+
+-- the partition of a number, with the first values of the items that are placed at it
+abbrev pub opens : Opening → ℕ → PartitionState
+opens opening part =
+    opening_state part opening.parts (filter (λ row. is_placed part opening.parts row.0) opening.items) opening.limit
+
+-- the world as it opens
+abbrev pub start : Opening → World
+start opening =
+    record {
+      now = record {
+        partitions = map (opens opening) (range_with_len 0 opening.parts);
+        messages = [];
+        clients = [];
+        stopped = [];
+      };
+      past = record { transactions = []; begun = []; reads = []; told = []; noted = [] };
+    }
+
+-- a world once these events have happened, in their order
+abbrev pub run : Terms → World → List Event → World
+run terms world [] = world
+run terms world (event ∷ events) = run terms (happens terms world event) events
+
+-- the world that opened so, once these events have happened
+abbrev pub run_of : Opening → List Event → World
+run_of opening events = run (terms_of opening) (start opening) events

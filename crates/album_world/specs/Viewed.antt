@@ -1,0 +1,39 @@
+-- On which view an ask was ruled.
+use Rattle.std.specs.Prelude.{◌≡◌, ℕ, List, Option, Some, Contains}
+use Rattle.album_eval.specs.declared.facts.Principal.{Principal}
+use Rattle.album_eval.specs.declared.policies.Policy.{Policy}
+use Rattle.album_reader.specs.Answers.{Answer as Row}
+use Rattle.album_views.specs.Views.{ViewState, IsView}
+use Rattle.album_listing.specs.Basis.{Basis, IsBasis}
+use Rattle.album_permits.specs.Findings.{ruling_of}
+use Rattle.album_permits.specs.Notes.{notes_of}
+use Rattle.album_permits.specs.Permits.{PermitState, permit_on}
+use Rattle.album_permits.specs.declared.findings.Finding.{Finding}
+use Rattle.album_permits.specs.declared.notes.Note.{Note}
+use Rattle.album_world.specs.Terms.{Terms}
+use Rattle.album_world.specs.Past.{Read, World}
+
+-- What a client had read last is closed: a view of its ask. Of that, who asks, and the policy, as they would stand in a
+-- permit, this holds.
+pub record IsOnView
+    (terms : Terms) (world : World) (client : ℕ) (last : Option Read) (Holds : PermitState → Type 0) : Type 0 where
+  pub read : Read
+  pub rows : List Row
+  pub last_is : last ≡ Some read
+  pub made : Contains world.past.reads read
+  pub own : read.begun.client ≡ client
+  pub shown : read.rows ≡ Some rows
+  pub view : IsView (record { ask = read.ask; rows = rows })
+  pub holds : Holds (permit_on terms.policy read.principal read.ask rows)
+
+-- the written policy finds this
+pub record Finds (case : PermitState) (finding : Finding) : Type 0 where
+  pub basis : Basis
+  pub based : IsBasis case.policy case.principal case.view.rows basis
+  pub is : ruling_of basis case.view.ask ≡ finding
+
+-- and this is noted of it
+pub record Notes (case : PermitState) (notes : List Note) : Type 0 where
+  pub basis : Basis
+  pub based : IsBasis case.policy case.principal case.view.rows basis
+  pub is : notes_of basis case.view.ask ≡ notes
