@@ -1,1 +1,9 @@
 pub mod ListLemmas
+pub mod MarkLemmas
+pub mod PlaceLemmas
+pub mod Invariant
+pub mod GrowthLemmas
+pub mod WroteLemmas
+pub mod SafeLemmas
+pub mod ActLemmas
+pub mod PartLemmas
