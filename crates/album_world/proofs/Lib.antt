@@ -7,3 +7,5 @@ pub mod WroteLemmas
 pub mod SafeLemmas
 pub mod ActLemmas
 pub mod PartLemmas
+pub mod ClientLemmas
+pub mod TurnLemmas

@@ -1,5 +1,5 @@
 -- What stands in lists, and what is found there.
-use Rattle.std.proofs.Common.{◌≡◌, ℕ, zero, suc, ◌<◌, ◌≤◌, ◌+◌, Bool, true, false, cond, not, ◌&&◌, ◌||◌, eqb, List, [], ◌∷◌, ◌++◌, map, filter, Option, Some, None, ◌⊎◌, inl, inr, ⊎_elim, sym, ap, ◌∙◌, subst, refl, arith, true≢false, eqb-true, eq-eqb, set, Contains, option_to_list}
+use Rattle.std.proofs.Common.{◌≡◌, ℕ, zero, suc, ◌<◌, ◌≤◌, ◌+◌, Bool, true, false, cond, not, ◌&&◌, ◌||◌, eqb, List, [], ◌∷◌, ◌++◌, map, filter, Option, Some, None, ◌⊎◌, inl, inr, ⊎_elim, sym, ap, ◌∙◌, subst, refl, arith, true≢false, eqb-true, eq-eqb, set, Contains, option_to_list, option_map}
 use Rattle.std.proofs.lemmas.Bool.{eqb-false}
 use Rattle.std.proofs.lemmas.List.Elements.{Contains-append_right, Contains-append_cases, Contains-push_cases}
 use Rattle.std.specs.List.{slice_get, range_with_len, list_any, list_all, find}
@@ -230,3 +230,12 @@ pub range_got : {A : Type 0} (f : ℕ → A) (a n p : ℕ) (x : A) → slice_get
 range_got f a zero p x h = none_some h
 range_got f a (suc n) zero x h = (sym (some_same h) ∙ ap f (omega arith), omega arith)
 range_got {A} f a (suc n) (suc p) x h = let r = range_got f (a + 1) n p x h in (r.0 ∙ ap f (omega arith), omega (arith, r.1))
+
+-- what is in the image of an option is the image of what is there
+pub in_mapped : {A B : Type 0} (f : A → B) (o : Option A) {y : B} → In y (option_to_list (option_map f o)) → (x : A) × (o ≡ Some x) × (y ≡ f x)
+in_mapped f None h = in_nil h
+in_mapped f (Some x) h = (x, refl, in_one h)
+
+pub mapped_in : {A B : Type 0} (f : A → B) (o : Option A) {x : A} → o ≡ Some x → In (f x) (option_to_list (option_map f o))
+mapped_in f None h = none_some h
+mapped_in {A} {B} f (Some y) {x} h = subst (λ (z : A). In (f z) (f y ∷ [])) (some_same h) here
