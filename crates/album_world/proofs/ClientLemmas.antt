@@ -73,6 +73,20 @@ draw_is clock stamp h = go (nat_lt clock.counter GREATEST_COUNTER) refl h
     go true e k = record { stamp_is = sym (ok_same k); counter = rw e refl; client = rw e refl }
     go false e k = absurd (cc)
 
+pub next_client : (clock : ClockState) → (clock_after_next clock).client ≡ clock.client
+next_client clock = go (nat_lt clock.counter GREATEST_COUNTER)
+  where
+    go : (b : Bool) → (if b then (let z : ClockState = record clock { counter = clock.counter + 1 } in z) else clock).client ≡ clock.client
+    go true = refl
+    go false = refl
+
+pub next_raise : (clock : ClockState) → clock.counter ≤ (clock_after_next clock).counter
+next_raise clock = go (nat_lt clock.counter GREATEST_COUNTER)
+  where
+    go : (b : Bool) → clock.counter ≤ (if b then (let z : ClockState = record clock { counter = clock.counter + 1 } in z) else clock).counter
+    go true = omega arith
+    go false = le_refl _
+
 -- ---- the answers of a round
 
 pub there_in : (founds : List (Option Found)) (f : Found) → In f (answers_there founds) → In (Some f) founds

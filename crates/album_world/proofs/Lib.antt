@@ -9,3 +9,4 @@ pub mod ActLemmas
 pub mod PartLemmas
 pub mod ClientLemmas
 pub mod TurnLemmas
+pub mod ReplyLemmas
