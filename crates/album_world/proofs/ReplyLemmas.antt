@@ -375,3 +375,126 @@ module _ (o : Opening) (some : 0 < o.parts) (w : World) (k : IsKept o w) (c : �
         views_kept h.low h.high (Some (record { ask = asking.viewing.ask; principal = asking.principal; rows = None }))
         (λ d rs i q. none_some (ap (λ (z : Ended). z.rows) (some_same i) ∙ q))
         r.asker.tag tag asking.principal (again asking.viewing r.items)
+
+  -- ---- a message in a write
+
+  -- the round with the answer of the node
+  writing_with : (z : WritingState) (P : ℕ → ℕ → Type 0) (part : ℕ) (n : Node) → n ≡ Part part → P part z.stamp → IsWriting o w c z P → IsWriting o w c (answered_by z n) P
+  writing_with z P part n from d h = record {
+    of = h.of;
+    begun = h.begun;
+    stamp = h.stamp;
+    parts = h.parts;
+    client = h.client;
+    told = λ p l. ⊎_elim
+        (λ i. ⊎_elim
+        (λ (e : is_part n p ≡ true).
+        let q : part ≡ p = eqb-true part p (sym (ap (λ (a : Node). is_part a p) from) ∙ e) in
+        inr (subst (λ (a : ℕ). P a z.stamp) q d))
+        (λ (e : is_part n p ≡ false). inl (filter_in (λ part. not (is_part n part)) p z.awaited i (ap not e)))
+        (true_or_false (is_part n p)))
+        inr (h.told p l);
+  }
+
+  -- all have answered
+  all_told : (z : WritingState) (P : ℕ → ℕ → Type 0) → z.awaited ≡ [] → IsWriting o w c z P → (p : ℕ) → In p (places_in z) → P p z.stamp
+  all_told z P e h p l = ⊎_elim (λ i. in_nil (subst (λ (a : List ℕ). In p a) e i)) (λ d. d) (h.told p l)
+
+  settled_by_all : (z : WritingState) → z.awaited ≡ [] → IsWriting o w c z (HasPrepared w) → IsSettled o w z.stamp
+  settled_by_all z e h = record {
+    of = h.of;
+    begun = h.begun;
+    stamp = h.stamp;
+    ready = λ i v q.
+        let d : IsPreparedIn (history w (place_of o.parts i)) z.stamp = all_told z (HasPrepared w) e h (place_of o.parts i) (subst (λ (a : List ℕ). In (place_of o.parts i) a) (sym h.parts) (place_in o.parts (items_written h.of.writes) i some (item_in h.of.writes i v q))) in
+        subst (λ (a : ℕ). wrote (history w (place_of o.parts i)) a i ≡ Some v) h.stamp
+        (written_here o w k h.of h.begun i v q (subst (λ (a : ℕ). IsPreparedIn (history w (place_of o.parts i)) a) (sym h.stamp) d));
+  }
+
+  done_by_all : (z : WritingState) → z.awaited ≡ [] → IsWriting o w c z (HasCommitted w) → IsDone o w z.stamp
+  done_by_all z e h = record {
+    of = h.of;
+    begun = h.begun;
+    stamp = h.stamp;
+    at = λ p l. all_told z (HasCommitted w) e h p (subst (λ (a : List ℕ). In p a) (sym h.parts) l);
+  }
+
+  abbrev committing : WritingState → Client
+  committing z = record x { doing = doing.Commits z }
+
+  commit_kept : (z : WritingState) → tag_of x.doing ≡ z.tag → IsWriting o w c z (HasPrepared w) → IsSettled o w z.stamp
+      → IsKept o (changed w (AtClient c (sends (committing (commit_round z)) (commits_of (commit_round z)))))
+  commit_kept z tag h s =
+      let t = sends (committing (commit_round z)) (commits_of (commit_round z)) in
+      let next = changed w (AtClient c t) in
+      let gr = turn_grows o w k c t number own (tag_next z.tag tag) (le_refl _) in
+      turn_kept o w k c t number own (tag_next z.tag tag) (le_refl _)
+      (λ m i. let q = in_map (commit_to (commit_round z)) (places_in z) i in
+      record {
+        part = q.0;
+        body = body.Request (Commit z.stamp);
+        is = q.2 ∙ ap (λ (a : ℕ). let n : Message = record { from = ToClient a; to = Part q.0; tag = z.tag + 1; body = body.Request (Commit z.stamp) } in n) h.client;
+        fine = settled_grows o w next gr z.stamp s;
+      })
+      (record { of = h.of; begun = gr.transactions h.of h.begun; stamp = h.stamp; parts = h.parts; client = h.client; told = λ p l. inl l })
+      (λ r i. none_some i) (λ d rows i. none_some i) (λ b i. none_some i)
+
+  outcome_ends : (tag : ℕ) → tag_of x.doing ≡ tag → (a : Answer) → IsAnswer o w a → IsKept o (changed w (AtClient c (ask_ends x tag a)))
+  outcome_ends tag was a d = ends_kept x number own (le_refl _) None None (λ d rows i q. none_some i) tag was a d
+
+  module _ (m : Message) (sent : In m w.now.messages) (z : WritingState) (tag : tag_of x.doing ≡ z.tag) where
+    says_from : (b : Body) (part : ℕ) → m.from ≡ Part part → m.body ≡ b → IsFine o w (Part part) m.to b
+    says_from b part f e = subst (λ (a : Node). IsFine o w a m.to b) f (subst (λ (a : Body). IsFine o w m.from m.to a) e (k.fine m sent))
+
+    abbrev preparing : WritingState → Client
+    preparing h = record x { doing = doing.Prepares h }
+
+    commits_kept : (h : WritingState) → h.tag ≡ z.tag → IsWriting o w c h (HasPrepared w) → (awaited : List ℕ) → h.awaited ≡ awaited → IsKept o (changed w (AtClient c (prepare_turn x z.tag (prepares_left h awaited))))
+    commits_kept h q d [] e = commit_kept h (tag ∙ sym q) d (settled_by_all h e d)
+    commits_kept h q d (p ∷ ps) e = stays_kept (preparing h) refl refl (tag ∙ sym q) d
+
+    prepared_kept : IsWriting o w c z (HasPrepared w) → (what : Told) → told_of z m ≡ what → IsKept o (changed w (AtClient c (prepare_turn x z.tag (prepares_by z m.from what))))
+    prepared_kept h told.Prepared e =
+        let d = told_to_is z m told.Prepared e tt in
+        commits_kept (answered_by z m.from) refl (writing_with z (HasPrepared w) d.part m.from d.from (says_from (body.Reply (reply.Prepared z.stamp)) d.part d.from d.says) h) (answered_by z m.from).awaited refl
+    prepared_kept h told.Discarded e =
+        let d = told_to_is z m told.Discarded e tt in
+        outcome_ends z.tag tag (answer.Aborted z.stamp) (says_from (body.Reply (reply.Discarded z.stamp)) d.part d.from d.says)
+    prepared_kept h told.Full e =
+        let d = told_to_is z m told.Full e tt in
+        outcome_ends z.tag tag (answer.Unsettled z.stamp refusal.Full)
+        (record { of = h.of; begun = h.begun; stamp = h.stamp; part = d.part; one_of = subst (λ (a : List ℕ). In d.part a) h.parts d.one_of; full = says_from (body.Reply (reply.Full z.stamp)) d.part d.from d.says }, refl)
+    prepared_kept h told.Committed e = stays_kept (preparing z) refl refl tag h
+    prepared_kept h told.Nothing e = stays_kept (preparing z) refl refl tag h
+
+    ended_kept : (h : WritingState) → h.tag ≡ z.tag → IsWriting o w c h (HasCommitted w) → (awaited : List ℕ) → h.awaited ≡ awaited → IsKept o (changed w (AtClient c (commit_turn x z.tag (commits_left h awaited))))
+    ended_kept h q d [] e = outcome_ends z.tag tag (answer.Committed h.stamp) (done_by_all h e d)
+    ended_kept h q d (p ∷ ps) e = stays_kept (committing h) refl refl (tag ∙ sym q) d
+
+    committed_kept : IsWriting o w c z (HasCommitted w) → (what : Told) → told_of z m ≡ what → IsKept o (changed w (AtClient c (commit_turn x z.tag (commits_by z m.from what))))
+    committed_kept h told.Committed e =
+        let d = told_to_is z m told.Committed e tt in
+        ended_kept (answered_by z m.from) refl (writing_with z (HasCommitted w) d.part m.from d.from (says_from (body.Reply (reply.Committed z.stamp)) d.part d.from d.says) h) (answered_by z m.from).awaited refl
+    committed_kept h told.Prepared e = stays_kept (committing z) refl refl tag h
+    committed_kept h told.Discarded e = stays_kept (committing z) refl refl tag h
+    committed_kept h told.Full e = stays_kept (committing z) refl refl tag h
+    committed_kept h told.Nothing e = stays_kept (committing z) refl refl tag h
+
+  -- ---- whatever it does
+
+  by_kept : (m : Message) → In m w.now.messages → (f : Doing) → x.doing ≡ f → IsDoing o w c began f → IsKept o (changed w (client_takes_by (terms_of o) c x m f))
+  by_kept m sent (doing.Idle tag) e h = k
+  by_kept m sent (doing.Reads asking r) e h = message_read asking r m sent h (ap tag_of e) (is_gone r m)
+  by_kept m sent (doing.Prepares z) e h = prepared_kept m sent z (ap tag_of e) h (told_of z m) refl
+  by_kept m sent (doing.Commits z) e h = committed_kept m sent z (ap tag_of e) h (told_of z m) refl
+
+  pub message_kept : (m : Message) → In m w.now.messages → IsKept o (changed w (client_takes (terms_of o) w.now c x m))
+  message_kept m sent = go (is_stopped w.now c)
+    where
+      go : (b : Bool) → IsKept o (changed w (if b then Nothing else client_takes_by (terms_of o) c x m x.doing))
+      go true = k
+      go false = by_kept m sent x.doing refl (k.clients c).doing
+
+  pub asked_kept : 0 < c → c < 65536 → (tag : ℕ) → tag_of x.doing ≡ tag → (asking : Asking) (items : List ℕ) → IsKept o (changed w (AtClient c (read_begins (terms_of o) x tag asking items)))
+  asked_kept low high tag was asking items = reads_kept x number own (le_refl _) None None (λ d rows i q. none_some i) tag was low high asking items
+
