@@ -10,3 +10,5 @@ pub mod PartLemmas
 pub mod ClientLemmas
 pub mod TurnLemmas
 pub mod ReplyLemmas
+pub mod StopLemmas
+pub mod RunLemmas
