@@ -12,3 +12,5 @@ pub mod TurnLemmas
 pub mod ReplyLemmas
 pub mod StopLemmas
 pub mod RunLemmas
+pub mod GrantLemmas
+pub mod BookLemmas
