@@ -72,6 +72,7 @@ pub record IsWriteOn (t : Terms) (w : World) (c : ℕ) (z : WritingState) (T : T
   pub client : by.client ≡ c
   pub permit : by.permit ≡ permit_on t.policy read.principal read.ask rows
   pub parts : places_in z ≡ parts_of t by
+  pub writer : z.client ≡ c
   pub is : T by
 
 -- the viewing counts the reads that were made for the ask before this one
@@ -184,6 +185,7 @@ module _ (t : Terms) (w1 w2 : World) (g : Adds w1 w2) where
     client = h.client;
     permit = h.permit;
     parts = h.parts;
+    writer = h.writer;
     is = h.is;
   }
 

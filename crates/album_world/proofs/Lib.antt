@@ -14,3 +14,4 @@ pub mod StopLemmas
 pub mod RunLemmas
 pub mod GrantLemmas
 pub mod BookLemmas
+pub mod LedLemmas
