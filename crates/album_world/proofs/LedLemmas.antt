@@ -1,5 +1,5 @@
 -- Each turn of a client is booked: what it tells and what it begins comes of the view that the client had read last.
-use Rattle.std.proofs.Common.{◌≡◌, ℕ, ◌<◌, ◌≤◌, ◌+◌, ◌*◌, Bool, true, false, cond, ◌&&◌, not, nat_lt, nat_le, length, List, [], ◌∷◌, Option, Some, None, option_to_list, Result, Ok, Err, ◌⊎◌, inl, inr, ⊎_elim, sym, ap, ◌∙◌, subst, refl, arith, ltb-true, ltb-false, lt-ltb, le_refl, le_of_eq, le_trans, if◌then◌else◌}
+use Rattle.std.proofs.Common.{◌≡◌, ℕ, ◌<◌, ◌≤◌, ◌+◌, ◌*◌, Bool, true, false, cond, ◌&&◌, not, nat_lt, nat_le, length, List, [], ◌∷◌, ◌++◌, Option, Some, None, option_to_list, Result, Ok, Err, ◌⊎◌, inl, inr, ⊎_elim, sym, ap, ◌∙◌, subst, refl, arith, ltb-true, ltb-false, lt-ltb, le_refl, le_of_eq, le_trans, if◌then◌else◌}
 use Rattle.std.proofs.lemmas.Bool.{leb-true, leb-false}
 use Rattle.album_stamps.specs.Clocks.{ClockState, clock_after_next, next_of}
 use Rattle.album_stamps.specs.Stamps.{is_client}
@@ -156,3 +156,203 @@ module _ (o : Opening) (w : World) (k : IsKept o w) (b : IsBooked (terms_of o) w
               few = (let a : asking.viewing.reads + 1 < MOST_READS = leb-false MOST_READS (asking.viewing.reads + 1) e in a);
             })
             (λ r l. none_some l) (λ a l. none_some l) (λ a l. none_some l)
+
+    -- ---- a view
+
+    module _ (rows : List Found) (closed : IsClosed asking.viewing.ask rows) where
+      abbrev here_read : Read
+      here_read = read_now (Some rows)
+
+      abbrev permit : PermitState
+      permit = record { view = record { ask = asking.viewing.ask; rows = rows }; principal = asking.principal; policy = t.policy }
+
+      abbrev basis : Basis
+      basis = basis_on t.policy asking.principal rows
+
+      based : IsBasis t.policy asking.principal rows basis
+      based = basis-based t.policy asking.principal rows
+
+      is_view : IsView (record { ask = asking.viewing.ask; rows = rows })
+      is_view = record { sound = taken_flawless asking.viewing.ask asking.principal counted.taken; closed = closed }
+
+      on_view : (v : World) → In here_read v.past.reads → (P : PermitState → Type 0) → P permit → IsOnView t v c (last_read (here_read ∷ w.past.reads) c) P
+      on_view v made P holds = record {
+        read = here_read;
+        rows = rows;
+        last_is = is_last (Some rows);
+        made = contains made;
+        own = begun_client w.past.begun c;
+        shown = refl;
+        view = is_view;
+        holds = holds;
+      }
+
+      abbrev notes : List Note
+      notes = notes_of basis asking.viewing.ask
+
+      abbrev seen : Client
+      seen = record x { clock = clock_after_rows x.clock rows }
+
+      seen_own : seen.clock.client ≡ c
+      seen_own = rows_client x.clock rows ∙ own
+
+      seen_up : x.clock.counter ≤ seen.clock.counter
+      seen_up = rows_raise x.clock rows
+
+      -- what is told and noted at this event
+      abbrev over_with : Turn → Turn
+      over_with turn = with_past turn (Some (ended (Some rows))) (Some notes)
+
+      noted_now : (v : World) → In here_read v.past.reads → (n : List Note) → Some notes ≡ Some n → IsOnView t v c (last_read (here_read ∷ w.past.reads) c) (λ case. Notes case n)
+      noted_now v made n l = subst (λ (z : List Note). IsOnView t v c (last_read (here_read ∷ w.past.reads) c) (λ case. Notes case z)) (some_same l)
+          (on_view v made (λ case. Notes case notes) (record { basis = basis; based = based; is = refl }))
+
+      tells_booked : (y : Client) → y.number ≡ c → y.clock.client ≡ c → x.clock.counter ≤ y.clock.counter → (a : Answer)
+          → ((v : World) → In here_read v.past.reads → client_at v.now.clients c ≡ (record y { doing = doing.Idle tag }) → v.past.transactions ≡ w.past.transactions ++ [] → IsLed t v (told_to (here_read ∷ w.past.reads) c a) a)
+          → IsBooked t (changed w (AtClient c (over_with (ask_ends y tag a))))
+      tells_booked y ny oy up a led =
+          let turn = over_with (ask_ends y tag a) in
+          let next = changed w (AtClient c turn) in
+          turn_booked o w k b c turn ny oy up (λ r l. none_some l) tt (λ r l. none_some l)
+          (λ z l. subst (λ (q : Answer). IsLed t next (told_to (here_read ∷ w.past.reads) c q) q) (some_same l) (led next here (same_now o w k c turn ny oy) refl))
+          (noted_now next here)
+
+      known : is_client c ≡ true
+      known = and_both (nat_lt 0 c) (nat_lt c CLIENTS) (lt-ltb 0 c low) (lt-ltb c CLIENTS high)
+
+      module _ (granted : IsPermit permit) where
+        abbrev drawn : Client
+        drawn = record seen { clock = clock_after_next seen.clock }
+
+        drawn_own : drawn.clock.client ≡ c
+        drawn_own = next_client seen.clock ∙ seen_own
+
+        drawn_up : x.clock.counter ≤ drawn.clock.counter
+        drawn_up = le_trans seen_up (next_raise seen.clock)
+
+        module _ (stamp : ℕ) (d : IsDraw seen.clock stamp) where
+          above : x.clock.counter < drawn.clock.counter
+          above = let a : x.clock.counter ≤ seen.clock.counter = seen_up in let e : drawn.clock.counter ≡ seen.clock.counter + 1 = d.counter in omega (arith, a, e)
+
+          is : stamp ≡ drawn.clock.counter * 65536 + c
+          is = d.stamp_is ∙ ap (λ (z : ℕ). z * 65536 + seen.clock.client) (sym d.counter) ∙ ap (λ (z : ℕ). drawn.clock.counter * 65536 + z) seen_own
+
+          drawn_by : (v : World) (g : Doing) → client_at v.now.clients c ≡ (record drawn { doing = g }) → IsDrawnBy v c stamp
+          drawn_by v g e = record { counter = drawn.clock.counter; is = is; known = known; old = subst (λ (z : Client). drawn.clock.counter ≤ z.clock.counter) (sym e) (le_refl _) }
+
+          is_new : (turn : Turn) → turn.client.clock.counter ≡ drawn.clock.counter → (r : Transaction) → r.stamp ≡ stamp → IsNew c x.clock.counter turn r
+          is_new turn same r e = record { at = drawn.clock.counter; is = e ∙ is; above = above; low = low; high = high; drawn = subst (λ (z : ℕ). drawn.clock.counter ≤ z) (sym same) (le_refl _) }
+
+          -- nothing has the stamp yet
+          unused : (r : Transaction) → In r w.past.transactions → r.stamp ≡ stamp → ⊥
+          unused r i e =
+              let turn = still drawn in
+              let new : Transaction = record { client = c; tag = 0; stamp = stamp; permit = permit; writes = [] } in
+              not_same o w k c turn number drawn_own r new i (is_new turn refl new refl) e
+
+          full_booked : is_full_for permit stamp ≡ true → IsBooked t (changed w (AtClient c (over_with (ask_ends drawn tag (answer.Refused refusal.AlbumFull)))))
+          full_booked full = tells_booked drawn number drawn_own drawn_up (answer.Refused refusal.AlbumFull)
+              (λ v made at none. on_view v made (λ case. IsPermit case × IsRefusedFor v c refusal.AlbumFull case)
+              (granted, inl (refl, record {
+                stamp = stamp;
+                full = full;
+                drawn = drawn_by v (doing.Idle tag) at;
+                unused = λ r l e. ⊎_elim (λ i. unused r i e) (λ i. in_nil i) (in_cases w.past.transactions [] (subst (λ (z : List Transaction). In r z) none (within _ l)));
+              })))
+
+          write_booked : served_for permit asking.viewing.ask ≡ None → is_full_for permit stamp ≡ false → IsBooked t (changed w (AtClient c (over_with (write_begins t drawn tag permit stamp))))
+          write_booked unserved room =
+              let turn = over_with (write_begins t drawn tag permit stamp) in
+              let next = changed w (AtClient c turn) in
+              let r : Transaction = record { client = drawn.number; tag = tag + 1; stamp = stamp; permit = permit; writes = effect_of permit stamp } in
+              let mine : In r next.past.transactions = in_right w.past.transactions here in
+              let same : client_at next.now.clients c ≡ turn.client = same_now o w k c turn number drawn_own in
+              turn_booked o w k b c turn number drawn_own drawn_up
+              (λ s l. is_new turn refl s (ap (λ (z : Transaction). z.stamp) (sym (some_same l))))
+              (record {
+                read = here_read;
+                rows = rows;
+                last = is_last (Some rows);
+                made = here;
+                own = begun_client w.past.begun c;
+                shown = refl;
+                view = is_view;
+                granted = granted;
+                by = r;
+                begun = mine;
+                stamp = refl;
+                client = number;
+                permit = refl;
+                parts = refl;
+                writer = number;
+                is = refl;
+              })
+              (λ s l. subst (IsGranted t next) (some_same l)
+              (record {
+                read = here_read;
+                rows = rows;
+                made = contains here;
+                own = begun_client w.past.begun c ∙ sym number;
+                shown = refl;
+                on = refl;
+                view = is_view;
+                granted = granted;
+                writes = record { change = unserved_writes permit asking.viewing.ask unserved; room = room; told = refl };
+                drawn = subst (λ (z : ℕ). IsDrawnBy next z stamp) (sym number) (drawn_by next turn.client.doing same);
+              }))
+              (λ a l. none_some l)
+              (noted_now next here)
+
+          unless_booked : served_for permit asking.viewing.ask ≡ None → (f : Bool) → is_full_for permit stamp ≡ f → IsBooked t (changed w (AtClient c (over_with (writes_unless t drawn tag permit stamp f))))
+          unless_booked unserved true e = full_booked e
+          unless_booked unserved false e = write_booked unserved e
+
+        draws_booked : served_for permit asking.viewing.ask ≡ None → (f : Result ℕ Refusal) → next_of seen.clock ≡ f → IsBooked t (changed w (AtClient c (over_with (draws_by t drawn tag permit f))))
+        draws_booked unserved (Ok stamp) e = unless_booked stamp (draw_is seen.clock stamp e) unserved (is_full_for permit stamp) refl
+        draws_booked unserved (Err why) e =
+            let spent = spent_is seen.clock why e in
+            tells_booked drawn number drawn_own drawn_up (answer.Refused why)
+            (λ v made at none. on_view v made (λ case. IsPermit case × IsRefusedFor v c why case)
+            (granted, inr (spent.0, subst (λ (z : Client). GREATEST_COUNTER ≤ z.clock.counter) (sym at) (le_trans spent.1 (next_raise seen.clock)))))
+
+        grants_booked : (f : Option Served) → served_for permit asking.viewing.ask ≡ f → IsBooked t (changed w (AtClient c (over_with (grants t seen tag permit f))))
+        grants_booked (Some served) e = tells_booked seen number seen_own seen_up (answer.Served served)
+            (λ v made at none. on_view v made _ (record { granted = granted; is = served_is permit asking.viewing.ask refl served e }))
+        grants_booked None e = draws_booked e (next_of seen.clock) refl
+
+      rules_booked : (f : Finding) → ruling_of basis asking.viewing.ask ≡ f → IsBooked t (changed w (AtClient c (over_with (rules_by t seen tag permit f))))
+      rules_booked finding.Granted e =
+          grants_booked (record { taken = counted.taken; basis = basis; based = based; granted = e }) (served_for permit asking.viewing.ask) refl
+      rules_booked (finding.Denied reasons) e = tells_booked seen number seen_own seen_up (answer.Denied reasons)
+          (λ v made at none. on_view v made _ (record { basis = basis; based = based; is = e }))
+      rules_booked (finding.Missing object) e = tells_booked seen number seen_own seen_up (answer.Missing object)
+          (λ v made at none. on_view v made _ (record { basis = basis; based = based; is = e }))
+
+    -- ---- a snapshot
+
+    done_booked : (rows : List Found) → IsBooked t (changed w (AtClient c (read_ends t x tag asking (Some rows) (viewed asking.viewing rows))))
+    done_booked rows = go (is_closed asking.viewing.ask rows) refl
+      where
+        wide : (IsClosed asking.viewing.ask rows → ⊥) → (f : Bool) → nat_lt MOST_READ_ITEMS (length (names_of rows asking.viewing.ask)) ≡ f
+            → IsBooked t (changed w (AtClient c (read_ends t x tag asking (Some rows) (if f then Busy Wide else again asking.viewing (names_of rows asking.viewing.ask)))))
+        wide unclosed true e = busy_booked Wide (Some rows) (λ v made. record {
+          read = read_now (Some rows);
+          last_is = is_last (Some rows);
+          made = contains made;
+          own = begun_client w.past.begun c;
+          cause = record { rows = rows; lacking = record { shown = refl; lacking = unclosed }; wide = ltb-true MOST_READ_ITEMS _ e };
+        })
+        wide unclosed false e = again_booked (Some rows) (inr (record { rows = rows; lacking = record { shown = refl; lacking = unclosed }; narrow = ltb-false MOST_READ_ITEMS _ e })) (names_of rows asking.viewing.ask)
+
+        go : (f : Bool) → is_closed asking.viewing.ask rows ≡ f → IsBooked t (changed w (AtClient c (read_ends t x tag asking (Some rows) (if f then Closed (record { ask = asking.viewing.ask; rows = rows }) else (if nat_lt MOST_READ_ITEMS (length (names_of rows asking.viewing.ask)) then Busy Wide else again asking.viewing (names_of rows asking.viewing.ask))))))
+        go true e = rules_booked rows (closed-is rows asking.viewing.ask e) (ruling_of (basis_on t.policy asking.principal rows) asking.viewing.ask) refl
+        go false e = wide (not-closed rows asking.viewing.ask e) (nat_lt MOST_READ_ITEMS (length (names_of rows asking.viewing.ask))) refl
+
+    -- ---- a message in a read
+
+    reading_booked : (step : Step) → IsBooked t (changed w (AtClient c (read_turn t x tag asking step)))
+    reading_booked (Same round) = quiet_booked (record x { doing = doing.Reads asking round }) refl refl counted []
+    reading_booked (Next round messages) = quiet_booked (record x { doing = doing.Reads asking round }) refl refl counted messages
+    reading_booked (Done rows) = done_booked rows
+    reading_booked (Gone items) = again_booked None (inl refl) items
+
