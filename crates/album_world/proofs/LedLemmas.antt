@@ -7,7 +7,10 @@ use Rattle.album_stamps.specs.declared.limits.TheConstants.{CLIENTS, MOST_READS,
 use Rattle.album_stamps.specs.declared.refusals.Refusal.{Refusal}
 use Rattle.album_stamps.specs.declared.refusals.Refusal.TheVariants as refusal
 use Rattle.album_items.specs.declared.openings.Opening.{Opening}
+use Rattle.album_calls.specs.declared.messages.Body.TheVariants as body
 use Rattle.album_calls.specs.declared.messages.Message.{Message}
+use Rattle.album_calls.specs.declared.nodes.Node.TheVariants.{Client as ToClient}
+use Rattle.album_calls.specs.declared.replies.Reply.TheVariants as reply
 use Rattle.album_eval.specs.declared.facts.Principal.{Principal}
 use Rattle.album_reader.specs.Answers.{Answer as Found}
 use Rattle.album_reader.specs.Rounds.{Step, stepped}
@@ -355,4 +358,126 @@ module _ (o : Opening) (w : World) (k : IsKept o w) (b : IsBooked (terms_of o) w
     reading_booked (Next round messages) = quiet_booked (record x { doing = doing.Reads asking round }) refl refl counted messages
     reading_booked (Done rows) = done_booked rows
     reading_booked (Gone items) = again_booked None (inl refl) items
+
+  -- ---- a message in a write
+
+  -- the view, and what of the write holds on it
+  on_write : (z : WritingState) (T : Transaction → Type 0) → (h : IsWriteOn t w c z T) → (P : PermitState → Type 0) → P (permit_on t.policy h.read.principal h.read.ask h.rows) → IsOnView t w c (last_read w.past.reads c) P
+  on_write z T h P holds = record {
+    read = h.read;
+    rows = h.rows;
+    last_is = h.last;
+    made = contains h.made;
+    own = h.own;
+    shown = h.shown;
+    view = h.view;
+    holds = holds;
+  }
+
+  abbrev begun_by : (z : WritingState) (T : Transaction → Type 0) → (h : IsWriteOn t w c z T) → IsBegunBy w c z.stamp (permit_on t.policy h.read.principal h.read.ask h.rows)
+  begun_by z T h = record { granted = h.granted; by = h.by; begun = contains h.begun; own = h.client; at = h.stamp; with_it = h.permit }
+
+  committed_led : (z : WritingState) (T : Transaction → Type 0) → IsWriteOn t w c z T → IsOnView t w c (last_read w.past.reads c) (IsBegunBy w c z.stamp)
+  committed_led z T h = on_write z T h (IsBegunBy w c z.stamp) (begun_by z T h)
+
+  abbrev preparing : WritingState → Client
+  preparing z = record x { doing = doing.Prepares z }
+
+  abbrev committing : WritingState → Client
+  committing z = record x { doing = doing.Commits z }
+
+  -- the round goes on with the same write
+  same_write : (z y : WritingState) (T S : Transaction → Type 0) → y.stamp ≡ z.stamp → places_in y ≡ places_in z → y.client ≡ z.client → ((r : Transaction) → T r → S r) → IsWriteOn t w c z T → IsWriteOn t w c y S
+  same_write z y T S stamp places client more h = record {
+    read = h.read;
+    rows = h.rows;
+    last = h.last;
+    made = h.made;
+    own = h.own;
+    shown = h.shown;
+    view = h.view;
+    granted = h.granted;
+    by = h.by;
+    begun = h.begun;
+    stamp = h.stamp ∙ sym stamp;
+    client = h.client;
+    permit = h.permit;
+    parts = places ∙ h.parts;
+    writer = client ∙ h.writer;
+    is = more h.by h.is;
+  }
+
+  module _ (m : Message) (sent : In m w.now.messages) (z : WritingState) where
+    abbrev Tagged : Transaction → Type 0
+    Tagged by = by.tag ≡ z.tag
+
+    abbrev Whatever : Transaction → Type 0
+    Whatever by = Unit {0}
+
+    left_booked : (y : WritingState) → y.stamp ≡ z.stamp → places_in y ≡ places_in z → y.client ≡ z.client → y.tag ≡ z.tag → IsWriteOn t w c z Tagged → (awaited : List ℕ) → IsBooked t (changed w (AtClient c (prepare_turn x z.tag (prepares_left y awaited))))
+    left_booked y stamp places client tag h [] =
+        quiet_booked (committing (commit_round y)) refl refl (same_write z (commit_round y) Tagged Whatever stamp places client (λ r e. tt) h) (commits_of (commit_round y))
+    left_booked y stamp places client tag h (p ∷ ps) =
+        quiet_booked (preparing y) refl refl (same_write z y Tagged (λ by. by.tag ≡ y.tag) stamp places client (λ r e. e ∙ sym tag) h) []
+
+    prepared_booked : IsWriteOn t w c z Tagged → (what : Heard) → told_of z m ≡ what → IsBooked t (changed w (AtClient c (prepare_turn x z.tag (prepares_by z m.from what))))
+    prepared_booked h told.Prepared e = left_booked (answered_by z m.from) refl refl refl refl h (answered_by z m.from).awaited
+    prepared_booked h told.Discarded e = outcome_booked z.tag (answer.Aborted z.stamp) (committed_led z Tagged h)
+    prepared_booked h told.Full e =
+        let d = told_to_is z m told.Full e tt in
+        outcome_booked z.tag (answer.Unsettled z.stamp refusal.Full)
+        (on_write z Tagged h (IsBegunFull t w c z.stamp)
+        (record {
+          begun = begun_by z Tagged h;
+          full = record {
+            message = m;
+            part = d.part;
+            sent = contains sent;
+            of = contains (subst (λ (a : List ℕ). In d.part a) h.parts d.one_of);
+            from = d.from;
+            to = d.to ∙ ap ToClient (h.writer ∙ sym h.client);
+            tag = d.tag ∙ sym h.is;
+            says = d.says ∙ ap (λ (s : ℕ). body.Reply (reply.Full s)) (sym h.stamp);
+          };
+        }))
+    prepared_booked h told.Committed e = quiet_booked (preparing z) refl refl h []
+    prepared_booked h told.Nothing e = quiet_booked (preparing z) refl refl h []
+
+    ended_booked : (y : WritingState) → y.stamp ≡ z.stamp → places_in y ≡ places_in z → y.client ≡ z.client → IsWriteOn t w c z Whatever → (awaited : List ℕ) → IsBooked t (changed w (AtClient c (commit_turn x z.tag (commits_left y awaited))))
+    ended_booked y stamp places client h [] =
+        outcome_booked z.tag (answer.Committed y.stamp) (committed_led y Whatever (same_write z y Whatever Whatever stamp places client (λ r e. e) h))
+    ended_booked y stamp places client h (p ∷ ps) = quiet_booked (committing y) refl refl (same_write z y Whatever Whatever stamp places client (λ r e. e) h) []
+
+    committed_booked : IsWriteOn t w c z Whatever → (what : Heard) → told_of z m ≡ what → IsBooked t (changed w (AtClient c (commit_turn x z.tag (commits_by z m.from what))))
+    committed_booked h told.Committed e = ended_booked (answered_by z m.from) refl refl refl h (answered_by z m.from).awaited
+    committed_booked h told.Prepared e = quiet_booked (committing z) refl refl h []
+    committed_booked h told.Discarded e = quiet_booked (committing z) refl refl h []
+    committed_booked h told.Full e = quiet_booked (committing z) refl refl h []
+    committed_booked h told.Nothing e = quiet_booked (committing z) refl refl h []
+
+  -- ---- whatever it does
+
+  by_booked : (m : Message) → In m w.now.messages → (f : Doing) → IsDoing o w c (last_begun w.past.begun c).partitions f → IsAt t w c f → IsBooked t (changed w (client_takes_by t c x m f))
+  by_booked m sent (doing.Idle tag) kept h = b
+  by_booked m sent (doing.Reads asking r) kept h = reading_booked asking h kept.low kept.high r.asker.tag (stepped r m)
+  by_booked m sent (doing.Prepares z) kept h = prepared_booked m sent z h (told_of z m) refl
+  by_booked m sent (doing.Commits z) kept h = committed_booked m sent z h (told_of z m) refl
+
+  pub message_booked : (m : Message) → In m w.now.messages → IsBooked t (changed w (client_takes t w.now c x m))
+  message_booked m sent = go (is_stopped w.now c)
+    where
+      go : (f : Bool) → IsBooked t (changed w (if f then Nothing else client_takes_by t c x m x.doing))
+      go true = b
+      go false = by_booked m sent x.doing (k.clients c).doing (b.at c)
+
+  -- an ask begins
+  pub asked_booked : (tag : ℕ) (ask : Ask) (who : Principal) → refusal_of ask who ≡ None → (items : List ℕ)
+      → IsBooked t (changed w (AtClient c (read_begins t x tag (record { viewing = record { ask = ask; reads = 0 }; principal = who }) items)))
+  asked_booked tag ask who taken items =
+      let turn = read_begins t x tag (record { viewing = record { ask = ask; reads = 0 }; principal = who }) items in
+      let next = changed w (AtClient c turn) in
+      let first : (last_begun next.past.begun c).nth ≡ 1 = ap (λ (f : Bool). (cond f (let s : Begun = record { client = c; nth = 1; partitions = w.now.partitions } in s) (last_begun w.past.begun c)).nth) (self_eqb c) in
+      turn_booked o w k b c turn number own (le_refl _) (λ r l. none_some l)
+      (record { taken = taken; count = first; few = omega arith })
+      (λ r l. none_some l) (λ a l. none_some l) (λ a l. none_some l)
 
