@@ -118,6 +118,7 @@ module _ (t : Terms) (w1 w2 : World) (g : Adds w1 w2) where
     granted = h.granted;
     writes = h.writes;
     drawn = drawn_adds r.client r.stamp h.drawn;
+    later = h.later;
   }
 
   pub view_adds : (c : ℕ) (last : Option Read) (P Q : PermitState → Type 0) → ((case : PermitState) → P case → Q case) → IsOnView t w1 c last P → IsOnView t w2 c last Q

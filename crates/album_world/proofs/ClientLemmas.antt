@@ -5,7 +5,7 @@ use Rattle.std.specs.Option.{option_and_then}
 use Rattle.album_stamps.specs.declared.limits.TheConstants.{GREATEST_COUNTER}
 use Rattle.album_stamps.specs.declared.refusals.Refusal.{Refusal}
 use Rattle.album_stamps.specs.declared.refusals.Refusal.TheVariants as refusal
-use Rattle.album_stamps.specs.Stamps.{stamp_number}
+use Rattle.album_stamps.specs.Stamps.{stamp_number, counter_of}
 use Rattle.album_stamps.specs.Clocks.{ClockState, clock_after_see, clock_after_next, next_of}
 use Rattle.album_items.specs.ItemIds.{place_of}
 use Rattle.album_calls.specs.Nodes.{is_part, is_client}
@@ -57,6 +57,16 @@ rows_client clock (f ∷ rows) = rows_client (clock_after_see clock f.stamp) row
 pub rows_raise : (clock : ClockState) (rows : List Found) → clock.counter ≤ (clock_after_rows clock rows).counter
 rows_raise clock [] = le_refl _
 rows_raise clock (f ∷ rows) = let l : clock.counter ≤ (clock_after_see clock f.stamp).counter = omega arith in le_trans l (rows_raise (clock_after_see clock f.stamp) rows)
+
+-- a clock that has seen a snapshot is at no lower counter than any stamp in it
+pub rows_seen : (clock : ClockState) (rows : List Found) (row : Found) → In row rows → counter_of row.stamp ≤ (clock_after_rows clock rows).counter
+rows_seen clock [] row h = in_nil h
+rows_seen clock (f ∷ rows) row h = ⊎_elim
+    (λ (e : row ≡ f).
+    let l : counter_of f.stamp ≤ (clock_after_see clock f.stamp).counter = omega arith in
+    subst (λ (z : Found). counter_of z.stamp ≤ (clock_after_rows (clock_after_see clock f.stamp) rows).counter) (sym e) (le_trans l (rows_raise (clock_after_see clock f.stamp) rows)))
+    (λ i. rows_seen (clock_after_see clock f.stamp) rows row i)
+    (in_uncons h)
 
 pub record IsDraw (clock : ClockState) (stamp : ℕ) : Type 0 where
   pub stamp_is : stamp ≡ (clock.counter + 1) * 65536 + clock.client

@@ -1,7 +1,8 @@
 -- Each turn of a client is booked: what it tells and what it begins comes of the view that the client had read last.
-use Rattle.std.proofs.Common.{◌≡◌, ℕ, ◌<◌, ◌≤◌, ◌+◌, ◌*◌, Bool, true, false, cond, ◌&&◌, not, nat_lt, nat_le, length, List, [], ◌∷◌, ◌++◌, Option, Some, None, option_to_list, Result, Ok, Err, ◌⊎◌, inl, inr, ⊎_elim, sym, ap, ◌∙◌, subst, refl, arith, ltb-true, ltb-false, lt-ltb, le_refl, le_of_eq, le_trans, if◌then◌else◌}
+use Rattle.std.proofs.Common.{◌≡◌, ℕ, ◌<◌, ◌≤◌, ◌+◌, ◌*◌, Bool, true, false, cond, ◌&&◌, not, nat_lt, nat_le, length, List, [], ◌∷◌, ◌++◌, Option, Some, None, option_to_list, Result, Ok, Err, IfOk, ◌⊎◌, inl, inr, ⊎_elim, sym, ap, ◌∙◌, subst, refl, arith, ltb-true, ltb-false, lt-ltb, le_refl, le_of_eq, le_trans, if◌then◌else◌}
 use Rattle.std.proofs.lemmas.Bool.{leb-true, leb-false}
 use Rattle.album_stamps.specs.Clocks.{ClockState, clock_after_next, next_of}
+use Rattle.album_stamps.proofs.Drawing.{next-greater}
 use Rattle.album_stamps.specs.Stamps.{is_client}
 use Rattle.album_stamps.specs.declared.limits.TheConstants.{CLIENTS, MOST_READS, MOST_READ_ITEMS, GREATEST_COUNTER}
 use Rattle.album_stamps.specs.declared.refusals.Refusal.{Refusal}
@@ -62,7 +63,7 @@ use Rattle.album_world.specs.Outcomes.{IsAlbumFull, IsRefusedFor}
 use Rattle.album_world.specs.Busy.{IsNarrow}
 use Rattle.album_world.proofs.ListLemmas.{In, contains, within, in_right, in_cases, in_nil, and_both, self_eqb, some_same, none_some}
 use Rattle.album_world.proofs.ListLemmas.In.{here}
-use Rattle.album_world.proofs.ClientLemmas.{rows_client, rows_raise, IsDraw, draw_is, next_client, next_raise, IsToldTo, told_to_is}
+use Rattle.album_world.proofs.ClientLemmas.{rows_client, rows_raise, rows_seen, IsDraw, draw_is, next_client, next_raise, IsToldTo, told_to_is}
 use Rattle.album_world.proofs.Invariant.{IsKept, IsDoing}
 use Rattle.album_world.proofs.TurnLemmas.{IsNew, not_same, same_now}
 use Rattle.album_world.proofs.ReplyLemmas.{with_past}
@@ -233,7 +234,13 @@ module _ (o : Opening) (w : World) (k : IsKept o w) (b : IsBooked (terms_of o) w
         drawn_up : x.clock.counter ≤ drawn.clock.counter
         drawn_up = le_trans seen_up (next_raise seen.clock)
 
-        module _ (stamp : ℕ) (d : IsDraw seen.clock stamp) where
+        module _ (stamp : ℕ) (is_next : next_of seen.clock ≡ Ok stamp) where
+          d : IsDraw seen.clock stamp
+          d = draw_is seen.clock stamp is_next
+
+          later : (row : Found) → In row rows → row.stamp < stamp
+          later row i = subst (λ (f : Result ℕ Refusal). IfOk f (λ s. row.stamp < s)) is_next (next-greater seen.clock row.stamp (rows_seen x.clock rows row i))
+
           above : x.clock.counter < drawn.clock.counter
           above = let a : x.clock.counter ≤ seen.clock.counter = seen_up in let e : drawn.clock.counter ≡ seen.clock.counter + 1 = d.counter in omega (arith, a, e)
 
@@ -302,6 +309,7 @@ module _ (o : Opening) (w : World) (k : IsKept o w) (b : IsBooked (terms_of o) w
                 granted = granted;
                 writes = record { change = unserved_writes permit asking.viewing.ask unserved; room = room; told = refl };
                 drawn = subst (λ (z : ℕ). IsDrawnBy next z stamp) (sym number) (drawn_by next turn.client.doing same);
+                later = λ row i. later row (within rows i);
               }))
               (λ a l. none_some l)
               (noted_now next here)
@@ -311,7 +319,7 @@ module _ (o : Opening) (w : World) (k : IsKept o w) (b : IsBooked (terms_of o) w
           unless_booked unserved false e = write_booked unserved e
 
         draws_booked : served_for permit asking.viewing.ask ≡ None → (f : Result ℕ Refusal) → next_of seen.clock ≡ f → IsBooked t (changed w (AtClient c (over_with (draws_by t drawn tag permit f))))
-        draws_booked unserved (Ok stamp) e = unless_booked stamp (draw_is seen.clock stamp e) unserved (is_full_for permit stamp) refl
+        draws_booked unserved (Ok stamp) e = unless_booked stamp e unserved (is_full_for permit stamp) refl
         draws_booked unserved (Err why) e =
             let spent = spent_is seen.clock why e in
             tells_booked drawn number drawn_own drawn_up (answer.Refused why)

@@ -15,3 +15,5 @@ pub mod RunLemmas
 pub mod GrantLemmas
 pub mod BookLemmas
 pub mod LedLemmas
+pub mod PromiseLemmas
+pub mod EventLemmas

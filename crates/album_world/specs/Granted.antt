@@ -1,5 +1,5 @@
 -- Writes are granted: each was begun by a permit, and each version is of one of them.
-use Rattle.std.specs.Prelude.{◌≡◌, ℕ, ◌≤◌, IsTrue, List, Some, Contains}
+use Rattle.std.specs.Prelude.{◌≡◌, ℕ, ◌≤◌, ◌<◌, IsTrue, List, Some, Contains}
 use Rattle.album_stamps.specs.Stamps.{is_client, stamp_number}
 use Rattle.album_items.specs.declared.values.Value.{Value}
 use Rattle.album_partition.specs.Marks.{value_in, version}
@@ -20,8 +20,8 @@ pub record IsDrawnBy (world : World) (client stamp : ℕ) : Type 0 where
   pub known : IsTrue (is_client client)
   pub old : counter ≤ (client_at world.now.clients client).clock.counter
 
--- The client had made a read that is a view of its ask, the ruling on it is Granted, and at the stamp, which its own
--- clock drew, the ask writes just what the transaction writes.
+-- The client had made a read that is a view of its ask, and the ruling on it is Granted. At the stamp, which its own
+-- clock drew, and which is greater than each that the view shows, the ask writes just what the transaction writes.
 pub record IsGranted (terms : Terms) (world : World) (by : Transaction) : Type 0 where
   pub read : Read
   pub rows : List Row
@@ -33,6 +33,7 @@ pub record IsGranted (terms : Terms) (world : World) (by : Transaction) : Type 0
   pub granted : IsPermit by.permit
   pub writes : AreWrites (record { permit = by.permit; stamp = by.stamp }) by.writes
   pub drawn : IsDrawnBy world by.client by.stamp
+  pub later : (row : Row) → Contains rows row → row.stamp < by.stamp
 
 -- just one transaction has the stamp, and it writes the value to the item
 pub record IsOfOne (world : World) (item stamp : ℕ) (value : Value) : Type 0 where

@@ -13,7 +13,7 @@ use Rattle.album_reader.specs.Answers.{Answer as Row}
 use Rattle.album_world.specs.Terms.{Terms}
 use Rattle.album_world.specs.State.{client_at}
 use Rattle.album_world.specs.Past.{Transaction, Read, Told, World}
-use Rattle.album_world.specs.Viewed.{IsOnView}
+use Rattle.album_world.specs.Viewed.{IsToldOn}
 use Rattle.album_world.specs.Committing.{parts_of, IsCommitted, IsCommittedEverywhere, IsPromisedSomewhere}
 use Rattle.album_world.specs.Granted.{IsDrawnBy}
 use Rattle.album_world.specs.declared.outs.Answer.{Answer}
@@ -74,7 +74,7 @@ IsTrueOutcome terms world told (answer.Aborted stamp) =
 IsTrueOutcome terms world told (answer.Unsettled stamp why) =
     (why ≡ Full) × IsOfWrite world told.client stamp (IsToldFull terms world) × IsLost world stamp
 IsTrueOutcome terms world told (answer.Refused why) =
-    IsOnView terms world told.client told.last (IsRefusedFor world told.client why)
+    IsToldOn terms world told (IsRefusedFor world told.client why)
 
 -- each answer that was ever told does, and what has happened since has not changed that
 abbrev pub OutcomesAreTrue : Terms → World → Type 0

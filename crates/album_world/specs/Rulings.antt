@@ -6,7 +6,7 @@ use Rattle.album_permits.specs.declared.findings.Finding.TheVariants as finding
 use Rattle.album_permits.specs.declared.serving.Served.{Served}
 use Rattle.album_world.specs.Terms.{Terms}
 use Rattle.album_world.specs.Past.{Transaction, Told, Noted, World}
-use Rattle.album_world.specs.Viewed.{IsOnView, Finds, Notes}
+use Rattle.album_world.specs.Viewed.{IsOnView, IsToldOn, Finds, Notes}
 use Rattle.album_world.specs.declared.outs.Answer.{Answer}
 use Rattle.album_world.specs.declared.outs.Answer.TheVariants as answer
 
@@ -24,21 +24,18 @@ pub record IsBegunBy (world : World) (client stamp : ℕ) (permit : PermitState)
   pub at : by.stamp ≡ stamp
   pub with_it : by.permit ≡ permit
 
--- the view has led to the answer
-abbrev pub IsRuledSo : World → ℕ → Answer → PermitState → Type 0
-IsRuledSo world client (answer.Served served) case = IsServedBy case served
-IsRuledSo world client (answer.Denied reasons) case = Finds case (finding.Denied reasons)
-IsRuledSo world client (answer.Missing object) case = Finds case (finding.Missing object)
-IsRuledSo world client (answer.Busy why) case = Unit {0}
-IsRuledSo world client (answer.Committed stamp) case = IsBegunBy world client stamp case
-IsRuledSo world client (answer.Aborted stamp) case = IsBegunBy world client stamp case
-IsRuledSo world client (answer.Unsettled stamp why) case = IsBegunBy world client stamp case
-IsRuledSo world client (answer.Refused why) case = IsPermit case
-
 -- An answer is what the view has led to that its client had read last. (An ask that is answered Busy has no view.)
 abbrev pub IsRuledBy : Terms → World → Told → Answer → Type 0
+IsRuledBy terms world told (answer.Served served) = IsToldOn terms world told (λ case. IsServedBy case served)
+IsRuledBy terms world told (answer.Denied reasons) =
+    IsToldOn terms world told (λ case. Finds case (finding.Denied reasons))
+IsRuledBy terms world told (answer.Missing object) =
+    IsToldOn terms world told (λ case. Finds case (finding.Missing object))
 IsRuledBy terms world told (answer.Busy why) = Unit {0}
-IsRuledBy terms world told answer = IsOnView terms world told.client told.last (IsRuledSo world told.client answer)
+IsRuledBy terms world told (answer.Committed stamp) = IsToldOn terms world told (IsBegunBy world told.client stamp)
+IsRuledBy terms world told (answer.Aborted stamp) = IsToldOn terms world told (IsBegunBy world told.client stamp)
+IsRuledBy terms world told (answer.Unsettled stamp why) = IsToldOn terms world told (IsBegunBy world told.client stamp)
+IsRuledBy terms world told (answer.Refused why) = IsToldOn terms world told IsPermit
 
 -- each answer that was ever told is, and all that was ever noted is noted of such a view
 pub record RulingsHold (terms : Terms) (world : World) : Type 0 where

@@ -11,7 +11,7 @@ use Rattle.album_permits.specs.Permits.{PermitState, permit_on}
 use Rattle.album_permits.specs.declared.findings.Finding.{Finding}
 use Rattle.album_permits.specs.declared.notes.Note.{Note}
 use Rattle.album_world.specs.Terms.{Terms}
-use Rattle.album_world.specs.Past.{Read, World}
+use Rattle.album_world.specs.Past.{Read, Told, World}
 
 -- What a client had read last is closed: a view of its ask. Of that, who asks, and the policy, as they would stand in a
 -- permit, this holds.
@@ -25,6 +25,10 @@ pub record IsOnView
   pub shown : read.rows ≡ Some rows
   pub view : IsView (record { ask = read.ask; rows = rows })
   pub holds : Holds (permit_on terms.policy read.principal read.ask rows)
+
+-- the same of the view on which a client was told something
+abbrev pub IsToldOn : Terms → World → Told → (PermitState → Type 0) → Type 0
+IsToldOn terms world told Holds = IsOnView terms world told.client told.last Holds
 
 -- the written policy finds this
 pub record Finds (case : PermitState) (finding : Finding) : Type 0 where

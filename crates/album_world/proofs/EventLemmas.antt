@@ -1,0 +1,112 @@
+-- What one event tells is in the past after it, what was told stays there, and each turn of a client is tidy.
+use Rattle.std.proofs.Common.{◌≡◌, ℕ, zero, suc, ◌+◌, Bool, true, false, cond, not, List, [], ◌∷◌, ◌++◌, map, length, Option, Some, None, option_to_list, option_map, unwrap_or, Result, Ok, Err, ⊎_elim, sym, ap, ◌∙◌, subst, refl, Contains, if◌then◌else◌}
+use Rattle.std.specs.List.{slice_get}
+use Rattle.album_stamps.specs.Clocks.{ClockState, clock_after_next, next_of}
+use Rattle.album_stamps.specs.Outcome.{◌>>=◌}
+use Rattle.album_stamps.specs.Stamps.{is_client}
+use Rattle.album_stamps.specs.declared.refusals.Refusal.{Refusal}
+use Rattle.album_stamps.specs.declared.refusals.Refusal.TheVariants as refusal
+use Rattle.album_calls.specs.declared.messages.Message.{Message}
+use Rattle.album_calls.specs.declared.nodes.Node.{Node}
+use Rattle.album_calls.specs.declared.nodes.Node.TheVariants.{Part, Client as ToClient}
+use Rattle.album_eval.specs.declared.facts.Principal.{Principal}
+use Rattle.album_partition.specs.Partition.{PartitionState}
+use Rattle.album_partition.specs.Sweeps.{swept}
+use Rattle.album_partition.specs.Trims.{trimmed}
+use Rattle.album_permits.specs.declared.notes.Note.{Note}
+use Rattle.album_world.specs.declared.events.Event.{Event}
+use Rattle.album_world.specs.declared.outs.Answer.{Answer}
+use Rattle.album_world.specs.declared.outs.Out.TheVariants as out
+use Rattle.album_world.specs.Terms.{Terms}
+use Rattle.album_world.specs.State.{Now}
+use Rattle.album_world.specs.Past.{World, Transaction, Read, Begun, Told, Noted, last_begun, last_read}
+use Rattle.album_world.specs.Turns.{Turn}
+use Rattle.album_world.specs.Changes.{Change, change_of}
+use Rattle.album_world.specs.Changes.Change.{Nothing, AtPart, AtClient, Stops}
+use Rattle.album_world.specs.Runs.{changed, changed_by, happens, numbers_after, sent_after, outs_of, outs_of_turn, outs_by, tells, run, reads_after, read_over, nth_after, told_to, noted_of}
+use Rattle.album_world.proofs.ListLemmas.{In, contains, within, in_left, in_right, in_cases, in_map, in_mapped, mapped_in, in_one, in_nil, self_eqb}
+
+-- ---- what is told
+
+sent_answer : {c n : ℕ} {a : Answer} {R : Type 0} → out.Answered c a ≡ out.Sent n → R
+sent_answer e = absurd (cc)
+
+noted_answer : {c d : ℕ} {a : Answer} {n : Note} {R : Type 0} → out.Answered c a ≡ out.Noted d n → R
+noted_answer e = absurd (cc)
+
+sent_note : {c m : ℕ} {n : Note} {R : Type 0} → out.Noted c n ≡ out.Sent m → R
+sent_note e = absurd (cc)
+
+answer_note : {c d : ℕ} {a : Answer} {n : Note} {R : Type 0} → out.Noted d n ≡ out.Answered c a → R
+answer_note e = absurd (cc)
+
+answered_same : {c d : ℕ} {a b : Answer} → out.Answered c a ≡ out.Answered d b → (c ≡ d) × (a ≡ b)
+answered_same e = (cc, cc)
+
+noted_same : {c d : ℕ} {a b : Note} → out.Noted c a ≡ out.Noted d b → (c ≡ d) × (a ≡ b)
+noted_same e = (cc, cc)
+
+no_answer : {c : ℕ} {a : Answer} {R : Type 0} (first count : ℕ) → In (out.Answered c a) (numbers_after first count) → R
+no_answer first zero h = in_nil h
+no_answer first (suc count) h = ⊎_elim (λ l. no_answer first count l) (λ l. sent_answer (in_one l)) (in_cases (numbers_after first count) (out.Sent (first + count + 1) ∷ []) h)
+
+no_note : {c : ℕ} {n : Note} {R : Type 0} (first count : ℕ) → In (out.Noted c n) (numbers_after first count) → R
+no_note first zero h = in_nil h
+no_note first (suc count) h = ⊎_elim (λ l. no_note first count l) (λ l. sent_note (in_one l)) (in_cases (numbers_after first count) (out.Sent (first + count + 1) ∷ []) h)
+
+answer_in : (w : World) (ch : Change) (c : ℕ) (a : Answer) → In (out.Answered c a) (outs_of w.now ch) → In (told_to (changed w ch).past.reads c a) (changed w ch).past.told
+answer_in w Nothing c a h = in_nil h
+answer_in w (Stops d) c a h = in_nil h
+answer_in w (AtPart p held sent) c a h = no_answer (length w.now.messages) (length sent) h
+answer_in w (AtClient d t) c a h = ⊎_elim
+    (λ l. let q = in_map (out.Noted d) (unwrap_or t.noted []) l in noted_answer q.2)
+    (λ l. ⊎_elim
+    (λ i. no_answer (length w.now.messages) (length t.sent) i)
+    (λ i.
+    let q = in_mapped (out.Answered d) t.answer i in
+    let s = answered_same q.2 in
+    let fs = reads_after w.past d t in
+    in_right w.past.told
+    (subst (λ (z : ℕ). In (told_to fs z a) (option_to_list (option_map (told_to fs d) t.answer))) (sym s.0)
+    (subst (λ (z : Answer). In (told_to fs d z) (option_to_list (option_map (told_to fs d) t.answer))) (sym s.1)
+    (mapped_in (told_to fs d) t.answer q.1))))
+    (in_cases (sent_after w.now t.sent) (option_to_list (option_map (out.Answered d) t.answer)) l))
+    (in_cases (map (out.Noted d) (unwrap_or t.noted [])) (sent_after w.now t.sent ++ option_to_list (option_map (out.Answered d) t.answer)) h)
+
+pub answers_are_kept : (t : Terms) (w : World) (e : Event) (c : ℕ) (a : Answer) → Contains (tells t w e) (out.Answered c a) → Contains (happens t w e).past.told (told_to (happens t w e).past.reads c a)
+answers_are_kept t w e c a h = go (change_of t w.now e) (within _ h)
+  where
+    go : (f : Result Change Refusal) → In (out.Answered c a) (outs_by w.now f) → Contains (changed_by w f).past.told (told_to (changed_by w f).past.reads c a)
+    go (Ok ch) h = contains (answer_in w ch c a h)
+    go (Err r) h = in_nil h
+
+-- all that was noted with a note
+pub record IsNotedWith (w : World) (c : ℕ) (note : Note) : Type 0 where
+  pub notes : List Note
+  pub among : In note notes
+  pub noted : In (noted_of w.past.reads c notes) w.past.noted
+
+note_in : (w : World) (ch : Change) (c : ℕ) (n : Note) → In (out.Noted c n) (outs_of w.now ch) → IsNotedWith (changed w ch) c n
+note_in w Nothing c n h = in_nil h
+note_in w (Stops d) c n h = in_nil h
+note_in w (AtPart p held sent) c n h = no_note (length w.now.messages) (length sent) h
+note_in w (AtClient d t) c n h = ⊎_elim
+    (λ l. let q = in_map (out.Noted d) (unwrap_or t.noted []) l in noted (noted_same q.2) q.1)
+    (λ l. ⊎_elim
+    (λ i. no_note (length w.now.messages) (length t.sent) i)
+    (λ i. let q = in_mapped (out.Answered d) t.answer i in answer_note q.2)
+    (in_cases (sent_after w.now t.sent) (option_to_list (option_map (out.Answered d) t.answer)) l))
+    (in_cases (map (out.Noted d) (unwrap_or t.noted [])) (sent_after w.now t.sent ++ option_to_list (option_map (out.Answered d) t.answer)) h)
+  where
+    by : (f : Option (List Note)) → t.noted ≡ f → (m : Note) → In m (unwrap_or f []) → (c ≡ d) × (n ≡ m) → IsNotedWith (changed w (AtClient d t)) c n
+    by None e m i s = in_nil i
+    by (Some ns) e m i s = record {
+      notes = ns;
+      among = subst (λ (z : Note). In z ns) (sym s.1) i;
+      noted = in_right w.past.noted
+          (subst (λ (z : ℕ). In (noted_of (reads_after w.past d t) z ns) (option_to_list (option_map (noted_of (reads_after w.past d t) d) t.noted))) (sym s.0)
+          (mapped_in (noted_of (reads_after w.past d t) d) t.noted e));
+    }
+
+    noted : {m : Note} → (c ≡ d) × (n ≡ m) → In m (unwrap_or t.noted []) → IsNotedWith (changed w (AtClient d t)) c n
+    noted {m} s i = by t.noted refl m i s
