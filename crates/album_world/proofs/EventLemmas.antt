@@ -20,6 +20,7 @@ use Rattle.album_world.specs.declared.outs.Out.TheVariants as out
 use Rattle.album_world.specs.Terms.{Terms}
 use Rattle.album_world.specs.State.{Now}
 use Rattle.album_world.specs.Past.{World, Transaction, Read, Begun, Told, Noted, last_begun, last_read}
+use Rattle.album_world.specs.Events.{IsNoteKept, IsRemembered}
 use Rattle.album_world.specs.Turns.{Turn}
 use Rattle.album_world.specs.Changes.{Change, change_of}
 use Rattle.album_world.specs.Changes.Change.{Nothing, AtPart, AtClient, Stops}
@@ -80,13 +81,7 @@ answers_are_kept t w e c a h = go (change_of t w.now e) (within _ h)
     go (Ok ch) h = contains (answer_in w ch c a h)
     go (Err r) h = in_nil h
 
--- all that was noted with a note
-pub record IsNotedWith (w : World) (c : ℕ) (note : Note) : Type 0 where
-  pub notes : List Note
-  pub among : In note notes
-  pub noted : In (noted_of w.past.reads c notes) w.past.noted
-
-note_in : (w : World) (ch : Change) (c : ℕ) (n : Note) → In (out.Noted c n) (outs_of w.now ch) → IsNotedWith (changed w ch) c n
+note_in : (w : World) (ch : Change) (c : ℕ) (n : Note) → In (out.Noted c n) (outs_of w.now ch) → IsNoteKept (changed w ch) c n
 note_in w Nothing c n h = in_nil h
 note_in w (Stops d) c n h = in_nil h
 note_in w (AtPart p held sent) c n h = no_note (length w.now.messages) (length sent) h
@@ -98,15 +93,60 @@ note_in w (AtClient d t) c n h = ⊎_elim
     (in_cases (sent_after w.now t.sent) (option_to_list (option_map (out.Answered d) t.answer)) l))
     (in_cases (map (out.Noted d) (unwrap_or t.noted [])) (sent_after w.now t.sent ++ option_to_list (option_map (out.Answered d) t.answer)) h)
   where
-    by : (f : Option (List Note)) → t.noted ≡ f → (m : Note) → In m (unwrap_or f []) → (c ≡ d) × (n ≡ m) → IsNotedWith (changed w (AtClient d t)) c n
+    by : (f : Option (List Note)) → t.noted ≡ f → (m : Note) → In m (unwrap_or f []) → (c ≡ d) × (n ≡ m) → IsNoteKept (changed w (AtClient d t)) c n
     by None e m i s = in_nil i
     by (Some ns) e m i s = record {
-      notes = ns;
-      among = subst (λ (z : Note). In z ns) (sym s.1) i;
-      noted = in_right w.past.noted
+      noted = noted_of (reads_after w.past d t) c ns;
+      kept = contains (in_right w.past.noted
           (subst (λ (z : ℕ). In (noted_of (reads_after w.past d t) z ns) (option_to_list (option_map (noted_of (reads_after w.past d t) d) t.noted))) (sym s.0)
-          (mapped_in (noted_of (reads_after w.past d t) d) t.noted e));
+          (mapped_in (noted_of (reads_after w.past d t) d) t.noted e)));
+      own = refl;
+      last_is = refl;
+      among = contains (subst (λ (z : Note). In z ns) (sym s.1) i);
     }
 
-    noted : {m : Note} → (c ≡ d) × (n ≡ m) → In m (unwrap_or t.noted []) → IsNotedWith (changed w (AtClient d t)) c n
+    noted : {m : Note} → (c ≡ d) × (n ≡ m) → In m (unwrap_or t.noted []) → IsNoteKept (changed w (AtClient d t)) c n
     noted {m} s i = by t.noted refl m i s
+
+pub notes_are_kept : (t : Terms) (w : World) (e : Event) (c : ℕ) (n : Note) → Contains (tells t w e) (out.Noted c n) → IsNoteKept (happens t w e) c n
+notes_are_kept t w e c n h = go (change_of t w.now e) (within _ h)
+  where
+    go : (f : Result Change Refusal) → In (out.Noted c n) (outs_by w.now f) → IsNoteKept (changed_by w f) c n
+    go (Ok ch) h = note_in w ch c n h
+    go (Err r) h = in_nil h
+
+-- ---- what was told stays
+
+remembered_at : (w : World) (ch : Change) → IsRemembered w (changed w ch)
+remembered_at w Nothing = record { transactions = λ r l. l; reads = λ r l. l; told = λ r l. l; noted = λ r l. l }
+remembered_at w (AtPart p h sent) = record { transactions = λ r l. l; reads = λ r l. l; told = λ r l. l; noted = λ r l. l }
+remembered_at w (Stops d) = record { transactions = λ r l. l; reads = λ r l. l; told = λ r l. l; noted = λ r l. l }
+remembered_at w (AtClient d t) = record {
+  transactions = λ r l. contains (in_left (option_to_list t.writes) (within _ l));
+  reads = λ r l. contains (in_right (option_to_list (option_map (read_over (last_begun w.past.begun d)) t.over)) (within _ l));
+  told = λ r l. contains (in_left (option_to_list (option_map (told_to (reads_after w.past d t) d) t.answer)) (within _ l));
+  noted = λ r l. contains (in_left (option_to_list (option_map (noted_of (reads_after w.past d t) d) t.noted)) (within _ l));
+}
+
+remembered_by : (w : World) (f : Result Change Refusal) → IsRemembered w (changed_by w f)
+remembered_by w (Ok ch) = remembered_at w ch
+remembered_by w (Err r) = record { transactions = λ r l. l; reads = λ r l. l; told = λ r l. l; noted = λ r l. l }
+
+pub all_is_remembered : (t : Terms) (w : World) (es : List Event) → IsRemembered w (run t w es)
+all_is_remembered t w [] = record { transactions = λ r l. l; reads = λ r l. l; told = λ r l. l; noted = λ r l. l }
+all_is_remembered t w (e ∷ es) =
+    let a = remembered_by w (change_of t w.now e) in
+    let d = all_is_remembered t (happens t w e) es in
+    record {
+      transactions = λ r l. d.transactions r (a.transactions r l);
+      reads = λ r l. d.reads r (a.reads r l);
+      told = λ r l. d.told r (a.told r l);
+      noted = λ r l. d.noted r (a.noted r l);
+    }
+
+-- ---- a read that begins
+
+pub read_keeps_partitions : (w : World) (c : ℕ) (t : Turn) → t.reads ≡ true → (last_begun (changed w (AtClient c t)).past.begun c).partitions ≡ w.now.partitions
+read_keeps_partitions w c t e =
+    ap (λ (f : Bool). (last_begun (if f then (let s : Begun = record { client = c; nth = nth_after w.past c t.over; partitions = w.now.partitions } in s) ∷ w.past.begun else w.past.begun) c).partitions) e
+    ∙ ap (λ (f : Bool). (if f then (let s : Begun = record { client = c; nth = nth_after w.past c t.over; partitions = w.now.partitions } in s) else last_begun w.past.begun c).partitions) (self_eqb c)

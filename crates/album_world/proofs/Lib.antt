@@ -17,3 +17,4 @@ pub mod BookLemmas
 pub mod LedLemmas
 pub mod PromiseLemmas
 pub mod EventLemmas
+pub mod TidyLemmas

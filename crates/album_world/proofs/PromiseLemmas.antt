@@ -23,7 +23,9 @@ use Rattle.album_partition.specs.declared.marks.Mark.{Mark}
 use Rattle.album_views.specs.Asks.{objects_of}
 use Rattle.album_views.specs.Checks.{refusal_of}
 use Rattle.album_views.specs.declared.asks.Ask.{Ask}
+use Rattle.album_permits.proofs.Agreeing.{ruling-alike}
 use Rattle.album_permits.specs.Permits.{PermitState, IsPermit}
+use Rattle.album_permits.specs.declared.findings.Finding.{Finding}
 use Rattle.album_permits.specs.declared.notes.Note.{Note}
 use Rattle.album_world.specs.declared.events.Event.{Event}
 use Rattle.album_world.specs.declared.events.Event.TheVariants as event
@@ -38,7 +40,7 @@ use Rattle.album_world.specs.Changes.{Change, asks_unless, asks_by, part_takes, 
 use Rattle.album_world.specs.Changes.Change.{AtPart, Stops}
 use Rattle.album_world.specs.Runs.{changed, changed_by, happens, start, run, run_of}
 use Rattle.album_world.specs.Committing.{history, IsCommittedEverywhere, IsPromisedSomewhere}
-use Rattle.album_world.specs.Viewed.{IsOnView, IsToldOn}
+use Rattle.album_world.specs.Viewed.{IsToldOn, Finds}
 use Rattle.album_world.specs.Rulings.{IsBegunBy, IsRuledBy, RulingsHold}
 use Rattle.album_world.specs.Granted.{IsOfOne, WritesAreGranted}
 use Rattle.album_world.specs.Atomic.{ViewsAreReadAtomic}
@@ -142,6 +144,13 @@ rulings_hold o es is =
       answers = λ told h. ruled_by (terms_of o) (run_of o es) told told.answer (b.led told (within _ h));
       notes = λ n h. b.noted n (within _ h);
     }
+
+-- the written policy finds one thing of a view
+pub one_finding : (case : PermitState) (f g : Finding) → Finds case f → Finds case g → f ≡ g
+one_finding case f g a b =
+    sym a.is
+    ∙ ruling-alike case.policy case.principal case.view.ask case.view.rows case.view.rows a.basis b.basis (record { same = λ item n. refl }) a.based b.based
+    ∙ b.is
 
 caused_by : (t : Terms) (w : World) (told : Told) (a : Answer) → IsLed t w told a → IsCaused w told a
 caused_by t w told (answer.Served served) h = tt

@@ -14,4 +14,4 @@ pub mod Rulings
 pub mod Granted
 pub mod Outcomes
 pub mod Busy
-pub mod Tidy
+pub mod Events

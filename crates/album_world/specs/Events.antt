@@ -1,0 +1,27 @@
+-- What holds of one event.
+use Rattle.std.specs.Prelude.{◌≡◌, ℕ, Option, Some, None, Contains}
+use Rattle.album_permits.specs.declared.notes.Note.{Note}
+use Rattle.album_world.specs.declared.clients.Client.{Client}
+use Rattle.album_world.specs.declared.outs.Answer.{Answer}
+use Rattle.album_world.specs.Past.{Transaction, Read, Told, Noted, World, last_read}
+use Rattle.album_world.specs.Turns.{Turn}
+
+-- the note is among those that the past has for the client and the read that it made last
+pub record IsNoteKept (world : World) (client : ℕ) (note : Note) : Type 0 where
+  pub noted : Noted
+  pub kept : Contains world.past.noted noted
+  pub own : noted.client ≡ client
+  pub last_is : noted.last ≡ last_read world.past.reads client
+  pub among : Contains noted.notes note
+
+-- A client whose ask is answered begins no write. Its clock sees nothing where no view is ruled on.
+pub record IsTidy (old : Client) (turn : Turn) : Type 0 where
+  pub over : (answer : Answer) → turn.answer ≡ Some answer → turn.writes ≡ None
+  pub unread : turn.noted ≡ None → turn.client.clock ≡ old.clock
+
+-- what was begun, read, told and noted is in the later past too
+pub record IsRemembered (old new : World) : Type 0 where
+  pub transactions : (by : Transaction) → Contains old.past.transactions by → Contains new.past.transactions by
+  pub reads : (read : Read) → Contains old.past.reads read → Contains new.past.reads read
+  pub told : (told : Told) → Contains old.past.told told → Contains new.past.told told
+  pub noted : (noted : Noted) → Contains old.past.noted noted → Contains new.past.noted noted
