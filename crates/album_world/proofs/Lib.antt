@@ -18,3 +18,4 @@ pub mod LedLemmas
 pub mod PromiseLemmas
 pub mod EventLemmas
 pub mod TidyLemmas
+pub mod WorldRows
