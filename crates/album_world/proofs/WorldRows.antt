@@ -1,7 +1,8 @@
 -- Short runs of a world, worked out by hand and computed.
-use Rattle.std.proofs.Common.{◌≡◌, ℕ, List, [], ◌∷◌, ◌++◌, map, Some, None, Err, refl}
+use Rattle.std.proofs.Common.{◌≡◌, ℕ, List, [], ◌∷◌, ◌++◌, map, Option, Some, None, option_map, Result, Err, refl}
 use Rattle.std.specs.List.{range_with_len}
 use Rattle.album_stamps.specs.declared.refusals.Refusal.TheVariants as refusal
+use Rattle.album_stamps.specs.declared.refusals.Refusal.{Refusal}
 use Rattle.album_access.specs.declared.types.AceType.TheVariants as sort
 use Rattle.album_lists.specs.declared.lists.Ace.{Ace}
 use Rattle.album_lists.specs.declared.whos.Who.TheVariants as who
@@ -16,6 +17,7 @@ use Rattle.album_items.specs.declared.openings.Opening.{Opening}
 use Rattle.album_items.specs.declared.values.Head.{Head}
 use Rattle.album_items.specs.declared.values.Value.{Value}
 use Rattle.album_items.specs.declared.values.Value.TheVariants as value
+use Rattle.album_reader.specs.Answers.{Answer as Row}
 use Rattle.album_views.specs.Checks.{flaw_of}
 use Rattle.album_views.specs.Naming.{first_names, names_of}
 use Rattle.album_views.specs.Seen.{seen}
@@ -23,11 +25,17 @@ use Rattle.album_views.specs.Views.{is_closed}
 use Rattle.album_views.specs.declared.asks.Ask.{Ask}
 use Rattle.album_views.specs.declared.asks.Ask.TheVariants as ask
 use Rattle.album_listing.specs.GroupsFound.{groups_found}
+use Rattle.album_listing.specs.Masks.{WRITE_ATTRIBUTES}
+use Rattle.album_eval.specs.declared.verdicts.Verdict.TheVariants.{DeniedAtEnd}
+use Rattle.album_permits.specs.declared.serving.Served.TheVariants as served
 use Rattle.album_world.specs.declared.events.Event.{Event}
 use Rattle.album_world.specs.declared.events.Event.TheVariants as event
 use Rattle.album_world.specs.declared.outs.Answer.{Answer}
 use Rattle.album_world.specs.declared.outs.Answer.TheVariants as answer
-use Rattle.album_world.specs.Past.{Told}
+use Rattle.album_world.specs.Changes.{Change, change_of}
+use Rattle.album_world.specs.Past.{Read, Told}
+use Rattle.album_world.specs.State.{Now}
+use Rattle.album_world.specs.Terms.{terms_of}
 use Rattle.album_world.specs.Runs.{run_of}
 
 -- amy and bo, by names of one letter
@@ -71,7 +79,93 @@ answers limit events = map (λ (told : Told). told.answer) (run_of (opening limi
 abbrev retitle : Event
 retitle = event.Ask 1 amy (ask.Retitle (picture 0) (66 ∷ []))
 
--- amy gives the picture another title
-committed : answers 1000 (retitle ∷ delivers 1 20) ≡ answer.Committed 65537 ∷ []
+-- amy gives the picture another title, and bo reads it
+title_read : answers 1000 (retitle ∷ delivers 1 20 ++ event.Ask 2 bo (ask.Read (picture 0)) ∷ delivers 21 16)
+    ≡ answer.Committed 65537 ∷ answer.Served (served.Picture (picture 0) 65537 (66 ∷ []) []) ∷ []
 unfolding is_match is_given is_asked mentions first_mention verdict is_noted audited flaw_of first_names names_of seen is_closed groups_found
-committed = refl
+title_read = refl
+
+-- amy adds a picture, which gets the number of her stamp
+abbrev add_picture : Event
+add_picture = event.Ask 1 amy (ask.AddPicture (album 0) (66 ∷ []) [])
+
+-- the stamps of what was read, of the last read first
+abbrev stamps_read : List Event → List (Option (List ℕ))
+stamps_read events =
+    map (λ (read : Read). option_map (λ rows. map (λ (row : Row). row.stamp) rows) read.rows)
+    (run_of (opening 1000) events).past.reads
+
+-- the Commit to the album's partition is lost; bo reads the picture and the album, and both have the write
+half_commit :
+    stamps_read (
+      add_picture ∷ delivers 1 20 ++ event.Deliver 22 ∷ event.Ask 2 bo (ask.Move (picture 65537) (album 0)) ∷ delivers 24 8
+    )
+    ≡ Some (65537 ∷ 65537 ∷ []) ∷ Some (0 ∷ 0 ∷ 0 ∷ []) ∷ Some (0 ∷ []) ∷ []
+unfolding is_match is_given is_asked mentions first_mention verdict is_noted audited flaw_of first_names names_of seen is_closed groups_found
+half_commit = refl
+
+-- a sweep comes between the two Prepares
+aborted :
+    answers 1000 (
+      add_picture ∷ delivers 1 17 ++ event.Sweep 1 65537
+      ∷ event.Deliver 20 ∷ event.Deliver 21 ∷ event.Deliver 18 ∷ event.Deliver 22 ∷ []
+    )
+    ≡ answer.Aborted 65537 ∷ []
+unfolding is_match is_given is_asked mentions first_mention verdict is_noted audited flaw_of first_names names_of seen is_closed groups_found
+aborted = refl
+
+-- a partition of two marks is full after one write
+unsettled : answers 2 (retitle ∷ delivers 1 20 ++ retitle ∷ delivers 21 18)
+    ≡ answer.Committed 65537 ∷ answer.Unsettled 131073 refusal.Full ∷ []
+unfolding is_match is_given is_asked mentions first_mention verdict is_noted audited flaw_of first_names names_of seen is_closed groups_found
+unsettled = refl
+
+-- bo may not give the picture another title
+denied : answers 1000 (event.Ask 2 bo (ask.Retitle (picture 0) (66 ∷ [])) ∷ delivers 1 16)
+    ≡ answer.Denied (record { object = picture 0; mask = WRITE_ATTRIBUTES; verdict = DeniedAtEnd } ∷ []) ∷ []
+unfolding is_match is_given is_asked mentions first_mention verdict is_noted audited flaw_of first_names names_of seen is_closed groups_found
+denied = refl
+
+-- bo's read is overtaken by a write and a trim, and is made anew
+gone : answers 1000 (
+      event.Ask 2 bo (ask.Read (picture 0)) ∷ delivers 1 2 ++ retitle ∷ delivers 4 20
+      ++ event.Trim 0 (picture 0) ∷ event.Trim 0 (picture 0) ∷ event.Deliver 3 ∷ delivers 24 17
+    )
+    ≡ answer.Committed 65537 ∷ answer.Served (served.Picture (picture 0) 65537 (66 ∷ []) []) ∷ []
+unfolding is_match is_given is_asked mentions first_mention verdict is_noted audited flaw_of first_names names_of seen is_closed groups_found
+gone = refl
+
+-- ---- refusals
+
+abbrev after : List Event → Now
+after events = (run_of (opening 1000) events).now
+
+abbrev refused : List Event → Event → Result Change Refusal
+refused events event = change_of (terms_of (opening 1000)) (after events) event
+
+busy : refused (retitle ∷ []) retitle ≡ Err refusal.ClientBusy
+unfolding flaw_of
+busy = refl
+
+-- a client that never asked can be stopped, once
+stopped : refused (event.Stop 1 ∷ []) (event.Stop 1) ≡ Err refusal.Stopped
+stopped = refl
+
+stopped_asks : refused (event.Stop 1 ∷ []) retitle ≡ Err refusal.Stopped
+stopped_asks = refl
+
+no_message : refused [] (event.Deliver 1) ≡ Err refusal.NoSuchMessage
+no_message = refl
+
+no_partition : refused [] (event.Sweep 3 65537) ≡ Err refusal.NoSuchPart
+no_partition = refl
+
+not_prepared : refused [] (event.Sweep 0 65537) ≡ Err refusal.NotPrepared
+not_prepared = refl
+
+no_owner : refused [] (event.Ask 1 principal.Anonymous (ask.AddAlbum (album 0) [])) ≡ Err refusal.NoOwner
+unfolding flaw_of
+no_owner = refl
+
+elsewhere : refused [] (event.Trim 0 (album 0)) ≡ Err refusal.Clash
+elsewhere = refl
