@@ -205,7 +205,7 @@ module _ (who : Principal) (rows : List Answer) where
       ]
     where
       one : (x m : Member) → Contains (x ∷ []) m → x ≡ m
-      one x m c = elim (Contains-push_cases [] x m c) [ | inl h ↦ absurd (omega (arith, h.1)) | inr h ↦ h ]
+      one x m c = elim (Contains-push_cases [] x m c) [ inl h ↦ absurd (omega (arith, h.1)) | inr h ↦ h ]
 
   abbrev AreIn : List ℕ → Type 0
   AreIn groups = (number : ℕ) → has groups number ≡ true → IsMember listed who number

@@ -262,13 +262,18 @@ module _ (o : Opening) (w : World) (k : IsKept o w) (b : IsBooked (terms_of o) w
 
           full_booked : is_full_for permit stamp ≡ true → IsBooked t (changed w (AtClient c (over_with (ask_ends drawn tag (answer.Refused refusal.AlbumFull)))))
           full_booked full = tells_booked drawn number drawn_own drawn_up (answer.Refused refusal.AlbumFull)
-              (λ v made at none. on_view v made (λ case. IsPermit case × IsRefusedFor v c refusal.AlbumFull case)
-              (granted, inl (refl, record {
-                stamp = stamp;
-                full = full;
-                drawn = drawn_by v (doing.Idle tag) at;
-                unused = λ r l e. ⊎_elim (λ i. unused r i e) (λ i. in_nil i) (in_cases w.past.transactions [] (subst (λ (z : List Transaction). In r z) none (within _ l)));
-              })))
+              (λ v made at none. on_view v made (λ case. IsPermit case × IsRefusedFor v c refusal.AlbumFull case) (
+                granted,
+                inl (
+                  refl,
+                  record {
+                    stamp = stamp;
+                    full = full;
+                    drawn = drawn_by v (doing.Idle tag) at;
+                    unused = λ r l e. ⊎_elim (λ i. unused r i e) (λ i. in_nil i) (in_cases w.past.transactions [] (subst (λ (z : List Transaction). In r z) none (within _ l)));
+                  },
+                ),
+              ))
 
           write_booked : served_for permit asking.viewing.ask ≡ None → is_full_for permit stamp ≡ false → IsBooked t (changed w (AtClient c (over_with (write_begins t drawn tag permit stamp))))
           write_booked unserved room =
@@ -488,4 +493,3 @@ module _ (o : Opening) (w : World) (k : IsKept o w) (b : IsBooked (terms_of o) w
       turn_booked o w k b c turn number own (le_refl _) (λ r l. none_some l)
       (record { taken = taken; count = first; few = omega arith })
       (λ r l. none_some l) (λ a l. none_some l) (λ a l. none_some l)
-

@@ -497,4 +497,3 @@ module _ (o : Opening) (some : 0 < o.parts) (w : World) (k : IsKept o w) (c : �
 
   pub asked_kept : 0 < c → c < 65536 → (tag : ℕ) → tag_of x.doing ≡ tag → (asking : Asking) (items : List ℕ) → IsKept o (changed w (AtClient c (read_begins (terms_of o) x tag asking items)))
   asked_kept low high tag was asking items = reads_kept x number own (le_refl _) None None (λ d rows i q. none_some i) tag was low high asking items
-

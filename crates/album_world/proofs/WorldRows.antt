@@ -98,7 +98,7 @@ stamps_read events =
 -- the Commit to the album's partition is lost; bo reads the picture and the album, and both have the write
 half_commit :
     stamps_read (
-      add_picture ∷ delivers 1 20 ++ event.Deliver 22 ∷ event.Ask 2 bo (ask.Move (picture 65537) (album 0)) ∷ delivers 24 8
+    add_picture ∷ delivers 1 20 ++ event.Deliver 22 ∷ event.Ask 2 bo (ask.Move (picture 65537) (album 0)) ∷ delivers 24 8
     )
     ≡ Some (65537 ∷ 65537 ∷ []) ∷ Some (0 ∷ 0 ∷ 0 ∷ []) ∷ Some (0 ∷ []) ∷ []
 unfolding is_match is_given is_asked mentions first_mention verdict is_noted audited flaw_of first_names names_of seen is_closed groups_found
@@ -107,8 +107,8 @@ half_commit = refl
 -- a sweep comes between the two Prepares
 aborted :
     answers 1000 (
-      add_picture ∷ delivers 1 17 ++ event.Sweep 1 65537
-      ∷ event.Deliver 20 ∷ event.Deliver 21 ∷ event.Deliver 18 ∷ event.Deliver 22 ∷ []
+    add_picture ∷ delivers 1 17 ++ event.Sweep 1 65537
+    ∷ event.Deliver 20 ∷ event.Deliver 21 ∷ event.Deliver 18 ∷ event.Deliver 22 ∷ []
     )
     ≡ answer.Aborted 65537 ∷ []
 unfolding is_match is_given is_asked mentions first_mention verdict is_noted audited flaw_of first_names names_of seen is_closed groups_found
@@ -128,8 +128,8 @@ denied = refl
 
 -- bo's read is overtaken by a write and a trim, and is made anew
 gone : answers 1000 (
-      event.Ask 2 bo (ask.Read (picture 0)) ∷ delivers 1 2 ++ retitle ∷ delivers 4 20
-      ++ event.Trim 0 (picture 0) ∷ event.Trim 0 (picture 0) ∷ event.Deliver 3 ∷ delivers 24 17
+    event.Ask 2 bo (ask.Read (picture 0)) ∷ delivers 1 2 ++ retitle ∷ delivers 4 20
+    ++ event.Trim 0 (picture 0) ∷ event.Trim 0 (picture 0) ∷ event.Deliver 3 ∷ delivers 24 17
     )
     ≡ answer.Committed 65537 ∷ answer.Served (served.Picture (picture 0) 65537 (66 ∷ []) []) ∷ []
 unfolding is_match is_given is_asked mentions first_mention verdict is_noted audited flaw_of first_names names_of seen is_closed groups_found
