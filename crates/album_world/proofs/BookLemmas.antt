@@ -30,7 +30,7 @@ use Rattle.album_world.specs.Changes.Change.{AtPart, AtClient, Stops}
 use Rattle.album_world.specs.Runs.{changed, read_over, reads_after, nth_after, told_to, noted_of}
 use Rattle.album_world.specs.Committing.{parts_of}
 use Rattle.album_world.specs.Viewed.{IsOnView, Finds, Notes}
-use Rattle.album_world.specs.Rulings.{IsServedBy, IsBegunBy}
+use Rattle.album_world.specs.Rulings.{IsServedBy, IsBegunBy, HasNotes, IsNotedFor}
 use Rattle.album_world.specs.Granted.{IsDrawnBy, IsGranted}
 use Rattle.album_world.specs.Outcomes.{IsToldFull, IsAlbumFull, IsSpent, IsRefusedFor}
 use Rattle.album_world.specs.Busy.{HasCause}
@@ -73,6 +73,10 @@ pub record IsWriteOn (t : Terms) (w : World) (c : ℕ) (z : WritingState) (T : T
   pub permit : by.permit ≡ permit_on t.policy read.principal read.ask rows
   pub parts : places_in z ≡ parts_of t by
   pub writer : z.client ≡ c
+  pub notes : Noted
+  pub noted : In notes w.past.noted
+  pub notes_own : notes.client ≡ c
+  pub notes_last : notes.last ≡ Some read
   pub is : T by
 
 -- the viewing counts the reads that were made for the ask before this one
@@ -90,6 +94,7 @@ IsAt t w c (doing.Commits z) = IsWriteOn t w c z (λ by. Unit {0})
 pub record IsBooked (t : Terms) (w : World) : Type 0 where
   pub granted : (by : Transaction) → In by w.past.transactions → IsGranted t w by
   pub led : (told : Told) → In told w.past.told → IsLed t w told told.answer
+  pub noting : (told : Told) → In told w.past.told → IsNotedFor w told told.answer
   pub noted : (n : Noted) → In n w.past.noted → IsOnView t w n.client n.last (λ case. Notes case n.notes)
   pub at : (c : ℕ) → IsAt t w c (client_at w.now.clients c).doing
 
@@ -98,6 +103,7 @@ pub record IsBooked (t : Terms) (w : World) : Type 0 where
 pub record Adds (w1 w2 : World) : Type 0 where
   pub transactions : (r : Transaction) → In r w1.past.transactions → In r w2.past.transactions
   pub reads : (f : Read) → In f w1.past.reads → In f w2.past.reads
+  pub noted : (n : Noted) → In n w1.past.noted → In n w2.past.noted
   pub messages : (m : Message) → In m w1.now.messages → In m w2.now.messages
   pub clocks : (c : ℕ) → (client_at w1.now.clients c).clock.counter ≤ (client_at w2.now.clients c).clock.counter
   pub unused : (d s : ℕ) → IsDrawnBy w1 d s → (r : Transaction) → In r w2.past.transactions → r.stamp ≡ s → In r w1.past.transactions
@@ -170,6 +176,19 @@ module _ (t : Terms) (w1 w2 : World) (g : Adds w1 w2) where
       view_adds told.client told.last (λ case. IsPermit case × IsRefusedFor w1 told.client why case) (λ case. IsPermit case × IsRefusedFor w2 told.client why case)
       (λ case e. (e.0, refused_adds told.client why case e.1)) h
 
+  notes_add : (told : Told) → HasNotes w1 told → HasNotes w2 told
+  notes_add told h = record { noted = h.noted; kept = contains (g.noted h.noted (within _ h.kept)); own = h.own; same = h.same }
+
+  pub noting_adds : (told : Told) (a : Answer) → IsNotedFor w1 told a → IsNotedFor w2 told a
+  noting_adds told (answer.Served served) h = notes_add told h
+  noting_adds told (answer.Denied reasons) h = notes_add told h
+  noting_adds told (answer.Missing object) h = notes_add told h
+  noting_adds told (answer.Busy why) h = tt
+  noting_adds told (answer.Committed s) h = notes_add told h
+  noting_adds told (answer.Aborted s) h = notes_add told h
+  noting_adds told (answer.Unsettled s why) h = notes_add told h
+  noting_adds told (answer.Refused why) h = notes_add told h
+
   pub write_adds : (c : ℕ) (z : WritingState) (T : Transaction → Type 0) → last_read w2.past.reads c ≡ last_read w1.past.reads c → IsWriteOn t w1 c z T → IsWriteOn t w2 c z T
   write_adds c z T same h = record {
     read = h.read;
@@ -187,6 +206,10 @@ module _ (t : Terms) (w1 w2 : World) (g : Adds w1 w2) where
     permit = h.permit;
     parts = h.parts;
     writer = h.writer;
+    notes = h.notes;
+    noted = g.noted h.notes h.noted;
+    notes_own = h.notes_own;
+    notes_last = h.notes_last;
     is = h.is;
   }
 
@@ -196,6 +219,17 @@ module _ (t : Terms) (w1 w2 : World) (g : Adds w1 w2) where
   at_adds c (doing.Prepares z) n same h = write_adds c z (λ by. by.tag ≡ z.tag) same h
   at_adds c (doing.Commits z) n same h = write_adds c z (λ by. Unit {0}) same h
 
+-- where notes were told, whatever the answer is
+pub noting_by : (w : World) (told : Told) (a : Answer) → HasNotes w told → IsNotedFor w told a
+noting_by w told (answer.Served served) h = h
+noting_by w told (answer.Denied reasons) h = h
+noting_by w told (answer.Missing object) h = h
+noting_by w told (answer.Busy why) h = tt
+noting_by w told (answer.Committed s) h = h
+noting_by w told (answer.Aborted s) h = h
+noting_by w told (answer.Unsettled s why) h = h
+noting_by w told (answer.Refused why) h = h
+
 -- ---- at a partition, and at a stop
 
 same_booked : (t : Terms) (w next : World) → Adds w next → IsBooked t w → ((r : Transaction) → In r next.past.transactions → In r w.past.transactions)
@@ -204,12 +238,13 @@ same_booked : (t : Terms) (w next : World) → Adds w next → IsBooked t w → 
 same_booked t w next g b rs ts ns at = record {
   granted = λ r l. granted_adds t w next g r (b.granted r (rs r l));
   led = λ told l. led_adds t w next g told told.answer (b.led told (ts told l));
+  noting = λ told l. noting_adds t w next g told told.answer (b.noting told (ts told l));
   noted = λ n l. view_adds t w next g n.client n.last (λ case. Notes case n.notes) (λ case. Notes case n.notes) (λ case e. e) (b.noted n (ns n l));
   at = at;
 }
 
 part_adds : (w : World) (p : ℕ) (h : PartitionState) (sent : List Message) → Adds w (changed w (AtPart p h sent))
-part_adds w p h sent = record { transactions = λ r l. l; reads = λ f l. l; messages = λ m l. in_left sent l; clocks = λ c. le_refl _; unused = λ d s b r l e. l }
+part_adds w p h sent = record { transactions = λ r l. l; reads = λ f l. l; noted = λ n l. l; messages = λ m l. in_left sent l; clocks = λ c. le_refl _; unused = λ d s b r l e. l }
 
 pub part_booked : (t : Terms) (w : World) → IsBooked t w → (p : ℕ) (h : PartitionState) (sent : List Message) → IsBooked t (changed w (AtPart p h sent))
 part_booked t w b p h sent =
@@ -218,7 +253,7 @@ part_booked t w b p h sent =
     same_booked t w next g b (λ r l. l) (λ told l. l) (λ n l. l) (λ c. at_adds t w next g c (client_at w.now.clients c).doing refl refl (b.at c))
 
 stop_adds : (w : World) (c : ℕ) → Adds w (changed w (Stops c))
-stop_adds w c = record { transactions = λ r l. l; reads = λ f l. l; messages = λ m l. l; clocks = λ c. le_refl _; unused = λ d s b r l e. l }
+stop_adds w c = record { transactions = λ r l. l; reads = λ f l. l; noted = λ n l. l; messages = λ m l. l; clocks = λ c. le_refl _; unused = λ d s b r l e. l }
 
 pub stop_booked : (t : Terms) (w : World) → IsBooked t w → (c : ℕ) → IsBooked t (changed w (Stops c))
 stop_booked t w b c =
@@ -270,6 +305,7 @@ module _ (o : Opening) (w : World) (k : IsKept o w) (b : IsBooked (terms_of o) w
     turn_adds = record {
       transactions = λ r l. in_left (option_to_list t.writes) l;
       reads = λ f l. in_right (option_to_list (option_map (read_over begun_here) t.over)) l;
+      noted = λ n l. in_left (option_to_list (option_map (noted_of (reads_after w.past c t) c) t.noted)) l;
       messages = λ m l. in_left t.sent l;
       clocks = λ d. ⊎_elim
           (λ (e : (c ≡ d) × (client_at next.now.clients d ≡ t.client)).
@@ -282,13 +318,19 @@ module _ (o : Opening) (w : World) (k : IsKept o w) (b : IsBooked (terms_of o) w
 
     pub turn_booked : IsAt (terms_of o) next c t.client.doing → ((r : Transaction) → t.writes ≡ Some r → IsGranted (terms_of o) next r)
         → ((a : Answer) → t.answer ≡ Some a → IsLed (terms_of o) next (told_to (reads_after w.past c t) c a) a)
+        → ((a : Answer) → t.answer ≡ Some a → IsNotedFor next (told_to (reads_after w.past c t) c a) a)
         → ((n : List Note) → t.noted ≡ Some n → IsOnView (terms_of o) next c (last_read (reads_after w.past c t) c) (λ case. Notes case n)) → IsBooked (terms_of o) next
-    turn_booked does begins answers notes = record {
+    turn_booked does begins answers noting notes = record {
       granted = λ r h. ⊎_elim (λ l. granted_adds (terms_of o) w next turn_adds r (b.granted r l)) (λ l. begins r (in_option t.writes l)) (in_cases w.past.transactions (option_to_list t.writes) h);
       led = λ a h. ⊎_elim
           (λ l. led_adds (terms_of o) w next turn_adds a a.answer (b.led a l))
           (λ l. let q = in_mapped (told_to (reads_after w.past c t) c) t.answer l in
           subst (λ (z : Told). IsLed (terms_of o) next z z.answer) (sym q.2) (answers q.0 q.1))
+          (in_cases w.past.told (option_to_list (option_map (told_to (reads_after w.past c t) c) t.answer)) h);
+      noting = λ a h. ⊎_elim
+          (λ l. noting_adds (terms_of o) w next turn_adds a a.answer (b.noting a l))
+          (λ l. let q = in_mapped (told_to (reads_after w.past c t) c) t.answer l in
+          subst (λ (z : Told). IsNotedFor next z z.answer) (sym q.2) (noting q.0 q.1))
           (in_cases w.past.told (option_to_list (option_map (told_to (reads_after w.past c t) c) t.answer)) h);
       noted = λ a h. ⊎_elim
           (λ l. view_adds (terms_of o) w next turn_adds a.client a.last (λ case. Notes case a.notes) (λ case. Notes case a.notes) (λ case e. e) (b.noted a l))

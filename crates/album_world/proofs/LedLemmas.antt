@@ -55,9 +55,9 @@ use Rattle.album_world.specs.Grants.{served_for}
 use Rattle.album_world.specs.Turns.{Ended, Turn, still, sends, read_begins, ask_ends, write_begins, writes_unless, draws_by, grants, rules_by, clock_after_rows, read_ends, read_turn, prepare_turn, commit_turn}
 use Rattle.album_world.specs.Changes.Change.{AtClient, Nothing}
 use Rattle.album_world.specs.Changes.{client_takes_by, client_takes}
-use Rattle.album_world.specs.Runs.{changed, read_over, nth_after, told_to}
+use Rattle.album_world.specs.Runs.{changed, read_over, nth_after, told_to, noted_of}
 use Rattle.album_world.specs.Viewed.{IsOnView, Finds, Notes}
-use Rattle.album_world.specs.Rulings.{IsBegunBy}
+use Rattle.album_world.specs.Rulings.{IsBegunBy, HasNotes, IsNotedFor}
 use Rattle.album_world.specs.Granted.{IsDrawnBy, IsGranted}
 use Rattle.album_world.specs.Outcomes.{IsAlbumFull, IsRefusedFor}
 use Rattle.album_world.specs.Busy.{IsNarrow}
@@ -68,7 +68,7 @@ use Rattle.album_world.proofs.Invariant.{IsKept, IsDoing}
 use Rattle.album_world.proofs.TurnLemmas.{IsNew, not_same, same_now}
 use Rattle.album_world.proofs.ReplyLemmas.{with_past}
 use Rattle.album_world.proofs.GrantLemmas.{served_is, unserved_writes, taken_flawless, spent_is}
-use Rattle.album_world.proofs.BookLemmas.{IsLed, IsWriteOn, IsBegunFull, IsCount, IsAt, IsBooked, led_adds, write_adds, at_adds, begun_client, last_here, turn_adds, turn_booked}
+use Rattle.album_world.proofs.BookLemmas.{IsLed, IsWriteOn, IsBegunFull, IsCount, IsAt, IsBooked, led_adds, noting_adds, noting_by, write_adds, at_adds, begun_client, last_here, turn_adds, turn_booked}
 
 module _ (o : Opening) (w : World) (k : IsKept o w) (b : IsBooked (terms_of o) w) (c : ℕ) where
   abbrev x : Client
@@ -91,16 +91,18 @@ module _ (o : Opening) (w : World) (k : IsKept o w) (b : IsBooked (terms_of o) w
       let up : x.clock.counter ≤ y.clock.counter = le_of_eq (ap (λ (z : ClockState). z.counter) (sym clock)) in
       turn_booked o w k b c (sends y sent) n m up (λ r l. none_some l)
       (at_adds t w (changed w (AtClient c (sends y sent))) (turn_adds o w k b c (sends y sent) n m up (λ r l. none_some l)) c y.doing refl refl does)
-      (λ r l. none_some l) (λ a l. none_some l) (λ a l. none_some l)
+      (λ r l. none_some l) (λ a l. none_some l) (λ a l. none_some l) (λ a l. none_some l)
 
   -- a write is over
-  outcome_booked : (tag : ℕ) (a : Answer) → IsLed t w (told_to w.past.reads c a) a → IsBooked t (changed w (AtClient c (ask_ends x tag a)))
-  outcome_booked tag a led =
+  outcome_booked : (tag : ℕ) (a : Answer) → IsLed t w (told_to w.past.reads c a) a → IsNotedFor w (told_to w.past.reads c a) a → IsBooked t (changed w (AtClient c (ask_ends x tag a)))
+  outcome_booked tag a led noting =
       let turn = ask_ends x tag a in
       let next = changed w (AtClient c turn) in
       turn_booked o w k b c turn number own (le_refl _) (λ r l. none_some l) tt (λ r l. none_some l)
       (λ z l. subst (λ (y : Answer). IsLed t next (told_to w.past.reads c y) y) (some_same l)
       (led_adds t w next (turn_adds o w k b c turn number own (le_refl _) (λ r l. none_some l)) (told_to w.past.reads c a) a led))
+      (λ z l. subst (λ (y : Answer). IsNotedFor next (told_to w.past.reads c y) y) (some_same l)
+      (noting_adds t w next (turn_adds o w k b c turn number own (le_refl _) (λ r l. none_some l)) (told_to w.past.reads c a) a noting))
       (λ a l. none_some l)
 
   -- ---- a read that is over
@@ -126,6 +128,7 @@ module _ (o : Opening) (w : World) (k : IsKept o w) (b : IsBooked (terms_of o) w
         let next = changed w (AtClient c turn) in
         turn_booked o w k b c turn number own (le_refl _) (λ r l. none_some l) tt (λ r l. none_some l)
         (λ z l. subst (λ (y : Answer). IsLed t next (told_to (read_now rows ∷ w.past.reads) c y) y) (some_same l) (led next here))
+        (λ z l. subst (λ (y : Answer). IsNotedFor next (told_to (read_now rows ∷ w.past.reads) c y) y) (some_same l) tt)
         (λ a l. none_some l)
 
     again_booked : (rows : Option (List Found)) → ((read_now rows).rows ≡ None) ⊎ IsNarrow (read_now rows) → (items : List ℕ)
@@ -159,7 +162,7 @@ module _ (o : Opening) (w : World) (k : IsKept o w) (b : IsBooked (terms_of o) w
               count = here_now ∙ ap (λ (z : ℕ). z + 1) counted.count;
               few = (let a : asking.viewing.reads + 1 < MOST_READS = leb-false MOST_READS (asking.viewing.reads + 1) e in a);
             })
-            (λ r l. none_some l) (λ a l. none_some l) (λ a l. none_some l)
+            (λ r l. none_some l) (λ a l. none_some l) (λ a l. none_some l) (λ a l. none_some l)
 
     -- ---- a view
 
@@ -219,6 +222,7 @@ module _ (o : Opening) (w : World) (k : IsKept o w) (b : IsBooked (terms_of o) w
           let next = changed w (AtClient c turn) in
           turn_booked o w k b c turn ny oy up (λ r l. none_some l) tt (λ r l. none_some l)
           (λ z l. subst (λ (q : Answer). IsLed t next (told_to (here_read ∷ w.past.reads) c q) q) (some_same l) (led next here (same_now o w k c turn ny oy) refl))
+          (λ z l. noting_by next (told_to (here_read ∷ w.past.reads) c z) z (record { noted = noted_of (here_read ∷ w.past.reads) c notes; kept = contains (in_right w.past.noted here); own = refl; same = refl }))
           (noted_now next here)
 
       known : is_client c ≡ true
@@ -300,6 +304,10 @@ module _ (o : Opening) (w : World) (k : IsKept o w) (b : IsBooked (terms_of o) w
                 permit = refl;
                 parts = refl;
                 writer = number;
+                notes = noted_of (here_read ∷ w.past.reads) c notes;
+                noted = in_right w.past.noted here;
+                notes_own = refl;
+                notes_last = is_last (Some rows);
                 is = refl;
               })
               (λ s l. subst (IsGranted t next) (some_same l)
@@ -316,6 +324,7 @@ module _ (o : Opening) (w : World) (k : IsKept o w) (b : IsBooked (terms_of o) w
                 drawn = subst (λ (z : ℕ). IsDrawnBy next z stamp) (sym number) (drawn_by next turn.client.doing same);
                 later = λ row i. later row (within rows i);
               }))
+              (λ a l. none_some l)
               (λ a l. none_some l)
               (noted_now next here)
 
@@ -393,6 +402,9 @@ module _ (o : Opening) (w : World) (k : IsKept o w) (b : IsBooked (terms_of o) w
   committed_led : (z : WritingState) (T : Transaction → Type 0) → IsWriteOn t w c z T → IsOnView t w c (last_read w.past.reads c) (IsBegunBy w c z.stamp)
   committed_led z T h = on_write z T h (IsBegunBy w c z.stamp) (begun_by z T h)
 
+  noting_of : (z : WritingState) (T : Transaction → Type 0) → IsWriteOn t w c z T → (a : Answer) → HasNotes w (told_to w.past.reads c a)
+  noting_of z T h a = record { noted = h.notes; kept = contains h.noted; own = h.notes_own; same = h.notes_last ∙ sym h.last }
+
   abbrev preparing : WritingState → Client
   preparing z = record x { doing = doing.Prepares z }
 
@@ -417,6 +429,10 @@ module _ (o : Opening) (w : World) (k : IsKept o w) (b : IsBooked (terms_of o) w
     permit = h.permit;
     parts = places ∙ h.parts;
     writer = client ∙ h.writer;
+    notes = h.notes;
+    noted = h.noted;
+    notes_own = h.notes_own;
+    notes_last = h.notes_last;
     is = more h.by h.is;
   }
 
@@ -435,7 +451,7 @@ module _ (o : Opening) (w : World) (k : IsKept o w) (b : IsBooked (terms_of o) w
 
     prepared_booked : IsWriteOn t w c z Tagged → (what : Heard) → told_of z m ≡ what → IsBooked t (changed w (AtClient c (prepare_turn x z.tag (prepares_by z m.from what))))
     prepared_booked h told.Prepared e = left_booked (answered_by z m.from) refl refl refl refl h (answered_by z m.from).awaited
-    prepared_booked h told.Discarded e = outcome_booked z.tag (answer.Aborted z.stamp) (committed_led z Tagged h)
+    prepared_booked h told.Discarded e = outcome_booked z.tag (answer.Aborted z.stamp) (committed_led z Tagged h) (noting_of z Tagged h (answer.Aborted z.stamp))
     prepared_booked h told.Full e =
         let d = told_to_is z m told.Full e tt in
         outcome_booked z.tag (answer.Unsettled z.stamp refusal.Full)
@@ -453,12 +469,14 @@ module _ (o : Opening) (w : World) (k : IsKept o w) (b : IsBooked (terms_of o) w
             says = d.says ∙ ap (λ (s : ℕ). body.Reply (reply.Full s)) (sym h.stamp);
           };
         }))
+        (noting_of z Tagged h (answer.Unsettled z.stamp refusal.Full))
     prepared_booked h told.Committed e = quiet_booked (preparing z) refl refl h []
     prepared_booked h told.Nothing e = quiet_booked (preparing z) refl refl h []
 
     ended_booked : (y : WritingState) → y.stamp ≡ z.stamp → places_in y ≡ places_in z → y.client ≡ z.client → IsWriteOn t w c z Whatever → (awaited : List ℕ) → IsBooked t (changed w (AtClient c (commit_turn x z.tag (commits_left y awaited))))
     ended_booked y stamp places client h [] =
         outcome_booked z.tag (answer.Committed y.stamp) (committed_led y Whatever (same_write z y Whatever Whatever stamp places client (λ r e. e) h))
+        (noting_of z Whatever h (answer.Committed y.stamp))
     ended_booked y stamp places client h (p ∷ ps) = quiet_booked (committing y) refl refl (same_write z y Whatever Whatever stamp places client (λ r e. e) h) []
 
     committed_booked : IsWriteOn t w c z Whatever → (what : Heard) → told_of z m ≡ what → IsBooked t (changed w (AtClient c (commit_turn x z.tag (commits_by z m.from what))))
@@ -492,4 +510,4 @@ module _ (o : Opening) (w : World) (k : IsKept o w) (b : IsBooked (terms_of o) w
       let first : (last_begun next.past.begun c).nth ≡ 1 = ap (λ (f : Bool). (cond f (let s : Begun = record { client = c; nth = 1; partitions = w.now.partitions } in s) (last_begun w.past.begun c)).nth) (self_eqb c) in
       turn_booked o w k b c turn number own (le_refl _) (λ r l. none_some l)
       (record { taken = taken; count = first; few = omega arith })
-      (λ r l. none_some l) (λ a l. none_some l) (λ a l. none_some l)
+      (λ r l. none_some l) (λ a l. none_some l) (λ a l. none_some l) (λ a l. none_some l)

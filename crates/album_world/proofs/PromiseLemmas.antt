@@ -120,7 +120,7 @@ run_booked o some w k b (e ∷ es) = run_booked o some (happens (terms_of o) w e
 pub always_booked : (o : Opening) (es : List Event) → is_opening o ≡ true → IsBooked (terms_of o) (run_of o es)
 always_booked o es is =
     let d = opening_is o is in
-    run_booked o d.some (start o) (start_kept o d) (record { granted = λ r h. in_nil h; led = λ t h. in_nil h; noted = λ n h. in_nil h; at = λ c. tt }) es
+    run_booked o d.some (start o) (start_kept o d) (record { granted = λ r h. in_nil h; led = λ t h. in_nil h; noting = λ t h. in_nil h; noted = λ n h. in_nil h; at = λ c. tt }) es
 
 -- ---- the promises
 
@@ -142,6 +142,7 @@ rulings_hold o es is =
     let b = always_booked o es is in
     record {
       answers = λ told h. ruled_by (terms_of o) (run_of o es) told told.answer (b.led told (within _ h));
+      noted = λ told h. b.noting told (within _ h);
       notes = λ n h. b.noted n (within _ h);
     }
 

@@ -37,9 +37,29 @@ IsRuledBy terms world told (answer.Aborted stamp) = IsToldOn terms world told (I
 IsRuledBy terms world told (answer.Unsettled stamp why) = IsToldOn terms world told (IsBegunBy world told.client stamp)
 IsRuledBy terms world told (answer.Refused why) = IsToldOn terms world told IsPermit
 
--- each answer that was ever told is, and all that was ever noted is noted of such a view
+-- of the view on which the client was told something, notes were told too
+pub record HasNotes (world : World) (told : Told) : Type 0 where
+  pub noted : Noted
+  pub kept : Contains world.past.noted noted
+  pub own : noted.client ≡ told.client
+  pub same : noted.last ≡ told.last
+
+-- of each view that has led to an answer
+abbrev pub IsNotedFor : World → Told → Answer → Type 0
+IsNotedFor world told (answer.Served served) = HasNotes world told
+IsNotedFor world told (answer.Denied reasons) = HasNotes world told
+IsNotedFor world told (answer.Missing object) = HasNotes world told
+IsNotedFor world told (answer.Busy why) = Unit {0}
+IsNotedFor world told (answer.Committed stamp) = HasNotes world told
+IsNotedFor world told (answer.Aborted stamp) = HasNotes world told
+IsNotedFor world told (answer.Unsettled stamp why) = HasNotes world told
+IsNotedFor world told (answer.Refused why) = HasNotes world told
+
+-- Each answer that was ever told is ruled so, and of its view was noted what there is to be noted (it may be nothing). All
+-- that was ever noted is noted of such a view.
 pub record RulingsHold (terms : Terms) (world : World) : Type 0 where
   pub answers : (told : Told) → Contains world.past.told told → IsRuledBy terms world told told.answer
+  pub noted : (told : Told) → Contains world.past.told told → IsNotedFor world told told.answer
   pub notes :
       (noted : Noted) → Contains world.past.noted noted
       → IsOnView terms world noted.client noted.last (λ case. Notes case noted.notes)
