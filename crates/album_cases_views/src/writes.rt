@@ -116,7 +116,7 @@ fn is_sent(message: &Message, part: u16, tag: u64) -> bool {
     }
 }
 
-/// Whether it asks to prepare another list/`number` of all that amy writes.
+/// Whether it asks to prepare this list alone, of the two that are written.
 fn asks_prepare(alloc: Global, body: &Body, list: &str) -> Result<bool, Refusal> {
     let entries = list_of(alloc, &[(ALLOW, "EVERYONE@", 1, 0)])?;
     let rows = [(item_of(list)?, Value::List(entries))];
@@ -477,7 +477,7 @@ fn replies_carry_a_write_on(rt: HostRuntime) {
     }
 }
 
-/// The partitions to which Commits of `T` are sent under the tag 6, once both have prepared.
+/// How many Commits are sent once both have prepared, and whether they are those of `T`, rising, under the tag 6.
 fn commits(alloc: Global) -> Result<(usize, bool), Refusal> {
     let (preparing, _prepares) = begun(alloc, lists(alloc)?)?;
     match prepare_given_twice(preparing)? {
