@@ -9,7 +9,6 @@ use Rattle.album_items.specs.Values.{children_of}
 use Rattle.album_items.specs.declared.values.Value.{Value}
 use Rattle.album_items.specs.declared.values.Value.TheVariants as value
 use Rattle.album_views.specs.Views.{ViewState}
-use Rattle.album_views.specs.declared.asks.Ask.{Ask}
 use Rattle.album_views.specs.declared.asks.Ask.TheVariants as ask
 use Rattle.album_listing.specs.Basis.{Basis, IsBasis}
 use Rattle.album_listing.specs.Masks.{READ_ATTRIBUTES}

@@ -36,10 +36,13 @@ owned owner number head = record head { owner = owner; group = number }
 
 abbrev pub with_owner : List ℕ → ℕ → Value → Value
 with_owner owner number value.Missing = value.Missing
-with_owner owner number (value.Picture picture) = value.Picture (record picture { head = owned owner number picture.head })
-with_owner owner number (value.Album album) = value.Album (record album { head = owned owner number album.head })
+with_owner owner number (value.Picture picture) =
+    value.Picture (record picture { head = owned owner number picture.head })
+with_owner owner number (value.Album album) =
+    value.Album (record album { head = owned owner number album.head })
 with_owner owner number (value.List entries) = value.List entries
-with_owner owner number (value.Group group) = value.Group (record group { head = owned owner number group.head })
+with_owner owner number (value.Group group) =
+    value.Group (record group { head = owned owner number group.head })
 
 -- other members of a group
 abbrev pub with_members : List Member → Value → Value
