@@ -1,6 +1,6 @@
 -- Each turn of a client is tidy.
-use Rattle.std.proofs.Common.{◌≡◌, ℕ, Bool, true, false, not, List, [], Option, Some, None, Result, Ok, Err, sym, subst, refl, if◌then◌else◌}
-use Rattle.std.specs.List.{slice_get}
+use Rattle.std.proofs.Common.{◌≡◌, ℕ, Bool, true, false, not, nat_lt, ◌==◌, List, [], ◌∷◌, ◌⊎◌, inl, inr, Option, Some, None, Result, Ok, Err, sym, subst, refl, if◌then◌else◌}
+use Rattle.std.specs.List.{slice_get, list_any}
 use Rattle.album_stamps.specs.Clocks.{ClockState, clock_after_next, next_of}
 use Rattle.album_stamps.specs.Outcome.{◌>>=◌}
 use Rattle.album_stamps.specs.Stamps.{is_client}
@@ -40,14 +40,15 @@ use Rattle.album_world.specs.declared.clients.Doing.{Doing}
 use Rattle.album_world.specs.declared.clients.Doing.TheVariants as doing
 use Rattle.album_world.specs.declared.outs.Answer.{Answer}
 use Rattle.album_world.specs.Terms.{Terms}
-use Rattle.album_world.specs.State.{Now, client_at, message_of, is_stopped}
-use Rattle.album_world.specs.Past.{Transaction}
+use Rattle.album_world.specs.State.{Now, client_at, message_of, is_stopped, with_number}
+use Rattle.album_world.specs.Past.{World, Transaction}
+use Rattle.album_world.specs.Runs.{changed, changed_by, happens, run}
 use Rattle.album_world.specs.Grants.{served_for}
 use Rattle.album_world.specs.Turns.{Turn, read_begins, writes_unless, draws_by, grants, rules_by, clock_after_rows, views_by, read_turn, prepare_turn, commit_turn}
 use Rattle.album_world.specs.Changes.{Change, asks_unless, asks_by, part_takes, client_takes_by, client_takes, arrives, delivers, sweeps, trims, change_of}
 use Rattle.album_world.specs.Changes.Change.{Nothing, AtPart, AtClient, Stops}
 use Rattle.album_world.specs.Events.{IsTidy}
-use Rattle.album_world.proofs.ListLemmas.{none_some}
+use Rattle.album_world.proofs.ListLemmas.{none_some, or_cases, true_or, or_true, self_eqb}
 
 -- where it is answered, no write begins
 abbrev IsOver : Turn → Type 0
@@ -56,7 +57,7 @@ IsOver turn = (a : Answer) → turn.answer ≡ Some a → turn.writes ≡ None
 abbrev AreTidy : Now → Change → Type 0
 AreTidy now Nothing = Unit {0}
 AreTidy now (AtPart p h sent) = Unit {0}
-AreTidy now (AtClient c t) = IsTidy (client_at now.clients c) t
+AreTidy now (AtClient c t) = IsTidy (client_at now.clients c) t × (is_stopped now c ≡ false)
 AreTidy now (Stops c) = Unit {0}
 
 abbrev AreTidyIn : Now → Result Change Refusal → Type 0
@@ -111,32 +112,32 @@ module _ (terms : Terms) (now : Now) (c : ℕ) where
   commit_tidy tag (Commits z sent) = record { over = λ a e. none_some e; unread = λ e. refl }
   commit_tidy tag (Ends outcome) = record { over = λ a e. refl; unread = λ e. refl }
 
-  takes_by_tidy : (m : Message) (f : Doing) → AreTidy now (client_takes_by terms c x m f)
-  takes_by_tidy m (doing.Idle tag) = tt
-  takes_by_tidy m (doing.Reads asking r) = read_tidy asking r.asker.tag (stepped r m)
-  takes_by_tidy m (doing.Prepares z) = prepare_tidy z.tag (prepare_stepped z m)
-  takes_by_tidy m (doing.Commits z) = commit_tidy z.tag (commit_stepped z m)
+  takes_by_tidy : (m : Message) → is_stopped now c ≡ false → (f : Doing) → AreTidy now (client_takes_by terms c x m f)
+  takes_by_tidy m awake (doing.Idle tag) = tt
+  takes_by_tidy m awake (doing.Reads asking r) = (read_tidy asking r.asker.tag (stepped r m), awake)
+  takes_by_tidy m awake (doing.Prepares z) = (prepare_tidy z.tag (prepare_stepped z m), awake)
+  takes_by_tidy m awake (doing.Commits z) = (commit_tidy z.tag (commit_stepped z m), awake)
 
   client_tidy : (m : Message) → AreTidy now (client_takes terms now c x m)
-  client_tidy m = go (is_stopped now c)
+  client_tidy m = go (is_stopped now c) refl
     where
-      go : (f : Bool) → AreTidy now (if f then Nothing else client_takes_by terms c x m x.doing)
-      go true = tt
-      go false = takes_by_tidy m x.doing
+      go : (f : Bool) → is_stopped now c ≡ f → AreTidy now (if f then Nothing else client_takes_by terms c x m x.doing)
+      go true awake = tt
+      go false awake = takes_by_tidy m awake x.doing
 
-  unless_tidy : (f : Bool) (r : Refusal) (g : Result Change Refusal) → AreTidyIn now g → AreTidyIn now (if f then Err r else g)
+  unless_tidy : (f : Bool) (r : Refusal) (g : Result Change Refusal) → (f ≡ false → AreTidyIn now g) → AreTidyIn now (if f then Err r else g)
   unless_tidy true r g h = tt
-  unless_tidy false r g h = h
+  unless_tidy false r g h = h refl
 
-  asks_tidy : (who : Principal) (ask : Ask) (f : Doing) → AreTidyIn now (asks_by terms c x who ask f)
-  asks_tidy who ask (doing.Idle tag) = go (refusal_of ask who)
+  asks_tidy : (who : Principal) (ask : Ask) → is_stopped now c ≡ false → (f : Doing) → AreTidyIn now (asks_by terms c x who ask f)
+  asks_tidy who ask awake (doing.Idle tag) = go (refusal_of ask who)
     where
       go : (f : Option Refusal) → AreTidyIn now (asks_unless terms c x tag who ask f)
       go (Some r) = tt
-      go None = record { over = λ a e. none_some e; unread = λ e. refl }
-  asks_tidy who ask (doing.Reads v r) = tt
-  asks_tidy who ask (doing.Prepares z) = tt
-  asks_tidy who ask (doing.Commits z) = tt
+      go None = (record { over = λ a e. none_some e; unread = λ e. refl }, awake)
+  asks_tidy who ask awake (doing.Reads v r) = tt
+  asks_tidy who ask awake (doing.Prepares z) = tt
+  asks_tidy who ask awake (doing.Commits z) = tt
 
 arrival_tidy : (terms : Terms) (now : Now) (m : Message) (n : Node) → AreTidy now (arrives terms now m n)
 arrival_tidy terms now m (Part p) = go (slice_get now.partitions p)
@@ -148,7 +149,7 @@ arrival_tidy terms now m (ToClient c) = client_tidy terms now c m
 
 event_tidy : (terms : Terms) (now : Now) (e : Event) → AreTidyIn now (change_of terms now e)
 event_tidy terms now (event.Ask c who ask) =
-    unless_tidy terms now c (not (is_client c)) refusal.BadRequest _ (unless_tidy terms now c (is_stopped now c) refusal.Stopped _ (asks_tidy terms now c who ask (client_at now.clients c).doing))
+    unless_tidy terms now c (not (is_client c)) refusal.BadRequest _ (λ known. unless_tidy terms now c (is_stopped now c) refusal.Stopped _ (λ awake. asks_tidy terms now c who ask awake (client_at now.clients c).doing))
 event_tidy terms now (event.Deliver n) = go (message_of now.messages n)
   where
     go : (f : Option Message) → AreTidyIn now (delivers terms now f)
@@ -172,7 +173,52 @@ event_tidy terms now (event.Trim p i) = go (slice_get now.partitions p)
     go : (f : Option PartitionState) → AreTidyIn now (trims p i f)
     go None = tt
     go (Some h) = by (trimmed h i)
-event_tidy terms now (event.Stop c) = unless_tidy terms now c (is_stopped now c) refusal.Stopped (Ok (Stops c)) tt
+event_tidy terms now (event.Stop c) = unless_tidy terms now c (is_stopped now c) refusal.Stopped (Ok (Stops c)) (λ awake. tt)
 
 pub turn_tidy : (terms : Terms) (now : Now) (e : Event) (c : ℕ) (t : Turn) → change_of terms now e ≡ Ok (AtClient c t) → IsTidy (client_at now.clients c) t
-turn_tidy terms now e c t h = subst (AreTidyIn now) h (event_tidy terms now e)
+turn_tidy terms now e c t h = (subst (AreTidyIn now) h (event_tidy terms now e)).0
+
+-- no client that was stopped has a turn
+pub turn_awake : (terms : Terms) (now : Now) (e : Event) (c : ℕ) (t : Turn) → change_of terms now e ≡ Ok (AtClient c t) → is_stopped now c ≡ false
+turn_awake terms now e c t h = (subst (AreTidyIn now) h (event_tidy terms now e)).1
+
+-- ---- stops
+
+with_more : (test : ℕ → Bool) (n : ℕ) (ns : List ℕ) → list_any test ns ≡ true → list_any test (with_number n ns) ≡ true
+with_more test n [] h = absurd (cc)
+with_more test n (m ∷ ns) h = go (nat_lt n m) (or_cases (test m) (list_any test ns) h) (with_more test n ns)
+  where
+    go : (b : Bool) → (test m ≡ true) ⊎ (list_any test ns ≡ true) → (list_any test ns ≡ true → list_any test (with_number n ns) ≡ true) → list_any test (if b then n ∷ m ∷ ns else m ∷ with_number n ns) ≡ true
+    go true (inl e) rest = or_true (test n) _ (true_or (test m) _ e)
+    go true (inr e) rest = or_true (test n) _ (or_true (test m) _ e)
+    go false (inl e) rest = true_or (test m) _ e
+    go false (inr e) rest = or_true (test m) _ (rest e)
+
+with_this : (n : ℕ) (ns : List ℕ) → list_any (λ m. m == n) (with_number n ns) ≡ true
+with_this n [] = true_or (n == n) false (self_eqb n)
+with_this n (m ∷ ns) = go (nat_lt n m) (with_this n ns)
+  where
+    go : (b : Bool) → list_any (λ m. m == n) (with_number n ns) ≡ true → list_any (λ m. m == n) (if b then n ∷ m ∷ ns else m ∷ with_number n ns) ≡ true
+    go true rest = true_or (n == n) _ (self_eqb n)
+    go false rest = or_true (m == n) _ rest
+
+stays_stopped : (w : World) (ch : Change) (c : ℕ) → is_stopped w.now c ≡ true → is_stopped (changed w ch).now c ≡ true
+stays_stopped w Nothing c h = h
+stays_stopped w (AtPart p q sent) c h = h
+stays_stopped w (AtClient d t) c h = h
+stays_stopped w (Stops d) c h = with_more (λ m. m == c) d w.now.stopped h
+
+pub stopped_for_good : (terms : Terms) (w : World) (es : List Event) (c : ℕ) → is_stopped w.now c ≡ true → is_stopped (run terms w es).now c ≡ true
+stopped_for_good terms w [] c h = h
+stopped_for_good terms w (e ∷ es) c h = stopped_for_good terms (happens terms w e) es c (go (change_of terms w.now e))
+  where
+    go : (f : Result Change Refusal) → is_stopped (changed_by w f).now c ≡ true
+    go (Ok ch) = stays_stopped w ch c h
+    go (Err r) = h
+
+pub stop_stops : (terms : Terms) (w : World) (c : ℕ) → is_stopped (happens terms w (event.Stop c)).now c ≡ true
+stop_stops terms w c = go (is_stopped w.now c) refl
+  where
+    go : (f : Bool) → is_stopped w.now c ≡ f → is_stopped (changed_by w (if f then Err refusal.Stopped else Ok (Stops c))).now c ≡ true
+    go true e = e
+    go false e = with_this c w.now.stopped

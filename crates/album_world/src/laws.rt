@@ -1,7 +1,5 @@
 // What holds of every run of a world: of every list of events, from any opening.
-ghost use Rattle.std.specs.Prelude.{◌≡◌, ◌≢◌, ℕ, List, true, Ok, Some, Contains};
-ghost use Rattle.album_eval.specs.declared.facts.Principal.{Principal};
-ghost use Rattle.album_eval.specs.declared.policies.Policy.{Policy};
+ghost use Rattle.std.specs.Prelude.{◌≡◌, ℕ, List, true, false, Ok, Some, Contains};
 ghost use Rattle.album_items.specs.Openings.{is_opening};
 ghost use Rattle.album_items.specs.declared.openings.Opening.{Opening};
 ghost use Rattle.album_permits.specs.Permits.{PermitState};
@@ -21,11 +19,12 @@ ghost use Rattle.album_world.specs.Outcomes.{OutcomesAreTrue};
 ghost use Rattle.album_world.specs.Past.{World, last_begun};
 ghost use Rattle.album_world.specs.Rulings.{RulingsHold};
 ghost use Rattle.album_world.specs.Runs.{changed, happens, run, run_of, tells, told_to};
-ghost use Rattle.album_world.specs.State.{Now, client_at};
+ghost use Rattle.album_world.specs.State.{Now, client_at, is_stopped};
 ghost use Rattle.album_world.specs.Terms.{Terms, terms_of};
 ghost use Rattle.album_world.specs.Turns.{Turn};
 ghost use Rattle.album_world.specs.Viewed.{Finds};
 ghost use Rattle.album_world.specs.declared.events.Event.{Event as Happening};
+ghost use Rattle.album_world.specs.declared.events.Event.TheVariants as Event;
 ghost use Rattle.album_world.specs.declared.outs.Answer.{Answer as Answered};
 ghost use Rattle.album_world.specs.declared.outs.Out.TheVariants as Told;
 
@@ -113,4 +112,14 @@ pub fn a_read_begins_with_its_partitions()
 pub fn turns_are_tidy()
     ensures { (terms : Terms) (now : Now) (event : Happening) (client : ℕ) (turn : Turn)
         → change_of terms now event ≡ Ok (AtClient client turn) → IsTidy (client_at now.clients client) turn }
+{}
+
+/// A law: a client that is stopped stays so, whatever happens, and does nothing any more.
+pub fn stops_are_for_good()
+    ensures stopped { (terms : Terms) (world : World) (client : ℕ)
+        → is_stopped (happens terms world (Event.Stop client)).now client ≡ true }
+    ensures stays { (terms : Terms) (world : World) (events : List Happening) (client : ℕ)
+        → is_stopped world.now client ≡ true → is_stopped (run terms world events).now client ≡ true }
+    ensures still { (terms : Terms) (now : Now) (event : Happening) (client : ℕ) (turn : Turn)
+        → change_of terms now event ≡ Ok (AtClient client turn) → is_stopped now client ≡ false }
 {}
