@@ -30,7 +30,7 @@ use Rattle.album_partition.specs.Votes.{NotedVote, new_vote, heard, has_vote}
 use Rattle.album_partition.specs.Answers.{Effect, nothing, says, marks, marks_and_says, prepare_by, commit_by, check_by, get_by, to_get, mark_by, to_part, to_prepared, to_vote, to_status, to_request, to_reply, to_body, effect_of}
 use Rattle.album_partition.specs.Partition.{PartitionState, value_at, stamp_for, read_at}
 use Rattle.album_partition.specs.Proper.{is_proper}
-use Rattle.album_partition.specs.Marks.{prepares, commits, discards, state_by, state_of, is_pending, is_full, value_in, version, mark_items, items_at, IsPromisedAgainst}
+use Rattle.album_partition.specs.Marks.{prepares, commits, state_by, state_of, is_pending, is_full, value_in, version, mark_items, items_at, IsPromisedAgainst}
 use Rattle.album_items.specs.Places.{lies_at, others_of}
 use Rattle.album_partition.proofs.StateLemmas.{unknown_tells, pending_tells, committed_tells, is_pending_tells}
 use Rattle.album_partition.proofs.LegalLemmas.{committed_was_prepared}

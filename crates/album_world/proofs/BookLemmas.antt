@@ -1,7 +1,5 @@
 -- What led to each write, to each answer and to each note, and that it lasts.
-use Rattle.std.proofs.Common.{◌≡◌, ℕ, ◌<◌, ◌≤◌, ◌+◌, ◌*◌, Bool, true, false, cond, eqb, ◌&&◌, nat_lt, List, [], ◌∷◌, ◌++◌, Option, Some, None, option_to_list, option_map, inl, inr, ⊎_elim, ◌⊎◌, sym, ap, ◌∙◌, subst, refl, arith, eqb-true, ltb-true, le_refl, le_trans, le_of_eq, Contains, if◌then◌else◌}
-use Rattle.album_stamps.specs.Stamps.{is_client}
-use Rattle.album_stamps.specs.Clocks.{ClockState}
+use Rattle.std.proofs.Common.{◌≡◌, ℕ, ◌<◌, ◌≤◌, ◌+◌, ◌*◌, Bool, true, false, cond, eqb, nat_lt, List, [], ◌∷◌, ◌++◌, Option, Some, None, option_to_list, option_map, inl, inr, ⊎_elim, sym, ap, ◌∙◌, subst, refl, arith, eqb-true, ltb-true, le_refl, le_trans, if◌then◌else◌}
 use Rattle.album_stamps.specs.declared.limits.TheConstants.{CLIENTS, MOST_READS}
 use Rattle.album_stamps.specs.declared.refusals.Refusal.{Refusal}
 use Rattle.album_stamps.specs.declared.refusals.Refusal.TheVariants as refusal
@@ -34,7 +32,7 @@ use Rattle.album_world.specs.Rulings.{IsServedBy, IsBegunBy, HasNotes, IsNotedFo
 use Rattle.album_world.specs.Granted.{IsDrawnBy, IsGranted}
 use Rattle.album_world.specs.Outcomes.{IsToldFull, IsAlbumFull, IsSpent, IsRefusedFor}
 use Rattle.album_world.specs.Busy.{HasCause}
-use Rattle.album_world.proofs.ListLemmas.{In, contains, within, in_left, in_right, in_cases, in_option, in_mapped, self_eqb, and_left, and_right}
+use Rattle.album_world.proofs.ListLemmas.{In, contains, within, in_left, in_right, in_cases, in_option, in_mapped, self_eqb, and_right}
 use Rattle.album_world.proofs.Invariant.{IsKept}
 use Rattle.album_world.proofs.TurnLemmas.{IsNew, client_cases, begun_other}
 

@@ -1,5 +1,5 @@
 -- The clients, their clocks, and what a message tells them.
-use Rattle.std.proofs.Common.{◌≡◌, ℕ, ◌≤◌, ◌+◌, ◌*◌, Bool, true, false, cond, eqb, ◌==◌, ◌&&◌, not, nat_lt, List, [], ◌∷◌, Option, Some, None, is_some, option_map, Result, Ok, Err, ◌⊎◌, inl, inr, ⊎_elim, sym, ap, ◌∙◌, subst, refl, arith, true≢false, eqb-true, eq-eqb, le_refl, le_trans, if◌then◌else◌}
+use Rattle.std.proofs.Common.{◌≡◌, ℕ, ◌≤◌, ◌+◌, ◌*◌, Bool, true, false, cond, eqb, ◌==◌, ◌&&◌, not, nat_lt, List, [], ◌∷◌, Option, Some, None, Result, Ok, Err, ◌⊎◌, inl, inr, ⊎_elim, sym, ap, ◌∙◌, subst, refl, arith, true≢false, eqb-true, eq-eqb, le_refl, le_trans, if◌then◌else◌}
 use Rattle.std.specs.List.{list_any}
 use Rattle.std.specs.Option.{option_and_then}
 use Rattle.album_stamps.specs.declared.limits.TheConstants.{GREATEST_COUNTER}
@@ -17,7 +17,7 @@ use Rattle.album_calls.specs.declared.nodes.Node.TheVariants.{Part, Client as To
 use Rattle.album_calls.specs.declared.replies.Reply.{Reply}
 use Rattle.album_calls.specs.declared.replies.Reply.TheVariants as reply
 use Rattle.album_reader.specs.Answers.{Answer as Found, body_version, is_answer, if_answer, answers_there, are_there}
-use Rattle.album_reader.specs.Rounds.{RoundState, has_item, has_answer, lacks, if_lacking, new_answer, put_answer, with_answer, are_in_order, no_answers}
+use Rattle.album_reader.specs.Rounds.{RoundState, has_item, has_answer, lacks, if_lacking, new_answer, put_answer, are_in_order, no_answers}
 use Rattle.album_reader.specs.Snapshots.{items_read}
 use Rattle.album_reader.proofs.Rounds.{items_read-in_order}
 use Rattle.album_writer.specs.Writing.{WritingState, places_in}

@@ -1,30 +1,17 @@
 -- What one event tells is in the past after it, what was told stays there, and each turn of a client is tidy.
-use Rattle.std.proofs.Common.{◌≡◌, ℕ, zero, suc, ◌+◌, Bool, true, false, cond, not, List, [], ◌∷◌, ◌++◌, map, length, Option, Some, None, option_to_list, option_map, unwrap_or, Result, Ok, Err, ⊎_elim, sym, ap, ◌∙◌, subst, refl, Contains, if◌then◌else◌}
-use Rattle.std.specs.List.{slice_get}
-use Rattle.album_stamps.specs.Clocks.{ClockState, clock_after_next, next_of}
-use Rattle.album_stamps.specs.Outcome.{◌>>=◌}
-use Rattle.album_stamps.specs.Stamps.{is_client}
+use Rattle.std.proofs.Common.{◌≡◌, ℕ, zero, suc, ◌+◌, Bool, true, List, [], ◌∷◌, ◌++◌, map, length, Option, Some, None, option_to_list, option_map, unwrap_or, Result, Ok, Err, ⊎_elim, sym, ap, ◌∙◌, subst, refl, Contains, if◌then◌else◌}
 use Rattle.album_stamps.specs.declared.refusals.Refusal.{Refusal}
-use Rattle.album_stamps.specs.declared.refusals.Refusal.TheVariants as refusal
-use Rattle.album_calls.specs.declared.messages.Message.{Message}
-use Rattle.album_calls.specs.declared.nodes.Node.{Node}
-use Rattle.album_calls.specs.declared.nodes.Node.TheVariants.{Part, Client as ToClient}
-use Rattle.album_eval.specs.declared.facts.Principal.{Principal}
-use Rattle.album_partition.specs.Partition.{PartitionState}
-use Rattle.album_partition.specs.Sweeps.{swept}
-use Rattle.album_partition.specs.Trims.{trimmed}
 use Rattle.album_permits.specs.declared.notes.Note.{Note}
 use Rattle.album_world.specs.declared.events.Event.{Event}
 use Rattle.album_world.specs.declared.outs.Answer.{Answer}
 use Rattle.album_world.specs.declared.outs.Out.TheVariants as out
 use Rattle.album_world.specs.Terms.{Terms}
-use Rattle.album_world.specs.State.{Now}
-use Rattle.album_world.specs.Past.{World, Transaction, Read, Begun, Told, Noted, last_begun, last_read}
+use Rattle.album_world.specs.Past.{World, Begun, last_begun}
 use Rattle.album_world.specs.Events.{IsNoteKept, IsRemembered}
 use Rattle.album_world.specs.Turns.{Turn}
 use Rattle.album_world.specs.Changes.{Change, change_of}
 use Rattle.album_world.specs.Changes.Change.{Nothing, AtPart, AtClient, Stops}
-use Rattle.album_world.specs.Runs.{changed, changed_by, happens, numbers_after, sent_after, outs_of, outs_of_turn, outs_by, tells, run, reads_after, read_over, nth_after, told_to, noted_of}
+use Rattle.album_world.specs.Runs.{changed, changed_by, happens, numbers_after, sent_after, outs_of, outs_by, tells, run, reads_after, read_over, nth_after, told_to, noted_of}
 use Rattle.album_world.proofs.ListLemmas.{In, contains, within, in_left, in_right, in_cases, in_map, in_mapped, mapped_in, in_one, in_nil, self_eqb}
 
 -- ---- what is told

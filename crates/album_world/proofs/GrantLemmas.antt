@@ -1,6 +1,6 @@
 -- What follows of a grant, of an ask that is taken, and of a clock that is spent.
-use Rattle.std.proofs.Common.{◌≡◌, ℕ, ◌≤◌, ◌+◌, Bool, true, false, nat_lt, List, [], ◌∷◌, Option, Some, None, Result, Ok, Err, sym, ◌∙◌, refl, ltb-false, if◌then◌else◌}
-use Rattle.album_stamps.specs.Clocks.{ClockState, clock_after_next, next_of}
+use Rattle.std.proofs.Common.{◌≡◌, ℕ, ◌≤◌, ◌+◌, Bool, true, false, nat_lt, Option, Some, None, Result, Ok, Err, sym, refl, ltb-false, if◌then◌else◌}
+use Rattle.album_stamps.specs.Clocks.{ClockState, next_of}
 use Rattle.album_stamps.specs.Stamps.{stamp_number}
 use Rattle.album_stamps.specs.declared.limits.TheConstants.{GREATEST_COUNTER}
 use Rattle.album_stamps.specs.declared.refusals.Refusal.{Refusal}
@@ -19,7 +19,6 @@ use Rattle.album_permits.specs.Permits.{PermitState}
 use Rattle.album_permits.specs.Serving.{IsServedFor}
 use Rattle.album_permits.specs.declared.serving.Served.{Served}
 use Rattle.album_world.specs.Grants.{served_for}
-use Rattle.album_world.specs.Past.{Begun, last_begun}
 use Rattle.album_world.proofs.ListLemmas.{some_same, none_some}
 
 -- what is computed to be served is served

@@ -1,5 +1,5 @@
 -- What lasts as the world grows.
-use Rattle.std.proofs.Common.{◌≡◌, ℕ, ◌≤◌, Bool, true, false, List, ◌++◌, Option, Some, ◌⊎◌, inl, inr, ⊎_elim, sym, ap, ◌∙◌, subst, append_assoc, le_trans}
+use Rattle.std.proofs.Common.{◌≡◌, ℕ, ◌≤◌, Bool, true, List, ◌++◌, Option, Some, ◌⊎◌, inl, inr, ⊎_elim, sym, ap, ◌∙◌, subst, append_assoc, le_trans}
 use Rattle.std.specs.List.{list_any}
 use Rattle.album_items.specs.ItemIds.{place_of}
 use Rattle.album_items.specs.Openings.{Row}

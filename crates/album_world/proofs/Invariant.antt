@@ -1,5 +1,5 @@
 -- What is true of the world after each event.
-use Rattle.std.proofs.Common.{◌≡◌, ℕ, ◌<◌, ◌≤◌, ◌+◌, ◌*◌, true, false, List, [], ◌++◌, Option, Some, None, is_some, ◌⊎◌}
+use Rattle.std.proofs.Common.{◌≡◌, ℕ, ◌<◌, ◌≤◌, ◌+◌, ◌*◌, true, List, [], ◌++◌, Option, Some, None, is_some, ◌⊎◌}
 use Rattle.std.specs.List.{list_any, slice_get}
 use Rattle.album_stamps.specs.declared.refusals.Refusal.TheVariants as refusal
 use Rattle.album_items.specs.ItemIds.{place_of}

@@ -1,5 +1,5 @@
 -- Each turn of a client is booked: what it tells and what it begins comes of the view that the client had read last.
-use Rattle.std.proofs.Common.{◌≡◌, ℕ, ◌<◌, ◌≤◌, ◌+◌, ◌*◌, Bool, true, false, cond, ◌&&◌, not, nat_lt, nat_le, length, List, [], ◌∷◌, ◌++◌, Option, Some, None, option_to_list, Result, Ok, Err, IfOk, ◌⊎◌, inl, inr, ⊎_elim, sym, ap, ◌∙◌, subst, refl, arith, ltb-true, ltb-false, lt-ltb, le_refl, le_of_eq, le_trans, if◌then◌else◌}
+use Rattle.std.proofs.Common.{◌≡◌, ℕ, ◌<◌, ◌≤◌, ◌+◌, ◌*◌, Bool, true, false, cond, nat_lt, nat_le, length, List, [], ◌∷◌, ◌++◌, Option, Some, None, Result, Ok, Err, IfOk, ◌⊎◌, inl, inr, ⊎_elim, sym, ap, ◌∙◌, subst, refl, arith, ltb-true, ltb-false, lt-ltb, le_refl, le_of_eq, le_trans, if◌then◌else◌}
 use Rattle.std.proofs.lemmas.Bool.{leb-true, leb-false}
 use Rattle.album_stamps.specs.Clocks.{ClockState, clock_after_next, next_of}
 use Rattle.album_stamps.proofs.Drawing.{next-greater}
@@ -20,7 +20,7 @@ use Rattle.album_views.specs.Checks.{refusal_of}
 use Rattle.album_views.specs.Naming.{names_of}
 use Rattle.album_views.specs.Steps.{again}
 use Rattle.album_views.specs.Steps.{stepped as viewed}
-use Rattle.album_views.specs.Views.{ViewState, ViewingState, IsView, IsClosed, is_closed}
+use Rattle.album_views.specs.Views.{ViewingState, IsView, IsClosed, is_closed}
 use Rattle.album_views.specs.declared.asks.Ask.{Ask}
 use Rattle.album_views.specs.declared.viewing.ViewStep.TheVariants.{Again, Closed, Busy}
 use Rattle.album_views.specs.declared.viewing.Why.{Why}
@@ -50,25 +50,25 @@ use Rattle.album_world.specs.declared.clients.Doing.{Doing}
 use Rattle.album_world.specs.declared.clients.Doing.TheVariants as doing
 use Rattle.album_world.specs.Terms.{Terms, terms_of}
 use Rattle.album_world.specs.State.{client_at, is_stopped}
-use Rattle.album_world.specs.Past.{World, Transaction, Begun, Read, Told, last_begun, last_read}
+use Rattle.album_world.specs.Past.{World, Transaction, Begun, Read, last_begun, last_read}
 use Rattle.album_world.specs.Grants.{served_for}
 use Rattle.album_world.specs.Turns.{Ended, Turn, still, sends, read_begins, ask_ends, write_begins, writes_unless, draws_by, grants, rules_by, clock_after_rows, read_ends, read_turn, prepare_turn, commit_turn}
 use Rattle.album_world.specs.Changes.Change.{AtClient, Nothing}
 use Rattle.album_world.specs.Changes.{client_takes_by, client_takes}
-use Rattle.album_world.specs.Runs.{changed, read_over, nth_after, told_to, noted_of}
-use Rattle.album_world.specs.Viewed.{IsOnView, Finds, Notes}
+use Rattle.album_world.specs.Runs.{changed, read_over, told_to, noted_of}
+use Rattle.album_world.specs.Viewed.{IsOnView, Notes}
 use Rattle.album_world.specs.Rulings.{IsBegunBy, HasNotes, IsNotedFor}
 use Rattle.album_world.specs.Granted.{IsDrawnBy, IsGranted}
-use Rattle.album_world.specs.Outcomes.{IsAlbumFull, IsRefusedFor}
+use Rattle.album_world.specs.Outcomes.{IsRefusedFor}
 use Rattle.album_world.specs.Busy.{IsNarrow}
 use Rattle.album_world.proofs.ListLemmas.{In, contains, within, in_right, in_cases, in_nil, and_both, self_eqb, some_same, none_some}
 use Rattle.album_world.proofs.ListLemmas.In.{here}
-use Rattle.album_world.proofs.ClientLemmas.{rows_client, rows_raise, rows_seen, IsDraw, draw_is, next_client, next_raise, IsToldTo, told_to_is}
+use Rattle.album_world.proofs.ClientLemmas.{rows_client, rows_raise, rows_seen, IsDraw, draw_is, next_client, next_raise, told_to_is}
 use Rattle.album_world.proofs.Invariant.{IsKept, IsDoing}
 use Rattle.album_world.proofs.TurnLemmas.{IsNew, not_same, same_now}
 use Rattle.album_world.proofs.ReplyLemmas.{with_past}
 use Rattle.album_world.proofs.GrantLemmas.{served_is, unserved_writes, taken_flawless, spent_is}
-use Rattle.album_world.proofs.BookLemmas.{IsLed, IsWriteOn, IsBegunFull, IsCount, IsAt, IsBooked, led_adds, noting_adds, noting_by, write_adds, at_adds, begun_client, last_here, turn_adds, turn_booked}
+use Rattle.album_world.proofs.BookLemmas.{IsLed, IsWriteOn, IsBegunFull, IsCount, IsAt, IsBooked, led_adds, noting_adds, noting_by, at_adds, begun_client, last_here, turn_adds, turn_booked}
 
 module _ (o : Opening) (w : World) (k : IsKept o w) (b : IsBooked (terms_of o) w) (c : ℕ) where
   abbrev x : Client

@@ -10,7 +10,7 @@ use Rattle.album_partition.specs.Partition.{stamp_for}
 use Rattle.album_partition.specs.Marks.{prepares, commits, discards, mark_writes, writes_at, value_in, version, has_version, latest, committed_stamps}
 use Rattle.album_world.proofs.ListLemmas.{In}
 use Rattle.album_world.proofs.ListLemmas.In.{here, there}
-use Rattle.album_world.proofs.ListLemmas.{or_cases, true_or, or_true, true_or_false, in_uncons, in_nil, any_in, any_found, find_is, find_more, none_some}
+use Rattle.album_world.proofs.ListLemmas.{or_cases, true_or, or_true, in_uncons, in_nil, any_in, any_found, find_is, find_more, none_some}
 
 -- ---- one mark
 

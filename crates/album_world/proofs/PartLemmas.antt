@@ -9,7 +9,6 @@ use Rattle.album_items.specs.ItemIds.{place_of}
 use Rattle.album_items.specs.Openings.{Row}
 use Rattle.album_items.specs.declared.openings.Opening.{Opening}
 use Rattle.album_items.specs.declared.values.Value.{Value}
-use Rattle.album_calls.specs.Nodes.{is_part}
 use Rattle.album_calls.specs.declared.messages.Body.{Body}
 use Rattle.album_calls.specs.declared.messages.Body.TheVariants as body
 use Rattle.album_calls.specs.declared.messages.Message.{Message}
@@ -25,14 +24,14 @@ use Rattle.album_partition.specs.declared.marks.Mark.{Mark}
 use Rattle.album_partition.specs.declared.marks.Mark.TheVariants.{Prepared, Committed, Discarded, Trimmed}
 use Rattle.album_partition.specs.Votes.{NotedVote}
 use Rattle.album_partition.specs.Answers.{effect_of, after, answer, reply_to}
-use Rattle.album_partition.specs.Sweeps.{swept, sent_by}
+use Rattle.album_partition.specs.Sweeps.{sent_by}
 use Rattle.album_partition.specs.Trims.{with_mark}
 use Rattle.album_partition.specs.Partition.{PartitionState, IsPartition, stamp_for}
 use Rattle.album_partition.specs.Marks.{prepares, commits, discards, state_of, is_pending, is_full, load, is_legal, has_version, latest, floor, version, value_in, items_at, mark_items, IsPromisedAgainst}
 use Rattle.album_items.specs.Places.{is_placed, others_of}
 use Rattle.album_partition.proofs.PartitionLemmas.{stays_after, trims_by}
 use Rattle.album_partition.proofs.LoadLemmas.{committed_counts, discarded_counts}
-use Rattle.album_partition.proofs.StateLemmas.{any_push_no, state_push_other, unknown_tells, pending_tells, is_pending_tells}
+use Rattle.album_partition.proofs.StateLemmas.{state_push_other, unknown_tells, pending_tells, is_pending_tells}
 use Rattle.album_versions.specs.Best.{best_of}
 use Rattle.album_reader.specs.Rounds.{RoundState}
 use Rattle.album_writer.specs.Writing.{WritingState}
@@ -40,7 +39,6 @@ use Rattle.album_items.specs.Transactions.{items_written}
 use Rattle.album_world.specs.declared.clients.Doing.{Doing}
 use Rattle.album_world.specs.declared.clients.Doing.TheVariants as doing
 use Rattle.album_world.proofs.ListLemmas.{In}
-use Rattle.album_world.proofs.ListLemmas.In.{here}
 use Rattle.album_world.specs.State.{marks_of, history_in, client_at}
 use Rattle.album_world.specs.Past.{World, last_begun}
 use Rattle.album_world.specs.Changes.{Change}
@@ -48,7 +46,7 @@ use Rattle.album_world.specs.Changes.Change.{AtPart}
 use Rattle.album_world.specs.Changes.{sweeps, trims}
 use Rattle.album_world.specs.Runs.{changed, changed_by}
 use Rattle.album_world.specs.Committing.{history}
-use Rattle.album_world.proofs.ListLemmas.{in_right, in_cases, in_map, in_nil, in_one, find_push, set_same, set_other, none_some, some_same, same_or_not, any_in, in_any, any_more, true_or_false, self_eqb}
+use Rattle.album_world.proofs.ListLemmas.{in_cases, in_map, in_nil, in_one, find_push, set_same, set_other, none_some, some_same, same_or_not, any_in, in_any, any_more, true_or_false}
 use Rattle.album_world.proofs.MarkLemmas.{IsPreparedIn, prepared_in, commits_is, discards_is, wrote, wrote_more, version_is, some_is, is_some_of, best_least, best_is, latest_least, latest_is, stamp_for_best}
 use Rattle.album_world.proofs.PlaceLemmas.{other_item}
 use Rattle.album_world.proofs.Invariant.{IsKept, IsPlaced, IsPlacedAt, IsPrepareOf, IsSettled, IsAgainst, IsFine, IsTagged, IsSound, GetsWith, TellsWith, IsAsked, IsAnswered, HasBegun, FirstRound, SecondRound, IsCollectedStamp, IsFetching, IsRound, IsWriting, HasPrepared, HasCommitted, IsDoing}

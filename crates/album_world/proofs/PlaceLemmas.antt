@@ -1,5 +1,5 @@
 -- Where items are placed, what writes have for them, who voted, and the stamps of answers.
-use Rattle.std.proofs.Common.{◌≡◌, ℕ, ◌<◌, ◌+◌, Bool, true, false, cond, not, ◌&&◌, eqb, ◌==◌, nat_lt, List, [], ◌∷◌, filter, Some, ◌⊎◌, inl, inr, ⊎_elim, sym, ap, ◌∙◌, subst, refl, arith, true≢false, eqb-true, eq-eqb, mod-lt, if◌then◌else◌}
+use Rattle.std.proofs.Common.{◌≡◌, ℕ, ◌<◌, ◌+◌, Bool, true, false, cond, not, eqb, ◌==◌, nat_lt, List, [], ◌∷◌, filter, Some, ◌⊎◌, inl, inr, ⊎_elim, sym, ap, ◌∙◌, subst, refl, arith, true≢false, eqb-true, eq-eqb, mod-lt, if◌then◌else◌}
 use Rattle.std.specs.List.{list_any, range_with_len}
 use Rattle.album_items.specs.ItemIds.{place_of, number_of, kind_of}
 use Rattle.album_items.specs.Openings.{Row}

@@ -1,5 +1,5 @@
 -- The promises, of every run.
-use Rattle.std.proofs.Common.{◌≡◌, ℕ, ◌<◌, Bool, true, false, cond, eqb, not, List, [], ◌∷◌, ◌++◌, map, length, Option, Some, None, option_to_list, option_map, unwrap_or, Result, Ok, Err, ⊎_elim, sym, ap, ◌∙◌, subst, refl, true≢false, eqb-true, eq-eqb, Contains, if◌then◌else◌}
+use Rattle.std.proofs.Common.{◌≡◌, ℕ, ◌<◌, Bool, true, false, cond, eqb, not, List, [], ◌∷◌, Option, Some, None, Result, Ok, Err, ⊎_elim, sym, ap, ◌∙◌, subst, refl, true≢false, eqb-true, if◌then◌else◌}
 use Rattle.std.specs.List.{slice_get}
 use Rattle.album_stamps.specs.Outcome.{◌>>=◌}
 use Rattle.album_stamps.specs.Stamps.{is_client}
@@ -19,14 +19,12 @@ use Rattle.album_partition.specs.Marks.{value_in, version}
 use Rattle.album_partition.specs.Partition.{PartitionState}
 use Rattle.album_partition.specs.Sweeps.{swept}
 use Rattle.album_partition.specs.Trims.{trimmed}
-use Rattle.album_partition.specs.declared.marks.Mark.{Mark}
 use Rattle.album_views.specs.Asks.{objects_of}
 use Rattle.album_views.specs.Checks.{refusal_of}
 use Rattle.album_views.specs.declared.asks.Ask.{Ask}
 use Rattle.album_permits.proofs.Agreeing.{ruling-alike}
 use Rattle.album_permits.specs.Permits.{PermitState, IsPermit}
 use Rattle.album_permits.specs.declared.findings.Finding.{Finding}
-use Rattle.album_permits.specs.declared.notes.Note.{Note}
 use Rattle.album_world.specs.declared.events.Event.{Event}
 use Rattle.album_world.specs.declared.events.Event.TheVariants as event
 use Rattle.album_world.specs.declared.outs.Answer.{Answer}

@@ -1,11 +1,11 @@
 -- Whatever a client does at a message, or as it asks, all is kept.
-use Rattle.std.proofs.Common.{◌≡◌, ℕ, ◌<◌, ◌≤◌, ◌+◌, ◌*◌, Bool, true, false, cond, not, List, [], ◌∷◌, map, Option, Some, None, Result, Ok, Err, ◌⊎◌, inl, inr, ⊎_elim, sym, ap, ◌∙◌, subst, refl, arith, append-nil, eqb-true, le_refl, le_of_eq, le_trans, if◌then◌else◌}
+use Rattle.std.proofs.Common.{◌≡◌, ℕ, ◌<◌, ◌≤◌, ◌+◌, ◌*◌, Bool, true, false, cond, not, List, [], ◌∷◌, Option, Some, None, Result, Ok, Err, ◌⊎◌, inl, inr, ⊎_elim, sym, ap, ◌∙◌, subst, refl, arith, append-nil, eqb-true, le_refl, le_of_eq, le_trans, if◌then◌else◌}
 use Rattle.std.specs.Option.{option_map_or}
 use Rattle.album_stamps.specs.declared.refusals.Refusal.{Refusal}
 use Rattle.album_stamps.specs.declared.refusals.Refusal.TheVariants as refusal
 use Rattle.album_stamps.specs.Clocks.{ClockState, clock_after_next, next_of}
 use Rattle.album_items.specs.ItemIds.{place_of}
-use Rattle.album_items.specs.Places.{places_of, rows_placed_at}
+use Rattle.album_items.specs.Places.{rows_placed_at}
 use Rattle.album_items.specs.Transactions.{items_written}
 use Rattle.album_items.specs.declared.openings.Opening.{Opening}
 use Rattle.album_calls.specs.Nodes.{is_part}
@@ -20,12 +20,11 @@ use Rattle.album_eval.specs.declared.facts.Principal.{Principal}
 use Rattle.album_partition.specs.Partition.{PartitionState}
 use Rattle.album_partition.proofs.LegalLemmas.{committed_was_prepared}
 use Rattle.album_reader.specs.Answers.{Asker, Answer as Found, answers_there, are_there}
-use Rattle.album_reader.specs.Rounds.{RoundState, Step, get_of, gets_of, next_asker, second_round, new_answer, with_answer, end_by, end_of, outcome, taken, is_gone, stepped}
-use Rattle.album_reader.specs.Rounds.Step.{Same, Next, Done, Gone}
+use Rattle.album_reader.specs.Rounds.{RoundState, get_of, gets_of, next_asker, second_round, new_answer, with_answer, end_by, end_of, outcome, taken, is_gone}
+use Rattle.album_reader.specs.Rounds.Step.{Same, Gone}
 use Rattle.album_reader.specs.StampSets.{stamps_of}
 use Rattle.album_views.specs.Steps.{again}
 use Rattle.album_views.specs.Steps.{stepped as viewed}
-use Rattle.album_views.specs.Views.{ViewState}
 use Rattle.album_views.specs.declared.viewing.ViewStep.{ViewStep}
 use Rattle.album_views.specs.declared.viewing.ViewStep.TheVariants.{Again, Closed, Busy}
 use Rattle.album_listing.specs.GroupsFound.{basis_on}
@@ -48,11 +47,11 @@ use Rattle.album_world.specs.declared.clients.Asking.{Asking}
 use Rattle.album_world.specs.declared.clients.Client.{Client}
 use Rattle.album_world.specs.declared.clients.Doing.{Doing}
 use Rattle.album_world.specs.declared.clients.Doing.TheVariants as doing
-use Rattle.album_world.specs.Terms.{Terms, terms_of}
+use Rattle.album_world.specs.Terms.{terms_of}
 use Rattle.album_world.specs.State.{client_at, is_stopped}
 use Rattle.album_world.specs.Past.{World, Transaction, Begun, last_begun}
 use Rattle.album_world.specs.Grants.{served_for}
-use Rattle.album_world.specs.Turns.{Ended, Turn, still, sends, asker_at, read_begins, ask_ends, round_for, write_begins, writes_unless, draws_by, draws, grants, rules_by, clock_after_rows, views_by, read_turn, prepare_turn, commit_turn}
+use Rattle.album_world.specs.Turns.{Ended, Turn, still, sends, asker_at, read_begins, ask_ends, round_for, write_begins, writes_unless, draws_by, grants, rules_by, clock_after_rows, views_by, read_turn, prepare_turn, commit_turn}
 use Rattle.album_world.specs.Changes.Change.{AtClient, Nothing}
 use Rattle.album_world.specs.Changes.{client_takes_by, client_takes}
 use Rattle.album_world.specs.Runs.{changed, nth_after}
@@ -61,7 +60,7 @@ use Rattle.album_world.proofs.ListLemmas.{In, in_right, in_cases, in_map, filter
 use Rattle.album_world.proofs.ListLemmas.In.{here}
 use Rattle.album_world.proofs.MarkLemmas.{IsPreparedIn, prepared_in, wrote}
 use Rattle.album_world.proofs.PlaceLemmas.{place_in, item_in, stamp_in, in_stamps}
-use Rattle.album_world.proofs.ClientLemmas.{rows_client, rows_raise, IsDraw, draw_is, next_client, next_raise, each_item, own_nothing, none_found, there_in, IsFoundBy, found_is, put_cases, put_own, IsToldTo, told_to_is}
+use Rattle.album_world.proofs.ClientLemmas.{rows_client, rows_raise, draw_is, next_client, next_raise, each_item, own_nothing, none_found, there_in, IsFoundBy, found_is, put_cases, put_own, told_to_is}
 use Rattle.album_world.proofs.Invariant.{IsKept, IsSettled, IsValue, IsFine, IsTagged, tag_of, GetsWith, TellsWith, IsAsked, IsAnswered, FirstRound, SecondRound, IsCollectedStamp, HasFresh, IsAsking, IsFetching, IsRound, IsReading, IsWriting, HasPrepared, HasCommitted, IsDoing, IsAnswer, IsRead, IsDone}
 use Rattle.album_world.proofs.GrowthLemmas.{begun_grows, stamp_grows, has_fresh_grows, settled_grows}
 use Rattle.album_world.proofs.WroteLemmas.{written_here}

@@ -1,6 +1,6 @@
 -- What follows of the invariant for snapshots and for the outcomes of writes.
 use Rattle.std.proofs.Common.{◌≡◌, ℕ, ◌<◌, ◌≤◌, ◌+◌, ◌*◌, true, List, Some, is_some, inl, inr, ⊎_elim, sym, ap, ◌∙◌, subst, arith, Contains}
-use Rattle.std.specs.List.{list_any, find}
+use Rattle.std.specs.List.{find}
 use Rattle.album_items.specs.ItemIds.{place_of}
 use Rattle.album_items.specs.Openings.{Row}
 use Rattle.album_items.specs.Places.{places_of}

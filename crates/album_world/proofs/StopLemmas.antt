@@ -1,5 +1,5 @@
 -- What is kept as a client is stopped.
-use Rattle.std.proofs.Common.{◌≡◌, ℕ, List, [], Option, Some, None, inl, inr, ⊎_elim, sym, append-nil, le_refl}
+use Rattle.std.proofs.Common.{ℕ, List, [], Option, Some, None, inl, inr, ⊎_elim, sym, append-nil, le_refl}
 use Rattle.album_items.specs.declared.openings.Opening.{Opening}
 use Rattle.album_partition.specs.Partition.{PartitionState}
 use Rattle.album_partition.specs.Marks.{commits}

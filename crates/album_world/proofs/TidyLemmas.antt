@@ -1,7 +1,7 @@
 -- Each turn of a client is tidy.
 use Rattle.std.proofs.Common.{◌≡◌, ℕ, Bool, true, false, not, nat_lt, ◌==◌, List, [], ◌∷◌, ◌⊎◌, inl, inr, Option, Some, None, Result, Ok, Err, sym, subst, refl, if◌then◌else◌}
 use Rattle.std.specs.List.{slice_get, list_any}
-use Rattle.album_stamps.specs.Clocks.{ClockState, clock_after_next, next_of}
+use Rattle.album_stamps.specs.Clocks.{clock_after_next, next_of}
 use Rattle.album_stamps.specs.Outcome.{◌>>=◌}
 use Rattle.album_stamps.specs.Stamps.{is_client}
 use Rattle.album_stamps.specs.declared.refusals.Refusal.{Refusal}
@@ -13,10 +13,8 @@ use Rattle.album_eval.specs.declared.facts.Principal.{Principal}
 use Rattle.album_partition.specs.Partition.{PartitionState}
 use Rattle.album_partition.specs.Sweeps.{swept}
 use Rattle.album_partition.specs.Trims.{trimmed}
-use Rattle.album_reader.specs.Answers.{Answer as Found}
 use Rattle.album_reader.specs.Rounds.{Step, stepped}
 use Rattle.album_reader.specs.Rounds.Step.{Same, Next, Done, Gone}
-use Rattle.album_views.specs.Asks.{objects_of}
 use Rattle.album_views.specs.Checks.{refusal_of}
 use Rattle.album_views.specs.Steps.{again}
 use Rattle.album_views.specs.Steps.{stepped as viewed}
@@ -41,10 +39,10 @@ use Rattle.album_world.specs.declared.clients.Doing.TheVariants as doing
 use Rattle.album_world.specs.declared.outs.Answer.{Answer}
 use Rattle.album_world.specs.Terms.{Terms}
 use Rattle.album_world.specs.State.{Now, client_at, message_of, is_stopped, with_number}
-use Rattle.album_world.specs.Past.{World, Transaction}
+use Rattle.album_world.specs.Past.{World}
 use Rattle.album_world.specs.Runs.{changed, changed_by, happens, run}
 use Rattle.album_world.specs.Grants.{served_for}
-use Rattle.album_world.specs.Turns.{Turn, read_begins, writes_unless, draws_by, grants, rules_by, clock_after_rows, views_by, read_turn, prepare_turn, commit_turn}
+use Rattle.album_world.specs.Turns.{Turn, writes_unless, draws_by, grants, rules_by, clock_after_rows, views_by, read_turn, prepare_turn, commit_turn}
 use Rattle.album_world.specs.Changes.{Change, asks_unless, asks_by, part_takes, client_takes_by, client_takes, arrives, delivers, sweeps, trims, change_of}
 use Rattle.album_world.specs.Changes.Change.{Nothing, AtPart, AtClient, Stops}
 use Rattle.album_world.specs.Events.{IsTidy}

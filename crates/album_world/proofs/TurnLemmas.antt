@@ -15,7 +15,7 @@ use Rattle.album_world.specs.declared.clients.Doing.{Doing}
 use Rattle.album_world.specs.declared.clients.Doing.TheVariants as doing
 use Rattle.album_world.proofs.ListLemmas.{In}
 use Rattle.album_world.specs.State.{client_at}
-use Rattle.album_world.specs.Past.{World, Transaction, Begun, Read, Told, last_begun, last_read}
+use Rattle.album_world.specs.Past.{World, Transaction, Begun, Read, Told, last_begun}
 use Rattle.album_world.specs.Turns.{Ended, Turn}
 use Rattle.album_world.specs.Changes.Change.{AtClient}
 use Rattle.album_world.specs.Runs.{changed, read_over, reads_after, nth_after, told_to}

@@ -15,14 +15,12 @@ use Rattle.album_eval.specs.declared.facts.Principal.TheVariants as principal
 use Rattle.album_items.specs.ItemIds.{picture, album, list}
 use Rattle.album_items.specs.declared.openings.Opening.{Opening}
 use Rattle.album_items.specs.declared.values.Head.{Head}
-use Rattle.album_items.specs.declared.values.Value.{Value}
 use Rattle.album_items.specs.declared.values.Value.TheVariants as value
 use Rattle.album_reader.specs.Answers.{Answer as Row}
 use Rattle.album_views.specs.Checks.{flaw_of}
 use Rattle.album_views.specs.Naming.{first_names, names_of}
 use Rattle.album_views.specs.Seen.{seen}
 use Rattle.album_views.specs.Views.{is_closed}
-use Rattle.album_views.specs.declared.asks.Ask.{Ask}
 use Rattle.album_views.specs.declared.asks.Ask.TheVariants as ask
 use Rattle.album_listing.specs.GroupsFound.{groups_found}
 use Rattle.album_listing.specs.Masks.{WRITE_ATTRIBUTES}

@@ -1,6 +1,5 @@
 -- What a transaction wrote, and that a promise against it is never beside a commit.
-use Rattle.std.proofs.Common.{◌≡◌, ℕ, false, List, Some, sym, ap, ◌∙◌, subst}
-use Rattle.std.specs.List.{list_any}
+use Rattle.std.proofs.Common.{◌≡◌, ℕ, List, Some, sym, ap, ◌∙◌, subst}
 use Rattle.album_items.specs.ItemIds.{place_of}
 use Rattle.album_items.specs.Openings.{Row}
 use Rattle.album_items.specs.declared.openings.Opening.{Opening}

@@ -1,5 +1,5 @@
 -- Views are read atomic: no transaction is seen by halves.
-use Rattle.std.specs.Prelude.{◌≡◌, ℕ, ◌<◌, true, ◌⊎◌, List, Option, Some, is_some, Contains}
+use Rattle.std.specs.Prelude.{◌≡◌, ℕ, ◌<◌, true, ◌⊎◌, List, Some, is_some, Contains}
 use Rattle.std.specs.Option.{unwrap_or}
 use Rattle.album_items.specs.declared.openings.Opening.{Opening}
 use Rattle.album_items.specs.declared.values.Value.{Value}

@@ -1,5 +1,5 @@
 -- Busy has its cause: an ask has no view only where it looks at too much, or where eight reads did not do.
-use Rattle.std.specs.Prelude.{◌≡◌, ◌<◌, ◌≤◌, ◌⊎◌, ℕ, List, Option, Some, None, length, Contains}
+use Rattle.std.specs.Prelude.{◌≡◌, ◌<◌, ◌≤◌, ◌⊎◌, List, Some, None, length, Contains}
 use Rattle.album_stamps.specs.declared.limits.TheConstants.{MOST_READ_ITEMS, MOST_READS}
 use Rattle.album_reader.specs.Answers.{Answer as Row}
 use Rattle.album_views.specs.Naming.{names_of}

@@ -1,5 +1,5 @@
 -- What holds of one event.
-use Rattle.std.specs.Prelude.{◌≡◌, ℕ, Option, Some, None, Contains}
+use Rattle.std.specs.Prelude.{◌≡◌, ℕ, Some, None, Contains}
 use Rattle.album_permits.specs.declared.notes.Note.{Note}
 use Rattle.album_world.specs.declared.clients.Client.{Client}
 use Rattle.album_world.specs.declared.outs.Answer.{Answer}

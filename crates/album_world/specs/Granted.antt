@@ -3,7 +3,7 @@ use Rattle.std.specs.Prelude.{◌≡◌, ℕ, ◌≤◌, ◌<◌, IsTrue, List, 
 use Rattle.album_stamps.specs.Stamps.{is_client, stamp_number}
 use Rattle.album_items.specs.declared.values.Value.{Value}
 use Rattle.album_partition.specs.Marks.{value_in, version}
-use Rattle.album_permits.specs.Permits.{PermitState, IsPermit}
+use Rattle.album_permits.specs.Permits.{IsPermit}
 use Rattle.album_permits.specs.Writes.{AreWrites}
 use Rattle.album_views.specs.Views.{IsView}
 use Rattle.album_reader.specs.Answers.{Answer as Row}

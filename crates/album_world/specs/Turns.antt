@@ -9,7 +9,6 @@ use Rattle.album_reader.specs.Answers.{Asker, Answer as Row}
 use Rattle.album_reader.specs.Rounds.{first_round, gets_of}
 use Rattle.album_reader.specs.Rounds.{Step as ReadStep}
 use Rattle.album_reader.specs.Rounds.Step.{Same, Next, Done, Gone}
-use Rattle.album_views.specs.Asks.{objects_of}
 use Rattle.album_views.specs.Steps.{stepped, again}
 use Rattle.album_views.specs.Views.{ViewState}
 use Rattle.album_views.specs.declared.asks.Ask.{Ask}

@@ -1,9 +1,7 @@
 -- On which view an ask was ruled.
 use Rattle.std.specs.Prelude.{◌≡◌, ℕ, List, Option, Some, Contains}
-use Rattle.album_eval.specs.declared.facts.Principal.{Principal}
-use Rattle.album_eval.specs.declared.policies.Policy.{Policy}
 use Rattle.album_reader.specs.Answers.{Answer as Row}
-use Rattle.album_views.specs.Views.{ViewState, IsView}
+use Rattle.album_views.specs.Views.{IsView}
 use Rattle.album_listing.specs.Basis.{Basis, IsBasis}
 use Rattle.album_permits.specs.Findings.{ruling_of}
 use Rattle.album_permits.specs.Notes.{notes_of}
