@@ -1,4 +1,5 @@
--- The groups that are found are those that the principal is in, for the law `a_ruling_has_a_basis` (`basis-based`): after
+-- The groups that are found are those that the principal is in, for the law `a_ruling_has_a_basis` (`basis-based`):
+-- after
 -- as many turns as there are answers, and one, nothing grows any more (`groups-fixed`).
 use Rattle.std.proofs.Common.{◌≡◌, ◌≤◌, ◌<◌, ◌↔◌, ℕ, zero, suc, ◌+◌, Bool, true, false, IsTrue, ◌||◌, ◌==◌, cond, bytes_eq, List, [], ◌∷◌, length, filter, map, Option, Some, None, is_some, option_map, Contains, ◌⊎◌, inl, inr, refl, sym, ap, subst, ◌∙◌, arith}
 use Rattle.std.specs.Fn.{iterate}
@@ -35,7 +36,8 @@ use Rattle.album_listing.specs.GroupsFound.{groups_read, brings_in, grown_groups
 abbrev Goes : (ℕ → Bool) → (ℕ → Bool) → Type 0
 Goes p q = (n : ℕ) → p n ≡ true → q n ≡ true
 
-longer : (a b : Bool) (x : ℕ) (xs ys : List ℕ) → (a ≡ true → b ≡ true) → length xs ≤ length ys → length (cond a (x ∷ xs) xs) ≤ length (cond b (x ∷ ys) ys)
+longer : (a b : Bool) (x : ℕ) (xs ys : List ℕ) → (a ≡ true → b ≡ true) → length xs ≤ length ys
+    → length (cond a (x ∷ xs) xs) ≤ length (cond b (x ∷ ys) ys)
 longer true true x xs ys h l = omega (arith, l)
 longer true false x xs ys h l = absurd (cc (h refl))
 longer false true x xs ys h l = omega (arith, l)
@@ -49,23 +51,27 @@ filter-few : (p : ℕ → Bool) (xs : List ℕ) → length (filter p xs) ≤ len
 filter-few p [] = omega arith
 filter-few p (x ∷ xs) = go (p x) (filter-few p xs)
   where
-    go : (b : Bool) → length (filter p xs) ≤ length xs → length (cond b (x ∷ filter p xs) (filter p xs)) ≤ length (x ∷ xs)
+    go : (b : Bool) → length (filter p xs) ≤ length xs → length (cond b (x ∷ filter p xs) (filter p xs)) ≤ length
+        (x ∷ xs)
     go true l = omega (arith, l)
     go false l = omega (arith, l)
 
 -- the filters are one, or the wider one keeps more
-same-or-more : (p q : ℕ → Bool) → Goes p q → (xs : List ℕ) → (filter p xs ≡ filter q xs) ⊎ (length (filter p xs) < length (filter q xs))
+same-or-more : (p q : ℕ → Bool) → Goes p q → (xs : List ℕ)
+    → (filter p xs ≡ filter q xs) ⊎ (length (filter p xs) < length (filter q xs))
 same-or-more p q goes [] = inl refl
 same-or-more p q goes (x ∷ xs) = go (p x) (q x) (goes x) (same-or-more p q goes xs)
   where
     go :
-        (a b : Bool) → (a ≡ true → b ≡ true) → (filter p xs ≡ filter q xs) ⊎ (length (filter p xs) < length (filter q xs))
+        (a b : Bool) → (a ≡ true → b ≡ true)
+        → (filter p xs ≡ filter q xs) ⊎ (length (filter p xs) < length (filter q xs))
         → (cond a (x ∷ filter p xs) (filter p xs) ≡ cond b (x ∷ filter q xs) (filter q xs))
         ⊎ (length (cond a (x ∷ filter p xs) (filter p xs)) < length (cond b (x ∷ filter q xs) (filter q xs)))
     go true true h (inl e) = inl (ap (λ (ys : List ℕ). x ∷ ys) e)
     go true true h (inr l) = inr (omega (arith, l))
     go true false h r = absurd (cc (h refl))
-    go false true h r = inr (let l : length (filter p xs) ≤ length (filter q xs) = filter-le p q goes xs in omega (arith, l))
+    go false true h r = inr (let l : length (filter p xs) ≤ length (filter q xs) = filter-le p q goes xs in
+        omega (arith, l))
     go false false h r = r
 
 -- what is kept passes, and was there
@@ -101,7 +107,8 @@ was q [] m k = k
 was q (x ∷ xs) m k = go (q x) k (was q xs m)
   where
     go :
-        (b : Bool) → has (cond b (x ∷ filter q xs) (filter q xs)) m ≡ true → (has (filter q xs) m ≡ true → has xs m ≡ true)
+        (b : Bool) → has (cond b (x ∷ filter q xs) (filter q xs)) m ≡ true
+        → (has (filter q xs) m ≡ true → has xs m ≡ true)
         → has (x ∷ xs) m ≡ true
     go true l rest =
         elim (one-of (m == x) (has (filter q xs) m) l) [
@@ -112,7 +119,8 @@ was q (x ∷ xs) m k = go (q x) k (was q xs m)
 
 -- ---- turns
 
-any-more : {X : Type 0} (p q : X → Bool) → ((x : X) → p x ≡ true → q x ≡ true) → (xs : List X) → list_any p xs ≡ true → list_any q xs ≡ true
+any-more : {X : Type 0} (p q : X → Bool) → ((x : X) → p x ≡ true → q x ≡ true) → (xs : List X) → list_any p xs ≡ true
+    → list_any q xs ≡ true
 any-more p q goes [] h = h
 any-more p q goes (x ∷ xs) h =
     elim (one-of (p x) (list_any p xs) h) [
@@ -130,22 +138,26 @@ module _ (who : Principal) (rows : List Answer) where
   abbrev test : List ℕ → ℕ → Bool
   test groups number = list_any (brings_in who groups) (listed number)
 
-  brings-more : (one more : List ℕ) → Goes (has one) (has more) → (m : Member) → brings_in who one m ≡ true → brings_in who more m ≡ true
+  brings-more : (one more : List ℕ) → Goes (has one) (has more) → (m : Member) → brings_in who one m ≡ true
+      → brings_in who more m ≡ true
   brings-more one more goes (member.User name) h = h
   brings-more one more goes (member.Group number) h = goes number h
 
   test-more : (one more : List ℕ) → Goes (has one) (has more) → Goes (test one) (test more)
-  test-more one more goes number h = any-more (brings_in who one) (brings_in who more) (brings-more one more goes) (listed number) h
+  test-more one more goes number h = any-more (brings_in who one) (brings_in who more) (brings-more one more goes)
+      (listed number) h
 
   turns-fixed : (n : ℕ) (groups : List ℕ) → groups ≡ turn groups → iterate turn n groups ≡ groups
   turns-fixed zero groups fixed = refl
   turns-fixed (suc n) groups fixed = ap (iterate turn n) (sym fixed) ∙ turns-fixed n groups fixed
 
   -- the next turn goes on from what one turn kept
-  next : (p : ℕ → Bool) (groups : List ℕ) → groups ≡ filter p (groups_read rows) → Goes p (test groups) → Goes (has groups) (has (turn groups))
+  next : (p : ℕ → Bool) (groups : List ℕ) → groups ≡ filter p (groups_read rows) → Goes p (test groups)
+      → Goes (has groups) (has (turn groups))
   next p groups is goes n h =
       let kept : has (filter p (groups_read rows)) n ≡ true = subst (λ (gs : List ℕ). has gs n ≡ true) is h in
-      filter-has (test groups) (groups_read rows) n (was p (groups_read rows) n kept) (goes n (has-filter p (groups_read rows) n kept))
+      filter-has (test groups) (groups_read rows) n (was p (groups_read rows) n kept)
+      (goes n (has-filter p (groups_read rows) n kept))
 
   -- nothing more grows, or more groups are there
   end-by :
@@ -163,10 +175,12 @@ module _ (who : Principal) (rows : List Answer) where
       (n : ℕ) (p : ℕ → Bool) (groups : List ℕ) → groups ≡ filter p (groups_read rows) → Goes p (test groups)
       → length (groups_read rows) ≤ n + length groups
       → iterate turn n (turn groups) ≡ turn (iterate turn n (turn groups))
-  turns-end zero p groups is goes few = end-by zero p groups is goes (λ l. absurd (omega (arith, l, filter-few (test groups) (groups_read rows), few)))
+  turns-end zero p groups is goes few = end-by zero p groups is goes
+      (λ l. absurd (omega (arith, l, filter-few (test groups) (groups_read rows), few)))
   turns-end (suc n) p groups is goes few =
       end-by (suc n) p groups is goes
-      (λ l. turns-end n (test groups) (turn groups) refl (test-more groups (turn groups) (next p groups is goes)) (omega (arith, l, few)))
+      (λ l. turns-end n (test groups) (turn groups) refl (test-more groups (turn groups) (next p groups is goes))
+      (omega (arith, l, few)))
 
   nothing : (xs : List ℕ) → [] ≡ filter (λ n. false) xs
   nothing [] = refl
@@ -174,7 +188,8 @@ module _ (who : Principal) (rows : List Answer) where
 
   few_groups : length (groups_read rows) ≤ length rows + 0
   few_groups =
-      let a : length (groups_read rows) ≡ length (filter (λ item. kind_of item == 3) (items_read rows)) = length-map _ number_of in
+      let a : length (groups_read rows) ≡ length (filter (λ item. kind_of item == 3) (items_read rows)) =
+      length-map _ number_of in
       let b = filter-few (λ item. kind_of item == 3) (items_read rows) in
       let c = length-items rows in
       omega (arith, a, b, c)
@@ -188,7 +203,8 @@ module _ (who : Principal) (rows : List Answer) where
 
   -- ---- who is found is in the group
 
-  any-member : (p : Member → Bool) (ms : List Member) → list_any p ms ≡ true → (m : Member) × Contains ms m × (p m ≡ true)
+  any-member : (p : Member → Bool) (ms : List Member) → list_any p ms ≡ true
+      → (m : Member) × Contains ms m × (p m ≡ true)
   any-member p [] h = absurd (cc)
   any-member p (m ∷ ms) h =
       elim (one-of (p m) (list_any p ms) h) [
@@ -210,22 +226,27 @@ module _ (who : Principal) (rows : List Answer) where
   abbrev AreIn : List ℕ → Type 0
   AreIn groups = (number : ℕ) → has groups number ≡ true → IsMember listed who number
 
-  is-user : (p : Principal) (name : List ℕ) (number : ℕ) → is_user p name ≡ true → Contains (listed number) (member.User name) → IsMember listed p number
+  is-user : (p : Principal) (name : List ℕ) (number : ℕ) → is_user p name ≡ true
+      → Contains (listed number) (member.User name) → IsMember listed p number
   is-user principal.Anonymous name number h c = absurd (cc)
   is-user (principal.User user) name number h c =
-      by_name number (subst (λ (n : List ℕ). Contains (listed number) (member.User n)) (sym ((bytes_eq-Decides user name).0 h)) c)
+      by_name number (subst (λ (n : List ℕ). Contains (listed number) (member.User n))
+      (sym ((bytes_eq-Decides user name).0 h)) c)
 
-  is-inner : (p : Principal) (inner number : ℕ) → IsMember listed p inner → Contains (listed number) (member.Group inner) → IsMember listed p number
+  is-inner : (p : Principal) (inner number : ℕ) → IsMember listed p inner
+      → Contains (listed number) (member.Group inner) → IsMember listed p number
   is-inner principal.Anonymous inner number h c = h
   is-inner (principal.User user) inner number h c = by_group number inner c h
 
-  brought : (groups : List ℕ) → AreIn groups → (number : ℕ) (m : Member) → Contains (listed number) m → brings_in who groups m ≡ true → IsMember listed who number
+  brought : (groups : List ℕ) → AreIn groups → (number : ℕ) (m : Member) → Contains (listed number) m
+      → brings_in who groups m ≡ true → IsMember listed who number
   brought groups are number (member.User name) c h = is-user who name number h c
   brought groups are number (member.Group inner) c h = is-inner who inner number (are inner h) c
 
   turn-in : (groups : List ℕ) → AreIn groups → AreIn (turn groups)
   turn-in groups are number h =
-      let m = any-member (brings_in who groups) (listed number) (has-filter (test groups) (groups_read rows) number h) in
+      let m = any-member (brings_in who groups) (listed number) (has-filter (test groups) (groups_read rows) number h)
+      in
       brought groups are number m.0 m.1 m.2
 
   turns-in : (n : ℕ) (groups : List ℕ) → AreIn groups → AreIn (iterate turn n groups)
@@ -243,20 +264,24 @@ module _ (who : Principal) (rows : List Answer) where
   unfolding seen
   unread-nobody number e = go (version_read rows (group number)) (read-has rows (group number) ∙ e)
     where
-      go : (o : Option (ℕ × Value)) → is_some o ≡ false → members_of (option_map_or (λ version. version.1) o Missing) ≡ []
+      go : (o : Option (ℕ × Value)) → is_some o ≡ false
+          → members_of (option_map_or (λ version. version.1) o Missing) ≡ []
       go None e = refl
       go (Some version) e = absurd (cc)
 
   read-group : (number : ℕ) → has (items_read rows) (group number) ≡ true → has (groups_read rows) number ≡ true
   read-group number h =
       mapped (filter (λ item. kind_of item == 3) (items_read rows))
-      (filter-has (λ item. kind_of item == 3) (items_read rows) (group number) h (eq-eqb (kind_of (group number)) 3 (omega arith)))
+      (filter-has (λ item. kind_of item == 3) (items_read rows) (group number) h
+      (eq-eqb (kind_of (group number)) 3 (omega arith)))
     where
       mapped : (xs : List ℕ) → has xs (group number) ≡ true → has (map number_of xs) number ≡ true
       mapped [] k = absurd (cc)
       mapped (x ∷ xs) k =
           elim (one-of (group number == x) (has xs (group number)) k) [
-            | inl s ↦ or_left (number == number_of x) (has (map number_of xs) number) (eq-eqb number (number_of x) (let e : group number ≡ x = eqb-true (group number) x s in omega (arith, e)))
+            | inl s ↦ or_left (number == number_of x) (has (map number_of xs) number)
+                (eq-eqb number (number_of x)
+                (let e : group number ≡ x = eqb-true (group number) x s in omega (arith, e)))
             | inr r ↦ or_right (number == number_of x) (has (map number_of xs) number) (mapped xs r)
           ]
 
@@ -269,23 +294,27 @@ module _ (who : Principal) (rows : List Answer) where
           let none : Contains [] m = subst (λ (ms : List Member). Contains ms m) (unread-nobody number e) c in
           absurd (omega (arith, none.1))
 
-  into-found : (number : ℕ) (m : Member) → Contains (listed number) m → brings_in who (groups_found who rows) m ≡ true → has (groups_found who rows) number ≡ true
+  into-found : (number : ℕ) (m : Member) → Contains (listed number) m → brings_in who (groups_found who rows) m ≡ true
+      → has (groups_found who rows) number ≡ true
   into-found number m c h =
       subst (λ (gs : List ℕ). has gs number ≡ true) (sym groups-fixed)
       (filter-has (test (groups_found who rows)) (groups_read rows) number (listing-read number m c)
       (member-any (brings_in who (groups_found who rows)) (listed number) m c h))
 
-  in-found : (user : List ℕ) → who ≡ principal.User user → (number : ℕ) → IsIn listed user number → has (groups_found who rows) number ≡ true
+  in-found : (user : List ℕ) → who ≡ principal.User user → (number : ℕ) → IsIn listed user number
+      → has (groups_found who rows) number ≡ true
   in-found user is number (by_name n c) =
       into-found number (member.User user) c
       (subst (λ (p : Principal). is_user p user ≡ true) (sym is) ((bytes_eq-Decides user user).1 refl))
   in-found user is number (by_group n inner c h) = into-found number (member.Group inner) c (in-found user is inner h)
 
-member-found : (who : Principal) (rows : List Answer) (number : ℕ) → IsMember (members_seen (seen rows)) who number → has (groups_found who rows) number ≡ true
+member-found : (who : Principal) (rows : List Answer) (number : ℕ) → IsMember (members_seen (seen rows)) who number
+    → has (groups_found who rows) number ≡ true
 member-found principal.Anonymous rows number m = absurd m
 member-found (principal.User user) rows number m = in-found (principal.User user) rows user refl number m
 
-pub basis-based : (policy : Policy) (who : Principal) (rows : List Answer) → IsBasis policy who rows (basis_on policy who rows)
+pub basis-based : (policy : Policy) (who : Principal) (rows : List Answer)
+    → IsBasis policy who rows (basis_on policy who rows)
 basis-based policy who rows =
     record {
       ruled_by = refl;

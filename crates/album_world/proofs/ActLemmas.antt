@@ -57,23 +57,34 @@ discarded_tells false false false e = absurd (cc)
 -- the mark that a partition with these marks makes
 pub data IsMarked (o : Opening) (w : World) (p : ℕ) (ms : List Mark) : Option Mark → Type 0 where
   no_mark : IsMarked o w p ms None
-  made_prepared : {t : ℕ} {ws : List Row} {js : List ℕ} → state_of ms t ≡ state.Unknown → is_full o.limit ms ≡ false → IsPrepareOf o w p t ws js → IsMarked o w p ms (Some (Prepared t ws js))
+  made_prepared : {t : ℕ} {ws : List Row} {js : List ℕ} → state_of ms t ≡ state.Unknown → is_full o.limit ms ≡ false
+      → IsPrepareOf o w p t ws js → IsMarked o w p ms (Some (Prepared t ws js))
   made_committed : {t : ℕ} → state_of ms t ≡ state.Pending → IsSettled o w t → IsMarked o w p ms (Some (Committed t))
-  made_refused : {t : ℕ} → state_of ms t ≡ state.Unknown → is_full o.limit ms ≡ false → IsPlacedAt o w p t → IsMarked o w p ms (Some (Discarded t))
+  made_refused : {t : ℕ} → state_of ms t ≡ state.Unknown → is_full o.limit ms ≡ false → IsPlacedAt o w p t
+      → IsMarked o w p ms (Some (Discarded t))
   made_discarded : {t : ℕ} → state_of ms t ≡ state.Pending → IsAgainst o w t → IsMarked o w p ms (Some (Discarded t))
   made_trimmed : {i : ℕ} → is_full o.limit ms ≡ false → IsMarked o w p ms (Some (Trimmed i))
 
 pub record IsEffect (o : Opening) (w : World) (p : ℕ) (ms : List Mark) (m : Message) (e : Effect) : Type 1 where
   pub marked : IsMarked o w p ms e.mark
   pub noted : (n : NotedVote) → e.vote ≡ Some n → IsPreparedIn (history w n.part) n.stamp
-  pub replied : (v : World) → Grows o w v → history v p ≡ ms ++ option_to_list e.mark → (r : Reply) → e.reply ≡ Some r → IsSay o v (Part p) r
-  pub tells : (P : ℕ → ℕ → Type 0) → ((i : ℕ) (ts : List ℕ) → m.body ≡ body.Request (Get i ts) → place_of o.parts i ≡ p → P i (stamp_for ms i ts)) → (r : Reply) → e.reply ≡ Some r → SaysWith P r
+  pub replied : (v : World) → Grows o w v → history v p ≡ ms ++ option_to_list e.mark → (r : Reply) → e.reply ≡ Some r
+      → IsSay o v (Part p) r
+  pub tells : (P : ℕ → ℕ → Type 0)
+      → ((i : ℕ) (ts : List ℕ) → m.body ≡ body.Request (Get i ts) → place_of o.parts i ≡ p → P i (stamp_for ms i ts))
+      → (r : Reply) → e.reply ≡ Some r → SaysWith P r
 
 module _ (o : Opening) (w : World) (p : ℕ) (ms : List Mark) (m : Message) where
   silent_effect : IsEffect o w p ms m nothing
-  silent_effect = record { marked = no_mark; noted = λ n h. none_some h; replied = λ v g e r h. none_some h; tells = λ P f r h. none_some h }
+  silent_effect = record {
+    marked = no_mark;
+    noted = λ n h. none_some h;
+    replied = λ v g e r h. none_some h;
+    tells = λ P f r h. none_some h;
+  }
 
-  says_effect : (b : Reply) → ((v : World) → Grows o w v → IsSay o v (Part p) b) → ((P : ℕ → ℕ → Type 0) → SaysWith P b) → IsEffect o w p ms m (says b)
+  says_effect : (b : Reply) → ((v : World) → Grows o w v → IsSay o v (Part p) b)
+      → ((P : ℕ → ℕ → Type 0) → SaysWith P b) → IsEffect o w p ms m (says b)
   says_effect b fine quiet = record {
     marked = no_mark;
     noted = λ n h. none_some h;
@@ -81,7 +92,9 @@ module _ (o : Opening) (w : World) (p : ℕ) (ms : List Mark) (m : Message) wher
     tells = λ P f r h. subst (SaysWith P) (some_same h) (quiet P);
   }
 
-  marks_effect : (x : Mark) (b : Reply) → IsMarked o w p ms (Some x) → ((v : World) → Grows o w v → history v p ≡ ms ++ x ∷ [] → IsSay o v (Part p) b) → ((P : ℕ → ℕ → Type 0) → SaysWith P b) → IsEffect o w p ms m (marks_and_says x b)
+  marks_effect : (x : Mark) (b : Reply) → IsMarked o w p ms (Some x)
+      → ((v : World) → Grows o w v → history v p ≡ ms ++ x ∷ [] → IsSay o v (Part p) b)
+      → ((P : ℕ → ℕ → Type 0) → SaysWith P b) → IsEffect o w p ms m (marks_and_says x b)
   marks_effect x b marked fine quiet = record {
     marked = marked;
     noted = λ n h. none_some h;
@@ -90,9 +103,15 @@ module _ (o : Opening) (w : World) (p : ℕ) (ms : List Mark) (m : Message) wher
   }
 
   mark_effect : (x : Mark) → IsMarked o w p ms (Some x) → IsEffect o w p ms m (marks x)
-  mark_effect x marked = record { marked = marked; noted = λ n h. none_some h; replied = λ v g e r h. none_some h; tells = λ P f r h. none_some h }
+  mark_effect x marked = record {
+    marked = marked;
+    noted = λ n h. none_some h;
+    replied = λ v g e r h. none_some h;
+    tells = λ P f r h. none_some h;
+  }
 
-  else_effect : (b : Bool) (e f : Effect) → (b ≡ true → IsEffect o w p ms m e) → IsEffect o w p ms m f → IsEffect o w p ms m (cond b e f)
+  else_effect : (b : Bool) (e f : Effect) → (b ≡ true → IsEffect o w p ms m e) → IsEffect o w p ms m f
+      → IsEffect o w p ms m (cond b e f)
   else_effect true e f h l = h refl
   else_effect false e f h l = l
 
@@ -100,7 +119,8 @@ module _ (o : Opening) (w : World) (p : ℕ) (ms : List Mark) (m : Message) wher
   clash_effect = says_effect reply.Clash (λ v g. tt) (λ P. tt)
 
 -- partition p takes m
-module _ (o : Opening) (some : 0 < o.parts) (w : World) (k : IsKept o w) (p : ℕ) (h : PartitionState) (got : slice_get w.now.partitions p ≡ Some h) (m : Message) (sent : In m w.now.messages) (to : m.to ≡ Part p) where
+module _ (o : Opening) (some : 0 < o.parts) (w : World) (k : IsKept o w) (p : ℕ) (h : PartitionState)
+    (got : slice_get w.now.partitions p ≡ Some h) (m : Message) (sent : In m w.now.messages) (to : m.to ≡ Part p) where
   here_is : history w p ≡ h.marks
   here_is = ap marks_of got
 
@@ -111,12 +131,14 @@ module _ (o : Opening) (some : 0 < o.parts) (w : World) (k : IsKept o w) (p : �
   sound = subst (IsSound o w p) here_is (k.sound p)
 
   told : (b : Body) → m.body ≡ b → IsFine o w m.from (Part p) b
-  told b e = subst (λ (z : Body). IsFine o w m.from (Part p) z) e (subst (λ (z : Node). IsFine o w m.from z m.body) to (k.fine m sent))
+  told b e = subst (λ (z : Body). IsFine o w m.from (Part p) z) e
+      (subst (λ (z : Node). IsFine o w m.from z m.body) to (k.fine m sent))
 
   now_prepared : (t : ℕ) → IsPreparedIn h.marks t → IsPreparedIn (history w p) t
   now_prepared t d = subst (λ (z : List Mark). IsPreparedIn z t) (sym here_is) d
 
-  is_prepared : (t : ℕ) (s : StampState) → state_of h.marks t ≡ s → (s ≡ state.Pending) ⊎ (s ≡ state.Committed) → IsPreparedIn h.marks t
+  is_prepared : (t : ℕ) (s : StampState) → state_of h.marks t ≡ s → (s ≡ state.Pending) ⊎ (s ≡ state.Committed)
+      → IsPreparedIn h.marks t
   is_prepared t s e c = prepared_in h.marks t (⊎_elim
       (λ (q : s ≡ state.Pending). (pending_tells _ _ _ (e ∙ q)).2)
       (λ (q : s ≡ state.Committed). committed_was_prepared h.marks t sound.legal (committed_tells _ _ _ (e ∙ q)))
@@ -126,45 +148,63 @@ module _ (o : Opening) (some : 0 < o.parts) (w : World) (k : IsKept o w) (p : �
   full_here = ap (λ (z : ℕ). is_full z h.marks) placed.limit
 
   did_prepare : (t : ℕ) → IsPreparedIn h.marks t → IsEffect o w p h.marks m (says (reply.Prepared t))
-  did_prepare t d = says_effect o w p h.marks m (reply.Prepared t) (λ v g. prepared_grows o w v g p t (now_prepared t d)) (λ P. tt)
+  did_prepare t d = says_effect o w p h.marks m (reply.Prepared t)
+      (λ v g. prepared_grows o w v g p t (now_prepared t d)) (λ P. tt)
 
   against_of : (t : ℕ) → state_of h.marks t ≡ state.Discarded → IsAgainst o w t
   against_of t e = sound.discarded t (discarded_tells _ _ _ e)
 
   did_discard : (t : ℕ) → state_of h.marks t ≡ state.Discarded → IsEffect o w p h.marks m (says (reply.Discarded t))
-  did_discard t e = says_effect o w p h.marks m (reply.Discarded t) (λ v g. against_grows o w v g t (against_of t e)) (λ P. tt)
-
-  no_room : (t : ℕ) → state_of h.marks t ≡ state.Unknown → is_full h.limit h.marks ≡ true → IsEffect o w p h.marks m (says (reply.Full t))
-  no_room t u f = says_effect o w p h.marks m (reply.Full t)
-      (λ v g. g.full p t (record { unknown = subst (λ (z : List Mark). state_of z t ≡ state.Unknown) (sym here_is) u; full = subst (λ (z : List Mark). is_full o.limit z ≡ true) (sym here_is) (sym full_here ∙ f) }))
+  did_discard t e = says_effect o w p h.marks m (reply.Discarded t) (λ v g. against_grows o w v g t (against_of t e))
       (λ P. tt)
 
-  prepare_effect : (t : ℕ) (ws : List Row) (js : List ℕ) → m.body ≡ body.Request (Prepare t ws js) → (full same : Bool) → is_full h.limit h.marks ≡ full → (s : StampState) → state_of h.marks t ≡ s → IsEffect o w p h.marks m (prepare_by full same s t ws js)
+  no_room : (t : ℕ) → state_of h.marks t ≡ state.Unknown → is_full h.limit h.marks ≡ true
+      → IsEffect o w p h.marks m (says (reply.Full t))
+  no_room t u f = says_effect o w p h.marks m (reply.Full t)
+      (λ v g. g.full p t (record {
+        unknown = subst (λ (z : List Mark). state_of z t ≡ state.Unknown) (sym here_is) u;
+        full = subst (λ (z : List Mark). is_full o.limit z ≡ true) (sym here_is) (sym full_here ∙ f);
+      }))
+      (λ P. tt)
+
+  prepare_effect : (t : ℕ) (ws : List Row) (js : List ℕ) → m.body ≡ body.Request (Prepare t ws js)
+      → (full same : Bool) → is_full h.limit h.marks ≡ full → (s : StampState) → state_of h.marks t ≡ s
+      → IsEffect o w p h.marks m (prepare_by full same s t ws js)
   prepare_effect t ws js e true same f state.Unknown u = no_room t u f
   prepare_effect t ws js e false same f state.Unknown u =
-      marks_effect o w p h.marks m (Prepared t ws js) (reply.Prepared t) (made_prepared u (sym full_here ∙ f) (told (body.Request (Prepare t ws js)) e))
-      (λ v g q. prepared_in (history v p) t (subst (λ (z : List Mark). list_any (prepares t) z ≡ true) (sym q) (any_in (prepares t) (h.marks ++ Prepared t ws js ∷ []) (in_right h.marks here) (eq-eqb t t refl))))
+      marks_effect o w p h.marks m (Prepared t ws js) (reply.Prepared t)
+      (made_prepared u (sym full_here ∙ f) (told (body.Request (Prepare t ws js)) e))
+      (λ v g q. prepared_in (history v p) t
+      (subst (λ (z : List Mark). list_any (prepares t) z ≡ true) (sym q)
+      (any_in (prepares t) (h.marks ++ Prepared t ws js ∷ []) (in_right h.marks here) (eq-eqb t t refl))))
       (λ P. tt)
   prepare_effect t ws js e full same f state.Pending u =
-      else_effect o w p h.marks m same _ _ (λ q. did_prepare t (is_prepared t state.Pending u (inl refl))) (clash_effect o w p h.marks m)
+      else_effect o w p h.marks m same _ _ (λ q. did_prepare t (is_prepared t state.Pending u (inl refl)))
+      (clash_effect o w p h.marks m)
   prepare_effect t ws js e full same f state.Committed u =
-      else_effect o w p h.marks m same _ _ (λ q. did_prepare t (is_prepared t state.Committed u (inr refl))) (clash_effect o w p h.marks m)
+      else_effect o w p h.marks m same _ _ (λ q. did_prepare t (is_prepared t state.Committed u (inr refl)))
+      (clash_effect o w p h.marks m)
   prepare_effect t ws js e full same f state.Discarded u = did_discard t u
 
   is_committed : (t : ℕ) → state_of h.marks t ≡ state.Committed → list_any (commits t) (history w p) ≡ true
   is_committed t e = subst (λ (z : List Mark). list_any (commits t) z ≡ true) (sym here_is) (committed_tells _ _ _ e)
 
-  commit_effect : (t : ℕ) → m.body ≡ body.Request (Commit t) → (s : StampState) → state_of h.marks t ≡ s → IsEffect o w p h.marks m (commit_by s t)
+  commit_effect : (t : ℕ) → m.body ≡ body.Request (Commit t) → (s : StampState) → state_of h.marks t ≡ s
+      → IsEffect o w p h.marks m (commit_by s t)
   commit_effect t e state.Unknown u = says_effect o w p h.marks m (reply.NotPrepared t) (λ v g. tt) (λ P. tt)
   commit_effect t e state.Pending u =
-      marks_effect o w p h.marks m (Committed t) (reply.Committed t) (made_committed u (told (body.Request (Commit t)) e))
-      (λ v g q. subst (λ (z : List Mark). list_any (commits t) z ≡ true) (sym q) (any_in (commits t) (h.marks ++ Committed t ∷ []) (in_right h.marks here) (eq-eqb t t refl)))
+      marks_effect o w p h.marks m (Committed t) (reply.Committed t)
+      (made_committed u (told (body.Request (Commit t)) e))
+      (λ v g q. subst (λ (z : List Mark). list_any (commits t) z ≡ true) (sym q)
+      (any_in (commits t) (h.marks ++ Committed t ∷ []) (in_right h.marks here) (eq-eqb t t refl)))
       (λ P. tt)
-  commit_effect t e state.Committed u = says_effect o w p h.marks m (reply.Committed t) (λ v g. any_grows o w v g (commits t) p (is_committed t u)) (λ P. tt)
+  commit_effect t e state.Committed u = says_effect o w p h.marks m (reply.Committed t)
+      (λ v g. any_grows o w v g (commits t) p (is_committed t u)) (λ P. tt)
   commit_effect t e state.Discarded u = did_discard t u
 
   -- what is refused by a partition of one of its items is against it
-  pub against_here : (v : World) (t : ℕ) → Grows o w v → IsPlacedAt o w p t → state_of h.marks t ≡ state.Unknown → history v p ≡ h.marks ++ Discarded t ∷ [] → IsAgainst o v t
+  pub against_here : (v : World) (t : ℕ) → Grows o w v → IsPlacedAt o w p t → state_of h.marks t ≡ state.Unknown
+      → history v p ≡ h.marks ++ Discarded t ∷ [] → IsAgainst o v t
   against_here v t g d u q = record {
     of = d.of;
     begun = g.transactions d.of d.begun;
@@ -175,20 +215,26 @@ module _ (o : Opening) (some : 0 < o.parts) (w : World) (k : IsKept o w) (p : �
         (record { before = h.marks; later = []; discarded = q; unprepared = (unknown_tells _ _ _ u).2 });
   }
 
-  check_effect : (t : ℕ) → m.body ≡ body.Request (Check t) → (full : Bool) → is_full h.limit h.marks ≡ full → (s : StampState) → state_of h.marks t ≡ s → IsEffect o w p h.marks m (check_by full s t)
+  check_effect : (t : ℕ) → m.body ≡ body.Request (Check t) → (full : Bool) → is_full h.limit h.marks ≡ full
+      → (s : StampState) → state_of h.marks t ≡ s → IsEffect o w p h.marks m (check_by full s t)
   check_effect t e true f state.Unknown u = no_room t u f
   check_effect t e false f state.Unknown u =
       let d = told (body.Request (Check t)) e in
-      marks_effect o w p h.marks m (Discarded t) (reply.Status t vote.Never) (made_refused u (sym full_here ∙ f) d) (λ v g q. against_here v t g d u q) (λ P. tt)
+      marks_effect o w p h.marks m (Discarded t) (reply.Status t vote.Never) (made_refused u (sym full_here ∙ f) d)
+      (λ v g q. against_here v t g d u q) (λ P. tt)
   check_effect t e full f state.Pending u =
-      says_effect o w p h.marks m (reply.Status t vote.Prepared) (λ v g. prepared_grows o w v g p t (now_prepared t (is_prepared t state.Pending u (inl refl)))) (λ P. tt)
+      says_effect o w p h.marks m (reply.Status t vote.Prepared)
+      (λ v g. prepared_grows o w v g p t (now_prepared t (is_prepared t state.Pending u (inl refl)))) (λ P. tt)
   check_effect t e full f state.Committed u =
-      says_effect o w p h.marks m (reply.Status t vote.Committed) (λ v g. settled_grows o w v g t (sound.committed t (committed_tells _ _ _ u))) (λ P. tt)
+      says_effect o w p h.marks m (reply.Status t vote.Committed)
+      (λ v g. settled_grows o w v g t (sound.committed t (committed_tells _ _ _ u))) (λ P. tt)
   check_effect t e full f state.Discarded u =
-      says_effect o w p h.marks m (reply.Status t vote.Never) (λ v g. against_grows o w v g t (against_of t u)) (λ P. tt)
+      says_effect o w p h.marks m (reply.Status t vote.Never) (λ v g. against_grows o w v g t (against_of t u))
+      (λ P. tt)
 
   -- all others are prepared, and so is p
-  settled_by_votes : (t q : ℕ) → state_of h.marks t ≡ state.Pending → IsPreparedIn (history w q) t → have_told (q ∷ heard h.votes t) (others_of h.number h.parts (items_at h.marks t)) ≡ true → IsSettled o w t
+  settled_by_votes : (t q : ℕ) → state_of h.marks t ≡ state.Pending → IsPreparedIn (history w q) t
+      → have_told (q ∷ heard h.votes t) (others_of h.number h.parts (items_at h.marks t)) ≡ true → IsSettled o w t
   settled_by_votes t q u d all =
       let a = is_prepared t state.Pending u (inl refl) in
       let s = sound.prepared t a in
@@ -197,10 +243,13 @@ module _ (o : Opening) (some : 0 < o.parts) (w : World) (k : IsKept o w) (p : �
         begun = s.begun;
         stamp = s.stamp;
         ready = λ i v e. subst (λ (z : ℕ). wrote (history w (place_of o.parts i)) z i ≡ Some v) s.stamp
-            (written_here o w k s.of s.begun i v e (subst (λ (z : ℕ). IsPreparedIn (history w (place_of o.parts i)) z) (sym s.stamp) (there a s i (item_in s.of.writes i v e))));
+            (written_here o w k s.of s.begun i v e
+            (subst (λ (z : ℕ). IsPreparedIn (history w (place_of o.parts i)) z) (sym s.stamp)
+            (there a s i (item_in s.of.writes i v e))));
       }
     where
-      there : (a : IsPreparedIn h.marks t) (s : IsPrepareOf o w p t a.writes a.items) (i : ℕ) → In i (items_written s.of.writes) → IsPreparedIn (history w (place_of o.parts i)) t
+      there : (a : IsPreparedIn h.marks t) (s : IsPrepareOf o w p t a.writes a.items) (i : ℕ)
+          → In i (items_written s.of.writes) → IsPreparedIn (history w (place_of o.parts i)) t
       there a s i l = ⊎_elim
           (λ (e : place_of o.parts i ≡ p). subst (λ (z : ℕ). IsPreparedIn (history w z) t) (sym e) (now_prepared t a))
           (λ (ne : eqb (place_of o.parts i) p ≡ false).
@@ -208,45 +257,70 @@ module _ (o : Opening) (some : 0 < o.parts) (w : World) (k : IsKept o w) (p : �
           let other : In (place_of o.parts i) (others_of h.number h.parts (items_at h.marks t)) =
           subst (λ (z : ℕ). In (place_of o.parts i) (others_of h.number z (items_at h.marks t))) (sym placed.parts)
           (subst (λ (z : ℕ). In (place_of o.parts i) (others_of z o.parts (items_at h.marks t))) (sym placed.number)
-          (subst (λ (z : List ℕ). In (place_of o.parts i) (others_of p o.parts z)) (sym is) (other_in o.parts p (items_written s.of.writes) i some l ne))) in
+          (subst (λ (z : List ℕ). In (place_of o.parts i) (others_of p o.parts z)) (sym is)
+          (other_in o.parts p (items_written s.of.writes) i some l ne))) in
           ⊎_elim
           (λ (e : place_of o.parts i ≡ q). subst (λ (z : ℕ). IsPreparedIn (history w z) t) (sym e) d)
           (λ (n : IsNoted h.votes t (place_of o.parts i)).
-          subst (λ (z : ℕ). IsPreparedIn (history w z) t) n.part (subst (λ (z : ℕ). IsPreparedIn (history w n.by.part) z) n.stamp (k.noted p h got n.by n.noted)))
+          subst (λ (z : ℕ). IsPreparedIn (history w z) t) n.part
+          (subst (λ (z : ℕ). IsPreparedIn (history w n.by.part) z) n.stamp (k.noted p h got n.by n.noted)))
           (told_is q t (place_of o.parts i) h.votes _ all other))
           (same_or_not (place_of o.parts i) p)
 
-  new_is : (t q : ℕ) (n : NotedVote) → new_vote h.votes t q ≡ Some n → IsPreparedIn (history w q) t → IsPreparedIn (history w n.part) n.stamp
+  new_is : (t q : ℕ) (n : NotedVote) → new_vote h.votes t q ≡ Some n → IsPreparedIn (history w q) t
+      → IsPreparedIn (history w n.part) n.stamp
   new_is t q n e d = go (has_vote h.votes t q) e
     where
-      go : (b : Bool) → (if b then None else Some (let one : NotedVote = record { stamp = t; part = q } in one)) ≡ Some n → IsPreparedIn (history w n.part) n.stamp
+      go : (b : Bool) → (if b then None else Some (let one : NotedVote = record { stamp = t; part = q } in one)) ≡
+          Some n → IsPreparedIn (history w n.part) n.stamp
       go true f = none_some f
       go false f = subst (λ (z : NotedVote). IsPreparedIn (history w z.part) z.stamp) (some_same f) d
 
-  part_effect : (t q : ℕ) → state_of h.marks t ≡ state.Pending → IsPreparedIn (history w q) t → IsEffect o w p h.marks m (to_part h q t)
+  part_effect : (t q : ℕ) → state_of h.marks t ≡ state.Pending → IsPreparedIn (history w q) t
+      → IsEffect o w p h.marks m (to_part h q t)
   part_effect t q u d = go (have_told (q ∷ heard h.votes t) (others_of h.number h.parts (items_at h.marks t))) refl
     where
       go : (b : Bool) → have_told (q ∷ heard h.votes t) (others_of h.number h.parts (items_at h.marks t)) ≡ b
-          → IsEffect o w p h.marks m (record { mark = mark_by (if b then decision.Commit else decision.Wait) t; vote = new_vote h.votes t q; reply = None })
-      go true e = record { marked = made_committed u (settled_by_votes t q u d e); noted = λ n f. new_is t q n f d; replied = λ v g f r l. none_some l; tells = λ P f r l. none_some l }
-      go false e = record { marked = no_mark; noted = λ n f. new_is t q n f d; replied = λ v g f r l. none_some l; tells = λ P f r l. none_some l }
+          → IsEffect o w p h.marks m
+          (record {
+            mark = mark_by (if b then decision.Commit else decision.Wait) t;
+            vote = new_vote h.votes t q;
+            reply = None;
+          })
+      go true e = record {
+        marked = made_committed u (settled_by_votes t q u d e);
+        noted = λ n f. new_is t q n f d;
+        replied = λ v g f r l. none_some l;
+        tells = λ P f r l. none_some l;
+      }
+      go false e = record {
+        marked = no_mark;
+        noted = λ n f. new_is t q n f d;
+        replied = λ v g f r l. none_some l;
+        tells = λ P f r l. none_some l;
+      }
 
-  prepared_effect : (n : Node) (t : ℕ) → state_of h.marks t ≡ state.Pending → IsVote o w n t vote.Prepared → IsEffect o w p h.marks m (to_prepared h n t)
-  prepared_effect (Part q) t u d = else_effect o w p h.marks m (lies_at q h.parts (items_at h.marks t)) _ _ (λ l. part_effect t q u d) (silent_effect o w p h.marks m)
+  prepared_effect : (n : Node) (t : ℕ) → state_of h.marks t ≡ state.Pending → IsVote o w n t vote.Prepared
+      → IsEffect o w p h.marks m (to_prepared h n t)
+  prepared_effect (Part q) t u d = else_effect o w p h.marks m (lies_at q h.parts (items_at h.marks t)) _ _
+      (λ l. part_effect t q u d) (silent_effect o w p h.marks m)
   prepared_effect (ToClient c) t u d = silent_effect o w p h.marks m
 
-  vote_effect : (t : ℕ) (x : Vote) → state_of h.marks t ≡ state.Pending → IsVote o w m.from t x → IsEffect o w p h.marks m (to_vote h m.from t x)
+  vote_effect : (t : ℕ) (x : Vote) → state_of h.marks t ≡ state.Pending → IsVote o w m.from t x
+      → IsEffect o w p h.marks m (to_vote h m.from t x)
   vote_effect t vote.Prepared u d = prepared_effect m.from t u d
   vote_effect t vote.Committed u d = mark_effect o w p h.marks m (Committed t) (made_committed u d)
   vote_effect t vote.Never u d = mark_effect o w p h.marks m (Discarded t) (made_discarded u d)
 
-  status_effect : (t : ℕ) (x : Vote) → m.body ≡ body.Reply (reply.Status t x) → IsEffect o w p h.marks m (to_status h m.from t x)
+  status_effect : (t : ℕ) (x : Vote) → m.body ≡ body.Reply (reply.Status t x)
+      → IsEffect o w p h.marks m (to_status h m.from t x)
   status_effect t x e = else_effect o w p h.marks m (is_pending (state_of h.marks t)) _ _
       (λ l. vote_effect t x (is_pending_tells (state_of h.marks t) l) (told (body.Reply (reply.Status t x)) e))
       (silent_effect o w p h.marks m)
 
   -- the value that is read at a stamp
-  read_value : (i s : ℕ) → place_of o.parts i ≡ p → (s ≡ 0) ⊎ (is_some (version h.marks i s) ≡ true) → IsValue o w i s (value_at h i s)
+  read_value : (i s : ℕ) → place_of o.parts i ≡ p → (s ≡ 0) ⊎ (is_some (version h.marks i s) ≡ true)
+      → IsValue o w i s (value_at h i s)
   read_value i s at l = ⊎_elim
       (λ (e : s ≡ 0). inl (e, rw (eq-eqb s 0 e) (ap (λ (f : Option Value). unwrap_or f Missing) (placed.values i at))))
       (λ (ne : eqb s 0 ≡ false). inr (
@@ -257,17 +331,20 @@ module _ (o : Opening) (some : 0 < o.parts) (w : World) (k : IsKept o w) (p : �
             let x = some_is (version h.marks i s) v in
             let is : value_at h i s ≡ x.0 = value_of ne x.0 x.1 in
             subst (λ (z : ℕ). wrote (history w z) s i ≡ Some (value_at h i s)) (sym at)
-            (subst (λ (z : List Mark). wrote z s i ≡ Some (value_at h i s)) (sym here_is) (version_wrote h.marks i s x.0 x.1 ∙ ap Some (sym is))))
+            (subst (λ (z : List Mark). wrote z s i ≡ Some (value_at h i s)) (sym here_is)
+            (version_wrote h.marks i s x.0 x.1 ∙ ap Some (sym is))))
             l,
       ))
       (same_or_not s 0)
     where
       value_of : eqb s 0 ≡ false → (x : Value) → version h.marks i s ≡ Some x → value_at h i s ≡ x
-      value_of ne x e = ap (λ (b : Bool). unwrap_or (if b then value_in h.items i else version h.marks i s) Missing) ne ∙ ap (λ (f : Option Value). unwrap_or f Missing) e
+      value_of ne x e = ap (λ (b : Bool). unwrap_or (if b then value_in h.items i else version h.marks i s) Missing)
+          ne ∙ ap (λ (f : Option Value). unwrap_or f Missing) e
 
   get_effect : (i : ℕ) (ts : List ℕ) → m.body ≡ body.Request (Get i ts) → IsEffect o w p h.marks m (to_get h i ts)
   get_effect i ts e = else_effect o w p h.marks m (place_of h.parts i == h.number) _ _
-      (λ b. go (sym (ap (λ (z : ℕ). place_of z i) placed.parts) ∙ eqb-true (place_of h.parts i) h.number b ∙ placed.number) (read_at h.marks i ts) refl)
+      (λ b. go (sym (ap (λ (z : ℕ). place_of z i) placed.parts) ∙ eqb-true (place_of h.parts i) h.number b
+      ∙ placed.number) (read_at h.marks i ts) refl)
       (clash_effect o w p h.marks m)
     where
       go : place_of o.parts i ≡ p → (f : Option ℕ) → read_at h.marks i ts ≡ f → IsEffect o w p h.marks m (get_by h i f)
@@ -278,7 +355,9 @@ module _ (o : Opening) (some : 0 < o.parts) (w : World) (k : IsKept o w) (p : �
             marked = no_mark;
             noted = λ n l. none_some l;
             replied = λ v g n r l. subst (IsSay o v (Part p)) (some_same l)
-                (value_grows o w v g i s (value_at h i s) (read_value i s at (subst (λ (z : ℕ). (z ≡ 0) ⊎ (is_some (version h.marks i z) ≡ true)) is (stamp_for_is h.marks i ts))));
+                (value_grows o w v g i s (value_at h i s)
+                (read_value i s at (subst (λ (z : ℕ). (z ≡ 0) ⊎ (is_some (version h.marks i z) ≡ true)) is
+                (stamp_for_is h.marks i ts))));
             tells = λ P f r l. subst (SaysWith P) (some_same l) (subst (λ (z : ℕ). P i z) is (f i ts e at));
           }
 
@@ -287,9 +366,11 @@ module _ (o : Opening) (some : 0 < o.parts) (w : World) (k : IsKept o w) (p : �
       else_effect o w p h.marks m (is_proper h.number h.parts t ws js) _ _
       (λ l. prepare_effect t ws js e _ _ refl _ refl)
       (clash_effect o w p h.marks m)
-  request_effect (Commit t) e = else_effect o w p h.marks m (t == 0) _ _ (λ l. clash_effect o w p h.marks m) (commit_effect t e _ refl)
+  request_effect (Commit t) e = else_effect o w p h.marks m (t == 0) _ _ (λ l. clash_effect o w p h.marks m)
+      (commit_effect t e _ refl)
   request_effect (Get i ts) e = get_effect i ts e
-  request_effect (Check t) e = else_effect o w p h.marks m (t == 0) _ _ (λ l. clash_effect o w p h.marks m) (check_effect t e _ refl _ refl)
+  request_effect (Check t) e = else_effect o w p h.marks m (t == 0) _ _ (λ l. clash_effect o w p h.marks m)
+      (check_effect t e _ refl _ refl)
 
   reply_effect : (r : Reply) → m.body ≡ body.Reply r → IsEffect o w p h.marks m (to_reply h m.from r)
   reply_effect (reply.Status t x) e = status_effect t x e
@@ -307,4 +388,5 @@ module _ (o : Opening) (some : 0 < o.parts) (w : World) (k : IsKept o w) (p : �
   body_effect (body.Reply r) e = reply_effect r e
 
   pub effect_is : IsEffect o w p h.marks m (effect_of h m)
-  effect_is = else_effect o w p h.marks m (is_part m.to h.number) _ _ (λ l. body_effect m.body refl) (silent_effect o w p h.marks m)
+  effect_is = else_effect o w p h.marks m (is_part m.to h.number) _ _ (λ l. body_effect m.body refl)
+      (silent_effect o w p h.marks m)

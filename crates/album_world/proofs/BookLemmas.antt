@@ -46,13 +46,16 @@ pub record IsBegunFull (t : Terms) (w : World) (c s : ℕ) (permit : PermitState
 -- what led to an answer
 abbrev pub IsLed : Terms → World → Told → Answer → Type 0
 IsLed t w told (answer.Served served) = IsOnView t w told.client told.last (λ case. IsServedBy case served)
-IsLed t w told (answer.Denied reasons) = IsOnView t w told.client told.last (λ case. Finds case (finding.Denied reasons))
-IsLed t w told (answer.Missing object) = IsOnView t w told.client told.last (λ case. Finds case (finding.Missing object))
+IsLed t w told (answer.Denied reasons) = IsOnView t w told.client told.last
+    (λ case. Finds case (finding.Denied reasons))
+IsLed t w told (answer.Missing object) = IsOnView t w told.client told.last
+    (λ case. Finds case (finding.Missing object))
 IsLed t w told (answer.Busy why) = HasCause w told why
 IsLed t w told (answer.Committed s) = IsOnView t w told.client told.last (IsBegunBy w told.client s)
 IsLed t w told (answer.Aborted s) = IsOnView t w told.client told.last (IsBegunBy w told.client s)
 IsLed t w told (answer.Unsettled s why) = IsOnView t w told.client told.last (IsBegunFull t w told.client s)
-IsLed t w told (answer.Refused why) = IsOnView t w told.client told.last (λ case. IsPermit case × IsRefusedFor w told.client why case)
+IsLed t w told (answer.Refused why) = IsOnView t w told.client told.last
+    (λ case. IsPermit case × IsRefusedFor w told.client why case)
 
 -- a client's write was begun on the view that it had read last
 pub record IsWriteOn (t : Terms) (w : World) (c : ℕ) (z : WritingState) (T : Transaction → Type 0) : Type 0 where
@@ -104,7 +107,8 @@ pub record Adds (w1 w2 : World) : Type 0 where
   pub noted : (n : Noted) → In n w1.past.noted → In n w2.past.noted
   pub messages : (m : Message) → In m w1.now.messages → In m w2.now.messages
   pub clocks : (c : ℕ) → (client_at w1.now.clients c).clock.counter ≤ (client_at w2.now.clients c).clock.counter
-  pub unused : (d s : ℕ) → IsDrawnBy w1 d s → (r : Transaction) → In r w2.past.transactions → r.stamp ≡ s → In r w1.past.transactions
+  pub unused : (d s : ℕ) → IsDrawnBy w1 d s → (r : Transaction) → In r w2.past.transactions → r.stamp ≡ s
+      → In r w1.past.transactions
 
 module _ (t : Terms) (w1 w2 : World) (g : Adds w1 w2) where
   drawn_adds : (d s : ℕ) → IsDrawnBy w1 d s → IsDrawnBy w2 d s
@@ -125,7 +129,8 @@ module _ (t : Terms) (w1 w2 : World) (g : Adds w1 w2) where
     later = h.later;
   }
 
-  pub view_adds : (c : ℕ) (last : Option Read) (P Q : PermitState → Type 0) → ((case : PermitState) → P case → Q case) → IsOnView t w1 c last P → IsOnView t w2 c last Q
+  pub view_adds : (c : ℕ) (last : Option Read) (P Q : PermitState → Type 0) → ((case : PermitState) → P case → Q case)
+      → IsOnView t w1 c last P → IsOnView t w2 c last Q
   view_adds c last P Q more h = record {
     read = h.read;
     rows = h.rows;
@@ -138,10 +143,27 @@ module _ (t : Terms) (w1 w2 : World) (g : Adds w1 w2) where
   }
 
   abbrev begun_adds : (c s : ℕ) (case : PermitState) → IsBegunBy w1 c s case → IsBegunBy w2 c s case
-  begun_adds c s case h = record { granted = h.granted; by = h.by; begun = contains (g.transactions h.by (within _ h.begun)); own = h.own; at = h.at; with_it = h.with_it }
+  begun_adds c s case h =
+      record {
+        granted = h.granted;
+        by = h.by;
+        begun = contains (g.transactions h.by (within _ h.begun));
+        own = h.own;
+        at = h.at;
+        with_it = h.with_it;
+      }
 
   full_adds : (r : Transaction) → IsToldFull t w1 r → IsToldFull t w2 r
-  full_adds r h = record { message = h.message; part = h.part; sent = contains (g.messages h.message (within _ h.sent)); of = h.of; from = h.from; to = h.to; tag = h.tag; says = h.says }
+  full_adds r h = record {
+    message = h.message;
+    part = h.part;
+    sent = contains (g.messages h.message (within _ h.sent));
+    of = h.of;
+    from = h.from;
+    to = h.to;
+    tag = h.tag;
+    says = h.says;
+  }
 
   refused_adds : (c : ℕ) (why : Refusal) (case : PermitState) → IsRefusedFor w1 c why case → IsRefusedFor w2 c why case
   refused_adds c why case h = ⊎_elim
@@ -158,24 +180,39 @@ module _ (t : Terms) (w1 w2 : World) (g : Adds w1 w2) where
       h
 
   cause_adds : (told : Told) (why : Why) → HasCause w1 told why → HasCause w2 told why
-  cause_adds told why h = record { read = h.read; last_is = h.last_is; made = contains (g.reads h.read (within _ h.made)); own = h.own; cause = h.cause }
+  cause_adds told why h =
+      record {
+        read = h.read;
+        last_is = h.last_is;
+        made = contains (g.reads h.read (within _ h.made));
+        own = h.own;
+        cause = h.cause;
+      }
 
   pub led_adds : (told : Told) (a : Answer) → IsLed t w1 told a → IsLed t w2 told a
   led_adds told (answer.Served served) h = view_adds told.client told.last _ _ (λ case e. e) h
   led_adds told (answer.Denied reasons) h = view_adds told.client told.last _ _ (λ case e. e) h
   led_adds told (answer.Missing object) h = view_adds told.client told.last _ _ (λ case e. e) h
   led_adds told (answer.Busy why) h = cause_adds told why h
-  led_adds told (answer.Committed s) h = view_adds told.client told.last (IsBegunBy w1 told.client s) (IsBegunBy w2 told.client s) (begun_adds told.client s) h
-  led_adds told (answer.Aborted s) h = view_adds told.client told.last (IsBegunBy w1 told.client s) (IsBegunBy w2 told.client s) (begun_adds told.client s) h
+  led_adds told (answer.Committed s) h = view_adds told.client told.last (IsBegunBy w1 told.client s)
+      (IsBegunBy w2 told.client s) (begun_adds told.client s) h
+  led_adds told (answer.Aborted s) h = view_adds told.client told.last (IsBegunBy w1 told.client s)
+      (IsBegunBy w2 told.client s) (begun_adds told.client s) h
   led_adds told (answer.Unsettled s why) h =
       view_adds told.client told.last (IsBegunFull t w1 told.client s) (IsBegunFull t w2 told.client s)
       (λ case e. record { begun = begun_adds told.client s case e.begun; full = full_adds e.begun.by e.full }) h
   led_adds told (answer.Refused why) h =
-      view_adds told.client told.last (λ case. IsPermit case × IsRefusedFor w1 told.client why case) (λ case. IsPermit case × IsRefusedFor w2 told.client why case)
+      view_adds told.client told.last (λ case. IsPermit case × IsRefusedFor w1 told.client why case)
+      (λ case. IsPermit case × IsRefusedFor w2 told.client why case)
       (λ case e. (e.0, refused_adds told.client why case e.1)) h
 
   notes_add : (told : Told) → HasNotes w1 told → HasNotes w2 told
-  notes_add told h = record { noted = h.noted; kept = contains (g.noted h.noted (within _ h.kept)); own = h.own; same = h.same }
+  notes_add told h = record {
+    noted = h.noted;
+    kept = contains (g.noted h.noted (within _ h.kept));
+    own = h.own;
+    same = h.same;
+  }
 
   pub noting_adds : (told : Told) (a : Answer) → IsNotedFor w1 told a → IsNotedFor w2 told a
   noting_adds told (answer.Served served) h = notes_add told h
@@ -187,7 +224,8 @@ module _ (t : Terms) (w1 w2 : World) (g : Adds w1 w2) where
   noting_adds told (answer.Unsettled s why) h = notes_add told h
   noting_adds told (answer.Refused why) h = notes_add told h
 
-  pub write_adds : (c : ℕ) (z : WritingState) (T : Transaction → Type 0) → last_read w2.past.reads c ≡ last_read w1.past.reads c → IsWriteOn t w1 c z T → IsWriteOn t w2 c z T
+  pub write_adds : (c : ℕ) (z : WritingState) (T : Transaction → Type 0)
+      → last_read w2.past.reads c ≡ last_read w1.past.reads c → IsWriteOn t w1 c z T → IsWriteOn t w2 c z T
   write_adds c z T same h = record {
     read = h.read;
     rows = h.rows;
@@ -211,9 +249,11 @@ module _ (t : Terms) (w1 w2 : World) (g : Adds w1 w2) where
     is = h.is;
   }
 
-  pub at_adds : (c : ℕ) (f : Doing) → last_begun w2.past.begun c ≡ last_begun w1.past.begun c → last_read w2.past.reads c ≡ last_read w1.past.reads c → IsAt t w1 c f → IsAt t w2 c f
+  pub at_adds : (c : ℕ) (f : Doing) → last_begun w2.past.begun c ≡ last_begun w1.past.begun c
+      → last_read w2.past.reads c ≡ last_read w1.past.reads c → IsAt t w1 c f → IsAt t w2 c f
   at_adds c (doing.Idle tag) n same h = tt
-  at_adds c (doing.Reads asking round) n same h = record { taken = h.taken; count = ap (λ (z : Begun). z.nth) n ∙ h.count; few = h.few }
+  at_adds c (doing.Reads asking round) n same h =
+      record { taken = h.taken; count = ap (λ (z : Begun). z.nth) n ∙ h.count; few = h.few }
   at_adds c (doing.Prepares z) n same h = write_adds c z (λ by. by.tag ≡ z.tag) same h
   at_adds c (doing.Commits z) n same h = write_adds c z (λ by. Unit {0}) same h
 
@@ -230,34 +270,54 @@ noting_by w told (answer.Refused why) h = h
 
 -- ---- at a partition, and at a stop
 
-same_booked : (t : Terms) (w next : World) → Adds w next → IsBooked t w → ((r : Transaction) → In r next.past.transactions → In r w.past.transactions)
-    → ((told : Told) → In told next.past.told → In told w.past.told) → ((n : Noted) → In n next.past.noted → In n w.past.noted)
+same_booked : (t : Terms) (w next : World) → Adds w next → IsBooked t w
+    → ((r : Transaction) → In r next.past.transactions → In r w.past.transactions)
+    → ((told : Told) → In told next.past.told → In told w.past.told)
+    → ((n : Noted) → In n next.past.noted → In n w.past.noted)
     → ((c : ℕ) → IsAt t next c (client_at next.now.clients c).doing) → IsBooked t next
 same_booked t w next g b rs ts ns at = record {
   granted = λ r l. granted_adds t w next g r (b.granted r (rs r l));
   led = λ told l. led_adds t w next g told told.answer (b.led told (ts told l));
   noting = λ told l. noting_adds t w next g told told.answer (b.noting told (ts told l));
-  noted = λ n l. view_adds t w next g n.client n.last (λ case. Notes case n.notes) (λ case. Notes case n.notes) (λ case e. e) (b.noted n (ns n l));
+  noted = λ n l. view_adds t w next g n.client n.last (λ case. Notes case n.notes) (λ case. Notes case n.notes)
+      (λ case e. e) (b.noted n (ns n l));
   at = at;
 }
 
 part_adds : (w : World) (p : ℕ) (h : PartitionState) (sent : List Message) → Adds w (changed w (AtPart p h sent))
-part_adds w p h sent = record { transactions = λ r l. l; reads = λ f l. l; noted = λ n l. l; messages = λ m l. in_left sent l; clocks = λ c. le_refl _; unused = λ d s b r l e. l }
+part_adds w p h sent = record {
+  transactions = λ r l. l;
+  reads = λ f l. l;
+  noted = λ n l. l;
+  messages = λ m l. in_left sent l;
+  clocks = λ c. le_refl _;
+  unused = λ d s b r l e. l;
+}
 
-pub part_booked : (t : Terms) (w : World) → IsBooked t w → (p : ℕ) (h : PartitionState) (sent : List Message) → IsBooked t (changed w (AtPart p h sent))
+pub part_booked : (t : Terms) (w : World) → IsBooked t w → (p : ℕ) (h : PartitionState) (sent : List Message)
+    → IsBooked t (changed w (AtPart p h sent))
 part_booked t w b p h sent =
     let next = changed w (AtPart p h sent) in
     let g = part_adds w p h sent in
-    same_booked t w next g b (λ r l. l) (λ told l. l) (λ n l. l) (λ c. at_adds t w next g c (client_at w.now.clients c).doing refl refl (b.at c))
+    same_booked t w next g b (λ r l. l) (λ told l. l) (λ n l. l)
+    (λ c. at_adds t w next g c (client_at w.now.clients c).doing refl refl (b.at c))
 
 stop_adds : (w : World) (c : ℕ) → Adds w (changed w (Stops c))
-stop_adds w c = record { transactions = λ r l. l; reads = λ f l. l; noted = λ n l. l; messages = λ m l. l; clocks = λ c. le_refl _; unused = λ d s b r l e. l }
+stop_adds w c = record {
+  transactions = λ r l. l;
+  reads = λ f l. l;
+  noted = λ n l. l;
+  messages = λ m l. l;
+  clocks = λ c. le_refl _;
+  unused = λ d s b r l e. l;
+}
 
 pub stop_booked : (t : Terms) (w : World) → IsBooked t w → (c : ℕ) → IsBooked t (changed w (Stops c))
 stop_booked t w b c =
     let next = changed w (Stops c) in
     let g = stop_adds w c in
-    same_booked t w next g b (λ r l. l) (λ told l. l) (λ n l. l) (λ d. at_adds t w next g d (client_at w.now.clients d).doing refl refl (b.at d))
+    same_booked t w next g b (λ r l. l) (λ told l. l) (λ n l. l)
+    (λ d. at_adds t w next g d (client_at w.now.clients d).doing refl refl (b.at d))
 
 -- ---- a client's turn
 
@@ -269,14 +329,18 @@ begun_client (a ∷ bs) c = go (eqb a.client c) refl (begun_client bs c)
     go true e rest = eqb-true a.client c e
     go false e rest = rest
 
-last_other : (c d : ℕ) (begun : Begun) (e : Option Ended) (fs : List Read) → begun.client ≡ c → eqb c d ≡ false → last_read (option_to_list (option_map (read_over begun) e) ++ fs) d ≡ last_read fs d
+last_other : (c d : ℕ) (begun : Begun) (e : Option Ended) (fs : List Read) → begun.client ≡ c → eqb c d ≡ false
+    → last_read (option_to_list (option_map (read_over begun) e) ++ fs) d ≡ last_read fs d
 last_other c d begun None fs is ne = refl
 last_other c d begun (Some e) fs is ne = rw (subst (λ (z : ℕ). eqb z d ≡ false) (sym is) ne) refl
 
-pub last_here : (c : ℕ) (begun : Begun) (e : Ended) (fs : List Read) → begun.client ≡ c → last_read (read_over begun e ∷ fs) c ≡ Some (read_over begun e)
-last_here c begun e fs is = ap (λ (b : Bool). if b then Some (read_over begun e) else last_read fs c) (ap (λ (z : ℕ). eqb z c) is ∙ self_eqb c)
+pub last_here : (c : ℕ) (begun : Begun) (e : Ended) (fs : List Read) → begun.client ≡ c
+    → last_read (read_over begun e ∷ fs) c ≡ Some (read_over begun e)
+last_here c begun e fs is = ap (λ (b : Bool). if b then Some (read_over begun e) else last_read fs c)
+    (ap (λ (z : ℕ). eqb z c) is ∙ self_eqb c)
 
-module _ (o : Opening) (w : World) (k : IsKept o w) (b : IsBooked (terms_of o) w) (c : ℕ) (t : Turn) (number : t.client.number ≡ c) (own : t.client.clock.client ≡ c) where
+module _ (o : Opening) (w : World) (k : IsKept o w) (b : IsBooked (terms_of o) w) (c : ℕ) (t : Turn)
+    (number : t.client.number ≡ c) (own : t.client.clock.client ≡ c) where
   abbrev next : World
   next = changed w (AtClient c t)
 
@@ -286,7 +350,8 @@ module _ (o : Opening) (w : World) (k : IsKept o w) (b : IsBooked (terms_of o) w
   abbrev begun_here : Begun
   begun_here = last_begun w.past.begun c
 
-  module _ (up : old.clock.counter ≤ t.client.clock.counter) (news : (r : Transaction) → t.writes ≡ Some r → IsNew c old.clock.counter t r) where
+  module _ (up : old.clock.counter ≤ t.client.clock.counter) (news : (r : Transaction) → t.writes ≡ Some r
+      → IsNew c old.clock.counter t r) where
     -- a stamp that was drawn before isn't that of a write that begins now
     not_new : (d s : ℕ) → IsDrawnBy w d s → (r : Transaction) → t.writes ≡ Some r → r.stamp ≡ s → ⊥
     not_new d s h r l e =
@@ -296,7 +361,8 @@ module _ (o : Opening) (w : World) (k : IsKept o w) (b : IsBooked (terms_of o) w
         let lo : d < 65536 = ltb-true d CLIENTS (and_right (nat_lt 0 d) (nat_lt d CLIENTS) h.known) in
         let hi : c < 65536 = n.high in
         let same : d ≡ c = omega arith in
-        let q : h.counter ≤ old.clock.counter = subst (λ (z : ℕ). h.counter ≤ (client_at w.now.clients z).clock.counter) same h.old in
+        let q : h.counter ≤ old.clock.counter = subst
+        (λ (z : ℕ). h.counter ≤ (client_at w.now.clients z).clock.counter) same h.old in
         omega arith
 
     pub turn_adds : Adds w next
@@ -307,19 +373,24 @@ module _ (o : Opening) (w : World) (k : IsKept o w) (b : IsBooked (terms_of o) w
       messages = λ m l. in_left t.sent l;
       clocks = λ d. ⊎_elim
           (λ (e : (c ≡ d) × (client_at next.now.clients d ≡ t.client)).
-          subst (λ (z : Client). (client_at w.now.clients d).clock.counter ≤ z.clock.counter) (sym e.1) (subst (λ (z : ℕ). (client_at w.now.clients z).clock.counter ≤ t.client.clock.counter) e.0 up))
+          subst (λ (z : Client). (client_at w.now.clients d).clock.counter ≤ z.clock.counter) (sym e.1)
+          (subst (λ (z : ℕ). (client_at w.now.clients z).clock.counter ≤ t.client.clock.counter) e.0 up))
           (λ (e : (eqb c d ≡ false) × (client_at next.now.clients d ≡ client_at w.now.clients d)).
           subst (λ (z : Client). (client_at w.now.clients d).clock.counter ≤ z.clock.counter) (sym e.1) (le_refl _))
           (client_cases o w k c t number own d);
-      unused = λ d s h r l e. ⊎_elim (λ i. i) (λ i. absurd (not_new d s h r (in_option t.writes i) e)) (in_cases w.past.transactions (option_to_list t.writes) l);
+      unused = λ d s h r l e. ⊎_elim (λ i. i) (λ i. absurd (not_new d s h r (in_option t.writes i) e))
+          (in_cases w.past.transactions (option_to_list t.writes) l);
     }
 
-    pub turn_booked : IsAt (terms_of o) next c t.client.doing → ((r : Transaction) → t.writes ≡ Some r → IsGranted (terms_of o) next r)
+    pub turn_booked : IsAt (terms_of o) next c t.client.doing
+        → ((r : Transaction) → t.writes ≡ Some r → IsGranted (terms_of o) next r)
         → ((a : Answer) → t.answer ≡ Some a → IsLed (terms_of o) next (told_to (reads_after w.past c t) c a) a)
         → ((a : Answer) → t.answer ≡ Some a → IsNotedFor next (told_to (reads_after w.past c t) c a) a)
-        → ((n : List Note) → t.noted ≡ Some n → IsOnView (terms_of o) next c (last_read (reads_after w.past c t) c) (λ case. Notes case n)) → IsBooked (terms_of o) next
+        → ((n : List Note) → t.noted ≡ Some n → IsOnView (terms_of o) next c (last_read (reads_after w.past c t) c)
+        (λ case. Notes case n)) → IsBooked (terms_of o) next
     turn_booked does begins answers noting notes = record {
-      granted = λ r h. ⊎_elim (λ l. granted_adds (terms_of o) w next turn_adds r (b.granted r l)) (λ l. begins r (in_option t.writes l)) (in_cases w.past.transactions (option_to_list t.writes) h);
+      granted = λ r h. ⊎_elim (λ l. granted_adds (terms_of o) w next turn_adds r (b.granted r l))
+          (λ l. begins r (in_option t.writes l)) (in_cases w.past.transactions (option_to_list t.writes) h);
       led = λ a h. ⊎_elim
           (λ l. led_adds (terms_of o) w next turn_adds a a.answer (b.led a l))
           (λ l. let q = in_mapped (told_to (reads_after w.past c t) c) t.answer l in
@@ -331,15 +402,20 @@ module _ (o : Opening) (w : World) (k : IsKept o w) (b : IsBooked (terms_of o) w
           subst (λ (z : Told). IsNotedFor next z z.answer) (sym q.2) (noting q.0 q.1))
           (in_cases w.past.told (option_to_list (option_map (told_to (reads_after w.past c t) c) t.answer)) h);
       noted = λ a h. ⊎_elim
-          (λ l. view_adds (terms_of o) w next turn_adds a.client a.last (λ case. Notes case a.notes) (λ case. Notes case a.notes) (λ case e. e) (b.noted a l))
+          (λ l. view_adds (terms_of o) w next turn_adds a.client a.last (λ case. Notes case a.notes)
+          (λ case. Notes case a.notes) (λ case e. e) (b.noted a l))
           (λ l. let q = in_mapped (noted_of (reads_after w.past c t) c) t.noted l in
-          subst (λ (z : Noted). IsOnView (terms_of o) next z.client z.last (λ case. Notes case z.notes)) (sym q.2) (notes q.0 q.1))
+          subst (λ (z : Noted). IsOnView (terms_of o) next z.client z.last (λ case. Notes case z.notes)) (sym q.2)
+          (notes q.0 q.1))
           (in_cases w.past.noted (option_to_list (option_map (noted_of (reads_after w.past c t) c) t.noted)) h);
       at = λ d. ⊎_elim
           (λ (e : (c ≡ d) × (client_at next.now.clients d ≡ t.client)).
-          subst (λ (z : Client). IsAt (terms_of o) next d z.doing) (sym e.1) (subst (λ (z : ℕ). IsAt (terms_of o) next z t.client.doing) e.0 does))
+          subst (λ (z : Client). IsAt (terms_of o) next d z.doing) (sym e.1)
+          (subst (λ (z : ℕ). IsAt (terms_of o) next z t.client.doing) e.0 does))
           (λ (e : (eqb c d ≡ false) × (client_at next.now.clients d ≡ client_at w.now.clients d)).
           subst (λ (z : Client). IsAt (terms_of o) next d z.doing) (sym e.1)
-          (at_adds (terms_of o) w next turn_adds d (client_at w.now.clients d).doing (begun_other t.reads c d (nth_after w.past c t.over) w.now.partitions w.past.begun e.0) (last_other c d begun_here t.over w.past.reads (begun_client w.past.begun c) e.0) (b.at d)))
+          (at_adds (terms_of o) w next turn_adds d (client_at w.now.clients d).doing
+          (begun_other t.reads c d (nth_after w.past c t.over) w.now.partitions w.past.begun e.0)
+          (last_other c d begun_here t.over w.past.reads (begun_client w.past.begun c) e.0) (b.at d)))
           (client_cases o w k c t number own d);
     }

@@ -36,16 +36,20 @@ pub client_same : (cs : List Client) (x : Client) (c : ℕ) → x.number ≡ c �
 client_same [] x c e = rw (eq-eqb x.number c e) refl
 client_same (y ∷ cs) x c e = go (eqb y.number x.number) refl (client_same cs x c e)
   where
-    go : (b : Bool) → eqb y.number x.number ≡ b → client_at (with_client x cs) c ≡ x → client_at (cond b (x ∷ cs) (y ∷ with_client x cs)) c ≡ x
+    go : (b : Bool) → eqb y.number x.number ≡ b → client_at (with_client x cs) c ≡ x
+        → client_at (cond b (x ∷ cs) (y ∷ with_client x cs)) c ≡ x
     go true q rec = rw (eq-eqb x.number c e) refl
     go false q rec = let n : eqb y.number c ≡ false = subst (λ (z : ℕ). eqb y.number z ≡ false) e q in rw n rec
 
-pub client_other : (cs : List Client) (x : Client) (d : ℕ) → eqb x.number d ≡ false → client_at (with_client x cs) d ≡ client_at cs d
+pub client_other : (cs : List Client) (x : Client) (d : ℕ) → eqb x.number d ≡ false
+    → client_at (with_client x cs) d ≡ client_at cs d
 client_other [] x d ne = rw ne refl
 client_other (y ∷ cs) x d ne = go (eqb y.number x.number) refl (client_other cs x d ne)
   where
-    go : (b : Bool) → eqb y.number x.number ≡ b → client_at (with_client x cs) d ≡ client_at cs d → client_at (cond b (x ∷ cs) (y ∷ with_client x cs)) d ≡ cond (eqb y.number d) y (client_at cs d)
-    go true q rec = let n : eqb y.number d ≡ false = subst (λ (z : ℕ). eqb z d ≡ false) (sym (eqb-true y.number x.number q)) ne in rw (ne, n) refl
+    go : (b : Bool) → eqb y.number x.number ≡ b → client_at (with_client x cs) d ≡ client_at cs d
+        → client_at (cond b (x ∷ cs) (y ∷ with_client x cs)) d ≡ cond (eqb y.number d) y (client_at cs d)
+    go true q rec = let n : eqb y.number d ≡ false = subst (λ (z : ℕ). eqb z d ≡ false)
+        (sym (eqb-true y.number x.number q)) ne in rw (ne, n) refl
     go false q rec = ap (cond (eqb y.number d) y) rec
 
 -- ---- clocks
@@ -56,15 +60,18 @@ rows_client clock (f ∷ rows) = rows_client (clock_after_see clock f.stamp) row
 
 pub rows_raise : (clock : ClockState) (rows : List Found) → clock.counter ≤ (clock_after_rows clock rows).counter
 rows_raise clock [] = le_refl _
-rows_raise clock (f ∷ rows) = let l : clock.counter ≤ (clock_after_see clock f.stamp).counter = omega arith in le_trans l (rows_raise (clock_after_see clock f.stamp) rows)
+rows_raise clock (f ∷ rows) = let l : clock.counter ≤ (clock_after_see clock f.stamp).counter = omega arith in
+    le_trans l (rows_raise (clock_after_see clock f.stamp) rows)
 
 -- a clock that has seen a snapshot is at no lower counter than any stamp in it
-pub rows_seen : (clock : ClockState) (rows : List Found) (row : Found) → In row rows → counter_of row.stamp ≤ (clock_after_rows clock rows).counter
+pub rows_seen : (clock : ClockState) (rows : List Found) (row : Found) → In row rows
+    → counter_of row.stamp ≤ (clock_after_rows clock rows).counter
 rows_seen clock [] row h = in_nil h
 rows_seen clock (f ∷ rows) row h = ⊎_elim
     (λ (e : row ≡ f).
     let l : counter_of f.stamp ≤ (clock_after_see clock f.stamp).counter = omega arith in
-    subst (λ (z : Found). counter_of z.stamp ≤ (clock_after_rows (clock_after_see clock f.stamp) rows).counter) (sym e) (le_trans l (rows_raise (clock_after_see clock f.stamp) rows)))
+    subst (λ (z : Found). counter_of z.stamp ≤ (clock_after_rows (clock_after_see clock f.stamp) rows).counter)
+    (sym e) (le_trans l (rows_raise (clock_after_see clock f.stamp) rows)))
     (λ i. rows_seen (clock_after_see clock f.stamp) rows row i)
     (in_uncons h)
 
@@ -79,21 +86,25 @@ ok_same e = cc
 pub draw_is : (clock : ClockState) (stamp : ℕ) → next_of clock ≡ Ok stamp → IsDraw clock stamp
 draw_is clock stamp h = go (nat_lt clock.counter GREATEST_COUNTER) refl h
   where
-    go : (b : Bool) → nat_lt clock.counter GREATEST_COUNTER ≡ b → (if b then Ok (stamp_number (clock.counter + 1) clock.client) else Err refusal.StampsSpent) ≡ Ok stamp → IsDraw clock stamp
+    go : (b : Bool) → nat_lt clock.counter GREATEST_COUNTER ≡ b
+        → (if b then Ok (stamp_number (clock.counter + 1) clock.client) else Err refusal.StampsSpent) ≡ Ok stamp
+        → IsDraw clock stamp
     go true e k = record { stamp_is = sym (ok_same k); counter = rw e refl; client = rw e refl }
     go false e k = absurd (cc)
 
 pub next_client : (clock : ClockState) → (clock_after_next clock).client ≡ clock.client
 next_client clock = go (nat_lt clock.counter GREATEST_COUNTER)
   where
-    go : (b : Bool) → (if b then (let z : ClockState = record clock { counter = clock.counter + 1 } in z) else clock).client ≡ clock.client
+    go : (b : Bool) → (if b then (let z : ClockState = record clock { counter = clock.counter + 1 } in z) else
+        clock).client ≡ clock.client
     go true = refl
     go false = refl
 
 pub next_raise : (clock : ClockState) → clock.counter ≤ (clock_after_next clock).counter
 next_raise clock = go (nat_lt clock.counter GREATEST_COUNTER)
   where
-    go : (b : Bool) → clock.counter ≤ (if b then (let z : ClockState = record clock { counter = clock.counter + 1 } in z) else clock).counter
+    go : (b : Bool) → clock.counter ≤
+        (if b then (let z : ClockState = record clock { counter = clock.counter + 1 } in z) else clock).counter
     go true = omega arith
     go false = le_refl _
 
@@ -102,26 +113,34 @@ next_raise clock = go (nat_lt clock.counter GREATEST_COUNTER)
 pub there_in : (founds : List (Option Found)) (f : Found) → In f (answers_there founds) → In (Some f) founds
 there_in [] f h = in_nil h
 there_in (None ∷ founds) f h = there (there_in founds f h)
-there_in (Some g ∷ founds) f h = ⊎_elim (λ (e : f ≡ g). subst (λ (z : Found). In (Some z) (Some g ∷ founds)) (sym e) here) (λ k. there (there_in founds f k)) (in_uncons h)
+there_in (Some g ∷ founds) f h = ⊎_elim
+    (λ (e : f ≡ g). subst (λ (z : Found). In (Some z) (Some g ∷ founds)) (sym e) here)
+    (λ k. there (there_in founds f k)) (in_uncons h)
 
 -- each item has its answer
-pub each_item : (items : List ℕ) (founds : List (Option Found)) → are_in_order items founds ≡ true → are_there founds ≡ true → (i : ℕ) → In i items → (f : Found) × In f (answers_there founds) × (f.item ≡ i)
+pub each_item : (items : List ℕ) (founds : List (Option Found)) → are_in_order items founds ≡ true
+    → are_there founds ≡ true → (i : ℕ) → In i items → (f : Found) × In f (answers_there founds) × (f.item ≡ i)
 each_item items founds own all i h =
     let is : items ≡ items_read (answers_there founds) = items_read-in_order items founds own all in
     let r = in_map (λ (row : Found). row.item) (answers_there founds) (subst (λ (z : List ℕ). In i z) is h) in
     (r.0, r.1, sym r.2)
 
-own_in : (items : List ℕ) (founds : List (Option Found)) (f : Found) → are_in_order items founds ≡ true → In (Some f) founds → In f.item items
+own_in : (items : List ℕ) (founds : List (Option Found)) (f : Found) → are_in_order items founds ≡ true
+    → In (Some f) founds → In f.item items
 own_in [] [] f own h = in_nil h
 own_in [] (g ∷ founds) f own h = absurd (true≢false (sym own))
 own_in (item ∷ items) [] f own h = in_nil h
-own_in (item ∷ items) (None ∷ founds) f own h = ⊎_elim (λ (e : Some f ≡ None). none_some (sym e)) (λ k. there (own_in items founds f own k)) (in_uncons h)
+own_in (item ∷ items) (None ∷ founds) f own h = ⊎_elim (λ (e : Some f ≡ None). none_some (sym e))
+    (λ k. there (own_in items founds f own k)) (in_uncons h)
 own_in (item ∷ items) (Some g ∷ founds) f own h = ⊎_elim
-    (λ (e : Some f ≡ Some g). subst (λ (z : ℕ). In z (item ∷ items)) (sym (ap (λ (z : Found). z.item) (some_same e) ∙ eqb-true g.item item (and_left (g.item == item) (are_in_order items founds) own))) here)
+    (λ (e : Some f ≡ Some g). subst (λ (z : ℕ). In z (item ∷ items))
+    (sym (ap (λ (z : Found). z.item) (some_same e)
+    ∙ eqb-true g.item item (and_left (g.item == item) (are_in_order items founds) own))) here)
     (λ k. there (own_in items founds f (and_right (g.item == item) (are_in_order items founds) own) k))
     (in_uncons h)
 
-pub own_item : (items : List ℕ) (founds : List (Option Found)) → are_in_order items founds ≡ true → (f : Found) → In f (answers_there founds) → In f.item items
+pub own_item : (items : List ℕ) (founds : List (Option Found)) → are_in_order items founds ≡ true → (f : Found)
+    → In f (answers_there founds) → In f.item items
 own_item items founds own f h = own_in items founds f own (there_in founds f h)
 
 pub own_nothing : (items : List ℕ) → are_in_order items (no_answers items) ≡ true
@@ -130,30 +149,39 @@ own_nothing (item ∷ items) = own_nothing items
 
 pub none_found : (items : List ℕ) (f : Found) {R : Type 0} → In (Some f) (no_answers items) → R
 none_found [] f h = in_nil h
-none_found (item ∷ items) f h = ⊎_elim (λ (e : Some f ≡ None). none_some (sym e)) (λ k. none_found items f k) (in_uncons h)
+none_found (item ∷ items) f h = ⊎_elim (λ (e : Some f ≡ None). none_some (sym e)) (λ k. none_found items f k)
+    (in_uncons h)
 
 -- an answer that is there with one more was there, or is that one
-pub put_cases : (a : Found) (items : List ℕ) (founds : List (Option Found)) (f : Found) → In (Some f) (put_answer a items founds) → In (Some f) founds ⊎ (f ≡ a)
+pub put_cases : (a : Found) (items : List ℕ) (founds : List (Option Found)) (f : Found)
+    → In (Some f) (put_answer a items founds) → In (Some f) founds ⊎ (f ≡ a)
 put_cases a [] founds f h = inl h
 put_cases a (item ∷ items) [] f h = in_nil h
 put_cases a (item ∷ items) (old ∷ founds) f h = go (a.item == item) (in_uncons h) (put_cases a items founds f)
   where
-    go : (b : Bool) → (Some f ≡ (if b then Some a else old)) ⊎ In (Some f) (put_answer a items founds) → (In (Some f) (put_answer a items founds) → In (Some f) founds ⊎ (f ≡ a)) → In (Some f) (old ∷ founds) ⊎ (f ≡ a)
+    go : (b : Bool) → (Some f ≡ (if b then Some a else old)) ⊎ In (Some f) (put_answer a items founds)
+        → (In (Some f) (put_answer a items founds) → In (Some f) founds ⊎ (f ≡ a))
+        → In (Some f) (old ∷ founds) ⊎ (f ≡ a)
     go true (inl e) rest = inr (some_same e)
     go false (inl e) rest = inl (subst (λ (z : Option Found). In (Some f) (z ∷ founds)) e here)
     go b (inr k) rest = ⊎_elim (λ l. inl (there l)) inr (rest k)
 
-pub put_own : (a : Found) (items : List ℕ) (founds : List (Option Found)) → are_in_order items founds ≡ true → are_in_order items (put_answer a items founds) ≡ true
+pub put_own : (a : Found) (items : List ℕ) (founds : List (Option Found)) → are_in_order items founds ≡ true
+    → are_in_order items (put_answer a items founds) ≡ true
 put_own a [] [] own = refl
 put_own a [] (old ∷ founds) own = own
 put_own a (item ∷ items) [] own = own
 put_own a (item ∷ items) (old ∷ founds) own = go (a.item == item) refl old own (put_own a items founds)
   where
-    go : (b : Bool) → (a.item == item) ≡ b → (old : Option Found) → are_in_order (item ∷ items) (old ∷ founds) ≡ true → (are_in_order items founds ≡ true → are_in_order items (put_answer a items founds) ≡ true) → are_in_order (item ∷ items) ((if b then Some a else old) ∷ put_answer a items founds) ≡ true
+    go : (b : Bool) → (a.item == item) ≡ b → (old : Option Found) → are_in_order (item ∷ items) (old ∷ founds) ≡ true
+        → (are_in_order items founds ≡ true → are_in_order items (put_answer a items founds) ≡ true)
+        → are_in_order (item ∷ items) ((if b then Some a else old) ∷ put_answer a items founds) ≡ true
     go true e None f rest = and_both (a.item == item) _ e (rest f)
-    go true e (Some g) f rest = and_both (a.item == item) _ e (rest (and_right (g.item == item) (are_in_order items founds) f))
+    go true e (Some g) f rest = and_both (a.item == item) _ e
+        (rest (and_right (g.item == item) (are_in_order items founds) f))
     go false e None f rest = rest f
-    go false e (Some g) f rest = and_both (g.item == item) _ (and_left (g.item == item) (are_in_order items founds) f) (rest (and_right (g.item == item) (are_in_order items founds) f))
+    go false e (Some g) f rest = and_both (g.item == item) _ (and_left (g.item == item) (are_in_order items founds) f)
+        (rest (and_right (g.item == item) (are_in_order items founds) f))
 
 -- what a message brings that counts
 pub record IsFoundBy (r : RoundState) (m : Message) (f : Found) : Type 0 where
@@ -172,7 +200,8 @@ client_is (Part q) c h = absurd (true≢false (sym h))
 client_is (ToClient d) c h = ap ToClient (eqb-true d c h)
 
 version_is : (r : Reply) (f : Found) → body_version (body.Reply r) ≡ Some f → r ≡ reply.Version f.item f.stamp f.value
-version_is (reply.Version j t v) f h = subst (λ (z : Found). reply.Version j t v ≡ reply.Version z.item z.stamp z.value) (some_same h) refl
+version_is (reply.Version j t v) f h = subst
+    (λ (z : Found). reply.Version j t v ≡ reply.Version z.item z.stamp z.value) (some_same h) refl
 version_is (reply.Prepared t) f h = none_some h
 version_is (reply.Committed t) f h = none_some h
 version_is (reply.Discarded t) f h = none_some h
@@ -187,29 +216,37 @@ version_in_is (body.Request r) f h = none_some h
 version_in_is (body.Reply r) f h = ap body.Reply (version_is r f h)
 
 has_in : (items : List ℕ) (i : ℕ) → has_item items i ≡ true → In i items
-has_in items i h = let r = in_any (λ other. i == other) items h in subst (λ (z : ℕ). In z items) (sym (eqb-true i r.0 r.2)) r.1
+has_in items i h = let r = in_any (λ other. i == other) items h in subst (λ (z : ℕ). In z items)
+    (sym (eqb-true i r.0 r.2)) r.1
 
 pub found_is : (r : RoundState) (m : Message) (f : Found) → new_answer r m ≡ Some f → IsFoundBy r m f
 found_is r m f h = version (body_version m.body) refl h
   where
-    lacking : (g : Found) → body_version m.body ≡ Some g → is_answer r.asker m g.item ≡ true → (b : Bool) → lacks r g.item ≡ b → (if b then Some g else None) ≡ Some f → IsFoundBy r m f
+    lacking : (g : Found) → body_version m.body ≡ Some g → is_answer r.asker m g.item ≡ true → (b : Bool)
+        → lacks r g.item ≡ b → (if b then Some g else None) ≡ Some f → IsFoundBy r m f
     lacking g told own false e k = none_some k
     lacking g told own true e k =
-        let rest = and_left (m.tag == r.asker.tag && is_client m.to r.asker.client) (is_part m.from (place_of r.asker.parts g.item)) own in
+        let rest = and_left (m.tag == r.asker.tag && is_client m.to r.asker.client)
+        (is_part m.from (place_of r.asker.parts g.item)) own in
         subst (IsFoundBy r m) (some_same k)
         (record {
           tag_is = eqb-true m.tag r.asker.tag (and_left (m.tag == r.asker.tag) (is_client m.to r.asker.client) rest);
           to = client_is m.to r.asker.client (and_right (m.tag == r.asker.tag) (is_client m.to r.asker.client) rest);
-          from = part_is m.from (place_of r.asker.parts g.item) (and_right (m.tag == r.asker.tag && is_client m.to r.asker.client) (is_part m.from (place_of r.asker.parts g.item)) own);
+          from = part_is m.from (place_of r.asker.parts g.item)
+              (and_right (m.tag == r.asker.tag && is_client m.to r.asker.client)
+              (is_part m.from (place_of r.asker.parts g.item)) own);
           says = version_in_is m.body g told;
-          asked = has_in r.items g.item (and_left (has_item r.items g.item) (not (has_answer (answers_there r.answers) g.item)) e);
+          asked = has_in r.items g.item
+              (and_left (has_item r.items g.item) (not (has_answer (answers_there r.answers) g.item)) e);
         })
 
-    answers : (g : Found) → body_version m.body ≡ Some g → (b : Bool) → is_answer r.asker m g.item ≡ b → option_and_then (if_lacking r) (if b then Some g else None) ≡ Some f → IsFoundBy r m f
+    answers : (g : Found) → body_version m.body ≡ Some g → (b : Bool) → is_answer r.asker m g.item ≡ b
+        → option_and_then (if_lacking r) (if b then Some g else None) ≡ Some f → IsFoundBy r m f
     answers g told false e k = none_some k
     answers g told true e k = lacking g told e (lacks r g.item) refl k
 
-    version : (v : Option Found) → body_version m.body ≡ v → option_and_then (if_lacking r) (option_and_then (if_answer r.asker m) v) ≡ Some f → IsFoundBy r m f
+    version : (v : Option Found) → body_version m.body ≡ v
+        → option_and_then (if_lacking r) (option_and_then (if_answer r.asker m) v) ≡ Some f → IsFoundBy r m f
     version None e k = none_some k
     version (Some g) e k = answers g e (is_answer r.asker m g.item) refl k
 
@@ -226,17 +263,20 @@ IsToldBy t told.Nothing b = Unit {0}
 reply_told_is : (t : ℕ) (r : Reply) → IsToldBy t (reply_told t r) (body.Reply r)
 reply_told_is t (reply.Prepared s) = go (s == t) refl
   where
-    go : (b : Bool) → (s == t) ≡ b → IsToldBy t (if b then told.Prepared else told.Nothing) (body.Reply (reply.Prepared s))
+    go : (b : Bool) → (s == t) ≡ b → IsToldBy t (if b then told.Prepared else told.Nothing)
+        (body.Reply (reply.Prepared s))
     go true e = ap (λ (z : ℕ). body.Reply (reply.Prepared z)) (eqb-true s t e)
     go false e = tt
 reply_told_is t (reply.Committed s) = go (s == t) refl
   where
-    go : (b : Bool) → (s == t) ≡ b → IsToldBy t (if b then told.Committed else told.Nothing) (body.Reply (reply.Committed s))
+    go : (b : Bool) → (s == t) ≡ b → IsToldBy t (if b then told.Committed else told.Nothing)
+        (body.Reply (reply.Committed s))
     go true e = ap (λ (z : ℕ). body.Reply (reply.Committed z)) (eqb-true s t e)
     go false e = tt
 reply_told_is t (reply.Discarded s) = go (s == t) refl
   where
-    go : (b : Bool) → (s == t) ≡ b → IsToldBy t (if b then told.Discarded else told.Nothing) (body.Reply (reply.Discarded s))
+    go : (b : Bool) → (s == t) ≡ b → IsToldBy t (if b then told.Discarded else told.Nothing)
+        (body.Reply (reply.Discarded s))
     go true e = ap (λ (z : ℕ). body.Reply (reply.Discarded z)) (eqb-true s t e)
     go false e = tt
 reply_told_is t (reply.Full s) = go (s == t) refl
@@ -270,13 +310,16 @@ pub record IsToldTo (x : WritingState) (m : Message) (what : Told) : Type 0 wher
   pub from : m.from ≡ Part part
   pub says : IsToldBy x.stamp what m.body
 
-pub told_to_is : (x : WritingState) (m : Message) (what : Told) → told_of x m ≡ what → IsSomething what → IsToldTo x m what
+pub told_to_is : (x : WritingState) (m : Message) (what : Told) → told_of x m ≡ what → IsSomething what
+    → IsToldTo x m what
 told_to_is x m what h some = go (concerns x m) refl h
   where
-    go : (b : Bool) → concerns x m ≡ b → (if b then body_told x.stamp m.body else told.Nothing) ≡ what → IsToldTo x m what
+    go : (b : Bool) → concerns x m ≡ b → (if b then body_told x.stamp m.body else told.Nothing) ≡ what
+        → IsToldTo x m what
     go true e k =
         let rest = and_left (m.tag == x.tag && is_client m.to x.client) (list_any (is_part m.from) (places_in x)) e in
-        let a = in_any (is_part m.from) (places_in x) (and_right (m.tag == x.tag && is_client m.to x.client) (list_any (is_part m.from) (places_in x)) e) in
+        let a = in_any (is_part m.from) (places_in x)
+        (and_right (m.tag == x.tag && is_client m.to x.client) (list_any (is_part m.from) (places_in x)) e) in
         record {
           tag = eqb-true m.tag x.tag (and_left (m.tag == x.tag) (is_client m.to x.client) rest);
           to = client_is m.to x.client (and_right (m.tag == x.tag) (is_client m.to x.client) rest);

@@ -36,13 +36,16 @@ noted_same e = (cc, cc)
 
 no_answer : {c : ℕ} {a : Answer} {R : Type 0} (first count : ℕ) → In (out.Answered c a) (numbers_after first count) → R
 no_answer first zero h = in_nil h
-no_answer first (suc count) h = ⊎_elim (λ l. no_answer first count l) (λ l. sent_answer (in_one l)) (in_cases (numbers_after first count) (out.Sent (first + count + 1) ∷ []) h)
+no_answer first (suc count) h = ⊎_elim (λ l. no_answer first count l) (λ l. sent_answer (in_one l))
+    (in_cases (numbers_after first count) (out.Sent (first + count + 1) ∷ []) h)
 
 no_note : {c : ℕ} {n : Note} {R : Type 0} (first count : ℕ) → In (out.Noted c n) (numbers_after first count) → R
 no_note first zero h = in_nil h
-no_note first (suc count) h = ⊎_elim (λ l. no_note first count l) (λ l. sent_note (in_one l)) (in_cases (numbers_after first count) (out.Sent (first + count + 1) ∷ []) h)
+no_note first (suc count) h = ⊎_elim (λ l. no_note first count l) (λ l. sent_note (in_one l))
+    (in_cases (numbers_after first count) (out.Sent (first + count + 1) ∷ []) h)
 
-answer_in : (w : World) (ch : Change) (c : ℕ) (a : Answer) → In (out.Answered c a) (outs_of w.now ch) → In (told_to (changed w ch).past.reads c a) (changed w ch).past.told
+answer_in : (w : World) (ch : Change) (c : ℕ) (a : Answer) → In (out.Answered c a) (outs_of w.now ch)
+    → In (told_to (changed w ch).past.reads c a) (changed w ch).past.told
 answer_in w Nothing c a h = in_nil h
 answer_in w (Stops d) c a h = in_nil h
 answer_in w (AtPart p held sent) c a h = no_answer (length w.now.messages) (length sent) h
@@ -59,16 +62,21 @@ answer_in w (AtClient d t) c a h = ⊎_elim
     (subst (λ (z : Answer). In (told_to fs d z) (option_to_list (option_map (told_to fs d) t.answer))) (sym s.1)
     (mapped_in (told_to fs d) t.answer q.1))))
     (in_cases (sent_after w.now t.sent) (option_to_list (option_map (out.Answered d) t.answer)) l))
-    (in_cases (map (out.Noted d) (unwrap_or t.noted [])) (sent_after w.now t.sent ++ option_to_list (option_map (out.Answered d) t.answer)) h)
+    (in_cases (map (out.Noted d) (unwrap_or t.noted []))
+    (sent_after w.now t.sent ++ option_to_list (option_map (out.Answered d) t.answer)) h)
 
-pub answers_are_kept : (t : Terms) (w : World) (e : Event) (c : ℕ) (a : Answer) → Contains (tells t w e) (out.Answered c a) → Contains (happens t w e).past.told (told_to (happens t w e).past.reads c a)
+pub answers_are_kept : (t : Terms) (w : World) (e : Event) (c : ℕ) (a : Answer)
+    → Contains (tells t w e) (out.Answered c a)
+    → Contains (happens t w e).past.told (told_to (happens t w e).past.reads c a)
 answers_are_kept t w e c a h = go (change_of t w.now e) (within _ h)
   where
-    go : (f : Result Change Refusal) → In (out.Answered c a) (outs_by w.now f) → Contains (changed_by w f).past.told (told_to (changed_by w f).past.reads c a)
+    go : (f : Result Change Refusal) → In (out.Answered c a) (outs_by w.now f)
+        → Contains (changed_by w f).past.told (told_to (changed_by w f).past.reads c a)
     go (Ok ch) h = contains (answer_in w ch c a h)
     go (Err r) h = in_nil h
 
-note_in : (w : World) (ch : Change) (c : ℕ) (n : Note) → In (out.Noted c n) (outs_of w.now ch) → IsNoteKept (changed w ch) c n
+note_in : (w : World) (ch : Change) (c : ℕ) (n : Note) → In (out.Noted c n) (outs_of w.now ch)
+    → IsNoteKept (changed w ch) c n
 note_in w Nothing c n h = in_nil h
 note_in w (Stops d) c n h = in_nil h
 note_in w (AtPart p held sent) c n h = no_note (length w.now.messages) (length sent) h
@@ -78,14 +86,17 @@ note_in w (AtClient d t) c n h = ⊎_elim
     (λ i. no_note (length w.now.messages) (length t.sent) i)
     (λ i. let q = in_mapped (out.Answered d) t.answer i in answer_note q.2)
     (in_cases (sent_after w.now t.sent) (option_to_list (option_map (out.Answered d) t.answer)) l))
-    (in_cases (map (out.Noted d) (unwrap_or t.noted [])) (sent_after w.now t.sent ++ option_to_list (option_map (out.Answered d) t.answer)) h)
+    (in_cases (map (out.Noted d) (unwrap_or t.noted []))
+    (sent_after w.now t.sent ++ option_to_list (option_map (out.Answered d) t.answer)) h)
   where
-    by : (f : Option (List Note)) → t.noted ≡ f → (m : Note) → In m (unwrap_or f []) → (c ≡ d) × (n ≡ m) → IsNoteKept (changed w (AtClient d t)) c n
+    by : (f : Option (List Note)) → t.noted ≡ f → (m : Note) → In m (unwrap_or f []) → (c ≡ d) × (n ≡ m)
+        → IsNoteKept (changed w (AtClient d t)) c n
     by None e m i s = in_nil i
     by (Some ns) e m i s = record {
       noted = noted_of (reads_after w.past d t) c ns;
       kept = contains (in_right w.past.noted
-          (subst (λ (z : ℕ). In (noted_of (reads_after w.past d t) z ns) (option_to_list (option_map (noted_of (reads_after w.past d t) d) t.noted))) (sym s.0)
+          (subst (λ (z : ℕ). In (noted_of (reads_after w.past d t) z ns)
+          (option_to_list (option_map (noted_of (reads_after w.past d t) d) t.noted))) (sym s.0)
           (mapped_in (noted_of (reads_after w.past d t) d) t.noted e)));
       own = refl;
       last_is = refl;
@@ -95,7 +106,8 @@ note_in w (AtClient d t) c n h = ⊎_elim
     noted : {m : Note} → (c ≡ d) × (n ≡ m) → In m (unwrap_or t.noted []) → IsNoteKept (changed w (AtClient d t)) c n
     noted {m} s i = by t.noted refl m i s
 
-pub notes_are_kept : (t : Terms) (w : World) (e : Event) (c : ℕ) (n : Note) → Contains (tells t w e) (out.Noted c n) → IsNoteKept (happens t w e) c n
+pub notes_are_kept : (t : Terms) (w : World) (e : Event) (c : ℕ) (n : Note) → Contains (tells t w e) (out.Noted c n)
+    → IsNoteKept (happens t w e) c n
 notes_are_kept t w e c n h = go (change_of t w.now e) (within _ h)
   where
     go : (f : Result Change Refusal) → In (out.Noted c n) (outs_by w.now f) → IsNoteKept (changed_by w f) c n
@@ -106,13 +118,21 @@ notes_are_kept t w e c n h = go (change_of t w.now e) (within _ h)
 
 remembered_at : (w : World) (ch : Change) → IsRemembered w (changed w ch)
 remembered_at w Nothing = record { transactions = λ r l. l; reads = λ r l. l; told = λ r l. l; noted = λ r l. l }
-remembered_at w (AtPart p h sent) = record { transactions = λ r l. l; reads = λ r l. l; told = λ r l. l; noted = λ r l. l }
+remembered_at w (AtPart p h sent) = record {
+  transactions = λ r l. l;
+  reads = λ r l. l;
+  told = λ r l. l;
+  noted = λ r l. l;
+}
 remembered_at w (Stops d) = record { transactions = λ r l. l; reads = λ r l. l; told = λ r l. l; noted = λ r l. l }
 remembered_at w (AtClient d t) = record {
   transactions = λ r l. contains (in_left (option_to_list t.writes) (within _ l));
-  reads = λ r l. contains (in_right (option_to_list (option_map (read_over (last_begun w.past.begun d)) t.over)) (within _ l));
-  told = λ r l. contains (in_left (option_to_list (option_map (told_to (reads_after w.past d t) d) t.answer)) (within _ l));
-  noted = λ r l. contains (in_left (option_to_list (option_map (noted_of (reads_after w.past d t) d) t.noted)) (within _ l));
+  reads = λ r l. contains (in_right (option_to_list (option_map (read_over (last_begun w.past.begun d)) t.over))
+      (within _ l));
+  told = λ r l. contains
+      (in_left (option_to_list (option_map (told_to (reads_after w.past d t) d) t.answer)) (within _ l));
+  noted = λ r l. contains
+      (in_left (option_to_list (option_map (noted_of (reads_after w.past d t) d) t.noted)) (within _ l));
 }
 
 remembered_by : (w : World) (f : Result Change Refusal) → IsRemembered w (changed_by w f)
@@ -133,7 +153,13 @@ all_is_remembered t w (e ∷ es) =
 
 -- ---- a read that begins
 
-pub read_keeps_partitions : (w : World) (c : ℕ) (t : Turn) → t.reads ≡ true → (last_begun (changed w (AtClient c t)).past.begun c).partitions ≡ w.now.partitions
+pub read_keeps_partitions : (w : World) (c : ℕ) (t : Turn) → t.reads ≡ true
+    → (last_begun (changed w (AtClient c t)).past.begun c).partitions ≡ w.now.partitions
 read_keeps_partitions w c t e =
-    ap (λ (f : Bool). (last_begun (if f then (let s : Begun = record { client = c; nth = nth_after w.past c t.over; partitions = w.now.partitions } in s) ∷ w.past.begun else w.past.begun) c).partitions) e
-    ∙ ap (λ (f : Bool). (if f then (let s : Begun = record { client = c; nth = nth_after w.past c t.over; partitions = w.now.partitions } in s) else last_begun w.past.begun c).partitions) (self_eqb c)
+    ap (λ (f : Bool). (last_begun
+    (if f then (let s : Begun =
+    record { client = c; nth = nth_after w.past c t.over; partitions = w.now.partitions } in s) ∷ w.past.begun
+    else w.past.begun) c).partitions) e
+    ∙ ap (λ (f : Bool). (if f then
+    (let s : Begun = record { client = c; nth = nth_after w.past c t.over; partitions = w.now.partitions } in s)
+    else last_begun w.past.begun c).partitions) (self_eqb c)

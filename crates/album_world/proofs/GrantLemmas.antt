@@ -22,13 +22,21 @@ use Rattle.album_world.specs.Grants.{served_for}
 use Rattle.album_world.proofs.ListLemmas.{some_same, none_some}
 
 -- what is computed to be served is served
-pub served_is : (permit : PermitState) (a : Ask) → permit.view.ask ≡ a → (given : Served) → served_for permit a ≡ Some given → IsServedFor permit given a
+pub served_is : (permit : PermitState) (a : Ask) → permit.view.ask ≡ a → (given : Served)
+    → served_for permit a ≡ Some given → IsServedFor permit given a
 served_is permit (ask.Read object) e given h = sym (some_same h)
 served_is permit (ask.List album) e given h =
     let basis = basis_on One permit.principal permit.view.rows in
     record {
       rows = listed basis album;
-      listing = record { album = album; basis = basis; asked = e; based = basis-based One permit.principal permit.view.rows; told = refl };
+      listing = record {
+        album = album;
+        basis = basis;
+        asked = e;
+        based = basis-based One permit.principal
+            permit.view.rows;
+        told = refl;
+      };
       told = sym (some_same h);
     }
 served_is permit (ask.GetList object) e given h = sym (some_same h)
@@ -69,9 +77,12 @@ err_same : {r s : Refusal} → (let a : Result ℕ Refusal = Err r in a) ≡ Err
 err_same e = cc
 
 -- a clock refuses where it is spent
-pub spent_is : (clock : ClockState) (why : Refusal) → next_of clock ≡ Err why → (why ≡ refusal.StampsSpent) × (GREATEST_COUNTER ≤ clock.counter)
+pub spent_is : (clock : ClockState) (why : Refusal) → next_of clock ≡ Err why
+    → (why ≡ refusal.StampsSpent) × (GREATEST_COUNTER ≤ clock.counter)
 spent_is clock why h = go (nat_lt clock.counter GREATEST_COUNTER) refl h
   where
-    go : (b : Bool) → nat_lt clock.counter GREATEST_COUNTER ≡ b → (if b then Ok (stamp_number (clock.counter + 1) clock.client) else Err refusal.StampsSpent) ≡ Err why → (why ≡ refusal.StampsSpent) × (GREATEST_COUNTER ≤ clock.counter)
+    go : (b : Bool) → nat_lt clock.counter GREATEST_COUNTER ≡ b
+        → (if b then Ok (stamp_number (clock.counter + 1) clock.client) else Err refusal.StampsSpent) ≡ Err why
+        → (why ≡ refusal.StampsSpent) × (GREATEST_COUNTER ≤ clock.counter)
     go true e q = absurd (cc)
     go false e q = (sym (err_same q), ltb-false clock.counter GREATEST_COUNTER e)

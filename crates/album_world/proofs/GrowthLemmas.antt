@@ -40,22 +40,37 @@ pub record Grows (o : Opening) (w1 w2 : World) : Type 0 where
 
 module _ (o : Opening) (w1 w2 : World) (g : Grows o w1 w2) where
   pub wrote_grows : (p t i : ℕ) (v : Value) → wrote (history w1 p) t i ≡ Some v → wrote (history w2 p) t i ≡ Some v
-  wrote_grows p t i v h = subst (λ (z : List Mark). wrote z t i ≡ Some v) (sym (g.more p).1) (wrote_more (history w1 p) (g.more p).0 t i v h)
+  wrote_grows p t i v h = subst (λ (z : List Mark). wrote z t i ≡ Some v) (sym (g.more p).1)
+      (wrote_more (history w1 p) (g.more p).0 t i v h)
 
-  pub any_grows : (test : Mark → Bool) (p : ℕ) → list_any test (history w1 p) ≡ true → list_any test (history w2 p) ≡ true
-  any_grows test p h = subst (λ (z : List Mark). list_any test z ≡ true) (sym (g.more p).1) (any_more test (history w1 p) (g.more p).0 h)
+  pub any_grows : (test : Mark → Bool) (p : ℕ) → list_any test (history w1 p) ≡ true
+      → list_any test (history w2 p) ≡ true
+  any_grows test p h = subst (λ (z : List Mark). list_any test z ≡ true) (sym (g.more p).1)
+      (any_more test (history w1 p) (g.more p).0 h)
 
   pub committed_grows : (t : ℕ) → IsCommitted w1 t → IsCommitted w2 t
   committed_grows t c = (c.0, any_grows (commits t) c.0 c.1)
 
   pub prepared_grows : (p t : ℕ) → IsPreparedIn (history w1 p) t → IsPreparedIn (history w2 p) t
-  prepared_grows p t h = subst (λ (z : List Mark). IsPreparedIn z t) (sym (g.more p).1) (prepared_more (history w1 p) (g.more p).0 t h)
+  prepared_grows p t h = subst (λ (z : List Mark). IsPreparedIn z t) (sym (g.more p).1)
+      (prepared_more (history w1 p) (g.more p).0 t h)
 
   pub prepare_grows : (p t : ℕ) (ws : List Row) (js : List ℕ) → IsPrepareOf o w1 p t ws js → IsPrepareOf o w2 p t ws js
-  prepare_grows p t ws js h = record { of = h.of; begun = g.transactions h.of h.begun; stamp = h.stamp; writes = h.writes; items = h.items }
+  prepare_grows p t ws js h = record {
+    of = h.of;
+    begun = g.transactions h.of h.begun;
+    stamp = h.stamp;
+    writes = h.writes;
+    items = h.items;
+  }
 
   pub settled_grows : (t : ℕ) → IsSettled o w1 t → IsSettled o w2 t
-  settled_grows t h = record { of = h.of; begun = g.transactions h.of h.begun; stamp = h.stamp; ready = λ i v e. wrote_grows (place_of o.parts i) t i v (h.ready i v e) }
+  settled_grows t h = record {
+    of = h.of;
+    begun = g.transactions h.of h.begun;
+    stamp = h.stamp;
+    ready = λ i v e. wrote_grows (place_of o.parts i) t i v (h.ready i v e);
+  }
 
   pub against_grows : (t : ℕ) → IsAgainst o w1 t → IsAgainst o w2 t
   against_grows t h =
@@ -66,11 +81,19 @@ module _ (o : Opening) (w1 w2 : World) (g : Grows o w1 w2) where
         stamp = h.stamp;
         item = h.item;
         in_them = h.in_them;
-        promised = subst (λ (z : List Mark). IsPromisedAgainst z t) (sym (g.more p).1) (promised_stays (history w1 p) (g.more p).0 t h.promised);
+        promised = subst (λ (z : List Mark). IsPromisedAgainst z t) (sym (g.more p).1)
+            (promised_stays (history w1 p) (g.more p).0 t h.promised);
       }
 
   pub placed_grows : (p t : ℕ) → IsPlacedAt o w1 p t → IsPlacedAt o w2 p t
-  placed_grows p t h = record { of = h.of; begun = g.transactions h.of h.begun; stamp = h.stamp; item = h.item; in_them = h.in_them; at = h.at }
+  placed_grows p t h = record {
+    of = h.of;
+    begun = g.transactions h.of h.begun;
+    stamp = h.stamp;
+    item = h.item;
+    in_them = h.in_them;
+    at = h.at;
+  }
 
   vote_grows : (from : Node) (t : ℕ) (v : Vote) → IsVote o w1 from t v → IsVote o w2 from t v
   vote_grows (Part p) t vote.Prepared h = prepared_grows p t h
@@ -85,7 +108,9 @@ module _ (o : Opening) (w1 w2 : World) (g : Grows o w1 w2) where
   zero_grows t h = ⊎_elim inl (λ c. inr (committed_grows t c)) h
 
   pub no_later_grows : (i s t : ℕ) → (t ≡ 0) ⊎ IsNoLater w1 i s t → (t ≡ 0) ⊎ IsNoLater w2 i s t
-  no_later_grows i s t h = ⊎_elim inl (λ (n : IsNoLater w1 i s t). inr (record { of = n.of; begun = g.transactions n.of n.begun; stamp = n.stamp; bound = n.bound })) h
+  no_later_grows i s t h = ⊎_elim inl
+      (λ (n : IsNoLater w1 i s t). inr
+      (record { of = n.of; begun = g.transactions n.of n.begun; stamp = n.stamp; bound = n.bound })) h
 
   ask_grows : (to : Node) (r : Request) → IsAsk o w1 to r → IsAsk o w2 to r
   ask_grows (Part p) (Prepare t ws js) h = prepare_grows p t ws js h
@@ -120,23 +145,32 @@ module _ (o : Opening) (w1 w2 : World) (g : Grows o w1 w2) where
   pub begun_grows : (began : List PartitionState) (p : ℕ) → HasBegun w1 began p → HasBegun w2 began p
   begun_grows began p h = record {
     more = h.more ++ (g.more p).0;
-    is = (g.more p).1 ∙ ap (λ (z : List Mark). z ++ (g.more p).0) h.is ∙ append_assoc (history_in began p) h.more (g.more p).0;
+    is = (g.more p).1 ∙ ap (λ (z : List Mark). z ++ (g.more p).0) h.is ∙ append_assoc (history_in began p) h.more
+        (g.more p).0;
     committed = h.committed;
   }
 
-  pub first_round_grows : (began : List PartitionState) (i s : ℕ) → FirstRound o w1 began i s → FirstRound o w2 began i s
+  pub first_round_grows : (began : List PartitionState) (i s : ℕ) → FirstRound o w1 began i s
+      → FirstRound o w2 began i s
   first_round_grows began i s h = record { fresh = h.fresh; committed = zero_grows s h.committed }
 
-  pub second_round_grows : (began : List PartitionState) (ts : List ℕ) (i s : ℕ) → SecondRound o w1 began ts i s → SecondRound o w2 began ts i s
-  second_round_grows began ts i s h = record { fresh = h.fresh; from = h.from; above = λ t k. no_later_grows i s t (h.above t k) }
+  pub second_round_grows : (began : List PartitionState) (ts : List ℕ) (i s : ℕ) → SecondRound o w1 began ts i s
+      → SecondRound o w2 began ts i s
+  second_round_grows began ts i s h =
+      record { fresh = h.fresh; from = h.from; above = λ t k. no_later_grows i s t (h.above t k) }
 
-  pub founds_grows : (P Q : ℕ → ℕ → Type 0) → ((i s : ℕ) → P i s → Q i s) → (founds : List (Option Found)) → AreFound o w1 P founds → AreFound o w2 Q founds
-  founds_grows P Q more founds h = λ f k. let a = h f k in (more f.item f.stamp a.0, value_grows f.item f.stamp f.value a.1)
+  pub founds_grows : (P Q : ℕ → ℕ → Type 0) → ((i s : ℕ) → P i s → Q i s) → (founds : List (Option Found))
+      → AreFound o w1 P founds → AreFound o w2 Q founds
+  founds_grows P Q more founds h = λ f k. let a = h f k in
+      (more f.item f.stamp a.0, value_grows f.item f.stamp f.value a.1)
 
   pub stamp_grows : (t : ℕ) → (t ≡ 0) ⊎ IsCollectedStamp o w1 t → (t ≡ 0) ⊎ IsCollectedStamp o w2 t
-  stamp_grows t h = ⊎_elim inl (λ (c : IsCollectedStamp o w1 t). inr (record { settled = settled_grows t c.settled; committed = committed_grows t c.committed })) h
+  stamp_grows t h = ⊎_elim inl
+      (λ (c : IsCollectedStamp o w1 t). inr
+      (record { settled = settled_grows t c.settled; committed = committed_grows t c.committed })) h
 
-  pub has_fresh_grows : (began : List PartitionState) (ts : List ℕ) (i : ℕ) → HasFresh o w1 began ts i → HasFresh o w2 began ts i
+  pub has_fresh_grows : (began : List PartitionState) (ts : List ℕ) (i : ℕ) → HasFresh o w1 began ts i
+      → HasFresh o w2 began ts i
   has_fresh_grows began ts i h = record {
     stamp = h.stamp;
     in_them = h.in_them;
@@ -146,7 +180,12 @@ module _ (o : Opening) (w1 w2 : World) (g : Grows o w1 w2) where
 
   pub read_grows : (began : List PartitionState) (fs : List Found) → IsRead o w1 began fs → IsRead o w2 began fs
   read_grows began fs h = record {
-    found = λ f k. let d = h.found f k in record { fresh = d.fresh; value = value_grows f.item f.stamp f.value d.value; committed = zero_grows f.stamp d.committed };
+    found = λ f k. let d = h.found f k in
+        record {
+          fresh = d.fresh;
+          value = value_grows f.item f.stamp f.value d.value;
+          committed = zero_grows f.stamp d.committed;
+        };
     above = λ f e k l. no_later_grows f.item f.stamp e.stamp (h.above f e k l);
     begun = λ p. begun_grows began p (h.begun p);
   }
@@ -156,16 +195,35 @@ module _ (o : Opening) (w1 w2 : World) (g : Grows o w1 w2) where
   answer_grows (answer.Denied reasons) h = tt
   answer_grows (answer.Missing object) h = tt
   answer_grows (answer.Busy why) h = tt
-  answer_grows (answer.Committed t) h = record { of = h.of; begun = g.transactions h.of h.begun; stamp = h.stamp; at = λ p k. any_grows (commits t) p (h.at p k) }
+  answer_grows (answer.Committed t) h = record {
+    of = h.of;
+    begun = g.transactions h.of h.begun;
+    stamp = h.stamp;
+    at = λ p k. any_grows (commits t) p (h.at p k);
+  }
   answer_grows (answer.Aborted t) h = against_grows t h
   answer_grows (answer.Unsettled t why) h = (
-    let u = h.0 in record { of = u.of; begun = g.transactions u.of u.begun; stamp = u.stamp; part = u.part; one_of = u.one_of; full = g.full u.part t u.full },
+    let u = h.0 in record {
+      of = u.of;
+      begun = g.transactions u.of u.begun;
+      stamp = u.stamp;
+      part = u.part;
+      one_of = u.one_of;
+      full = g.full u.part t u.full;
+    },
     h.1,
   )
   answer_grows (answer.Refused why) h = tt
 
   pub drawn_grows : (r : Transaction) → IsDrawn w1 r → IsDrawn w2 r
-  drawn_grows r h = record { counter = h.counter; client = h.client; is = h.is; low = h.low; high = h.high; old = le_trans h.old (g.clocks h.client) }
+  drawn_grows r h = record {
+    counter = h.counter;
+    client = h.client;
+    is = h.is;
+    low = h.low;
+    high = h.high;
+    old = le_trans h.old (g.clocks h.client);
+  }
 
   -- what is sound and unchanged stays so
   pub sound_grows : (p : ℕ) (ms : List Mark) → IsSound o w1 p ms → IsSound o w2 p ms

@@ -80,7 +80,8 @@ pub record IsFullFor (o : Opening) (w : World) (p t : ℕ) : Type 0 where
 
 -- a value that an item has at a stamp
 abbrev pub IsValue : Opening → World → ℕ → ℕ → Value → Type 0
-IsValue o w i t v = ((t ≡ 0) × (v ≡ first_value o i)) ⊎ ((t ≡ 0 → ⊥) × (wrote (history w (place_of o.parts i)) t i ≡ Some v))
+IsValue o w i t v = ((t ≡ 0) × (v ≡ first_value o i)) ⊎
+    ((t ≡ 0 → ⊥) × (wrote (history w (place_of o.parts i)) t i ≡ Some v))
 
 abbrev pub IsZeroOrCommitted : World → ℕ → Type 0
 IsZeroOrCommitted w t = (t ≡ 0) ⊎ IsCommitted w t
@@ -94,7 +95,8 @@ pub record IsNoLater (w : World) (i s t : ℕ) : Type 0 where
 
 -- the item's partition had committed nothing later as the read began
 pub record IsFreshAt (o : Opening) (began : List PartitionState) (i s : ℕ) : Type 0 where
-  pub at : (t : ℕ) (v : Value) → list_any (commits t) (history_in began (place_of o.parts i)) ≡ true → wrote (history_in began (place_of o.parts i)) t i ≡ Some v → t ≤ s
+  pub at : (t : ℕ) (v : Value) → list_any (commits t) (history_in began (place_of o.parts i)) ≡ true
+      → wrote (history_in began (place_of o.parts i)) t i ≡ Some v → t ≤ s
 
 -- ---- messages
 
@@ -154,7 +156,8 @@ pub record IsPlaced (o : Opening) (p : ℕ) (h : PartitionState) : Type 0 where
   pub values : (i : ℕ) → place_of o.parts i ≡ p → value_in h.items i ≡ value_in o.items i
   pub is : IsPartition h
 
--- what is prepared belongs to a transaction, what is committed is prepared everywhere, and what is discarded never will be committed
+-- what is prepared belongs to a transaction, what is committed is prepared everywhere, and what is discarded never
+-- will be committed
 pub record IsSound (o : Opening) (w : World) (p : ℕ) (ms : List Mark) : Type 0 where
   pub legal : is_legal ms ≡ true
   pub prepared : (t : ℕ) (h : IsPreparedIn ms t) → IsPrepareOf o w p t h.writes h.items
@@ -229,7 +232,8 @@ pub record IsAsking (o : Opening) (w : World) (c : ℕ) (began : List PartitionS
   pub answered : IsAnswered w c r.asker.tag (FirstRound o w began)
   pub founds : AreFound o w (FirstRound o w began) r.answers
 
-pub record IsFetching (o : Opening) (w : World) (c : ℕ) (began : List PartitionState) (r : RoundState) (ts : List ℕ) : Type 0 where
+pub record IsFetching (o : Opening) (w : World) (c : ℕ) (began : List PartitionState) (r : RoundState)
+    (ts : List ℕ) : Type 0 where
   pub asked : IsAsked w c r.asker.tag ts
   pub answered : IsAnswered w c r.asker.tag (λ i s. In i r.items → SecondRound o w began ts i s)
   pub founds : AreFound o w (SecondRound o w began ts) r.answers
@@ -328,12 +332,14 @@ pub record IsDrawn (w : World) (r : Transaction) : Type 0 where
 pub record IsKept (o : Opening) (w : World) : Type 0 where
   pub placed : (p : ℕ) (h : PartitionState) → slice_get w.now.partitions p ≡ Some h → IsPlaced o p h
   pub sound : (p : ℕ) → IsSound o w p (history w p)
-  pub noted : (p : ℕ) (h : PartitionState) → slice_get w.now.partitions p ≡ Some h → (n : NotedVote) → In n h.votes → IsPreparedIn (history w n.part) n.stamp
+  pub noted : (p : ℕ) (h : PartitionState) → slice_get w.now.partitions p ≡ Some h → (n : NotedVote) → In n h.votes
+      → IsPreparedIn (history w n.part) n.stamp
   pub fine : (m : Message) → In m w.now.messages → IsFine o w m.from m.to m.body
   pub from : (m : Message) → In m w.now.messages → IsTagged w m.from m.tag
   pub to : (m : Message) → In m w.now.messages → IsTagged w m.to m.tag
   pub drawn : (r : Transaction) → In r w.past.transactions → IsDrawn w r
   pub unique : (r s : Transaction) → In r w.past.transactions → In s w.past.transactions → r.stamp ≡ s.stamp → r ≡ s
   pub clients : (c : ℕ) → IsClient o w c (client_at w.now.clients c) (last_begun w.past.begun c).partitions
-  pub reads : (f : Read) (rows : List Found) → In f w.past.reads → f.rows ≡ Some rows → IsRead o w f.begun.partitions rows
+  pub reads : (f : Read) (rows : List Found) → In f w.past.reads → f.rows ≡ Some rows
+      → IsRead o w f.begun.partitions rows
   pub answers : (t : Told) → In t w.past.told → IsAnswer o w t.answer

@@ -84,25 +84,30 @@ module _ (o : Opening) (w : World) (k : IsKept o w) (b : IsBooked (terms_of o) w
   own = (k.clients c).clock
 
   -- nothing is told
-  pub quiet_booked : (y : Client) → y.number ≡ x.number → y.clock ≡ x.clock → IsAt t w c y.doing → (sent : List Message) → IsBooked t (changed w (AtClient c (sends y sent)))
+  pub quiet_booked : (y : Client) → y.number ≡ x.number → y.clock ≡ x.clock → IsAt t w c y.doing
+      → (sent : List Message) → IsBooked t (changed w (AtClient c (sends y sent)))
   quiet_booked y same clock does sent =
       let n : y.number ≡ c = same ∙ number in
       let m : y.clock.client ≡ c = ap (λ (z : ClockState). z.client) clock ∙ own in
       let up : x.clock.counter ≤ y.clock.counter = le_of_eq (ap (λ (z : ClockState). z.counter) (sym clock)) in
       turn_booked o w k b c (sends y sent) n m up (λ r l. none_some l)
-      (at_adds t w (changed w (AtClient c (sends y sent))) (turn_adds o w k b c (sends y sent) n m up (λ r l. none_some l)) c y.doing refl refl does)
+      (at_adds t w (changed w (AtClient c (sends y sent)))
+      (turn_adds o w k b c (sends y sent) n m up (λ r l. none_some l)) c y.doing refl refl does)
       (λ r l. none_some l) (λ a l. none_some l) (λ a l. none_some l) (λ a l. none_some l)
 
   -- a write is over
-  outcome_booked : (tag : ℕ) (a : Answer) → IsLed t w (told_to w.past.reads c a) a → IsNotedFor w (told_to w.past.reads c a) a → IsBooked t (changed w (AtClient c (ask_ends x tag a)))
+  outcome_booked : (tag : ℕ) (a : Answer) → IsLed t w (told_to w.past.reads c a) a
+      → IsNotedFor w (told_to w.past.reads c a) a → IsBooked t (changed w (AtClient c (ask_ends x tag a)))
   outcome_booked tag a led noting =
       let turn = ask_ends x tag a in
       let next = changed w (AtClient c turn) in
       turn_booked o w k b c turn number own (le_refl _) (λ r l. none_some l) tt (λ r l. none_some l)
       (λ z l. subst (λ (y : Answer). IsLed t next (told_to w.past.reads c y) y) (some_same l)
-      (led_adds t w next (turn_adds o w k b c turn number own (le_refl _) (λ r l. none_some l)) (told_to w.past.reads c a) a led))
+      (led_adds t w next (turn_adds o w k b c turn number own (le_refl _) (λ r l. none_some l))
+      (told_to w.past.reads c a) a led))
       (λ z l. subst (λ (y : Answer). IsNotedFor next (told_to w.past.reads c y) y) (some_same l)
-      (noting_adds t w next (turn_adds o w k b c turn number own (le_refl _) (λ r l. none_some l)) (told_to w.past.reads c a) a noting))
+      (noting_adds t w next (turn_adds o w k b c turn number own (le_refl _) (λ r l. none_some l))
+      (told_to w.past.reads c a) a noting))
       (λ a l. none_some l)
 
   -- ---- a read that is over
@@ -121,24 +126,32 @@ module _ (o : Opening) (w : World) (k : IsKept o w) (b : IsBooked (terms_of o) w
     is_last rows = last_here c begun_here (ended rows) w.past.reads (begun_client w.past.begun c)
 
     -- there is no view
-    busy_booked : (why : Why) (rows : Option (List Found)) → ((v : World) → In (read_now rows) v.past.reads → IsLed t v (told_to (read_now rows ∷ w.past.reads) c (answer.Busy why)) (answer.Busy why))
+    busy_booked : (why : Why) (rows : Option (List Found))
+        → ((v : World) → In (read_now rows) v.past.reads
+        → IsLed t v (told_to (read_now rows ∷ w.past.reads) c (answer.Busy why)) (answer.Busy why))
         → IsBooked t (changed w (AtClient c (read_ends t x tag asking rows (Busy why))))
     busy_booked why rows led =
         let turn = read_ends t x tag asking rows (Busy why) in
         let next = changed w (AtClient c turn) in
         turn_booked o w k b c turn number own (le_refl _) (λ r l. none_some l) tt (λ r l. none_some l)
-        (λ z l. subst (λ (y : Answer). IsLed t next (told_to (read_now rows ∷ w.past.reads) c y) y) (some_same l) (led next here))
+        (λ z l. subst (λ (y : Answer). IsLed t next (told_to (read_now rows ∷ w.past.reads) c y) y) (some_same l)
+        (led next here))
         (λ z l. subst (λ (y : Answer). IsNotedFor next (told_to (read_now rows ∷ w.past.reads) c y) y) (some_same l) tt)
         (λ a l. none_some l)
 
-    again_booked : (rows : Option (List Found)) → ((read_now rows).rows ≡ None) ⊎ IsNarrow (read_now rows) → (items : List ℕ)
+    again_booked : (rows : Option (List Found)) → ((read_now rows).rows ≡ None) ⊎ IsNarrow (read_now rows)
+        → (items : List ℕ)
         → IsBooked t (changed w (AtClient c (read_ends t x tag asking rows (again asking.viewing items))))
     again_booked rows vain items = go (nat_le MOST_READS (asking.viewing.reads + 1)) refl
       where
         later : ViewingState
         later = record { ask = asking.viewing.ask; reads = asking.viewing.reads + 1 }
 
-        go : (f : Bool) → nat_le MOST_READS (asking.viewing.reads + 1) ≡ f → IsBooked t (changed w (AtClient c (read_ends t x tag asking rows (if f then Busy Rounds else Again (record { ask = asking.viewing.ask; reads = asking.viewing.reads + 1 }) items))))
+        go : (f : Bool) → nat_le MOST_READS (asking.viewing.reads + 1) ≡ f
+            → IsBooked t (changed w
+            (AtClient c (read_ends t x tag asking rows
+            (if f then Busy Rounds else Again (record { ask = asking.viewing.ask; reads = asking.viewing.reads + 1 })
+            items))))
         go true e = busy_booked Rounds rows (λ v made. record {
           read = read_now rows;
           last_is = is_last rows;
@@ -153,14 +166,19 @@ module _ (o : Opening) (w : World) (k : IsKept o w) (b : IsBooked (terms_of o) w
           };
         })
         go false e =
-            let turn = read_ends t x tag asking rows (Again (record { ask = asking.viewing.ask; reads = asking.viewing.reads + 1 }) items) in
+            let turn = read_ends t x tag asking rows
+            (Again (record { ask = asking.viewing.ask; reads = asking.viewing.reads + 1 }) items) in
             let next = changed w (AtClient c turn) in
-            let here_now : (last_begun next.past.begun c).nth ≡ begun_here.nth + 1 = ap (λ (f : Bool). (cond f (let s : Begun = record { client = c; nth = begun_here.nth + 1; partitions = w.now.partitions } in s) begun_here).nth) (self_eqb c) in
+            let here_now : (last_begun next.past.begun c).nth ≡ begun_here.nth + 1 = ap
+            (λ (f : Bool). (cond f
+            (let s : Begun = record { client = c; nth = begun_here.nth + 1; partitions = w.now.partitions } in s)
+            begun_here).nth) (self_eqb c) in
             turn_booked o w k b c turn number own (le_refl _) (λ r l. none_some l)
             (record {
               taken = counted.taken;
               count = here_now ∙ ap (λ (z : ℕ). z + 1) counted.count;
-              few = (let a : asking.viewing.reads + 1 < MOST_READS = leb-false MOST_READS (asking.viewing.reads + 1) e in a);
+              few = (let a : asking.viewing.reads + 1 < MOST_READS = leb-false MOST_READS (asking.viewing.reads + 1) e
+                  in a);
             })
             (λ r l. none_some l) (λ a l. none_some l) (λ a l. none_some l) (λ a l. none_some l)
 
@@ -171,7 +189,11 @@ module _ (o : Opening) (w : World) (k : IsKept o w) (b : IsBooked (terms_of o) w
       here_read = read_now (Some rows)
 
       abbrev permit : PermitState
-      permit = record { view = record { ask = asking.viewing.ask; rows = rows }; principal = asking.principal; policy = t.policy }
+      permit = record {
+        view = record { ask = asking.viewing.ask; rows = rows };
+        principal = asking.principal;
+        policy = t.policy;
+      }
 
       abbrev basis : Basis
       basis = basis_on t.policy asking.principal rows
@@ -182,7 +204,8 @@ module _ (o : Opening) (w : World) (k : IsKept o w) (b : IsBooked (terms_of o) w
       is_view : IsView (record { ask = asking.viewing.ask; rows = rows })
       is_view = record { sound = taken_flawless asking.viewing.ask asking.principal counted.taken; closed = closed }
 
-      on_view : (v : World) → In here_read v.past.reads → (P : PermitState → Type 0) → P permit → IsOnView t v c (last_read (here_read ∷ w.past.reads) c) P
+      on_view : (v : World) → In here_read v.past.reads → (P : PermitState → Type 0) → P permit
+          → IsOnView t v c (last_read (here_read ∷ w.past.reads) c) P
       on_view v made P holds = record {
         read = here_read;
         rows = rows;
@@ -210,19 +233,31 @@ module _ (o : Opening) (w : World) (k : IsKept o w) (b : IsBooked (terms_of o) w
       abbrev over_with : Turn → Turn
       over_with turn = with_past turn (Some (ended (Some rows))) (Some notes)
 
-      noted_now : (v : World) → In here_read v.past.reads → (n : List Note) → Some notes ≡ Some n → IsOnView t v c (last_read (here_read ∷ w.past.reads) c) (λ case. Notes case n)
-      noted_now v made n l = subst (λ (z : List Note). IsOnView t v c (last_read (here_read ∷ w.past.reads) c) (λ case. Notes case z)) (some_same l)
+      noted_now : (v : World) → In here_read v.past.reads → (n : List Note) → Some notes ≡ Some n
+          → IsOnView t v c (last_read (here_read ∷ w.past.reads) c) (λ case. Notes case n)
+      noted_now v made n l = subst
+          (λ (z : List Note). IsOnView t v c (last_read (here_read ∷ w.past.reads) c) (λ case. Notes case z))
+          (some_same l)
           (on_view v made (λ case. Notes case notes) (record { basis = basis; based = based; is = refl }))
 
       tells_booked : (y : Client) → y.number ≡ c → y.clock.client ≡ c → x.clock.counter ≤ y.clock.counter → (a : Answer)
-          → ((v : World) → In here_read v.past.reads → client_at v.now.clients c ≡ (record y { doing = doing.Idle tag }) → v.past.transactions ≡ w.past.transactions ++ [] → IsLed t v (told_to (here_read ∷ w.past.reads) c a) a)
+          → ((v : World) → In here_read v.past.reads
+          → client_at v.now.clients c ≡ (record y { doing = doing.Idle tag })
+          → v.past.transactions ≡ w.past.transactions ++ [] → IsLed t v (told_to (here_read ∷ w.past.reads) c a) a)
           → IsBooked t (changed w (AtClient c (over_with (ask_ends y tag a))))
       tells_booked y ny oy up a led =
           let turn = over_with (ask_ends y tag a) in
           let next = changed w (AtClient c turn) in
           turn_booked o w k b c turn ny oy up (λ r l. none_some l) tt (λ r l. none_some l)
-          (λ z l. subst (λ (q : Answer). IsLed t next (told_to (here_read ∷ w.past.reads) c q) q) (some_same l) (led next here (same_now o w k c turn ny oy) refl))
-          (λ z l. noting_by next (told_to (here_read ∷ w.past.reads) c z) z (record { noted = noted_of (here_read ∷ w.past.reads) c notes; kept = contains (in_right w.past.noted here); own = refl; same = refl }))
+          (λ z l. subst (λ (q : Answer). IsLed t next (told_to (here_read ∷ w.past.reads) c q) q) (some_same l)
+          (led next here (same_now o w k c turn ny oy) refl))
+          (λ z l. noting_by next (told_to (here_read ∷ w.past.reads) c z) z
+          (record {
+            noted = noted_of (here_read ∷ w.past.reads) c notes;
+            kept = contains (in_right w.past.noted here);
+            own = refl;
+            same = refl;
+          }))
           (noted_now next here)
 
       known : is_client c ≡ true
@@ -243,19 +278,37 @@ module _ (o : Opening) (w : World) (k : IsKept o w) (b : IsBooked (terms_of o) w
           d = draw_is seen.clock stamp is_next
 
           later : (row : Found) → In row rows → row.stamp < stamp
-          later row i = subst (λ (f : Result ℕ Refusal). IfOk f (λ s. row.stamp < s)) is_next (next-greater seen.clock row.stamp (rows_seen x.clock rows row i))
+          later row i = subst (λ (f : Result ℕ Refusal). IfOk f (λ s. row.stamp < s)) is_next
+              (next-greater seen.clock row.stamp (rows_seen x.clock rows row i))
 
           above : x.clock.counter < drawn.clock.counter
-          above = let a : x.clock.counter ≤ seen.clock.counter = seen_up in let e : drawn.clock.counter ≡ seen.clock.counter + 1 = d.counter in omega (arith, a, e)
+          above = let a : x.clock.counter ≤ seen.clock.counter = seen_up in
+              let e : drawn.clock.counter ≡ seen.clock.counter + 1 = d.counter in omega (arith, a, e)
 
           is : stamp ≡ drawn.clock.counter * 65536 + c
-          is = d.stamp_is ∙ ap (λ (z : ℕ). z * 65536 + seen.clock.client) (sym d.counter) ∙ ap (λ (z : ℕ). drawn.clock.counter * 65536 + z) seen_own
+          is = d.stamp_is ∙ ap (λ (z : ℕ). z * 65536 + seen.clock.client) (sym d.counter)
+              ∙ ap (λ (z : ℕ). drawn.clock.counter * 65536 + z) seen_own
 
-          drawn_by : (v : World) (g : Doing) → client_at v.now.clients c ≡ (record drawn { doing = g }) → IsDrawnBy v c stamp
-          drawn_by v g e = record { counter = drawn.clock.counter; is = is; known = known; old = subst (λ (z : Client). drawn.clock.counter ≤ z.clock.counter) (sym e) (le_refl _) }
+          drawn_by : (v : World) (g : Doing) → client_at v.now.clients c ≡ (record drawn { doing = g })
+              → IsDrawnBy v c stamp
+          drawn_by v g e = record {
+            counter = drawn.clock.counter;
+            is = is;
+            known = known;
+            old = subst
+                (λ (z : Client). drawn.clock.counter ≤ z.clock.counter) (sym e) (le_refl _);
+          }
 
-          is_new : (turn : Turn) → turn.client.clock.counter ≡ drawn.clock.counter → (r : Transaction) → r.stamp ≡ stamp → IsNew c x.clock.counter turn r
-          is_new turn same r e = record { at = drawn.clock.counter; is = e ∙ is; above = above; low = low; high = high; drawn = subst (λ (z : ℕ). drawn.clock.counter ≤ z) (sym same) (le_refl _) }
+          is_new : (turn : Turn) → turn.client.clock.counter ≡ drawn.clock.counter → (r : Transaction)
+              → r.stamp ≡ stamp → IsNew c x.clock.counter turn r
+          is_new turn same r e = record {
+            at = drawn.clock.counter;
+            is = e ∙ is;
+            above = above;
+            low = low;
+            high = high;
+            drawn = subst (λ (z : ℕ). drawn.clock.counter ≤ z) (sym same) (le_refl _);
+          }
 
           -- nothing has the stamp yet
           unused : (r : Transaction) → In r w.past.transactions → r.stamp ≡ stamp → ⊥
@@ -264,7 +317,8 @@ module _ (o : Opening) (w : World) (k : IsKept o w) (b : IsBooked (terms_of o) w
               let new : Transaction = record { client = c; tag = 0; stamp = stamp; permit = permit; writes = [] } in
               not_same o w k c turn number drawn_own r new i (is_new turn refl new refl) e
 
-          full_booked : is_full_for permit stamp ≡ true → IsBooked t (changed w (AtClient c (over_with (ask_ends drawn tag (answer.Refused refusal.AlbumFull)))))
+          full_booked : is_full_for permit stamp ≡ true
+              → IsBooked t (changed w (AtClient c (over_with (ask_ends drawn tag (answer.Refused refusal.AlbumFull)))))
           full_booked full = tells_booked drawn number drawn_own drawn_up (answer.Refused refusal.AlbumFull)
               (λ v made at none. on_view v made (λ case. IsPermit case × IsRefusedFor v c refusal.AlbumFull case) (
                 granted,
@@ -274,16 +328,25 @@ module _ (o : Opening) (w : World) (k : IsKept o w) (b : IsBooked (terms_of o) w
                     stamp = stamp;
                     full = full;
                     drawn = drawn_by v (doing.Idle tag) at;
-                    unused = λ r l e. ⊎_elim (λ i. unused r i e) (λ i. in_nil i) (in_cases w.past.transactions [] (subst (λ (z : List Transaction). In r z) none (within _ l)));
+                    unused = λ r l e. ⊎_elim (λ i. unused r i e)
+                        (λ i. in_nil i) (in_cases w.past.transactions []
+                        (subst (λ (z : List Transaction). In r z) none (within _ l)));
                   },
                 ),
               ))
 
-          write_booked : served_for permit asking.viewing.ask ≡ None → is_full_for permit stamp ≡ false → IsBooked t (changed w (AtClient c (over_with (write_begins t drawn tag permit stamp))))
+          write_booked : served_for permit asking.viewing.ask ≡ None → is_full_for permit stamp ≡ false
+              → IsBooked t (changed w (AtClient c (over_with (write_begins t drawn tag permit stamp))))
           write_booked unserved room =
               let turn = over_with (write_begins t drawn tag permit stamp) in
               let next = changed w (AtClient c turn) in
-              let r : Transaction = record { client = drawn.number; tag = tag + 1; stamp = stamp; permit = permit; writes = effect_of permit stamp } in
+              let r : Transaction = record {
+                client = drawn.number;
+                tag = tag + 1;
+                stamp = stamp;
+                permit = permit;
+                writes = effect_of permit stamp;
+              } in
               let mine : In r next.past.transactions = in_right w.past.transactions here in
               let same : client_at next.now.clients c ≡ turn.client = same_now o w k c turn number drawn_own in
               turn_booked o w k b c turn number drawn_own drawn_up
@@ -320,7 +383,11 @@ module _ (o : Opening) (w : World) (k : IsKept o w) (b : IsBooked (terms_of o) w
                 on = refl;
                 view = is_view;
                 granted = granted;
-                writes = record { change = unserved_writes permit asking.viewing.ask unserved; room = room; told = refl };
+                writes = record {
+                  change = unserved_writes permit asking.viewing.ask unserved;
+                  room = room;
+                  told = refl;
+                };
                 drawn = subst (λ (z : ℕ). IsDrawnBy next z stamp) (sym number) (drawn_by next turn.client.doing same);
                 later = λ row i. later row (within rows i);
               }))
@@ -328,26 +395,38 @@ module _ (o : Opening) (w : World) (k : IsKept o w) (b : IsBooked (terms_of o) w
               (λ a l. none_some l)
               (noted_now next here)
 
-          unless_booked : served_for permit asking.viewing.ask ≡ None → (f : Bool) → is_full_for permit stamp ≡ f → IsBooked t (changed w (AtClient c (over_with (writes_unless t drawn tag permit stamp f))))
+          unless_booked : served_for permit asking.viewing.ask ≡ None → (f : Bool) → is_full_for permit stamp ≡ f
+              → IsBooked t (changed w (AtClient c (over_with (writes_unless t drawn tag permit stamp f))))
           unless_booked unserved true e = full_booked e
           unless_booked unserved false e = write_booked unserved e
 
-        draws_booked : served_for permit asking.viewing.ask ≡ None → (f : Result ℕ Refusal) → next_of seen.clock ≡ f → IsBooked t (changed w (AtClient c (over_with (draws_by t drawn tag permit f))))
+        draws_booked : served_for permit asking.viewing.ask ≡ None → (f : Result ℕ Refusal) → next_of seen.clock ≡ f
+            → IsBooked t (changed w (AtClient c (over_with (draws_by t drawn tag permit f))))
         draws_booked unserved (Ok stamp) e = unless_booked stamp e unserved (is_full_for permit stamp) refl
         draws_booked unserved (Err why) e =
             let spent = spent_is seen.clock why e in
             tells_booked drawn number drawn_own drawn_up (answer.Refused why)
-            (λ v made at none. on_view v made (λ case. IsPermit case × IsRefusedFor v c why case)
-            (granted, inr (spent.0, subst (λ (z : Client). GREATEST_COUNTER ≤ z.clock.counter) (sym at) (le_trans spent.1 (next_raise seen.clock)))))
+            (λ v made at none. on_view v made (λ case. IsPermit case × IsRefusedFor v c why case) (
+              granted,
+              inr (
+                spent.0,
+                subst (λ (z : Client). GREATEST_COUNTER ≤ z.clock.counter) (sym at)
+                    (le_trans spent.1 (next_raise seen.clock)),
+              ),
+            ))
 
-        grants_booked : (f : Option Served) → served_for permit asking.viewing.ask ≡ f → IsBooked t (changed w (AtClient c (over_with (grants t seen tag permit f))))
+        grants_booked : (f : Option Served) → served_for permit asking.viewing.ask ≡ f
+            → IsBooked t (changed w (AtClient c (over_with (grants t seen tag permit f))))
         grants_booked (Some served) e = tells_booked seen number seen_own seen_up (answer.Served served)
-            (λ v made at none. on_view v made _ (record { granted = granted; is = served_is permit asking.viewing.ask refl served e }))
+            (λ v made at none. on_view v made _
+            (record { granted = granted; is = served_is permit asking.viewing.ask refl served e }))
         grants_booked None e = draws_booked e (next_of seen.clock) refl
 
-      rules_booked : (f : Finding) → ruling_of basis asking.viewing.ask ≡ f → IsBooked t (changed w (AtClient c (over_with (rules_by t seen tag permit f))))
+      rules_booked : (f : Finding) → ruling_of basis asking.viewing.ask ≡ f
+          → IsBooked t (changed w (AtClient c (over_with (rules_by t seen tag permit f))))
       rules_booked finding.Granted e =
-          grants_booked (record { taken = counted.taken; basis = basis; based = based; granted = e }) (served_for permit asking.viewing.ask) refl
+          grants_booked (record { taken = counted.taken; basis = basis; based = based; granted = e })
+          (served_for permit asking.viewing.ask) refl
       rules_booked (finding.Denied reasons) e = tells_booked seen number seen_own seen_up (answer.Denied reasons)
           (λ v made at none. on_view v made _ (record { basis = basis; based = based; is = e }))
       rules_booked (finding.Missing object) e = tells_booked seen number seen_own seen_up (answer.Missing object)
@@ -355,36 +434,58 @@ module _ (o : Opening) (w : World) (k : IsKept o w) (b : IsBooked (terms_of o) w
 
     -- ---- a snapshot
 
-    done_booked : (rows : List Found) → IsBooked t (changed w (AtClient c (read_ends t x tag asking (Some rows) (viewed asking.viewing rows))))
+    done_booked : (rows : List Found)
+        → IsBooked t (changed w (AtClient c (read_ends t x tag asking (Some rows) (viewed asking.viewing rows))))
     done_booked rows = go (is_closed asking.viewing.ask rows) refl
       where
-        wide : (IsClosed asking.viewing.ask rows → ⊥) → (f : Bool) → nat_lt MOST_READ_ITEMS (length (names_of rows asking.viewing.ask)) ≡ f
-            → IsBooked t (changed w (AtClient c (read_ends t x tag asking (Some rows) (if f then Busy Wide else again asking.viewing (names_of rows asking.viewing.ask)))))
+        wide : (IsClosed asking.viewing.ask rows → ⊥) → (f : Bool)
+            → nat_lt MOST_READ_ITEMS (length (names_of rows asking.viewing.ask)) ≡ f
+            → IsBooked t (changed w
+            (AtClient c (read_ends t x tag asking (Some rows)
+            (if f then Busy Wide else again asking.viewing (names_of rows asking.viewing.ask)))))
         wide unclosed true e = busy_booked Wide (Some rows) (λ v made. record {
           read = read_now (Some rows);
           last_is = is_last (Some rows);
           made = contains made;
           own = begun_client w.past.begun c;
-          cause = record { rows = rows; lacking = record { shown = refl; lacking = unclosed }; wide = ltb-true MOST_READ_ITEMS _ e };
+          cause = record {
+            rows = rows;
+            lacking = record { shown = refl; lacking = unclosed };
+            wide = ltb-true MOST_READ_ITEMS _ e;
+          };
         })
-        wide unclosed false e = again_booked (Some rows) (inr (record { rows = rows; lacking = record { shown = refl; lacking = unclosed }; narrow = ltb-false MOST_READ_ITEMS _ e })) (names_of rows asking.viewing.ask)
+        wide unclosed false e = again_booked (Some rows)
+            (inr (record {
+              rows = rows;
+              lacking = record { shown = refl; lacking = unclosed };
+              narrow = ltb-false MOST_READ_ITEMS _ e;
+            })) (names_of rows asking.viewing.ask)
 
-        go : (f : Bool) → is_closed asking.viewing.ask rows ≡ f → IsBooked t (changed w (AtClient c (read_ends t x tag asking (Some rows) (if f then Closed (record { ask = asking.viewing.ask; rows = rows }) else (if nat_lt MOST_READ_ITEMS (length (names_of rows asking.viewing.ask)) then Busy Wide else again asking.viewing (names_of rows asking.viewing.ask))))))
-        go true e = rules_booked rows (closed-is rows asking.viewing.ask e) (ruling_of (basis_on t.policy asking.principal rows) asking.viewing.ask) refl
-        go false e = wide (not-closed rows asking.viewing.ask e) (nat_lt MOST_READ_ITEMS (length (names_of rows asking.viewing.ask))) refl
+        go : (f : Bool) → is_closed asking.viewing.ask rows ≡ f
+            → IsBooked t (changed w
+            (AtClient c (read_ends t x tag asking (Some rows)
+            (if f then Closed (record { ask = asking.viewing.ask; rows = rows }) else
+            (if nat_lt MOST_READ_ITEMS (length (names_of rows asking.viewing.ask)) then Busy Wide else again
+            asking.viewing (names_of rows asking.viewing.ask))))))
+        go true e = rules_booked rows (closed-is rows asking.viewing.ask e)
+            (ruling_of (basis_on t.policy asking.principal rows) asking.viewing.ask) refl
+        go false e = wide (not-closed rows asking.viewing.ask e)
+            (nat_lt MOST_READ_ITEMS (length (names_of rows asking.viewing.ask))) refl
 
     -- ---- a message in a read
 
     reading_booked : (step : Step) → IsBooked t (changed w (AtClient c (read_turn t x tag asking step)))
     reading_booked (Same round) = quiet_booked (record x { doing = doing.Reads asking round }) refl refl counted []
-    reading_booked (Next round messages) = quiet_booked (record x { doing = doing.Reads asking round }) refl refl counted messages
+    reading_booked (Next round messages) = quiet_booked (record x { doing = doing.Reads asking round }) refl refl
+        counted messages
     reading_booked (Done rows) = done_booked rows
     reading_booked (Gone items) = again_booked None (inl refl) items
 
   -- ---- a message in a write
 
   -- the view, and what of the write holds on it
-  on_write : (z : WritingState) (T : Transaction → Type 0) → (h : IsWriteOn t w c z T) → (P : PermitState → Type 0) → P (permit_on t.policy h.read.principal h.read.ask h.rows) → IsOnView t w c (last_read w.past.reads c) P
+  on_write : (z : WritingState) (T : Transaction → Type 0) → (h : IsWriteOn t w c z T) → (P : PermitState → Type 0)
+      → P (permit_on t.policy h.read.principal h.read.ask h.rows) → IsOnView t w c (last_read w.past.reads c) P
   on_write z T h P holds = record {
     read = h.read;
     rows = h.rows;
@@ -396,14 +497,30 @@ module _ (o : Opening) (w : World) (k : IsKept o w) (b : IsBooked (terms_of o) w
     holds = holds;
   }
 
-  abbrev begun_by : (z : WritingState) (T : Transaction → Type 0) → (h : IsWriteOn t w c z T) → IsBegunBy w c z.stamp (permit_on t.policy h.read.principal h.read.ask h.rows)
-  begun_by z T h = record { granted = h.granted; by = h.by; begun = contains h.begun; own = h.client; at = h.stamp; with_it = h.permit }
+  abbrev begun_by : (z : WritingState) (T : Transaction → Type 0) → (h : IsWriteOn t w c z T)
+      → IsBegunBy w c z.stamp (permit_on t.policy h.read.principal h.read.ask h.rows)
+  begun_by z T h = record {
+    granted = h.granted;
+    by = h.by;
+    begun = contains h.begun;
+    own = h.client;
+    at = h.stamp;
+    with_it = h.permit;
+  }
 
-  committed_led : (z : WritingState) (T : Transaction → Type 0) → IsWriteOn t w c z T → IsOnView t w c (last_read w.past.reads c) (IsBegunBy w c z.stamp)
+  committed_led : (z : WritingState) (T : Transaction → Type 0) → IsWriteOn t w c z T
+      → IsOnView t w c (last_read w.past.reads c) (IsBegunBy w c z.stamp)
   committed_led z T h = on_write z T h (IsBegunBy w c z.stamp) (begun_by z T h)
 
-  noting_of : (z : WritingState) (T : Transaction → Type 0) → IsWriteOn t w c z T → (a : Answer) → HasNotes w (told_to w.past.reads c a)
-  noting_of z T h a = record { noted = h.notes; kept = contains h.noted; own = h.notes_own; same = h.notes_last ∙ sym h.last }
+  noting_of : (z : WritingState) (T : Transaction → Type 0) → IsWriteOn t w c z T → (a : Answer)
+      → HasNotes w (told_to w.past.reads c a)
+  noting_of z T h a = record {
+    noted = h.notes;
+    kept = contains h.noted;
+    own = h.notes_own;
+    same = h.notes_last
+        ∙ sym h.last;
+  }
 
   abbrev preparing : WritingState → Client
   preparing z = record x { doing = doing.Prepares z }
@@ -412,7 +529,8 @@ module _ (o : Opening) (w : World) (k : IsKept o w) (b : IsBooked (terms_of o) w
   committing z = record x { doing = doing.Commits z }
 
   -- the round goes on with the same write
-  same_write : (z y : WritingState) (T S : Transaction → Type 0) → y.stamp ≡ z.stamp → places_in y ≡ places_in z → y.client ≡ z.client → ((r : Transaction) → T r → S r) → IsWriteOn t w c z T → IsWriteOn t w c y S
+  same_write : (z y : WritingState) (T S : Transaction → Type 0) → y.stamp ≡ z.stamp → places_in y ≡ places_in z
+      → y.client ≡ z.client → ((r : Transaction) → T r → S r) → IsWriteOn t w c z T → IsWriteOn t w c y S
   same_write z y T S stamp places client more h = record {
     read = h.read;
     rows = h.rows;
@@ -443,15 +561,23 @@ module _ (o : Opening) (w : World) (k : IsKept o w) (b : IsBooked (terms_of o) w
     abbrev Whatever : Transaction → Type 0
     Whatever by = Unit {0}
 
-    left_booked : (y : WritingState) → y.stamp ≡ z.stamp → places_in y ≡ places_in z → y.client ≡ z.client → y.tag ≡ z.tag → IsWriteOn t w c z Tagged → (awaited : List ℕ) → IsBooked t (changed w (AtClient c (prepare_turn x z.tag (prepares_left y awaited))))
+    left_booked : (y : WritingState) → y.stamp ≡ z.stamp → places_in y ≡ places_in z → y.client ≡ z.client
+        → y.tag ≡ z.tag → IsWriteOn t w c z Tagged → (awaited : List ℕ)
+        → IsBooked t (changed w (AtClient c (prepare_turn x z.tag (prepares_left y awaited))))
     left_booked y stamp places client tag h [] =
-        quiet_booked (committing (commit_round y)) refl refl (same_write z (commit_round y) Tagged Whatever stamp places client (λ r e. tt) h) (commits_of (commit_round y))
+        quiet_booked (committing (commit_round y)) refl refl
+        (same_write z (commit_round y) Tagged Whatever stamp places client (λ r e. tt) h)
+        (commits_of (commit_round y))
     left_booked y stamp places client tag h (p ∷ ps) =
-        quiet_booked (preparing y) refl refl (same_write z y Tagged (λ by. by.tag ≡ y.tag) stamp places client (λ r e. e ∙ sym tag) h) []
+        quiet_booked (preparing y) refl refl
+        (same_write z y Tagged (λ by. by.tag ≡ y.tag) stamp places client (λ r e. e ∙ sym tag) h) []
 
-    prepared_booked : IsWriteOn t w c z Tagged → (what : Heard) → told_of z m ≡ what → IsBooked t (changed w (AtClient c (prepare_turn x z.tag (prepares_by z m.from what))))
-    prepared_booked h told.Prepared e = left_booked (answered_by z m.from) refl refl refl refl h (answered_by z m.from).awaited
-    prepared_booked h told.Discarded e = outcome_booked z.tag (answer.Aborted z.stamp) (committed_led z Tagged h) (noting_of z Tagged h (answer.Aborted z.stamp))
+    prepared_booked : IsWriteOn t w c z Tagged → (what : Heard) → told_of z m ≡ what
+        → IsBooked t (changed w (AtClient c (prepare_turn x z.tag (prepares_by z m.from what))))
+    prepared_booked h told.Prepared e = left_booked (answered_by z m.from) refl refl refl refl h
+        (answered_by z m.from).awaited
+    prepared_booked h told.Discarded e = outcome_booked z.tag (answer.Aborted z.stamp) (committed_led z Tagged h)
+        (noting_of z Tagged h (answer.Aborted z.stamp))
     prepared_booked h told.Full e =
         let d = told_to_is z m told.Full e tt in
         outcome_booked z.tag (answer.Unsettled z.stamp refusal.Full)
@@ -473,14 +599,20 @@ module _ (o : Opening) (w : World) (k : IsKept o w) (b : IsBooked (terms_of o) w
     prepared_booked h told.Committed e = quiet_booked (preparing z) refl refl h []
     prepared_booked h told.Nothing e = quiet_booked (preparing z) refl refl h []
 
-    ended_booked : (y : WritingState) → y.stamp ≡ z.stamp → places_in y ≡ places_in z → y.client ≡ z.client → IsWriteOn t w c z Whatever → (awaited : List ℕ) → IsBooked t (changed w (AtClient c (commit_turn x z.tag (commits_left y awaited))))
+    ended_booked : (y : WritingState) → y.stamp ≡ z.stamp → places_in y ≡ places_in z → y.client ≡ z.client
+        → IsWriteOn t w c z Whatever → (awaited : List ℕ)
+        → IsBooked t (changed w (AtClient c (commit_turn x z.tag (commits_left y awaited))))
     ended_booked y stamp places client h [] =
-        outcome_booked z.tag (answer.Committed y.stamp) (committed_led y Whatever (same_write z y Whatever Whatever stamp places client (λ r e. e) h))
+        outcome_booked z.tag (answer.Committed y.stamp)
+        (committed_led y Whatever (same_write z y Whatever Whatever stamp places client (λ r e. e) h))
         (noting_of z Whatever h (answer.Committed y.stamp))
-    ended_booked y stamp places client h (p ∷ ps) = quiet_booked (committing y) refl refl (same_write z y Whatever Whatever stamp places client (λ r e. e) h) []
+    ended_booked y stamp places client h (p ∷ ps) = quiet_booked (committing y) refl refl
+        (same_write z y Whatever Whatever stamp places client (λ r e. e) h) []
 
-    committed_booked : IsWriteOn t w c z Whatever → (what : Heard) → told_of z m ≡ what → IsBooked t (changed w (AtClient c (commit_turn x z.tag (commits_by z m.from what))))
-    committed_booked h told.Committed e = ended_booked (answered_by z m.from) refl refl refl h (answered_by z m.from).awaited
+    committed_booked : IsWriteOn t w c z Whatever → (what : Heard) → told_of z m ≡ what
+        → IsBooked t (changed w (AtClient c (commit_turn x z.tag (commits_by z m.from what))))
+    committed_booked h told.Committed e = ended_booked (answered_by z m.from) refl refl refl h
+        (answered_by z m.from).awaited
     committed_booked h told.Prepared e = quiet_booked (committing z) refl refl h []
     committed_booked h told.Discarded e = quiet_booked (committing z) refl refl h []
     committed_booked h told.Full e = quiet_booked (committing z) refl refl h []
@@ -488,7 +620,9 @@ module _ (o : Opening) (w : World) (k : IsKept o w) (b : IsBooked (terms_of o) w
 
   -- ---- whatever it does
 
-  by_booked : (m : Message) → In m w.now.messages → (f : Doing) → IsDoing o w c (last_begun w.past.begun c).partitions f → IsAt t w c f → IsBooked t (changed w (client_takes_by t c x m f))
+  by_booked : (m : Message) → In m w.now.messages → (f : Doing)
+      → IsDoing o w c (last_begun w.past.begun c).partitions f → IsAt t w c f
+      → IsBooked t (changed w (client_takes_by t c x m f))
   by_booked m sent (doing.Idle tag) kept h = b
   by_booked m sent (doing.Reads asking r) kept h = reading_booked asking h kept.low kept.high r.asker.tag (stepped r m)
   by_booked m sent (doing.Prepares z) kept h = prepared_booked m sent z h (told_of z m) refl
@@ -503,11 +637,15 @@ module _ (o : Opening) (w : World) (k : IsKept o w) (b : IsBooked (terms_of o) w
 
   -- an ask begins
   pub asked_booked : (tag : ℕ) (ask : Ask) (who : Principal) → refusal_of ask who ≡ None → (items : List ℕ)
-      → IsBooked t (changed w (AtClient c (read_begins t x tag (record { viewing = record { ask = ask; reads = 0 }; principal = who }) items)))
+      → IsBooked t (changed w
+      (AtClient c (read_begins t x tag (record { viewing = record { ask = ask; reads = 0 }; principal = who })
+      items)))
   asked_booked tag ask who taken items =
       let turn = read_begins t x tag (record { viewing = record { ask = ask; reads = 0 }; principal = who }) items in
       let next = changed w (AtClient c turn) in
-      let first : (last_begun next.past.begun c).nth ≡ 1 = ap (λ (f : Bool). (cond f (let s : Begun = record { client = c; nth = 1; partitions = w.now.partitions } in s) (last_begun w.past.begun c)).nth) (self_eqb c) in
+      let first : (last_begun next.past.begun c).nth ≡ 1 = ap
+      (λ (f : Bool). (cond f (let s : Begun = record { client = c; nth = 1; partitions = w.now.partitions } in s)
+      (last_begun w.past.begun c)).nth) (self_eqb c) in
       turn_booked o w k b c turn number own (le_refl _) (λ r l. none_some l)
       (record { taken = taken; count = first; few = omega arith })
       (λ r l. none_some l) (λ a l. none_some l) (λ a l. none_some l) (λ a l. none_some l)

@@ -89,7 +89,11 @@ contains {A} {x} (there {y} {xs} h) = Contains-append_right (y ∷ []) xs x (con
 pub within : {A : Type 0} {x : A} (xs : List A) → Contains xs x → In x xs
 within [] c = absurd (omega (arith, c.1))
 within {A} {x} (y ∷ xs) c = elim (Contains-append_cases (y ∷ []) xs x c) [
-  | inl h ↦ (elim (Contains-push_cases [] y x h) [ inl n ↦ absurd (omega (arith, n.1)) | inr e ↦ subst (λ (z : A). In x (z ∷ xs)) (sym e) here ])
+  | inl h ↦ (elim (Contains-push_cases [] y x h) [
+    | inl n ↦ absurd (omega (arith, n.1))
+    | inr e ↦ subst
+        (λ (z : A). In x (z ∷ xs)) (sym e) here
+  ])
   | inr r ↦ there (within xs r)
 ]
 
@@ -99,7 +103,8 @@ in_one h = ⊎_elim (λ e. e) (λ n. in_nil n) (in_uncons h)
 pub in_cases : {A : Type 0} {x : A} (xs ys : List A) → In x (xs ++ ys) → In x xs ⊎ In x ys
 in_cases [] ys h = inr h
 in_cases {A} {x} (y ∷ xs) ys h =
-    ⊎_elim (λ e. inl (subst (λ (z : A). In x (z ∷ xs)) e here)) (λ k. ⊎_elim (λ a. inl (there a)) inr (in_cases xs ys k)) (in_uncons h)
+    ⊎_elim (λ e. inl (subst (λ (z : A). In x (z ∷ xs)) e here))
+    (λ k. ⊎_elim (λ a. inl (there a)) inr (in_cases xs ys k)) (in_uncons h)
 
 pub in_option : {A : Type 0} {x : A} (f : Option A) → In x (option_to_list f) → f ≡ Some x
 in_option None h = in_nil h
@@ -131,7 +136,8 @@ pub filter_in : {A : Type 0} (test : A → Bool) (x : A) (xs : List A) → In x 
 filter_in test x [] h t = in_nil h
 filter_in {A} test x (y ∷ xs) h t =
     ⊎_elim
-    (λ e. subst (λ (z : A). In x (cond (test z) (z ∷ filter test xs) (filter test xs))) e (keep_head (test x) x (filter test xs) t))
+    (λ e. subst (λ (z : A). In x (cond (test z) (z ∷ filter test xs) (filter test xs))) e
+    (keep_head (test x) x (filter test xs) t))
     (λ k. keep_tail (test y) x y (filter test xs) (filter_in test x xs k t))
     (in_uncons h)
 
@@ -139,34 +145,43 @@ pub in_filter : {A : Type 0} (test : A → Bool) (x : A) (xs : List A) → In x 
 in_filter test x [] h = in_nil h
 in_filter {A} test x (y ∷ xs) h = go (test y) refl h (in_filter test x xs)
   where
-    go : (b : Bool) → test y ≡ b → In x (cond b (y ∷ filter test xs) (filter test xs)) → (In x (filter test xs) → In x xs × (test x ≡ true)) → In x (y ∷ xs) × (test x ≡ true)
-    go true e k rec = ⊎_elim (λ (q : x ≡ y). (subst (λ (z : A). In z (y ∷ xs)) (sym q) here, ap test q ∙ e)) (λ l. let r = rec l in (there r.0, r.1)) (in_uncons k)
+    go : (b : Bool) → test y ≡ b → In x (cond b (y ∷ filter test xs) (filter test xs))
+        → (In x (filter test xs) → In x xs × (test x ≡ true)) → In x (y ∷ xs) × (test x ≡ true)
+    go true e k rec = ⊎_elim (λ (q : x ≡ y). (subst (λ (z : A). In z (y ∷ xs)) (sym q) here, ap test q ∙ e))
+        (λ l. let r = rec l in (there r.0, r.1)) (in_uncons k)
     go false e k rec = let r = rec k in (there r.0, r.1)
 
 pub any_in : {A : Type 0} (test : A → Bool) {x : A} (xs : List A) → In x xs → test x ≡ true → list_any test xs ≡ true
 any_in test [] h t = in_nil h
 any_in {A} test {x} (y ∷ xs) h t =
-    ⊎_elim (λ (e : x ≡ y). true_or (test y) (list_any test xs) (ap test (sym e) ∙ t)) (λ k. or_true (test y) (list_any test xs) (any_in test xs k t)) (in_uncons h)
+    ⊎_elim (λ (e : x ≡ y). true_or (test y) (list_any test xs) (ap test (sym e) ∙ t))
+    (λ k. or_true (test y) (list_any test xs) (any_in test xs k t)) (in_uncons h)
 
-pub in_any : {A : Type 0} (test : A → Bool) (xs : List A) → list_any test xs ≡ true → (x : A) × In x xs × (test x ≡ true)
+pub in_any : {A : Type 0} (test : A → Bool) (xs : List A) → list_any test xs ≡ true
+    → (x : A) × In x xs × (test x ≡ true)
 in_any test [] h = absurd (true≢false (sym h))
-in_any test (x ∷ xs) h = ⊎_elim (λ e. (x, here, e)) (λ k. let r = in_any test xs k in (r.0, there r.1, r.2)) (or_cases (test x) (list_any test xs) h)
+in_any test (x ∷ xs) h = ⊎_elim (λ e. (x, here, e)) (λ k. let r = in_any test xs k in (r.0, there r.1, r.2))
+    (or_cases (test x) (list_any test xs) h)
 
 pub in_all : {A : Type 0} (test : A → Bool) {x : A} (xs : List A) → list_all test xs ≡ true → In x xs → test x ≡ true
 in_all test [] h k = in_nil k
 in_all {A} test {x} (y ∷ xs) h k =
-    ⊎_elim (λ (e : x ≡ y). ap test e ∙ and_left (test y) (list_all test xs) h) (λ l. in_all test xs (and_right (test y) (list_all test xs) h) l) (in_uncons k)
+    ⊎_elim (λ (e : x ≡ y). ap test e ∙ and_left (test y) (list_all test xs) h)
+    (λ l. in_all test xs (and_right (test y) (list_all test xs) h) l) (in_uncons k)
 
-pub any_more : {A : Type 0} (test : A → Bool) (xs more : List A) → list_any test xs ≡ true → list_any test (xs ++ more) ≡ true
+pub any_more : {A : Type 0} (test : A → Bool) (xs more : List A) → list_any test xs ≡ true
+    → list_any test (xs ++ more) ≡ true
 any_more test xs more h = let r = in_any test xs h in any_in test (xs ++ more) (in_left more r.1) r.2
 
 -- ---- what is found first
 
-pub find_more : {A : Type 0} (test : A → Bool) (xs more : List A) (x : A) → find test xs ≡ Some x → find test (xs ++ more) ≡ Some x
+pub find_more : {A : Type 0} (test : A → Bool) (xs more : List A) (x : A) → find test xs ≡ Some x
+    → find test (xs ++ more) ≡ Some x
 find_more test [] more x h = none_some h
 find_more {A} test (y ∷ xs) more x h = go (test y) h (find_more test xs more x)
   where
-    go : (b : Bool) → cond b (Some y) (find test xs) ≡ Some x → (find test xs ≡ Some x → find test (xs ++ more) ≡ Some x) → cond b (Some y) (find test (xs ++ more)) ≡ Some x
+    go : (b : Bool) → cond b (Some y) (find test xs) ≡ Some x
+        → (find test xs ≡ Some x → find test (xs ++ more) ≡ Some x) → cond b (Some y) (find test (xs ++ more)) ≡ Some x
     go true e rec = e
     go false e rec = rec e
 
@@ -174,20 +189,24 @@ pub find_is : {A : Type 0} (test : A → Bool) (xs : List A) (x : A) → find te
 find_is test [] x h = none_some h
 find_is {A} test (y ∷ xs) x h = go (test y) refl h (find_is test xs x)
   where
-    go : (b : Bool) → test y ≡ b → cond b (Some y) (find test xs) ≡ Some x → (find test xs ≡ Some x → In x xs × (test x ≡ true)) → In x (y ∷ xs) × (test x ≡ true)
+    go : (b : Bool) → test y ≡ b → cond b (Some y) (find test xs) ≡ Some x
+        → (find test xs ≡ Some x → In x xs × (test x ≡ true)) → In x (y ∷ xs) × (test x ≡ true)
     go true e k rec = let q : y ≡ x = some_same k in (subst (λ (z : A). In z (y ∷ xs)) q here, ap test (sym q) ∙ e)
     go false e k rec = let r = rec k in (there r.0, r.1)
 
-pub any_found : {A : Type 0} (test : A → Bool) (xs : List A) → list_any test xs ≡ true → (x : A) × (find test xs ≡ Some x)
+pub any_found : {A : Type 0} (test : A → Bool) (xs : List A) → list_any test xs ≡ true
+    → (x : A) × (find test xs ≡ Some x)
 any_found test [] h = absurd (true≢false (sym h))
 any_found {A} test (y ∷ xs) h = go (test y) h (any_found test xs)
   where
-    go : (b : Bool) → b || list_any test xs ≡ true → (list_any test xs ≡ true → (x : A) × (find test xs ≡ Some x)) → (x : A) × (cond b (Some y) (find test xs) ≡ Some x)
+    go : (b : Bool) → b || list_any test xs ≡ true → (list_any test xs ≡ true → (x : A) × (find test xs ≡ Some x))
+        → (x : A) × (cond b (Some y) (find test xs) ≡ Some x)
     go true e rec = (y, refl)
     go false e rec = rec e
 
 -- where one more is there, it is found, or what was found before
-pub find_push : {A : Type 0} (test : A → Bool) (xs : List A) (x y : A) → find test (xs ++ x ∷ []) ≡ Some y → (find test xs ≡ Some y) ⊎ ((x ≡ y) × (test x ≡ true))
+pub find_push : {A : Type 0} (test : A → Bool) (xs : List A) (x y : A) → find test (xs ++ x ∷ []) ≡ Some y
+    → (find test xs ≡ Some y) ⊎ ((x ≡ y) × (test x ≡ true))
 find_push {A} test [] x y h = go (test x) refl h
   where
     go : (b : Bool) → test x ≡ b → cond b (Some x) None ≡ Some y → (None ≡ Some y) ⊎ ((x ≡ y) × (test x ≡ true))
@@ -195,13 +214,16 @@ find_push {A} test [] x y h = go (test x) refl h
     go false e k = none_some k
 find_push {A} test (z ∷ xs) x y h = go (test z) h (find_push test xs x y)
   where
-    go : (b : Bool) → cond b (Some z) (find test (xs ++ x ∷ [])) ≡ Some y → (find test (xs ++ x ∷ []) ≡ Some y → (find test xs ≡ Some y) ⊎ ((x ≡ y) × (test x ≡ true))) → (cond b (Some z) (find test xs) ≡ Some y) ⊎ ((x ≡ y) × (test x ≡ true))
+    go : (b : Bool) → cond b (Some z) (find test (xs ++ x ∷ [])) ≡ Some y
+        → (find test (xs ++ x ∷ []) ≡ Some y → (find test xs ≡ Some y) ⊎ ((x ≡ y) × (test x ≡ true)))
+        → (cond b (Some z) (find test xs) ≡ Some y) ⊎ ((x ≡ y) × (test x ≡ true))
     go true e rec = inl e
     go false e rec = rec e
 
 -- ---- places in a list
 
-pub set_same : {A : Type 0} (xs : List A) (p : ℕ) (x y : A) → slice_get xs p ≡ Some x → slice_get (set xs p y) p ≡ Some y
+pub set_same : {A : Type 0} (xs : List A) (p : ℕ) (x y : A) → slice_get xs p ≡ Some x
+    → slice_get (set xs p y) p ≡ Some y
 set_same [] p x y h = none_some h
 set_same (z ∷ xs) zero x y h = refl
 set_same (z ∷ xs) (suc p) x y h = set_same xs p x y h
@@ -223,19 +245,24 @@ range_in a zero k low high = absurd (omega arith)
 range_in a (suc n) k low high =
     ⊎_elim
     (λ (e : k ≡ a). subst (λ (z : ℕ). In z (range_with_len a (suc n))) (sym e) here)
-    (λ (ne : eqb k a ≡ false). let d : k ≡ a → ⊥ = eqb-false k a ne in there (range_in (a + 1) n k (omega arith) (omega arith)))
+    (λ (ne : eqb k a ≡ false). let d : k ≡ a
+    → ⊥ = eqb-false k a ne in there (range_in (a + 1) n k (omega arith) (omega arith)))
     (same_or_not k a)
 
-pub range_got : {A : Type 0} (f : ℕ → A) (a n p : ℕ) (x : A) → slice_get (map f (range_with_len a n)) p ≡ Some x → (x ≡ f (a + p)) × (p < n)
+pub range_got : {A : Type 0} (f : ℕ → A) (a n p : ℕ) (x : A) → slice_get (map f (range_with_len a n)) p ≡ Some x
+    → (x ≡ f (a + p)) × (p < n)
 range_got f a zero p x h = none_some h
 range_got f a (suc n) zero x h = (sym (some_same h) ∙ ap f (omega arith), omega arith)
-range_got {A} f a (suc n) (suc p) x h = let r = range_got f (a + 1) n p x h in (r.0 ∙ ap f (omega arith), omega (arith, r.1))
+range_got {A} f a (suc n) (suc p) x h = let r = range_got f (a + 1) n p x h in
+    (r.0 ∙ ap f (omega arith), omega (arith, r.1))
 
 -- what is in the image of an option is the image of what is there
-pub in_mapped : {A B : Type 0} (f : A → B) (o : Option A) {y : B} → In y (option_to_list (option_map f o)) → (x : A) × (o ≡ Some x) × (y ≡ f x)
+pub in_mapped : {A B : Type 0} (f : A → B) (o : Option A) {y : B} → In y (option_to_list (option_map f o))
+    → (x : A) × (o ≡ Some x) × (y ≡ f x)
 in_mapped f None h = in_nil h
 in_mapped f (Some x) h = (x, refl, in_one h)
 
-pub mapped_in : {A B : Type 0} (f : A → B) (o : Option A) {x : A} → o ≡ Some x → In (f x) (option_to_list (option_map f o))
+pub mapped_in : {A B : Type 0} (f : A → B) (o : Option A) {x : A} → o ≡ Some x
+    → In (f x) (option_to_list (option_map f o))
 mapped_in f None h = none_some h
 mapped_in {A} {B} f (Some y) {x} h = subst (λ (z : A). In (f z) (f y ∷ [])) (some_same h) here

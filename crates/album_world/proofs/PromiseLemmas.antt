@@ -60,12 +60,14 @@ module _ (o : Opening) (some : 0 < o.parts) (w : World) (k : IsKept o w) (b : Is
   abbrev t : Terms
   t = terms_of o
 
-  unless_booked : (f : Bool) (r : Refusal) (g : Result Change Refusal) → IsBooked t (changed_by w g) → IsBooked t (changed_by w (if f then Err r else g))
+  unless_booked : (f : Bool) (r : Refusal) (g : Result Change Refusal) → IsBooked t (changed_by w g)
+      → IsBooked t (changed_by w (if f then Err r else g))
   unless_booked true r g h = b
   unless_booked false r g h = h
 
   module _ (c : ℕ) (who : Principal) (ask : Ask) where
-    refused_booked : (tag : ℕ) (f : Option Refusal) → refusal_of ask who ≡ f → IsBooked t (changed_by w (asks_unless t c (client_at w.now.clients c) tag who ask f))
+    refused_booked : (tag : ℕ) (f : Option Refusal) → refusal_of ask who ≡ f
+        → IsBooked t (changed_by w (asks_unless t c (client_at w.now.clients c) tag who ask f))
     refused_booked tag (Some r) e = b
     refused_booked tag None e = asked_booked o w k b c tag ask who e (objects_of ask)
 
@@ -83,7 +85,8 @@ module _ (o : Opening) (some : 0 < o.parts) (w : World) (k : IsKept o w) (b : Is
   arrival_booked m sent (Part p) = takes_booked p m (slice_get w.now.partitions p)
   arrival_booked m sent (ToClient c) = message_booked o w k b c m sent
 
-  delivery_booked : (f : Option Message) → ((m : Message) → f ≡ Some m → In m w.now.messages) → IsBooked t (changed_by w (delivers t w.now f))
+  delivery_booked : (f : Option Message) → ((m : Message) → f ≡ Some m → In m w.now.messages)
+      → IsBooked t (changed_by w (delivers t w.now f))
   delivery_booked None h = b
   delivery_booked (Some m) h = arrival_booked m (h m refl) m.to
 
@@ -105,25 +108,46 @@ module _ (o : Opening) (some : 0 < o.parts) (w : World) (k : IsKept o w) (b : Is
 
   pub event_booked : (e : Event) → IsBooked t (happens t w e)
   event_booked (event.Ask c who ask) =
-      unless_booked (not (is_client c)) refusal.BadRequest _ (unless_booked (is_stopped w.now c) refusal.Stopped _ (asks_booked c who ask (client_at w.now.clients c).doing))
+      unless_booked (not (is_client c)) refusal.BadRequest _
+      (unless_booked (is_stopped w.now c) refusal.Stopped _
+      (asks_booked c who ask (client_at w.now.clients c).doing))
   event_booked (event.Deliver n) = delivery_booked (message_of w.now.messages n) (λ m e. message_in o some w k n m e)
   event_booked (event.Sweep p s) = sweeps_booked p s (slice_get w.now.partitions p)
   event_booked (event.Stop c) = unless_booked (is_stopped w.now c) refusal.Stopped (Ok (Stops c)) (stop_booked t w b c)
   event_booked (event.Trim p i) = trims_booked p i (slice_get w.now.partitions p)
 
-run_booked : (o : Opening) → 0 < o.parts → (w : World) → IsKept o w → IsBooked (terms_of o) w → (es : List Event) → IsBooked (terms_of o) (run (terms_of o) w es)
+run_booked : (o : Opening) → 0 < o.parts → (w : World) → IsKept o w → IsBooked (terms_of o) w → (es : List Event)
+    → IsBooked (terms_of o) (run (terms_of o) w es)
 run_booked o some w k b [] = b
-run_booked o some w k b (e ∷ es) = run_booked o some (happens (terms_of o) w e) (event_kept o some w k e) (event_booked o some w k b e) es
+run_booked o some w k b (e ∷ es) = run_booked o some (happens (terms_of o) w e) (event_kept o some w k e)
+    (event_booked o some w k b e) es
 
 pub always_booked : (o : Opening) (es : List Event) → is_opening o ≡ true → IsBooked (terms_of o) (run_of o es)
 always_booked o es is =
     let d = opening_is o is in
-    run_booked o d.some (start o) (start_kept o d) (record { granted = λ r h. in_nil h; led = λ t h. in_nil h; noting = λ t h. in_nil h; noted = λ n h. in_nil h; at = λ c. tt }) es
+    run_booked o d.some (start o) (start_kept o d)
+    (record {
+      granted = λ r h. in_nil h;
+      led = λ t h. in_nil h;
+      noting = λ t h. in_nil h;
+      noted = λ n h. in_nil h;
+      at = λ c. tt;
+    }) es
 
 -- ---- the promises
 
-map_view : (t : Terms) (w : World) (told : Told) (P Q : PermitState → Type 0) → ((case : PermitState) → P case → Q case) → IsToldOn t w told P → IsToldOn t w told Q
-map_view t w told P Q more h = record { read = h.read; rows = h.rows; last_is = h.last_is; made = h.made; own = h.own; shown = h.shown; view = h.view; holds = more _ h.holds }
+map_view : (t : Terms) (w : World) (told : Told) (P Q : PermitState → Type 0)
+    → ((case : PermitState) → P case → Q case) → IsToldOn t w told P → IsToldOn t w told Q
+map_view t w told P Q more h = record {
+  read = h.read;
+  rows = h.rows;
+  last_is = h.last_is;
+  made = h.made;
+  own = h.own;
+  shown = h.shown;
+  view = h.view;
+  holds = more _ h.holds;
+}
 
 ruled_by : (t : Terms) (w : World) (told : Told) (a : Answer) → IsLed t w told a → IsRuledBy t w told a
 ruled_by t w told (answer.Served served) h = h
@@ -132,8 +156,10 @@ ruled_by t w told (answer.Missing object) h = h
 ruled_by t w told (answer.Busy why) h = tt
 ruled_by t w told (answer.Committed s) h = h
 ruled_by t w told (answer.Aborted s) h = h
-ruled_by t w told (answer.Unsettled s why) h = map_view t w told (IsBegunFull t w told.client s) (IsBegunBy w told.client s) (λ case e. e.begun) h
-ruled_by t w told (answer.Refused why) h = map_view t w told (λ case. IsPermit case × IsRefusedFor w told.client why case) IsPermit (λ case e. e.0) h
+ruled_by t w told (answer.Unsettled s why) h = map_view t w told (IsBegunFull t w told.client s)
+    (IsBegunBy w told.client s) (λ case e. e.begun) h
+ruled_by t w told (answer.Refused why) h = map_view t w told
+    (λ case. IsPermit case × IsRefusedFor w told.client why case) IsPermit (λ case e. e.0) h
 
 pub rulings_hold : (o : Opening) (es : List Event) → is_opening o ≡ true → RulingsHold (terms_of o) (run_of o es)
 rulings_hold o es is =
@@ -148,7 +174,8 @@ rulings_hold o es is =
 pub one_finding : (case : PermitState) (f g : Finding) → Finds case f → Finds case g → f ≡ g
 one_finding case f g a b =
     sym a.is
-    ∙ ruling-alike case.policy case.principal case.view.ask case.view.rows case.view.rows a.basis b.basis (record { same = λ item n. refl }) a.based b.based
+    ∙ ruling-alike case.policy case.principal case.view.ask case.view.rows case.view.rows a.basis b.basis
+    (record { same = λ item n. refl }) a.based b.based
     ∙ b.is
 
 caused_by : (t : Terms) (w : World) (told : Told) (a : Answer) → IsLed t w told a → IsCaused w told a
@@ -162,30 +189,40 @@ caused_by t w told (answer.Unsettled s why) h = tt
 caused_by t w told (answer.Refused why) h = tt
 
 pub busy_has_its_cause : (o : Opening) (es : List Event) → is_opening o ≡ true → BusyHasItsCause (run_of o es)
-busy_has_its_cause o es is told h = caused_by (terms_of o) (run_of o es) told told.answer ((always_booked o es is).led told (within _ h))
+busy_has_its_cause o es is told h = caused_by (terms_of o) (run_of o es) told told.answer
+    ((always_booked o es is).led told (within _ h))
 
-of_write : (w : World) (c s : ℕ) (case : PermitState) (P : Transaction → Type 0) → (h : IsBegunBy w c s case) → P h.by → IsOfWrite w c s P
+of_write : (w : World) (c s : ℕ) (case : PermitState) (P : Transaction → Type 0) → (h : IsBegunBy w c s case) → P h.by
+    → IsOfWrite w c s P
 of_write w c s case P h holds = record { by = h.by; begun = h.begun; own = h.own; at = h.at; holds = holds }
 
-true_outcome : (o : Opening) → 0 < o.parts → (w : World) → IsKept o w → (told : Told) (a : Answer) → IsLed (terms_of o) w told a → IsAnswer o w a → IsTrueOutcome (terms_of o) w told a
+true_outcome : (o : Opening) → 0 < o.parts → (w : World) → IsKept o w → (told : Told) (a : Answer)
+    → IsLed (terms_of o) w told a → IsAnswer o w a → IsTrueOutcome (terms_of o) w told a
 true_outcome o some w k told (answer.Served served) h d = tt
 true_outcome o some w k told (answer.Denied reasons) h d = tt
 true_outcome o some w k told (answer.Missing object) h d = tt
 true_outcome o some w k told (answer.Busy why) h d = tt
 true_outcome o some w k told (answer.Committed s) h d =
-    of_write w told.client s _ (IsCommittedEverywhere (terms_of o) w) h.holds (everywhere o w k s d h.holds.by (within _ h.holds.begun) h.holds.at)
-true_outcome o some w k told (answer.Aborted s) h d =
-    (of_write w told.client s _ (IsPromisedSomewhere (terms_of o) w) h.holds (against o w k some s d h.holds.by (within _ h.holds.begun) h.holds.at), lost_against o w k s d)
+    of_write w told.client s _ (IsCommittedEverywhere (terms_of o) w) h.holds
+    (everywhere o w k s d h.holds.by (within _ h.holds.begun) h.holds.at)
+true_outcome o some w k told (answer.Aborted s) h d = (
+  of_write w told.client s _ (IsPromisedSomewhere (terms_of o) w) h.holds
+      (against o w k some s d h.holds.by (within _ h.holds.begun) h.holds.at),
+  lost_against o w k s d,
+)
 true_outcome o some w k told (answer.Unsettled s why) h d =
     (d.1, of_write w told.client s _ (IsToldFull (terms_of o) w) h.holds.begun h.holds.full, lost_unsettled o w k s d.0)
 true_outcome o some w k told (answer.Refused why) h d =
-    map_view (terms_of o) w told (λ case. IsPermit case × IsRefusedFor w told.client why case) (IsRefusedFor w told.client why) (λ case e. e.1) h
+    map_view (terms_of o) w told (λ case. IsPermit case × IsRefusedFor w told.client why case)
+    (IsRefusedFor w told.client why) (λ case e. e.1) h
 
-pub outcomes_are_true : (o : Opening) (es : List Event) → is_opening o ≡ true → OutcomesAreTrue (terms_of o) (run_of o es)
+pub outcomes_are_true : (o : Opening) (es : List Event) → is_opening o ≡ true
+    → OutcomesAreTrue (terms_of o) (run_of o es)
 outcomes_are_true o es is told h =
     let d = opening_is o is in
     let k = always_kept o es is in
-    true_outcome o d.some (run_of o es) k told told.answer ((always_booked o es is).led told (within _ h)) (k.answers told (within _ h))
+    true_outcome o d.some (run_of o es) k told told.answer ((always_booked o es is).led told (within _ h))
+    (k.answers told (within _ h))
 
 pub views_are_read_atomic : (o : Opening) (es : List Event) → is_opening o ≡ true → ViewsAreReadAtomic o (run_of o es)
 views_are_read_atomic o es is = views_atomic o (run_of o es) (always_kept o es is)
@@ -194,25 +231,30 @@ pub views_are_fresh : (o : Opening) (es : List Event) → is_opening o ≡ true 
 views_are_fresh o es is = views_fresh o (run_of o es) (always_kept o es is)
 
 -- what isn't placed at a partition, the partition has no value of
-value_away : (parts p : ℕ) (ws : List Row) (i : ℕ) → eqb (place_of parts i) p ≡ false → value_in (rows_placed_at p parts ws) i ≡ None
+value_away : (parts p : ℕ) (ws : List Row) (i : ℕ) → eqb (place_of parts i) p ≡ false
+    → value_in (rows_placed_at p parts ws) i ≡ None
 value_away parts p [] i ne = refl
 value_away parts p (w ∷ ws) i ne = go (eqb (place_of parts w.0) p) refl (eqb w.0 i) refl (value_away parts p ws i ne)
   where
     rest : List Row
     rest = rows_placed_at p parts ws
 
-    go : (b : Bool) → eqb (place_of parts w.0) p ≡ b → (c : Bool) → eqb w.0 i ≡ c → value_in rest i ≡ None → value_in (cond b (w ∷ rest) rest) i ≡ None
+    go : (b : Bool) → eqb (place_of parts w.0) p ≡ b → (c : Bool) → eqb w.0 i ≡ c → value_in rest i ≡ None
+        → value_in (cond b (w ∷ rest) rest) i ≡ None
     go true e true q h = absurd (true≢false (sym e ∙ ap (λ (z : ℕ). eqb (place_of parts z) p) (eqb-true w.0 i q) ∙ ne))
     go true e false q h = rw q h
     go false e c q h = h
 
-value_from : (parts p : ℕ) (ws : List Row) (i : ℕ) (v : Value) → value_in (rows_placed_at p parts ws) i ≡ Some v → value_in ws i ≡ Some v
+value_from : (parts p : ℕ) (ws : List Row) (i : ℕ) (v : Value) → value_in (rows_placed_at p parts ws) i ≡ Some v
+    → value_in ws i ≡ Some v
 value_from parts p ws i v h = ⊎_elim
-    (λ (e : place_of parts i ≡ p). sym (value_placed parts ws i) ∙ subst (λ (z : ℕ). value_in (rows_placed_at z parts ws) i ≡ Some v) (sym e) h)
+    (λ (e : place_of parts i ≡ p). sym (value_placed parts ws i)
+    ∙ subst (λ (z : ℕ). value_in (rows_placed_at z parts ws) i ≡ Some v) (sym e) h)
     (λ (ne : eqb (place_of parts i) p ≡ false). none_some (sym (value_away parts p ws i ne) ∙ h))
     (same_or_not (place_of parts i) p)
 
-of_one : (o : Opening) (w : World) → IsKept o w → (p i t : ℕ) (v : Value) → version (history w p) i t ≡ Some v → IsOfOne w i t v
+of_one : (o : Opening) (w : World) → IsKept o w → (p i t : ℕ) (v : Value) → version (history w p) i t ≡ Some v
+    → IsOfOne w i t v
 of_one o w k p i t v h =
     let r = wrote_by (history w p) t i v (version_wrote (history w p) i t v h) in
     let s = (k.sound p).prepared t r.by in
@@ -224,7 +266,8 @@ of_one o w k p i t v h =
       alone = λ other l e. k.unique other s.of (within _ l) s.begun (e ∙ sym s.stamp);
     }
 
-pub writes_are_granted : (o : Opening) (es : List Event) → is_opening o ≡ true → WritesAreGranted (terms_of o) (run_of o es)
+pub writes_are_granted : (o : Opening) (es : List Event) → is_opening o ≡ true
+    → WritesAreGranted (terms_of o) (run_of o es)
 writes_are_granted o es is = record {
   granted = λ by l. (always_booked o es is).granted by (within _ l);
   versions = of_one o (run_of o es) (always_kept o es is);

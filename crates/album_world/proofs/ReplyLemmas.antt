@@ -66,9 +66,11 @@ use Rattle.album_world.proofs.GrowthLemmas.{begun_grows, stamp_grows, has_fresh_
 use Rattle.album_world.proofs.WroteLemmas.{written_here}
 use Rattle.album_world.proofs.TurnLemmas.{IsSent, IsNew, turn_kept, turn_grows, doing_lasts}
 
-node_tag : (w : World) (n : Node) (c g : ℕ) → n ≡ ToClient c → IsTagged w n g → g ≤ tag_of (client_at w.now.clients c).doing
+node_tag : (w : World) (n : Node) (c g : ℕ) → n ≡ ToClient c → IsTagged w n g
+    → g ≤ tag_of (client_at w.now.clients c).doing
 node_tag w (Part p) c g e h = absurd (cc)
-node_tag w (ToClient d) c g e h = let q : d ≡ c = cc in subst (λ (z : ℕ). g ≤ tag_of (client_at w.now.clients z).doing) q h
+node_tag w (ToClient d) c g e h = let q : d ≡ c = cc in subst
+    (λ (z : ℕ). g ≤ tag_of (client_at w.now.clients z).doing) q h
 
 part_apart : {p c : ℕ} {R : Type 0} → Part p ≡ ToClient c → R
 part_apart e = absurd (cc)
@@ -90,7 +92,8 @@ module _ (o : Opening) (some : 0 < o.parts) (w : World) (k : IsKept o w) (c : �
   own : x.clock.client ≡ c
   own = (k.clients c).clock
 
-  no_old_from : (g : ℕ) → tag_of x.doing ≡ g → (m : Message) → In m w.now.messages → m.from ≡ ToClient c → m.tag ≡ g + 1 → ⊥
+  no_old_from : (g : ℕ) → tag_of x.doing ≡ g → (m : Message) → In m w.now.messages → m.from ≡ ToClient c
+      → m.tag ≡ g + 1 → ⊥
   no_old_from g tag m i f e =
       let l : m.tag ≤ tag_of x.doing = node_tag w m.from c m.tag f (k.from m i) in
       let q : tag_of x.doing ≡ g = tag in
@@ -109,7 +112,8 @@ module _ (o : Opening) (some : 0 < o.parts) (w : World) (k : IsKept o w) (c : �
 
   -- ---- nothing is sent and nothing is told
 
-  pub stays_kept : (y : Client) → y.number ≡ x.number → y.clock ≡ x.clock → tag_of x.doing ≡ tag_of y.doing → IsDoing o w c began y.doing → IsKept o (changed w (AtClient c (still y)))
+  pub stays_kept : (y : Client) → y.number ≡ x.number → y.clock ≡ x.clock → tag_of x.doing ≡ tag_of y.doing
+      → IsDoing o w c began y.doing → IsKept o (changed w (AtClient c (still y)))
   stays_kept y same clock tag does =
       let t = still y in
       let n : y.number ≡ c = same ∙ number in
@@ -117,55 +121,79 @@ module _ (o : Opening) (some : 0 < o.parts) (w : World) (k : IsKept o w) (c : �
       let lt : tag_of x.doing ≤ tag_of y.doing = le_of_eq tag in
       let lc : x.clock.counter ≤ y.clock.counter = le_of_eq (ap (λ (z : ClockState). z.counter) (sym clock)) in
       turn_kept o w k c t n m lt lc (λ m l. in_nil l)
-      (doing_lasts o w k c t n m (turn_grows o w k c t n m lt lc) c began (λ m l. in_nil l) (λ m l. in_nil l) y.doing does)
+      (doing_lasts o w k c t n m (turn_grows o w k c t n m lt lc) c began (λ m l. in_nil l)
+      (λ m l. in_nil l) y.doing does)
       (λ r l. none_some l) (λ d rows l. none_some l) (λ a l. none_some l)
 
   -- ---- what is sent
 
   -- the Gets of a new round
-  asks : (t : Turn) (g : ℕ) → tag_of x.doing ≡ g → (a : Asker) → a.tag ≡ g + 1 → (items ts : List ℕ) → t.sent ≡ gets_of a ts items → IsAsked (changed w (AtClient c t)) c (g + 1) ts
+  asks : (t : Turn) (g : ℕ) → tag_of x.doing ≡ g → (a : Asker) → a.tag ≡ g + 1 → (items ts : List ℕ)
+      → t.sent ≡ gets_of a ts items → IsAsked (changed w (AtClient c t)) c (g + 1) ts
   asks t g tag a at items ts e = record {
     at = λ m l f q. ⊎_elim
         (λ i. absurd (no_old_from g tag m i f q))
-        (λ i. let r = in_map (get_of a ts) items (subst (λ (z : List Message). In m z) e i) in subst (λ (z : Message). GetsWith ts z.body) (sym r.2) refl)
+        (λ i. let r = in_map (get_of a ts) items (subst (λ (z : List Message). In m z) e i) in subst
+        (λ (z : Message). GetsWith ts z.body) (sym r.2) refl)
         (in_cases w.now.messages t.sent l);
   }
 
-  unanswered : (t : Turn) (g : ℕ) → tag_of x.doing ≡ g → (a : Asker) → (items ts : List ℕ) (P : ℕ → ℕ → Type 0) → t.sent ≡ gets_of a ts items → IsAnswered (changed w (AtClient c t)) c (g + 1) P
+  unanswered : (t : Turn) (g : ℕ) → tag_of x.doing ≡ g → (a : Asker) → (items ts : List ℕ) (P : ℕ → ℕ → Type 0)
+      → t.sent ≡ gets_of a ts items → IsAnswered (changed w (AtClient c t)) c (g + 1) P
   unanswered t g tag a items ts P e = record {
     at = λ m l f q. ⊎_elim
         (λ i. absurd (no_old_to g tag m i f q))
-        (λ i. let r = in_map (get_of a ts) items (subst (λ (z : List Message). In m z) e i) in part_apart (ap (λ (z : Message). z.to) (sym r.2) ∙ f))
+        (λ i. let r = in_map (get_of a ts) items (subst (λ (z : List Message). In m z) e i) in
+        part_apart (ap (λ (z : Message). z.to) (sym r.2) ∙ f))
         (in_cases w.now.messages t.sent l);
   }
 
-  gets_sent : (v : World) (a : Asker) (g : ℕ) → a.client ≡ c → a.tag ≡ g → (ts items : List ℕ) (m : Message) → In m (gets_of a ts items) → IsSent o v c g m
+  gets_sent : (v : World) (a : Asker) (g : ℕ) → a.client ≡ c → a.tag ≡ g → (ts items : List ℕ) (m : Message)
+      → In m (gets_of a ts items) → IsSent o v c g m
   gets_sent v a g of at ts items m i =
       let r = in_map (get_of a ts) items i in
       record {
         part = place_of a.parts r.0;
         body = body.Request (Get r.0 ts);
         is = r.2
-            ∙ ap (λ (z : ℕ). let n : Message = record { from = ToClient z; to = Part (place_of a.parts r.0); tag = a.tag; body = body.Request (Get r.0 ts) } in n) of
-            ∙ ap (λ (z : ℕ). let n : Message = record { from = ToClient c; to = Part (place_of a.parts r.0); tag = z; body = body.Request (Get r.0 ts) } in n) at;
+            ∙ ap (λ (z : ℕ). let n : Message =
+            record {
+              from = ToClient z;
+              to = Part (place_of a.parts r.0);
+              tag = a.tag;
+              body = body.Request (Get r.0 ts);
+            } in n) of
+            ∙ ap (λ (z : ℕ). let n : Message = record {
+              from = ToClient c;
+              to = Part (place_of a.parts r.0);
+              tag = z;
+              body = body.Request (Get r.0 ts);
+            } in n) at;
         fine = tt;
       }
 
   -- ---- a client whose clock has moved on, a read that is over, and what is noted
 
-  module _ (y : Client) (ny : y.number ≡ c) (oy : y.clock.client ≡ c) (up : x.clock.counter ≤ y.clock.counter) (e : Option Ended) (n : Option (List Note))
-      (reads : (d : Ended) (rows : List Found) → e ≡ Some d → d.rows ≡ Some rows → IsRead o w began rows) (tag : ℕ) (was : tag_of x.doing ≡ tag) where
+  module _ (y : Client) (ny : y.number ≡ c) (oy : y.clock.client ≡ c) (up : x.clock.counter ≤ y.clock.counter)
+      (e : Option Ended) (n : Option (List Note))
+      (reads : (d : Ended) (rows : List Found) → e ≡ Some d → d.rows ≡ Some rows → IsRead o w began rows) (tag : ℕ)
+      (was : tag_of x.doing ≡ tag) where
     ends_kept : (a : Answer) → IsAnswer o w a → IsKept o (changed w (AtClient c (with_past (ask_ends y tag a) e n)))
     ends_kept a d =
-        turn_kept o w k c (with_past (ask_ends y tag a) e n) ny oy (le_of_eq was) up (λ m i. in_nil i) tt (λ r i. none_some i) reads
+        turn_kept o w k c (with_past (ask_ends y tag a) e n) ny oy (le_of_eq was) up (λ m i. in_nil i) tt
+        (λ r i. none_some i) reads
         (λ b i. subst (IsAnswer o w) (some_same i) d)
 
-    reads_kept : 0 < c → c < 65536 → (asking : Asking) (items : List ℕ) → IsKept o (changed w (AtClient c (with_past (read_begins (terms_of o) y tag asking items) e n)))
+    reads_kept : 0 < c → c < 65536 → (asking : Asking) (items : List ℕ)
+        → IsKept o (changed w (AtClient c (with_past (read_begins (terms_of o) y tag asking items) e n)))
     reads_kept low high asking items =
         let t = with_past (read_begins (terms_of o) y tag asking items) e n in
         let a = asker_at (terms_of o) y (tag + 1) in
         let next = changed w (AtClient c t) in
-        let here_now : (last_begun next.past.begun c).partitions ≡ w.now.partitions = ap (λ (b : Bool). (cond b (let s : Begun = record { client = c; nth = nth_after w.past c e; partitions = w.now.partitions } in s) (last_begun w.past.begun c)).partitions) (self_eqb c) in
+        let here_now : (last_begun next.past.begun c).partitions ≡ w.now.partitions = ap
+        (λ (b : Bool). (cond b
+        (let s : Begun = record { client = c; nth = nth_after w.past c e; partitions = w.now.partitions } in s)
+        (last_begun w.past.begun c)).partitions) (self_eqb c) in
         turn_kept o w k c t ny oy (tag_next tag was) up
         (λ m i. gets_sent next a (tag + 1) ny refl [] items m i)
         (subst (λ (z : List PartitionState). IsDoing o next c z t.client.doing) (sym here_now)
@@ -175,7 +203,12 @@ module _ (o : Opening) (some : 0 < o.parts) (w : World) (k : IsKept o w) (c : �
           parts = refl;
           client = ny;
           own = own_nothing items;
-          begun = λ p. record { more = []; is = sym (append-nil _); committed = λ u h. prepared_in (history w p) u (committed_was_prepared (history w p) u (k.sound p).legal h) };
+          begun = λ p. record {
+            more = [];
+            is = sym (append-nil _);
+            committed = λ u h. prepared_in (history w p) u
+                (committed_was_prepared (history w p) u (k.sound p).legal h);
+          };
           round = record {
             asked = asks t tag was a refl items [] refl;
             answered = unanswered t tag was a items [] (FirstRound o next w.now.partitions) refl;
@@ -184,67 +217,97 @@ module _ (o : Opening) (some : 0 < o.parts) (w : World) (k : IsKept o w) (c : �
         }))
         (λ r i. none_some i) reads (λ b i. none_some i)
 
-    writes_kept : 0 < c → c < 65536 → x.clock.counter < y.clock.counter → (permit : PermitState) (stamp : ℕ) → stamp ≡ y.clock.counter * 65536 + c
+    writes_kept : 0 < c → c < 65536 → x.clock.counter < y.clock.counter → (permit : PermitState) (stamp : ℕ)
+        → stamp ≡ y.clock.counter * 65536 + c
         → IsKept o (changed w (AtClient c (with_past (write_begins (terms_of o) y tag permit stamp) e n)))
     writes_kept low high above permit stamp is =
         let t = with_past (write_begins (terms_of o) y tag permit stamp) e n in
         let next = changed w (AtClient c t) in
         let z = round_for (terms_of o) y tag permit stamp in
-        let r : Transaction = record { client = y.number; tag = tag + 1; stamp = stamp; permit = permit; writes = effect_of permit stamp } in
+        let r : Transaction = record {
+          client = y.number;
+          tag = tag + 1;
+          stamp = stamp;
+          permit = permit;
+          writes = effect_of permit stamp;
+        } in
         let mine : In r next.past.transactions = in_right w.past.transactions here in
         turn_kept o w k c t ny oy (tag_next tag was) up
         (λ m i. let q = in_map (prepare_to z) (places_in z) i in
         record {
           part = q.0;
-          body = body.Request (Prepare stamp (rows_placed_at q.0 o.parts (effect_of permit stamp)) (items_written (effect_of permit stamp)));
-          is = q.2 ∙ ap (λ (i : ℕ). let s : Message = record { from = ToClient i; to = Part q.0; tag = tag + 1; body = body.Request (Prepare stamp (rows_placed_at q.0 o.parts (effect_of permit stamp)) (items_written (effect_of permit stamp))) } in s) ny;
+          body = body.Request (Prepare stamp (rows_placed_at q.0 o.parts (effect_of permit stamp))
+              (items_written (effect_of permit stamp)));
+          is = q.2 ∙ ap (λ (i : ℕ). let s : Message =
+              record {
+                from = ToClient i;
+                to = Part q.0;
+                tag = tag + 1;
+                body = body.Request (Prepare stamp (rows_placed_at q.0 o.parts (effect_of permit stamp))
+                    (items_written (effect_of permit stamp)));
+              } in s) ny;
           fine = record { of = r; begun = mine; stamp = refl; writes = refl; items = refl };
         })
         (record { of = r; begun = mine; stamp = refl; parts = refl; client = ny; told = λ p l. inl l })
-        (λ s i. subst (λ (a : Transaction). IsNew c x.clock.counter t a) (some_same i) (record { at = y.clock.counter; is = is; above = above; low = low; high = high; drawn = le_refl _ }))
+        (λ s i. subst (λ (a : Transaction). IsNew c x.clock.counter t a) (some_same i)
+        (record { at = y.clock.counter; is = is; above = above; low = low; high = high; drawn = le_refl _ }))
         reads (λ b i. none_some i)
 
-    unless_kept : 0 < c → c < 65536 → x.clock.counter < y.clock.counter → (permit : PermitState) (stamp : ℕ) → stamp ≡ y.clock.counter * 65536 + c → (full : Bool)
+    unless_kept : 0 < c → c < 65536 → x.clock.counter < y.clock.counter → (permit : PermitState) (stamp : ℕ)
+        → stamp ≡ y.clock.counter * 65536 + c → (full : Bool)
         → IsKept o (changed w (AtClient c (with_past (writes_unless (terms_of o) y tag permit stamp full) e n)))
     unless_kept low high above permit stamp is true = ends_kept (answer.Refused refusal.AlbumFull) tt
     unless_kept low high above permit stamp is false = writes_kept low high above permit stamp is
 
   -- ---- a view, or none
 
-  module _ (y : Client) (ny : y.number ≡ c) (oy : y.clock.client ≡ c) (up : x.clock.counter ≤ y.clock.counter) (e : Option Ended) (n : Option (List Note))
-      (reads : (d : Ended) (rows : List Found) → e ≡ Some d → d.rows ≡ Some rows → IsRead o w began rows) (tag : ℕ) (was : tag_of x.doing ≡ tag) (low : 0 < c) (high : c < 65536) where
+  module _ (y : Client) (ny : y.number ≡ c) (oy : y.clock.client ≡ c) (up : x.clock.counter ≤ y.clock.counter)
+      (e : Option Ended) (n : Option (List Note))
+      (reads : (d : Ended) (rows : List Found) → e ≡ Some d → d.rows ≡ Some rows → IsRead o w began rows) (tag : ℕ)
+      (was : tag_of x.doing ≡ tag) (low : 0 < c) (high : c < 65536) where
     abbrev drawn : Client
     drawn = record y { clock = clock_after_next y.clock }
 
-    draws_kept : (permit : PermitState) (f : Result ℕ Refusal) → next_of y.clock ≡ f → IsKept o (changed w (AtClient c (with_past (draws_by (terms_of o) drawn tag permit f) e n)))
+    draws_kept : (permit : PermitState) (f : Result ℕ Refusal) → next_of y.clock ≡ f
+        → IsKept o (changed w (AtClient c (with_past (draws_by (terms_of o) drawn tag permit f) e n)))
     draws_kept permit (Ok stamp) d =
         let q = draw_is y.clock stamp d in
         let one : drawn.clock.counter ≡ y.clock.counter + 1 = q.counter in
         let above : x.clock.counter < drawn.clock.counter = omega (arith, up, one) in
         let is : stamp ≡ drawn.clock.counter * 65536 + c =
-        q.stamp_is ∙ ap (λ (z : ℕ). z * 65536 + y.clock.client) (sym q.counter) ∙ ap (λ (z : ℕ). drawn.clock.counter * 65536 + z) oy in
-        unless_kept drawn ny (q.client ∙ oy) (omega (arith, above)) e n reads tag was low high above permit stamp is (is_full_for permit stamp)
+        q.stamp_is ∙ ap (λ (z : ℕ). z * 65536 + y.clock.client) (sym q.counter)
+        ∙ ap (λ (z : ℕ). drawn.clock.counter * 65536 + z) oy in
+        unless_kept drawn ny (q.client ∙ oy) (omega (arith, above)) e n reads tag was low high above permit stamp is
+        (is_full_for permit stamp)
     draws_kept permit (Err r) d =
-        ends_kept drawn ny (next_client y.clock ∙ oy) (le_trans up (next_raise y.clock)) e n reads tag was (answer.Refused r) tt
+        ends_kept drawn ny (next_client y.clock ∙ oy) (le_trans up (next_raise y.clock)) e n reads tag was
+        (answer.Refused r) tt
 
-    grants_kept : (permit : PermitState) (f : Option Served) → IsKept o (changed w (AtClient c (with_past (grants (terms_of o) y tag permit f) e n)))
+    grants_kept : (permit : PermitState) (f : Option Served)
+        → IsKept o (changed w (AtClient c (with_past (grants (terms_of o) y tag permit f) e n)))
     grants_kept permit (Some served) = ends_kept y ny oy up e n reads tag was (answer.Served served) tt
     grants_kept permit None = draws_kept permit (next_of y.clock) refl
 
-    rules_kept : (permit : PermitState) (f : Finding) → IsKept o (changed w (AtClient c (with_past (rules_by (terms_of o) y tag permit f) e n)))
+    rules_kept : (permit : PermitState) (f : Finding)
+        → IsKept o (changed w (AtClient c (with_past (rules_by (terms_of o) y tag permit f) e n)))
     rules_kept permit finding.Granted = grants_kept permit (served_for permit permit.view.ask)
     rules_kept permit (finding.Denied reasons) = ends_kept y ny oy up e n reads tag was (answer.Denied reasons) tt
     rules_kept permit (finding.Missing object) = ends_kept y ny oy up e n reads tag was (answer.Missing object) tt
 
-  views_kept : 0 < c → c < 65536 → (e : Option Ended) → ((d : Ended) (rows : List Found) → e ≡ Some d → d.rows ≡ Some rows → IsRead o w began rows)
+  views_kept : 0 < c → c < 65536 → (e : Option Ended)
+      → ((d : Ended) (rows : List Found) → e ≡ Some d → d.rows ≡ Some rows → IsRead o w began rows)
       → (tag : ℕ) → tag_of x.doing ≡ tag → (who : Principal) (step : ViewStep)
       → IsKept o (changed w (AtClient c (record (views_by (terms_of o) x tag who step) { over = e })))
-  views_kept low high e reads tag was who (Again viewing items) = reads_kept x number own (le_refl _) e None reads tag was low high (record { viewing = viewing; principal = who }) items
-  views_kept low high e reads tag was who (Busy why) = ends_kept x number own (le_refl _) e None reads tag was (answer.Busy why) tt
+  views_kept low high e reads tag was who (Again viewing items) = reads_kept x number own (le_refl _) e None reads tag
+      was low high (record { viewing = viewing; principal = who }) items
+  views_kept low high e reads tag was who (Busy why) = ends_kept x number own (le_refl _) e None reads tag was
+      (answer.Busy why) tt
   views_kept low high e reads tag was who (Closed view) =
       let permit : PermitState = record { view = view; principal = who; policy = (terms_of o).policy } in
       let basis = basis_on (terms_of o).policy who view.rows in
-      rules_kept (record x { clock = clock_after_rows x.clock view.rows }) number (rows_client x.clock view.rows ∙ own) (rows_raise x.clock view.rows) e (Some (notes_of basis view.ask)) reads tag was low high permit (ruling_of basis view.ask)
+      rules_kept (record x { clock = clock_after_rows x.clock view.rows }) number
+      (rows_client x.clock view.rows ∙ own) (rows_raise x.clock view.rows) e (Some (notes_of basis view.ask))
+      reads tag was low high permit (ruling_of basis view.ask)
 
   -- ---- a message in a read
 
@@ -252,8 +315,11 @@ module _ (o : Opening) (some : 0 < o.parts) (w : World) (k : IsKept o w) (c : �
     abbrev reading : RoundState → Client
     reading r = record x { doing = doing.Reads asking r }
 
-    fetch_kept : (r : RoundState) → IsReading o w c began r → tag_of x.doing ≡ r.asker.tag → IsAsking o w c began r → are_there r.answers ≡ true
-        → IsKept o (changed w (AtClient c (sends (reading (second_round r (stamps_of (answers_there r.answers)))) (gets_of (next_asker r.asker) (stamps_of (answers_there r.answers)) r.items))))
+    fetch_kept : (r : RoundState) → IsReading o w c began r → tag_of x.doing ≡ r.asker.tag → IsAsking o w c began r
+        → are_there r.answers ≡ true
+        → IsKept o (changed w
+        (AtClient c (sends (reading (second_round r (stamps_of (answers_there r.answers))))
+        (gets_of (next_asker r.asker) (stamps_of (answers_there r.answers)) r.items))))
     fetch_kept r h tag a all =
         let fs = answers_there r.answers in
         let t = sends (reading (second_round r (stamps_of fs))) (gets_of (next_asker r.asker) (stamps_of fs) r.items) in
@@ -270,7 +336,8 @@ module _ (o : Opening) (some : 0 < o.parts) (w : World) (k : IsKept o w) (c : �
           begun = λ p. begun_grows o w next gr began p (h.begun p);
           round = record {
             asked = asks t r.asker.tag tag (next_asker r.asker) refl r.items (stamps_of fs) refl;
-            answered = unanswered t r.asker.tag tag (next_asker r.asker) r.items (stamps_of fs) (λ i s. In i r.items → SecondRound o next began (stamps_of fs) i s) refl;
+            answered = unanswered t r.asker.tag tag (next_asker r.asker) r.items (stamps_of fs)
+                (λ i s. In i r.items → SecondRound o next began (stamps_of fs) i s) refl;
             founds = λ f l. none_found r.items f l;
             stamps = λ u i. stamp_grows o w next gr u (stamp_from u i);
             fresh = λ i l. has_fresh_grows o w next gr began (stamps_of fs) i (fresh_in i l);
@@ -278,38 +345,50 @@ module _ (o : Opening) (some : 0 < o.parts) (w : World) (k : IsKept o w) (c : �
         })
         (λ s i. none_some i) (λ d rows i. none_some i) (λ b i. none_some i)
       where
-        found : (f : Found) → In f (answers_there r.answers) → FirstRound o w began f.item f.stamp × IsValue o w f.item f.stamp f.value
+        found : (f : Found) → In f (answers_there r.answers)
+            → FirstRound o w began f.item f.stamp × IsValue o w f.item f.stamp f.value
         found f l = a.founds f (there_in r.answers f l)
 
         stamp_from : (u : ℕ) → In u (stamps_of (answers_there r.answers)) → (u ≡ 0) ⊎ IsCollectedStamp o w u
         stamp_from u i =
             let q = in_stamps (answers_there r.answers) u i in
             subst (λ (z : ℕ). (z ≡ 0) ⊎ IsCollectedStamp o w z) (sym q.2)
-            (⊎_elim inl (λ (z : IsCommitted w q.0.stamp). inr (record { settled = (k.sound z.0).committed q.0.stamp z.1; committed = z })) (found q.0 q.1).0.committed)
+            (⊎_elim inl (λ (z : IsCommitted w q.0.stamp). inr
+            (record { settled = (k.sound z.0).committed q.0.stamp z.1; committed = z }))
+            (found q.0 q.1).0.committed)
 
         fresh_in : (i : ℕ) → In i r.items → HasFresh o w began (stamps_of (answers_there r.answers)) i
         fresh_in i l =
             let q = each_item r.items r.answers h.own all i l in
             let f = found q.0 q.1 in
             subst (λ (z : ℕ). HasFresh o w began (stamps_of (answers_there r.answers)) z) q.2
-            (record { stamp = q.0.stamp; in_them = stamp_in (answers_there r.answers) q.0 q.1; fresh = f.0.fresh; here = ⊎_elim (λ z. inl z.0) (λ v. inr (q.0.value, v.1)) f.1 })
+            (record {
+              stamp = q.0.stamp;
+              in_them = stamp_in (answers_there r.answers) q.0 q.1;
+              fresh = f.0.fresh;
+              here = ⊎_elim (λ z. inl z.0) (λ v. inr (q.0.value, v.1)) f.1;
+            })
 
-    is_read : (r : RoundState) (ts : List ℕ) → IsReading o w c began r → IsFetching o w c began r ts → IsRead o w began (answers_there r.answers)
+    is_read : (r : RoundState) (ts : List ℕ) → IsReading o w c began r → IsFetching o w c began r ts
+        → IsRead o w began (answers_there r.answers)
     is_read r ts h a = record {
       found = λ f l. let s = found f l in record {
         fresh = s.0.fresh;
         value = s.1;
-        committed = ⊎_elim inl (λ i. ⊎_elim inl (λ (n : IsCollectedStamp o w f.stamp). inr n.committed) (a.stamps f.stamp i)) s.0.from;
+        committed = ⊎_elim inl
+            (λ i. ⊎_elim inl (λ (n : IsCollectedStamp o w f.stamp). inr n.committed) (a.stamps f.stamp i)) s.0.from;
       };
       above = λ f g l n. ⊎_elim inl (λ i. (found f l).0.above g.stamp i) (found g n).0.from;
       begun = h.begun;
     }
       where
-        found : (f : Found) → In f (answers_there r.answers) → SecondRound o w began ts f.item f.stamp × IsValue o w f.item f.stamp f.value
+        found : (f : Found) → In f (answers_there r.answers)
+            → SecondRound o w began ts f.item f.stamp × IsValue o w f.item f.stamp f.value
         found f l = a.founds f (there_in r.answers f l)
 
     -- a round with one more answer
-    round_with : (r : RoundState) (m : Message) → In m w.now.messages → IsReading o w c began r → (f : Found) → IsFoundBy r m f → IsReading o w c began (with_answer r f)
+    round_with : (r : RoundState) (m : Message) → In m w.now.messages → IsReading o w c began r → (f : Found)
+        → IsFoundBy r m f → IsReading o w c began (with_answer r f)
     round_with r m sent h f b = record {
       low = h.low;
       high = h.high;
@@ -329,8 +408,12 @@ module _ (o : Opening) (some : 0 < o.parts) (w : World) (k : IsKept o w) (c : �
           answered = a.answered;
           founds = λ g l. ⊎_elim
               (λ i. a.founds g i)
-              (λ (i : g ≡ f). subst (λ (z : Found). FirstRound o w began z.item z.stamp × IsValue o w z.item z.stamp z.value) (sym i)
-              (subst (TellsWith (FirstRound o w began)) b.says (a.answered.at m sent (b.to ∙ ap ToClient h.client) b.tag_is), value))
+              (λ (i : g ≡ f). subst
+              (λ (z : Found). FirstRound o w began z.item z.stamp × IsValue o w z.item z.stamp z.value) (sym i) (
+                subst (TellsWith (FirstRound o w began)) b.says
+                    (a.answered.at m sent (b.to ∙ ap ToClient h.client) b.tag_is),
+                value,
+              ))
               (put_cases f r.items r.answers g l);
         }
         go (Some ts) a = record {
@@ -339,36 +422,53 @@ module _ (o : Opening) (some : 0 < o.parts) (w : World) (k : IsKept o w) (c : �
           founds = λ g l. ⊎_elim
               (λ i. a.founds g i)
               (λ (i : g ≡ f).
-              let d : In f.item r.items → SecondRound o w began ts f.item f.stamp = subst (TellsWith (λ j s. In j r.items → SecondRound o w began ts j s)) b.says (a.answered.at m sent (b.to ∙ ap ToClient h.client) b.tag_is) in
-              subst (λ (z : Found). SecondRound o w began ts z.item z.stamp × IsValue o w z.item z.stamp z.value) (sym i) (d b.asked, value))
+              let d : In f.item r.items
+              → SecondRound o w began ts f.item f.stamp = subst
+              (TellsWith (λ j s. In j r.items → SecondRound o w began ts j s)) b.says
+              (a.answered.at m sent (b.to ∙ ap ToClient h.client) b.tag_is) in
+              subst (λ (z : Found). SecondRound o w began ts z.item z.stamp × IsValue o w z.item z.stamp z.value)
+              (sym i) (d b.asked, value))
               (put_cases f r.items r.answers g l);
           stamps = a.stamps;
           fresh = a.fresh;
         }
 
     -- how a round ends
-    end_kept : (r : RoundState) → IsReading o w c began r → tag_of x.doing ≡ r.asker.tag → are_there r.answers ≡ true → (f : Option (List ℕ)) → IsRound o w c began r f
-        → IsKept o (changed w (AtClient c (read_turn (terms_of o) x r.asker.tag asking (end_by f r (answers_there r.answers)))))
+    end_kept : (r : RoundState) → IsReading o w c began r → tag_of x.doing ≡ r.asker.tag → are_there r.answers ≡ true
+        → (f : Option (List ℕ)) → IsRound o w c began r f
+        → IsKept o (changed w
+        (AtClient c (read_turn (terms_of o) x r.asker.tag asking (end_by f r (answers_there r.answers)))))
     end_kept r h tag all None a = fetch_kept r h tag a all
     end_kept r h tag all (Some ts) a =
         let rows = answers_there r.answers in
-        views_kept h.low h.high (Some (record { ask = asking.viewing.ask; principal = asking.principal; rows = Some rows }))
-        (λ d rs i q. subst (λ (z : List Found). IsRead o w began z) (some_same (ap (λ (z : Ended). z.rows) (some_same i) ∙ q)) (is_read r ts h a))
+        views_kept h.low h.high
+        (Some (record { ask = asking.viewing.ask; principal = asking.principal; rows = Some rows }))
+        (λ d rs i q. subst (λ (z : List Found). IsRead o w began z)
+        (some_same (ap (λ (z : Ended). z.rows) (some_same i) ∙ q)) (is_read r ts h a))
         r.asker.tag tag asking.principal (viewed asking.viewing rows)
 
-    outcome_kept : (r : RoundState) → IsReading o w c began r → tag_of x.doing ≡ r.asker.tag → (b : Bool) → are_there r.answers ≡ b
-        → IsKept o (changed w (AtClient c (read_turn (terms_of o) x r.asker.tag asking (option_map_or (end_of r) (if b then Some (answers_there r.answers) else None) (Same r)))))
+    outcome_kept : (r : RoundState) → IsReading o w c began r → tag_of x.doing ≡ r.asker.tag → (b : Bool)
+        → are_there r.answers ≡ b
+        → IsKept o (changed w
+        (AtClient c (read_turn (terms_of o) x r.asker.tag asking
+        (option_map_or (end_of r) (if b then Some (answers_there r.answers) else None) (Same r)))))
     outcome_kept r h tag true all = end_kept r h tag all r.stamps h.round
     outcome_kept r h tag false all = stays_kept (reading r) refl refl tag h
 
-    reading_kept : (r : RoundState) (m : Message) → In m w.now.messages → IsReading o w c began r → tag_of x.doing ≡ r.asker.tag → (f : Option Found) → new_answer r m ≡ f
-        → IsKept o (changed w (AtClient c (read_turn (terms_of o) x r.asker.tag asking (option_map_or (λ (a : Found). outcome (with_answer r a)) f (Same r)))))
+    reading_kept : (r : RoundState) (m : Message) → In m w.now.messages → IsReading o w c began r
+        → tag_of x.doing ≡ r.asker.tag → (f : Option Found) → new_answer r m ≡ f
+        → IsKept o (changed w
+        (AtClient c (read_turn (terms_of o) x r.asker.tag asking
+        (option_map_or (λ (a : Found). outcome (with_answer r a)) f (Same r)))))
     reading_kept r m sent h tag None e = stays_kept (reading r) refl refl tag h
-    reading_kept r m sent h tag (Some f) e = outcome_kept (with_answer r f) (round_with r m sent h f (found_is r m f e)) tag (are_there (with_answer r f).answers) refl
+    reading_kept r m sent h tag (Some f) e = outcome_kept (with_answer r f)
+        (round_with r m sent h f (found_is r m f e)) tag (are_there (with_answer r f).answers) refl
 
     -- an item is gone: nothing was read
-    message_read : (r : RoundState) (m : Message) → In m w.now.messages → IsReading o w c began r → tag_of x.doing ≡ r.asker.tag → (b : Bool)
-        → IsKept o (changed w (AtClient c (read_turn (terms_of o) x r.asker.tag asking (if b then Gone r.items else taken r m))))
+    message_read : (r : RoundState) (m : Message) → In m w.now.messages → IsReading o w c began r
+        → tag_of x.doing ≡ r.asker.tag → (b : Bool)
+        → IsKept o (changed w
+        (AtClient c (read_turn (terms_of o) x r.asker.tag asking (if b then Gone r.items else taken r m))))
     message_read r m sent h tag false = reading_kept r m sent h tag (new_answer r m) refl
     message_read r m sent h tag true =
         views_kept h.low h.high (Some (record { ask = asking.viewing.ask; principal = asking.principal; rows = None }))
@@ -378,7 +478,8 @@ module _ (o : Opening) (some : 0 < o.parts) (w : World) (k : IsKept o w) (c : �
   -- ---- a message in a write
 
   -- the round with the answer of the node
-  writing_with : (z : WritingState) (P : ℕ → ℕ → Type 0) (part : ℕ) (n : Node) → n ≡ Part part → P part z.stamp → IsWriting o w c z P → IsWriting o w c (answered_by z n) P
+  writing_with : (z : WritingState) (P : ℕ → ℕ → Type 0) (part : ℕ) (n : Node) → n ≡ Part part → P part z.stamp
+      → IsWriting o w c z P → IsWriting o w c (answered_by z n) P
   writing_with z P part n from d h = record {
     of = h.of;
     begun = h.begun;
@@ -396,7 +497,8 @@ module _ (o : Opening) (some : 0 < o.parts) (w : World) (k : IsKept o w) (c : �
   }
 
   -- all have answered
-  all_told : (z : WritingState) (P : ℕ → ℕ → Type 0) → z.awaited ≡ [] → IsWriting o w c z P → (p : ℕ) → In p (places_in z) → P p z.stamp
+  all_told : (z : WritingState) (P : ℕ → ℕ → Type 0) → z.awaited ≡ [] → IsWriting o w c z P → (p : ℕ)
+      → In p (places_in z) → P p z.stamp
   all_told z P e h p l = ⊎_elim (λ i. in_nil (subst (λ (a : List ℕ). In p a) e i)) (λ d. d) (h.told p l)
 
   settled_by_all : (z : WritingState) → z.awaited ≡ [] → IsWriting o w c z (HasPrepared w) → IsSettled o w z.stamp
@@ -405,9 +507,12 @@ module _ (o : Opening) (some : 0 < o.parts) (w : World) (k : IsKept o w) (c : �
     begun = h.begun;
     stamp = h.stamp;
     ready = λ i v q.
-        let d : IsPreparedIn (history w (place_of o.parts i)) z.stamp = all_told z (HasPrepared w) e h (place_of o.parts i) (subst (λ (a : List ℕ). In (place_of o.parts i) a) (sym h.parts) (place_in o.parts (items_written h.of.writes) i some (item_in h.of.writes i v q))) in
+        let d : IsPreparedIn (history w (place_of o.parts i)) z.stamp = all_told z (HasPrepared w) e h
+        (place_of o.parts i) (subst (λ (a : List ℕ). In (place_of o.parts i) a) (sym h.parts)
+        (place_in o.parts (items_written h.of.writes) i some (item_in h.of.writes i v q))) in
         subst (λ (a : ℕ). wrote (history w (place_of o.parts i)) a i ≡ Some v) h.stamp
-        (written_here o w k h.of h.begun i v q (subst (λ (a : ℕ). IsPreparedIn (history w (place_of o.parts i)) a) (sym h.stamp) d));
+        (written_here o w k h.of h.begun i v q
+        (subst (λ (a : ℕ). IsPreparedIn (history w (place_of o.parts i)) a) (sym h.stamp) d));
   }
 
   done_by_all : (z : WritingState) → z.awaited ≡ [] → IsWriting o w c z (HasCommitted w) → IsDone o w z.stamp
@@ -432,48 +537,81 @@ module _ (o : Opening) (some : 0 < o.parts) (w : World) (k : IsKept o w) (c : �
       record {
         part = q.0;
         body = body.Request (Commit z.stamp);
-        is = q.2 ∙ ap (λ (a : ℕ). let n : Message = record { from = ToClient a; to = Part q.0; tag = z.tag + 1; body = body.Request (Commit z.stamp) } in n) h.client;
+        is = q.2 ∙ ap (λ (a : ℕ). let n : Message =
+            record { from = ToClient a; to = Part q.0; tag = z.tag + 1; body = body.Request (Commit z.stamp) } in n)
+            h.client;
         fine = settled_grows o w next gr z.stamp s;
       })
-      (record { of = h.of; begun = gr.transactions h.of h.begun; stamp = h.stamp; parts = h.parts; client = h.client; told = λ p l. inl l })
+      (record {
+        of = h.of;
+        begun = gr.transactions h.of h.begun;
+        stamp = h.stamp;
+        parts = h.parts;
+        client = h.client;
+        told = λ p l. inl l;
+      })
       (λ r i. none_some i) (λ d rows i. none_some i) (λ b i. none_some i)
 
-  outcome_ends : (tag : ℕ) → tag_of x.doing ≡ tag → (a : Answer) → IsAnswer o w a → IsKept o (changed w (AtClient c (ask_ends x tag a)))
+  outcome_ends : (tag : ℕ) → tag_of x.doing ≡ tag → (a : Answer) → IsAnswer o w a
+      → IsKept o (changed w (AtClient c (ask_ends x tag a)))
   outcome_ends tag was a d = ends_kept x number own (le_refl _) None None (λ d rows i q. none_some i) tag was a d
 
   module _ (m : Message) (sent : In m w.now.messages) (z : WritingState) (tag : tag_of x.doing ≡ z.tag) where
     says_from : (b : Body) (part : ℕ) → m.from ≡ Part part → m.body ≡ b → IsFine o w (Part part) m.to b
-    says_from b part f e = subst (λ (a : Node). IsFine o w a m.to b) f (subst (λ (a : Body). IsFine o w m.from m.to a) e (k.fine m sent))
+    says_from b part f e = subst (λ (a : Node). IsFine o w a m.to b) f
+        (subst (λ (a : Body). IsFine o w m.from m.to a) e (k.fine m sent))
 
     abbrev preparing : WritingState → Client
     preparing h = record x { doing = doing.Prepares h }
 
-    commits_kept : (h : WritingState) → h.tag ≡ z.tag → IsWriting o w c h (HasPrepared w) → (awaited : List ℕ) → h.awaited ≡ awaited → IsKept o (changed w (AtClient c (prepare_turn x z.tag (prepares_left h awaited))))
+    commits_kept : (h : WritingState) → h.tag ≡ z.tag → IsWriting o w c h (HasPrepared w) → (awaited : List ℕ)
+        → h.awaited ≡ awaited → IsKept o (changed w (AtClient c (prepare_turn x z.tag (prepares_left h awaited))))
     commits_kept h q d [] e = commit_kept h (tag ∙ sym q) d (settled_by_all h e d)
     commits_kept h q d (p ∷ ps) e = stays_kept (preparing h) refl refl (tag ∙ sym q) d
 
-    prepared_kept : IsWriting o w c z (HasPrepared w) → (what : Told) → told_of z m ≡ what → IsKept o (changed w (AtClient c (prepare_turn x z.tag (prepares_by z m.from what))))
+    prepared_kept : IsWriting o w c z (HasPrepared w) → (what : Told) → told_of z m ≡ what
+        → IsKept o (changed w (AtClient c (prepare_turn x z.tag (prepares_by z m.from what))))
     prepared_kept h told.Prepared e =
         let d = told_to_is z m told.Prepared e tt in
-        commits_kept (answered_by z m.from) refl (writing_with z (HasPrepared w) d.part m.from d.from (says_from (body.Reply (reply.Prepared z.stamp)) d.part d.from d.says) h) (answered_by z m.from).awaited refl
+        commits_kept (answered_by z m.from) refl
+        (writing_with z (HasPrepared w) d.part m.from d.from
+        (says_from (body.Reply (reply.Prepared z.stamp)) d.part d.from d.says) h) (answered_by z m.from).awaited
+        refl
     prepared_kept h told.Discarded e =
         let d = told_to_is z m told.Discarded e tt in
-        outcome_ends z.tag tag (answer.Aborted z.stamp) (says_from (body.Reply (reply.Discarded z.stamp)) d.part d.from d.says)
+        outcome_ends z.tag tag (answer.Aborted z.stamp)
+        (says_from (body.Reply (reply.Discarded z.stamp)) d.part d.from d.says)
     prepared_kept h told.Full e =
         let d = told_to_is z m told.Full e tt in
-        outcome_ends z.tag tag (answer.Unsettled z.stamp refusal.Full)
-        (record { of = h.of; begun = h.begun; stamp = h.stamp; part = d.part; one_of = subst (λ (a : List ℕ). In d.part a) h.parts d.one_of; full = says_from (body.Reply (reply.Full z.stamp)) d.part d.from d.says }, refl)
+        outcome_ends z.tag tag (answer.Unsettled z.stamp refusal.Full) (
+          record {
+            of = h.of;
+            begun = h.begun;
+            stamp = h.stamp;
+            part = d.part;
+            one_of = subst
+                (λ (a : List ℕ). In d.part a) h.parts d.one_of;
+            full = says_from (body.Reply (reply.Full z.stamp)) d.part
+                d.from d.says;
+          },
+          refl,
+        )
     prepared_kept h told.Committed e = stays_kept (preparing z) refl refl tag h
     prepared_kept h told.Nothing e = stays_kept (preparing z) refl refl tag h
 
-    ended_kept : (h : WritingState) → h.tag ≡ z.tag → IsWriting o w c h (HasCommitted w) → (awaited : List ℕ) → h.awaited ≡ awaited → IsKept o (changed w (AtClient c (commit_turn x z.tag (commits_left h awaited))))
+    ended_kept : (h : WritingState) → h.tag ≡ z.tag → IsWriting o w c h (HasCommitted w) → (awaited : List ℕ)
+        → h.awaited ≡ awaited → IsKept o (changed w (AtClient c (commit_turn x z.tag (commits_left h awaited))))
     ended_kept h q d [] e = outcome_ends z.tag tag (answer.Committed h.stamp) (done_by_all h e d)
     ended_kept h q d (p ∷ ps) e = stays_kept (committing h) refl refl (tag ∙ sym q) d
 
-    committed_kept : IsWriting o w c z (HasCommitted w) → (what : Told) → told_of z m ≡ what → IsKept o (changed w (AtClient c (commit_turn x z.tag (commits_by z m.from what))))
+    committed_kept : IsWriting o w c z (HasCommitted w) → (what : Told) → told_of z m ≡ what
+        → IsKept o (changed w (AtClient c (commit_turn x z.tag (commits_by z m.from what))))
     committed_kept h told.Committed e =
         let d = told_to_is z m told.Committed e tt in
-        ended_kept (answered_by z m.from) refl (writing_with z (HasCommitted w) d.part m.from d.from (says_from (body.Reply (reply.Committed z.stamp)) d.part d.from d.says) h) (answered_by z m.from).awaited refl
+        ended_kept (answered_by z m.from) refl
+        (writing_with z (HasCommitted w) d.part m.from d.from
+        (says_from (body.Reply (reply.Committed z.stamp)) d.part d.from d.says) h) (answered_by z m.from).awaited
+        refl
     committed_kept h told.Prepared e = stays_kept (committing z) refl refl tag h
     committed_kept h told.Discarded e = stays_kept (committing z) refl refl tag h
     committed_kept h told.Full e = stays_kept (committing z) refl refl tag h
@@ -481,7 +619,8 @@ module _ (o : Opening) (some : 0 < o.parts) (w : World) (k : IsKept o w) (c : �
 
   -- ---- whatever it does
 
-  by_kept : (m : Message) → In m w.now.messages → (f : Doing) → x.doing ≡ f → IsDoing o w c began f → IsKept o (changed w (client_takes_by (terms_of o) c x m f))
+  by_kept : (m : Message) → In m w.now.messages → (f : Doing) → x.doing ≡ f → IsDoing o w c began f
+      → IsKept o (changed w (client_takes_by (terms_of o) c x m f))
   by_kept m sent (doing.Idle tag) e h = k
   by_kept m sent (doing.Reads asking r) e h = message_read asking r m sent h (ap tag_of e) (is_gone r m)
   by_kept m sent (doing.Prepares z) e h = prepared_kept m sent z (ap tag_of e) h (told_of z m) refl
@@ -494,5 +633,7 @@ module _ (o : Opening) (some : 0 < o.parts) (w : World) (k : IsKept o w) (c : �
       go true = k
       go false = by_kept m sent x.doing refl (k.clients c).doing
 
-  pub asked_kept : 0 < c → c < 65536 → (tag : ℕ) → tag_of x.doing ≡ tag → (asking : Asking) (items : List ℕ) → IsKept o (changed w (AtClient c (read_begins (terms_of o) x tag asking items)))
-  asked_kept low high tag was asking items = reads_kept x number own (le_refl _) None None (λ d rows i q. none_some i) tag was low high asking items
+  pub asked_kept : 0 < c → c < 65536 → (tag : ℕ) → tag_of x.doing ≡ tag → (asking : Asking) (items : List ℕ)
+      → IsKept o (changed w (AtClient c (read_begins (terms_of o) x tag asking items)))
+  asked_kept low high tag was asking items = reads_kept x number own (le_refl _) None None
+      (λ d rows i q. none_some i) tag was low high asking items

@@ -46,7 +46,9 @@ pub record IsOpening (o : Opening) : Type 0 where
 
 pub opening_is : (o : Opening) → is_opening o ≡ true → IsOpening o
 opening_is o is =
-    let counts = and_left (has_parts o.parts && has_limit o.limit && has_policy o.policy) (has_few_items o.items) (and_left _ (list_all is_right_row o.items) (and_left _ (has_single_rows o.items && has_own_lists o.items && has_fit_lists o.items) is)) in
+    let counts = and_left (has_parts o.parts && has_limit o.limit && has_policy o.policy) (has_few_items o.items)
+    (and_left _ (list_all is_right_row o.items)
+    (and_left _ (has_single_rows o.items && has_own_lists o.items && has_fit_lists o.items) is)) in
     let both = and_left (has_parts o.parts && has_limit o.limit) (has_policy o.policy) counts in
     let parts = and_left (has_parts o.parts) (has_limit o.limit) both in
     let limit = and_right (has_parts o.parts) (has_limit o.limit) both in
@@ -67,7 +69,8 @@ module _ (o : Opening) (is : IsOpening o) where
         number = refl;
         parts = refl;
         limit = refl;
-        values = λ i at. subst (λ (z : ℕ). value_in (rows_placed_at z o.parts o.items) i ≡ value_in o.items i) at (value_placed o.parts o.items i);
+        values = λ i at. subst (λ (z : ℕ). value_in (rows_placed_at z o.parts o.items) i ≡ value_in o.items i) at
+            (value_placed o.parts o.items i);
         is = record {
           some = is.some;
           few = is.few;
@@ -90,8 +93,15 @@ module _ (o : Opening) (is : IsOpening o) where
   pub start_kept : IsKept o (start o)
   start_kept = record {
     placed = placed_start;
-    sound = λ p. subst (IsSound o (start o) p) (sym (empty_start p)) (record { legal = refl; prepared = λ t h. none_some h.found; committed = λ t h. absurd (true≢false (sym h)); discarded = λ t h. absurd (true≢false (sym h)) });
-    noted = λ p h e n l. in_nil (subst (λ (z : PartitionState). In n z.votes) (range_got (opens o) 0 o.parts p h e).0 l);
+    sound = λ p. subst (IsSound o (start o) p) (sym (empty_start p))
+        (record {
+          legal = refl;
+          prepared = λ t h. none_some h.found;
+          committed = λ t h. absurd (true≢false (sym h));
+          discarded = λ t h. absurd (true≢false (sym h));
+        });
+    noted = λ p h e n l. in_nil
+        (subst (λ (z : PartitionState). In n z.votes) (range_got (opens o) 0 o.parts p h e).0 l);
     fine = λ m h. in_nil h;
     from = λ m h. in_nil h;
     to = λ m h. in_nil h;
@@ -106,7 +116,8 @@ module _ (o : Opening) (is : IsOpening o) where
 
 module _ (o : Opening) (some : 0 < o.parts) (w : World) (k : IsKept o w) where
   -- a refused event is none
-  unless_kept : (b : Bool) (r : Refusal) (f : Result Change Refusal) → (b ≡ false → IsKept o (changed_by w f)) → IsKept o (changed_by w (if b then Err r else f))
+  unless_kept : (b : Bool) (r : Refusal) (f : Result Change Refusal) → (b ≡ false → IsKept o (changed_by w f))
+      → IsKept o (changed_by w (if b then Err r else f))
   unless_kept true r f h = k
   unless_kept false r f h = h refl
 
@@ -115,25 +126,31 @@ module _ (o : Opening) (some : 0 < o.parts) (w : World) (k : IsKept o w) where
   not_false false e = absurd (true≢false e)
 
   module _ (c : ℕ) (low : 0 < c) (high : c < 65536) (who : Principal) (ask : Ask) where
-    refused_kept : (tag : ℕ) → tag_of (client_at w.now.clients c).doing ≡ tag → (f : Option Refusal) → IsKept o (changed_by w (asks_unless (terms_of o) c (client_at w.now.clients c) tag who ask f))
+    refused_kept : (tag : ℕ) → tag_of (client_at w.now.clients c).doing ≡ tag → (f : Option Refusal)
+        → IsKept o (changed_by w (asks_unless (terms_of o) c (client_at w.now.clients c) tag who ask f))
     refused_kept tag e (Some r) = k
-    refused_kept tag e None = asked_kept o some w k c low high tag e (record { viewing = record { ask = ask; reads = 0 }; principal = who }) (objects_of ask)
+    refused_kept tag e None = asked_kept o some w k c low high tag e
+        (record { viewing = record { ask = ask; reads = 0 }; principal = who }) (objects_of ask)
 
-    asks_kept : (f : Doing) → (client_at w.now.clients c).doing ≡ f → IsKept o (changed_by w (asks_by (terms_of o) c (client_at w.now.clients c) who ask f))
+    asks_kept : (f : Doing) → (client_at w.now.clients c).doing ≡ f
+        → IsKept o (changed_by w (asks_by (terms_of o) c (client_at w.now.clients c) who ask f))
     asks_kept (doing.Idle tag) e = refused_kept tag (ap tag_of e) (refusal_of ask who)
     asks_kept (doing.Reads v r) e = k
     asks_kept (doing.Prepares z) e = k
     asks_kept (doing.Commits z) e = k
 
-  takes_kept : (p : ℕ) (m : Message) → In m w.now.messages → m.to ≡ Part p → (f : Option PartitionState) → slice_get w.now.partitions p ≡ f → IsKept o (changed w (part_takes p m f))
+  takes_kept : (p : ℕ) (m : Message) → In m w.now.messages → m.to ≡ Part p → (f : Option PartitionState)
+      → slice_get w.now.partitions p ≡ f → IsKept o (changed w (part_takes p m f))
   takes_kept p m sent to None e = k
   takes_kept p m sent to (Some h) e = part_kept o some w k p m sent to h e
 
-  arrival_kept : (m : Message) → In m w.now.messages → (n : Node) → m.to ≡ n → IsKept o (changed w (arrives (terms_of o) w.now m n))
+  arrival_kept : (m : Message) → In m w.now.messages → (n : Node) → m.to ≡ n
+      → IsKept o (changed w (arrives (terms_of o) w.now m n))
   arrival_kept m sent (Part p) to = takes_kept p m sent to (slice_get w.now.partitions p) refl
   arrival_kept m sent (ToClient c) to = message_kept o some w k c m sent
 
-  delivery_kept : (f : Option Message) → ((m : Message) → f ≡ Some m → In m w.now.messages) → IsKept o (changed_by w (delivers (terms_of o) w.now f))
+  delivery_kept : (f : Option Message) → ((m : Message) → f ≡ Some m → In m w.now.messages)
+      → IsKept o (changed_by w (delivers (terms_of o) w.now f))
   delivery_kept None h = k
   delivery_kept (Some m) h = arrival_kept m (h m refl) m.to refl
 
@@ -141,11 +158,13 @@ module _ (o : Opening) (some : 0 < o.parts) (w : World) (k : IsKept o w) where
   message_in zero m e = none_some e
   message_in (suc n) m e = got_in w.now.messages n m e
 
-  sweeps_kept : (p t : ℕ) (f : Option PartitionState) → slice_get w.now.partitions p ≡ f → IsKept o (changed_by w (sweeps p t f))
+  sweeps_kept : (p t : ℕ) (f : Option PartitionState) → slice_get w.now.partitions p ≡ f
+      → IsKept o (changed_by w (sweeps p t f))
   sweeps_kept p t None e = k
   sweeps_kept p t (Some h) e = sweep_kept o w k p t h e
 
-  trims_kept : (p i : ℕ) (f : Option PartitionState) → slice_get w.now.partitions p ≡ f → IsKept o (changed_by w (trims p i f))
+  trims_kept : (p i : ℕ) (f : Option PartitionState) → slice_get w.now.partitions p ≡ f
+      → IsKept o (changed_by w (trims p i f))
   trims_kept p i None e = k
   trims_kept p i (Some h) e = trim_kept o w k p i h e
 
@@ -154,7 +173,9 @@ module _ (o : Opening) (some : 0 < o.parts) (w : World) (k : IsKept o w) where
       unless_kept (not (is_client c)) refusal.BadRequest _ (λ e.
       let known = not_false (is_client c) e in
       unless_kept (is_stopped w.now c) refusal.Stopped _ (λ f.
-      asks_kept c (ltb-true 0 c (and_left (nat_lt 0 c) (nat_lt c CLIENTS) known)) (ltb-true c CLIENTS (and_right (nat_lt 0 c) (nat_lt c CLIENTS) known)) who ask (client_at w.now.clients c).doing refl))
+      asks_kept c (ltb-true 0 c (and_left (nat_lt 0 c) (nat_lt c CLIENTS) known))
+      (ltb-true c CLIENTS (and_right (nat_lt 0 c) (nat_lt c CLIENTS) known)) who ask
+      (client_at w.now.clients c).doing refl))
   event_kept (event.Deliver n) = delivery_kept (message_of w.now.messages n) (λ m e. message_in n m e)
   event_kept (event.Sweep p t) = sweeps_kept p t (slice_get w.now.partitions p) refl
   event_kept (event.Stop c) = unless_kept (is_stopped w.now c) refusal.Stopped (Ok (Stops c)) (λ e. stop_kept o w k c)

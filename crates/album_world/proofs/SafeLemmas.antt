@@ -28,19 +28,23 @@ use Rattle.album_world.proofs.WroteLemmas.{written_by, apart}
 module _ (o : Opening) (w : World) (k : IsKept o w) where
   -- ---- snapshots
 
-  whole : (began : List PartitionState) (fs : List Found) → IsRead o w began fs → (f g : Found) → In f fs → In g fs → IsFracturedBy w f g → ⊥
+  whole : (began : List PartitionState) (fs : List Found) → IsRead o w began fs → (f g : Found) → In f fs → In g fs
+      → IsFracturedBy w f g → ⊥
   whole began fs d f g fi gi x =
       ⊎_elim
-      (λ (z : f.stamp ≡ 0). let a : f.stamp ≡ x.by.stamp = x.at in let b : g.stamp < x.by.stamp = x.older in omega arith)
+      (λ (z : f.stamp ≡ 0). let a : f.stamp ≡ x.by.stamp = x.at in let b : g.stamp < x.by.stamp = x.older in
+      omega arith)
       (λ (n : IsNoLater w g.item g.stamp f.stamp).
       let e : n.of ≡ x.by = k.unique n.of x.by n.begun (within w.past.transactions x.begun) (n.stamp ∙ x.at) in
-      let b : f.stamp ≤ g.stamp = n.bound (subst (λ (z : Transaction). is_some (value_in z.writes g.item) ≡ true) (sym e) x.wrote_other) in
+      let b : f.stamp ≤ g.stamp = n.bound
+      (subst (λ (z : Transaction). is_some (value_in z.writes g.item) ≡ true) (sym e) x.wrote_other) in
       let a : f.stamp ≡ x.by.stamp = x.at in
       let s : g.stamp < x.by.stamp = x.older in
       omega arith)
       (d.above g f gi fi)
 
-  written : (began : List PartitionState) (fs : List Found) → IsRead o w began fs → (f : Found) → In f fs → IsWritten o w f
+  written : (began : List PartitionState) (fs : List Found) → IsRead o w began fs → (f : Found) → In f fs
+      → IsWritten o w f
   written began fs d f h =
       let g = d.found f h in
       ⊎_elim inl
@@ -48,7 +52,13 @@ module _ (o : Opening) (w : World) (k : IsKept o w) where
       (λ (z : f.stamp ≡ 0). absurd (v.0 z))
       (λ (c : IsCommitted w f.stamp).
       let r = written_by o w k f.item f.stamp f.value v.1 in
-      inr (record { by = r.0; begun = contains r.1; committed = subst (IsCommitted w) (sym r.2) c; at = r.2; wrote = r.3 }))
+      inr (record {
+        by = r.0;
+        begun = contains r.1;
+        committed = subst (IsCommitted w) (sym r.2) c;
+        at = r.2;
+        wrote = r.3;
+      }))
       g.committed)
       g.value
 
@@ -60,7 +70,8 @@ module _ (o : Opening) (w : World) (k : IsKept o w) where
         written = λ row i. written f.begun.partitions rows d row (within rows i);
       }
 
-  fresh : (began : List PartitionState) (fs : List Found) → IsRead o w began fs → (f : Found) → In f fs → IsFreshRow (terms_of o) w began f
+  fresh : (began : List PartitionState) (fs : List Found) → IsRead o w began fs → (f : Found) → In f fs
+      → IsFreshRow (terms_of o) w began f
   fresh began fs d f h r begun_ wrote_it c =
       let begun = within w.past.transactions begun_ in
       let p = place_of o.parts f.item in
@@ -69,34 +80,42 @@ module _ (o : Opening) (w : World) (k : IsKept o w) where
       let now : IsPreparedIn (history w p) r.stamp = record {
         writes = q.writes;
         items = q.items;
-        found = subst (λ (z : List Mark). find (prepares r.stamp) z ≡ Some (Prepared r.stamp q.writes q.items)) (sym b.is) (find_more (prepares r.stamp) (history_in began p) b.more (Prepared r.stamp q.writes q.items) q.found);
+        found = subst (λ (z : List Mark). find (prepares r.stamp) z ≡ Some (Prepared r.stamp q.writes q.items))
+            (sym b.is) (find_more (prepares r.stamp) (history_in began p) b.more (Prepared r.stamp q.writes q.items)
+            q.found);
       } in
       let v = some_is (value_in r.writes f.item) wrote_it in
       let s = (k.sound p).prepared r.stamp now in
       let e : s.of ≡ r = k.unique s.of r s.begun begun s.stamp in
       let ws : value_in q.writes f.item ≡ Some v.0 =
-      ap (λ (z : List Row). value_in z f.item) s.writes ∙ value_placed o.parts s.of.writes f.item ∙ subst (λ (z : Transaction). value_in z.writes f.item ≡ Some v.0) (sym e) v.1 in
+      ap (λ (z : List Row). value_in z f.item) s.writes ∙ value_placed o.parts s.of.writes f.item
+      ∙ subst (λ (z : Transaction). value_in z.writes f.item ≡ Some v.0) (sym e) v.1 in
       (d.found f h).fresh.at r.stamp v.0 c (wrote_is (history_in began p) r.stamp f.item q.writes q.items q.found ∙ ws)
 
   pub views_fresh : ViewsAreFresh (terms_of o) w
-  views_fresh f rows h e row i = fresh f.begun.partitions rows (k.reads f rows (within w.past.reads h) e) row (within rows i)
+  views_fresh f rows h e row i = fresh f.begun.partitions rows (k.reads f rows (within w.past.reads h) e) row
+      (within rows i)
 
   -- ---- outcomes
 
-  pub everywhere : (t : ℕ) → IsDone o w t → (r : Transaction) → In r w.past.transactions → r.stamp ≡ t → IsCommittedEverywhere (terms_of o) w r
+  pub everywhere : (t : ℕ) → IsDone o w t → (r : Transaction) → In r w.past.transactions → r.stamp ≡ t
+      → IsCommittedEverywhere (terms_of o) w r
   everywhere t d r i e p h =
       let same : d.of ≡ r = k.unique d.of r d.begun i (d.stamp ∙ sym e) in
       subst (λ (z : ℕ). IsCommittedAt w z p) (sym e)
-      (d.at p (within _ (subst (λ (z : Transaction). Contains (places_of o.parts (items_written z.writes)) p) (sym same) h)))
+      (d.at p (within _ (subst (λ (z : Transaction). Contains (places_of o.parts (items_written z.writes)) p)
+      (sym same) h)))
 
-  pub against : 0 < o.parts → (t : ℕ) → IsAgainst o w t → (r : Transaction) → In r w.past.transactions → r.stamp ≡ t → IsPromisedSomewhere (terms_of o) w r
+  pub against : 0 < o.parts → (t : ℕ) → IsAgainst o w t → (r : Transaction) → In r w.past.transactions → r.stamp ≡ t
+      → IsPromisedSomewhere (terms_of o) w r
   against some t a r i e =
       let same : a.of ≡ r = k.unique a.of r a.begun i (a.stamp ∙ sym e) in
       subst (IsPromisedSomewhere (terms_of o) w) same
       (record {
         part = place_of o.parts a.item;
         of = contains (place_in o.parts (items_written a.of.writes) a.item some a.in_them);
-        promised = subst (λ (z : ℕ). IsPromisedAgainst (history w (place_of o.parts a.item)) z) (sym a.stamp) a.promised;
+        promised = subst (λ (z : ℕ). IsPromisedAgainst (history w (place_of o.parts a.item)) z)
+            (sym a.stamp) a.promised;
       })
 
   -- where the stamp is unknown at one of its partitions, nobody has committed it
@@ -106,8 +125,10 @@ module _ (o : Opening) (w : World) (k : IsKept o w) where
       let e : s.of ≡ u.of = k.unique s.of u.of s.begun u.begun (s.stamp ∙ sym u.stamp) in
       let i = item_at o.parts (items_written u.of.writes) u.part u.one_of in
       let v = in_item u.of.writes i.item i.in_them in
-      let h : wrote (history w (place_of o.parts i.item)) t i.item ≡ Some v.0 = s.ready i.item v.0 (subst (λ (z : Transaction). value_in z.writes i.item ≡ Some v.0) (sym e) v.1) in
-      wrote_none (history w u.part) t i.item v.0 (unknown_tells _ _ _ u.full.unknown).2 (subst (λ (z : ℕ). wrote (history w z) t i.item ≡ Some v.0) i.at h)
+      let h : wrote (history w (place_of o.parts i.item)) t i.item ≡ Some v.0 = s.ready i.item v.0
+      (subst (λ (z : Transaction). value_in z.writes i.item ≡ Some v.0) (sym e) v.1) in
+      wrote_none (history w u.part) t i.item v.0 (unknown_tells _ _ _ u.full.unknown).2
+      (subst (λ (z : ℕ). wrote (history w z) t i.item ≡ Some v.0) i.at h)
 
   -- no stamp of a transaction is 0
   above_zero : (r : Transaction) → In r w.past.transactions → r.stamp ≡ 0 → ⊥

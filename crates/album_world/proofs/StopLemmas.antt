@@ -29,22 +29,40 @@ module _ (o : Opening) (w : World) (k : IsKept o w) (c : ℕ) where
     clocks = λ d. le_refl _;
   }
 
-  round_lasts : (d : ℕ) (began : List PartitionState) (r : RoundState) (f : Option (List ℕ)) → IsRound o w d began r f → IsRound o next d began r f
+  round_lasts : (d : ℕ) (began : List PartitionState) (r : RoundState) (f : Option (List ℕ)) → IsRound o w d began r f
+      → IsRound o next d began r f
   round_lasts d began r None h = record {
     asked = record { at = h.asked.at };
-    answered = record { at = λ n l f e. tells_more (FirstRound o w began) (FirstRound o next began) (λ i s q. first_round_grows o w next grows began i s q) n.body (h.answered.at n l f e) };
-    founds = founds_grows o w next grows (FirstRound o w began) (FirstRound o next began) (λ i s q. first_round_grows o w next grows began i s q) r.answers h.founds;
+    answered = record {
+      at = λ n l f e. tells_more (FirstRound o w began) (FirstRound o next began)
+          (λ i s q. first_round_grows o w next grows began i s q) n.body (h.answered.at n l f e);
+    };
+    founds = founds_grows o w next grows (FirstRound o w began) (FirstRound o next began)
+        (λ i s q. first_round_grows o w next grows began i s q) r.answers h.founds;
   }
   round_lasts d began r (Some ts) h = record {
     asked = record { at = h.asked.at };
-    answered = record { at = λ n l f e. tells_more (λ i s. In i r.items → SecondRound o w began ts i s) (λ i s. In i r.items → SecondRound o next began ts i s) (λ i s q j. second_round_grows o w next grows began ts i s (q j)) n.body (h.answered.at n l f e) };
-    founds = founds_grows o w next grows (SecondRound o w began ts) (SecondRound o next began ts) (λ i s q. second_round_grows o w next grows began ts i s q) r.answers h.founds;
+    answered = record {
+      at = λ n l f e. tells_more (λ i s. In i r.items → SecondRound o w began ts i s)
+          (λ i s. In i r.items → SecondRound o next began ts i s)
+          (λ i s q j. second_round_grows o w next grows began ts i s (q j)) n.body (h.answered.at n l f e);
+    };
+    founds = founds_grows o w next grows (SecondRound o w began ts) (SecondRound o next began ts)
+        (λ i s q. second_round_grows o w next grows began ts i s q) r.answers h.founds;
     stamps = λ u l. stamp_grows o w next grows u (h.stamps u l);
     fresh = λ i l. has_fresh_grows o w next grows began ts i (h.fresh i l);
   }
 
-  writing_lasts : (d : ℕ) (x : WritingState) (P Q : ℕ → ℕ → Type 0) → ((q u : ℕ) → P q u → Q q u) → IsWriting o w d x P → IsWriting o next d x Q
-  writing_lasts d x P Q more h = record { of = h.of; begun = h.begun; stamp = h.stamp; parts = h.parts; client = h.client; told = λ q l. ⊎_elim inl (λ e. inr (more q x.stamp e)) (h.told q l) }
+  writing_lasts : (d : ℕ) (x : WritingState) (P Q : ℕ → ℕ → Type 0) → ((q u : ℕ) → P q u → Q q u)
+      → IsWriting o w d x P → IsWriting o next d x Q
+  writing_lasts d x P Q more h = record {
+    of = h.of;
+    begun = h.begun;
+    stamp = h.stamp;
+    parts = h.parts;
+    client = h.client;
+    told = λ q l. ⊎_elim inl (λ e. inr (more q x.stamp e)) (h.told q l);
+  }
 
   doing_lasts : (d : ℕ) (began : List PartitionState) (f : Doing) → IsDoing o w d began f → IsDoing o next d began f
   doing_lasts d began (doing.Idle tag) h = tt
@@ -57,8 +75,10 @@ module _ (o : Opening) (w : World) (k : IsKept o w) (c : ℕ) where
     begun = λ p. begun_grows o w next grows began p (h.begun p);
     round = round_lasts d began r r.stamps h.round;
   }
-  doing_lasts d began (doing.Prepares x) h = writing_lasts d x (HasPrepared w) (HasPrepared next) (λ q u e. prepared_grows o w next grows q u e) h
-  doing_lasts d began (doing.Commits x) h = writing_lasts d x (HasCommitted w) (HasCommitted next) (λ q u e. any_grows o w next grows (commits u) q e) h
+  doing_lasts d began (doing.Prepares x) h = writing_lasts d x (HasPrepared w) (HasPrepared next)
+      (λ q u e. prepared_grows o w next grows q u e) h
+  doing_lasts d began (doing.Commits x) h = writing_lasts d x (HasCommitted w) (HasCommitted next)
+      (λ q u e. any_grows o w next grows (commits u) q e) h
 
   pub stop_kept : IsKept o next
   stop_kept = record {
@@ -70,7 +90,13 @@ module _ (o : Opening) (w : World) (k : IsKept o w) (c : ℕ) where
     to = λ m l. tagged_grows o w next grows m.to m.tag (k.to m l);
     drawn = λ r l. drawn_grows o w next grows r (k.drawn r l);
     unique = k.unique;
-    clients = λ d. let q = k.clients d in record { number = q.number; clock = q.clock; doing = doing_lasts d (last_begun w.past.begun d).partitions (client_at w.now.clients d).doing q.doing };
+    clients = λ d. let q = k.clients d in
+        record {
+          number = q.number;
+          clock = q.clock;
+          doing = doing_lasts d (last_begun w.past.begun d).partitions
+              (client_at w.now.clients d).doing q.doing;
+        };
     reads = λ f rows l e. read_grows o w next grows f.begun.partitions rows (k.reads f rows l e);
     answers = λ t l. answer_grows o w next grows t.answer (k.answers t l);
   }

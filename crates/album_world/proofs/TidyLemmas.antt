@@ -77,7 +77,8 @@ module _ (terms : Terms) (now : Now) (c : ℕ) where
 
   grants_over : (y : Client) (tag : ℕ) (permit : PermitState) (f : Option Served) → IsOver (grants terms y tag permit f)
   grants_over y tag permit (Some served) a e = refl
-  grants_over y tag permit None a e = draws_over (record y { clock = clock_after_next y.clock }) tag permit (next_of y.clock) a e
+  grants_over y tag permit None a e = draws_over (record y { clock = clock_after_next y.clock }) tag permit
+      (next_of y.clock) a e
 
   rules_over : (y : Client) (tag : ℕ) (permit : PermitState) (f : Finding) → IsOver (rules_by terms y tag permit f)
   rules_over y tag permit finding.Granted a e = grants_over y tag permit (served_for permit permit.view.ask) a e
@@ -90,15 +91,18 @@ module _ (terms : Terms) (now : Now) (c : ℕ) where
   views_tidy tag who (Closed view) =
       let permit : PermitState = record { view = view; principal = who; policy = terms.policy } in
       record {
-        over = rules_over (record x { clock = clock_after_rows x.clock view.rows }) tag permit (ruling_of (basis_on terms.policy who view.rows) view.ask);
+        over = rules_over (record x { clock = clock_after_rows x.clock view.rows }) tag permit
+            (ruling_of (basis_on terms.policy who view.rows) view.ask);
         unread = λ e. none_some (sym e);
       }
 
   read_tidy : (asking : Asking) (tag : ℕ) (s : Step) → IsTidy x (read_turn terms x tag asking s)
   read_tidy asking tag (Same round) = record { over = λ a e. none_some e; unread = λ e. refl }
   read_tidy asking tag (Next round sent) = record { over = λ a e. none_some e; unread = λ e. refl }
-  read_tidy asking tag (Done rows) = let d = views_tidy tag asking.principal (viewed asking.viewing rows) in record { over = d.over; unread = d.unread }
-  read_tidy asking tag (Gone items) = let d = views_tidy tag asking.principal (again asking.viewing items) in record { over = d.over; unread = d.unread }
+  read_tidy asking tag (Done rows) = let d = views_tidy tag asking.principal (viewed asking.viewing rows) in
+      record { over = d.over; unread = d.unread }
+  read_tidy asking tag (Gone items) = let d = views_tidy tag asking.principal (again asking.viewing items) in
+      record { over = d.over; unread = d.unread }
 
   prepare_tidy : (tag : ℕ) (s : WriteStep) → IsTidy x (prepare_turn x tag s)
   prepare_tidy tag (Waits z) = record { over = λ a e. none_some e; unread = λ e. refl }
@@ -123,11 +127,13 @@ module _ (terms : Terms) (now : Now) (c : ℕ) where
       go true awake = tt
       go false awake = takes_by_tidy m awake x.doing
 
-  unless_tidy : (f : Bool) (r : Refusal) (g : Result Change Refusal) → (f ≡ false → AreTidyIn now g) → AreTidyIn now (if f then Err r else g)
+  unless_tidy : (f : Bool) (r : Refusal) (g : Result Change Refusal) → (f ≡ false → AreTidyIn now g)
+      → AreTidyIn now (if f then Err r else g)
   unless_tidy true r g h = tt
   unless_tidy false r g h = h refl
 
-  asks_tidy : (who : Principal) (ask : Ask) → is_stopped now c ≡ false → (f : Doing) → AreTidyIn now (asks_by terms c x who ask f)
+  asks_tidy : (who : Principal) (ask : Ask) → is_stopped now c ≡ false → (f : Doing)
+      → AreTidyIn now (asks_by terms c x who ask f)
   asks_tidy who ask awake (doing.Idle tag) = go (refusal_of ask who)
     where
       go : (f : Option Refusal) → AreTidyIn now (asks_unless terms c x tag who ask f)
@@ -147,7 +153,9 @@ arrival_tidy terms now m (ToClient c) = client_tidy terms now c m
 
 event_tidy : (terms : Terms) (now : Now) (e : Event) → AreTidyIn now (change_of terms now e)
 event_tidy terms now (event.Ask c who ask) =
-    unless_tidy terms now c (not (is_client c)) refusal.BadRequest _ (λ known. unless_tidy terms now c (is_stopped now c) refusal.Stopped _ (λ awake. asks_tidy terms now c who ask awake (client_at now.clients c).doing))
+    unless_tidy terms now c (not (is_client c)) refusal.BadRequest _
+    (λ known. unless_tidy terms now c (is_stopped now c) refusal.Stopped _
+    (λ awake. asks_tidy terms now c who ask awake (client_at now.clients c).doing))
 event_tidy terms now (event.Deliver n) = go (message_of now.messages n)
   where
     go : (f : Option Message) → AreTidyIn now (delivers terms now f)
@@ -155,7 +163,8 @@ event_tidy terms now (event.Deliver n) = go (message_of now.messages n)
     go (Some m) = arrival_tidy terms now m m.to
 event_tidy terms now (event.Sweep p t) = go (slice_get now.partitions p)
   where
-    by : (h : PartitionState) (f : Result (List Message) Refusal) → AreTidyIn now (f >>= λ messages. Ok (AtPart p h messages))
+    by : (h : PartitionState) (f : Result (List Message) Refusal)
+        → AreTidyIn now (f >>= λ messages. Ok (AtPart p h messages))
     by h (Ok sent) = tt
     by h (Err r) = tt
 
@@ -171,13 +180,16 @@ event_tidy terms now (event.Trim p i) = go (slice_get now.partitions p)
     go : (f : Option PartitionState) → AreTidyIn now (trims p i f)
     go None = tt
     go (Some h) = by (trimmed h i)
-event_tidy terms now (event.Stop c) = unless_tidy terms now c (is_stopped now c) refusal.Stopped (Ok (Stops c)) (λ awake. tt)
+event_tidy terms now (event.Stop c) = unless_tidy terms now c (is_stopped now c) refusal.Stopped (Ok (Stops c))
+    (λ awake. tt)
 
-pub turn_tidy : (terms : Terms) (now : Now) (e : Event) (c : ℕ) (t : Turn) → change_of terms now e ≡ Ok (AtClient c t) → IsTidy (client_at now.clients c) t
+pub turn_tidy : (terms : Terms) (now : Now) (e : Event) (c : ℕ) (t : Turn) → change_of terms now e ≡ Ok (AtClient c t)
+    → IsTidy (client_at now.clients c) t
 turn_tidy terms now e c t h = (subst (AreTidyIn now) h (event_tidy terms now e)).0
 
 -- no client that was stopped has a turn
-pub turn_awake : (terms : Terms) (now : Now) (e : Event) (c : ℕ) (t : Turn) → change_of terms now e ≡ Ok (AtClient c t) → is_stopped now c ≡ false
+pub turn_awake : (terms : Terms) (now : Now) (e : Event) (c : ℕ) (t : Turn)
+    → change_of terms now e ≡ Ok (AtClient c t) → is_stopped now c ≡ false
 turn_awake terms now e c t h = (subst (AreTidyIn now) h (event_tidy terms now e)).1
 
 -- ---- stops
@@ -186,7 +198,9 @@ with_more : (test : ℕ → Bool) (n : ℕ) (ns : List ℕ) → list_any test ns
 with_more test n [] h = absurd (cc)
 with_more test n (m ∷ ns) h = go (nat_lt n m) (or_cases (test m) (list_any test ns) h) (with_more test n ns)
   where
-    go : (b : Bool) → (test m ≡ true) ⊎ (list_any test ns ≡ true) → (list_any test ns ≡ true → list_any test (with_number n ns) ≡ true) → list_any test (if b then n ∷ m ∷ ns else m ∷ with_number n ns) ≡ true
+    go : (b : Bool) → (test m ≡ true) ⊎ (list_any test ns ≡ true)
+        → (list_any test ns ≡ true → list_any test (with_number n ns) ≡ true)
+        → list_any test (if b then n ∷ m ∷ ns else m ∷ with_number n ns) ≡ true
     go true (inl e) rest = or_true (test n) _ (true_or (test m) _ e)
     go true (inr e) rest = or_true (test n) _ (or_true (test m) _ e)
     go false (inl e) rest = true_or (test m) _ e
@@ -196,7 +210,8 @@ with_this : (n : ℕ) (ns : List ℕ) → list_any (λ m. m == n) (with_number n
 with_this n [] = true_or (n == n) false (self_eqb n)
 with_this n (m ∷ ns) = go (nat_lt n m) (with_this n ns)
   where
-    go : (b : Bool) → list_any (λ m. m == n) (with_number n ns) ≡ true → list_any (λ m. m == n) (if b then n ∷ m ∷ ns else m ∷ with_number n ns) ≡ true
+    go : (b : Bool) → list_any (λ m. m == n) (with_number n ns) ≡ true
+        → list_any (λ m. m == n) (if b then n ∷ m ∷ ns else m ∷ with_number n ns) ≡ true
     go true rest = true_or (n == n) _ (self_eqb n)
     go false rest = or_true (m == n) _ rest
 
@@ -206,7 +221,8 @@ stays_stopped w (AtPart p q sent) c h = h
 stays_stopped w (AtClient d t) c h = h
 stays_stopped w (Stops d) c h = with_more (λ m. m == c) d w.now.stopped h
 
-pub stopped_for_good : (terms : Terms) (w : World) (es : List Event) (c : ℕ) → is_stopped w.now c ≡ true → is_stopped (run terms w es).now c ≡ true
+pub stopped_for_good : (terms : Terms) (w : World) (es : List Event) (c : ℕ) → is_stopped w.now c ≡ true
+    → is_stopped (run terms w es).now c ≡ true
 stopped_for_good terms w [] c h = h
 stopped_for_good terms w (e ∷ es) c h = stopped_for_good terms (happens terms w e) es c (go (change_of terms w.now e))
   where
@@ -217,6 +233,7 @@ stopped_for_good terms w (e ∷ es) c h = stopped_for_good terms (happens terms 
 pub stop_stops : (terms : Terms) (w : World) (c : ℕ) → is_stopped (happens terms w (event.Stop c)).now c ≡ true
 stop_stops terms w c = go (is_stopped w.now c) refl
   where
-    go : (f : Bool) → is_stopped w.now c ≡ f → is_stopped (changed_by w (if f then Err refusal.Stopped else Ok (Stops c))).now c ≡ true
+    go : (f : Bool) → is_stopped w.now c ≡ f
+        → is_stopped (changed_by w (if f then Err refusal.Stopped else Ok (Stops c))).now c ≡ true
     go true e = e
     go false e = with_this c w.now.stopped

@@ -25,7 +25,8 @@ use Rattle.album_world.proofs.ClientLemmas.{client_same, client_other}
 use Rattle.album_world.proofs.Invariant.{IsKept, IsFine, IsTagged, tag_of, tag_at, FirstRound, SecondRound, IsRound, IsWriting, HasPrepared, HasCommitted, IsDoing, IsClient, IsAnswer, IsRead}
 use Rattle.album_world.proofs.GrowthLemmas.{Grows, any_grows, tells_more, prepared_grows, fine_grows, tagged_grows, begun_grows, first_round_grows, second_round_grows, founds_grows, stamp_grows, has_fresh_grows, read_grows, answer_grows, drawn_grows, sound_grows}
 
-pub begun_other : (b : Bool) (c d n : ℕ) (ps : List PartitionState) (bs : List Begun) → eqb c d ≡ false → last_begun (cond b (record { client = c; nth = n; partitions = ps } ∷ bs) bs) d ≡ last_begun bs d
+pub begun_other : (b : Bool) (c d n : ℕ) (ps : List PartitionState) (bs : List Begun) → eqb c d ≡ false
+    → last_begun (cond b (record { client = c; nth = n; partitions = ps } ∷ bs) bs) d ≡ last_begun bs d
 begun_other true c d n ps bs e = rw e refl
 begun_other false c d n ps bs e = refl
 
@@ -50,7 +51,8 @@ pub record IsNew (c counter : ℕ) (t : Turn) (r : Transaction) : Type 0 where
   pub high : c < 65536
   pub drawn : at ≤ t.client.clock.counter
 
-module _ (o : Opening) (w : World) (k : IsKept o w) (c : ℕ) (t : Turn) (number : t.client.number ≡ c) (own : t.client.clock.client ≡ c) where
+module _ (o : Opening) (w : World) (k : IsKept o w) (c : ℕ) (t : Turn) (number : t.client.number ≡ c)
+    (own : t.client.clock.client ≡ c) where
   abbrev pub next : World
   next = changed w (AtClient c t)
 
@@ -60,48 +62,81 @@ module _ (o : Opening) (w : World) (k : IsKept o w) (c : ℕ) (t : Turn) (number
   pub same_now : client_at next.now.clients c ≡ t.client
   same_now = client_same w.now.clients t.client c number
 
-  pub client_cases : (d : ℕ) → ((c ≡ d) × (client_at next.now.clients d ≡ t.client)) ⊎ ((eqb c d ≡ false) × (client_at next.now.clients d ≡ client_at w.now.clients d))
+  pub client_cases : (d : ℕ) → ((c ≡ d) × (client_at next.now.clients d ≡ t.client)) ⊎
+      ((eqb c d ≡ false) × (client_at next.now.clients d ≡ client_at w.now.clients d))
   client_cases d = ⊎_elim
       (λ (e : c ≡ d). inl (e, subst (λ (z : ℕ). client_at next.now.clients z ≡ t.client) e same_now))
-      (λ (ne : eqb c d ≡ false). inr (ne, client_other w.now.clients t.client d (subst (λ (z : ℕ). eqb z d ≡ false) (sym number) ne)))
+      (λ (ne : eqb c d ≡ false). inr
+      (ne, client_other w.now.clients t.client d (subst (λ (z : ℕ). eqb z d ≡ false) (sym number) ne)))
       (same_or_not c d)
 
-  pub turn_grows : tag_of old.doing ≤ tag_of t.client.doing → old.clock.counter ≤ t.client.clock.counter → Grows o w next
+  pub turn_grows : tag_of old.doing ≤ tag_of t.client.doing → old.clock.counter ≤ t.client.clock.counter
+      → Grows o w next
   turn_grows tag clock = record {
     more = λ p. ([], sym (append-nil _));
     transactions = λ r h. in_left (option_to_list t.writes) h;
     full = λ p u h. record { unknown = h.unknown; full = h.full };
     tags = λ d. ⊎_elim
         (λ (e : (c ≡ d) × (client_at next.now.clients d ≡ t.client)).
-        subst (λ (z : Client). tag_at w d ≤ tag_of z.doing) (sym e.1) (subst (λ (z : ℕ). tag_at w z ≤ tag_of t.client.doing) e.0 tag))
+        subst (λ (z : Client). tag_at w d ≤ tag_of z.doing) (sym e.1)
+        (subst (λ (z : ℕ). tag_at w z ≤ tag_of t.client.doing) e.0 tag))
         (λ (e : (eqb c d ≡ false) × (client_at next.now.clients d ≡ client_at w.now.clients d)).
         subst (λ (z : Client). tag_at w d ≤ tag_of z.doing) (sym e.1) (le_refl _))
         (client_cases d);
     clocks = λ d. ⊎_elim
         (λ (e : (c ≡ d) × (client_at next.now.clients d ≡ t.client)).
-        subst (λ (z : Client). (client_at w.now.clients d).clock.counter ≤ z.clock.counter) (sym e.1) (subst (λ (z : ℕ). (client_at w.now.clients z).clock.counter ≤ t.client.clock.counter) e.0 clock))
+        subst (λ (z : Client). (client_at w.now.clients d).clock.counter ≤ z.clock.counter) (sym e.1)
+        (subst (λ (z : ℕ). (client_at w.now.clients z).clock.counter ≤ t.client.clock.counter) e.0 clock))
         (λ (e : (eqb c d ≡ false) × (client_at next.now.clients d ≡ client_at w.now.clients d)).
         subst (λ (z : Client). (client_at w.now.clients d).clock.counter ≤ z.clock.counter) (sym e.1) (le_refl _))
         (client_cases d);
   }
 
-  module _ (gr : Grows o w next) (d : ℕ) (began : List PartitionState) (nf : (m : Message) → In m t.sent → m.from ≡ ToClient d → ⊥) (nt : (m : Message) → In m t.sent → m.to ≡ ToClient d → ⊥) where
+  module _ (gr : Grows o w next) (d : ℕ) (began : List PartitionState) (nf : (m : Message) → In m t.sent
+      → m.from ≡ ToClient d → ⊥) (nt : (m : Message) → In m t.sent → m.to ≡ ToClient d → ⊥) where
     round_lasts : (r : RoundState) (f : Option (List ℕ)) → IsRound o w d began r f → IsRound o next d began r f
     round_lasts r None h = record {
-      asked = record { at = λ n l f e. ⊎_elim (λ i. h.asked.at n i f e) (λ i. absurd (nf n i f)) (in_cases w.now.messages t.sent l) };
-      answered = record { at = λ n l f e. ⊎_elim (λ i. tells_more (FirstRound o w began) (FirstRound o next began) (λ i s q. first_round_grows o w next gr began i s q) n.body (h.answered.at n i f e)) (λ i. absurd (nt n i f)) (in_cases w.now.messages t.sent l) };
-      founds = founds_grows o w next gr (FirstRound o w began) (FirstRound o next began) (λ i s q. first_round_grows o w next gr began i s q) r.answers h.founds;
+      asked = record {
+        at = λ n l f e. ⊎_elim (λ i. h.asked.at n i f e) (λ i. absurd (nf n i f))
+            (in_cases w.now.messages t.sent l);
+      };
+      answered = record {
+        at = λ n l f e. ⊎_elim
+            (λ i. tells_more (FirstRound o w began) (FirstRound o next began)
+            (λ i s q. first_round_grows o w next gr began i s q) n.body (h.answered.at n i f e))
+            (λ i. absurd (nt n i f)) (in_cases w.now.messages t.sent l);
+      };
+      founds = founds_grows o w next gr (FirstRound o w began) (FirstRound o next began)
+          (λ i s q. first_round_grows o w next gr began i s q) r.answers h.founds;
     }
     round_lasts r (Some ts) h = record {
-      asked = record { at = λ n l f e. ⊎_elim (λ i. h.asked.at n i f e) (λ i. absurd (nf n i f)) (in_cases w.now.messages t.sent l) };
-      answered = record { at = λ n l f e. ⊎_elim (λ i. tells_more (λ i s. In i r.items → SecondRound o w began ts i s) (λ i s. In i r.items → SecondRound o next began ts i s) (λ i s q j. second_round_grows o w next gr began ts i s (q j)) n.body (h.answered.at n i f e)) (λ i. absurd (nt n i f)) (in_cases w.now.messages t.sent l) };
-      founds = founds_grows o w next gr (SecondRound o w began ts) (SecondRound o next began ts) (λ i s q. second_round_grows o w next gr began ts i s q) r.answers h.founds;
+      asked = record {
+        at = λ n l f e. ⊎_elim (λ i. h.asked.at n i f e) (λ i. absurd (nf n i f))
+            (in_cases w.now.messages t.sent l);
+      };
+      answered = record {
+        at = λ n l f e. ⊎_elim
+            (λ i. tells_more (λ i s. In i r.items → SecondRound o w began ts i s)
+            (λ i s. In i r.items → SecondRound o next began ts i s)
+            (λ i s q j. second_round_grows o w next gr began ts i s (q j)) n.body (h.answered.at n i f e))
+            (λ i. absurd (nt n i f)) (in_cases w.now.messages t.sent l);
+      };
+      founds = founds_grows o w next gr (SecondRound o w began ts) (SecondRound o next began ts)
+          (λ i s q. second_round_grows o w next gr began ts i s q) r.answers h.founds;
       stamps = λ u l. stamp_grows o w next gr u (h.stamps u l);
       fresh = λ i l. has_fresh_grows o w next gr began ts i (h.fresh i l);
     }
 
-    writing_lasts : (x : WritingState) (P Q : ℕ → ℕ → Type 0) → ((q u : ℕ) → P q u → Q q u) → IsWriting o w d x P → IsWriting o next d x Q
-    writing_lasts x P Q more h = record { of = h.of; begun = gr.transactions h.of h.begun; stamp = h.stamp; parts = h.parts; client = h.client; told = λ q l. ⊎_elim inl (λ e. inr (more q x.stamp e)) (h.told q l) }
+    writing_lasts : (x : WritingState) (P Q : ℕ → ℕ → Type 0) → ((q u : ℕ) → P q u → Q q u) → IsWriting o w d x P
+        → IsWriting o next d x Q
+    writing_lasts x P Q more h = record {
+      of = h.of;
+      begun = gr.transactions h.of h.begun;
+      stamp = h.stamp;
+      parts = h.parts;
+      client = h.client;
+      told = λ q l. ⊎_elim inl (λ e. inr (more q x.stamp e)) (h.told q l);
+    }
 
     -- what a client does lasts where it sends and is sent nothing
     pub doing_lasts : (f : Doing) → IsDoing o w d began f → IsDoing o next d began f
@@ -115,8 +150,10 @@ module _ (o : Opening) (w : World) (k : IsKept o w) (c : ℕ) (t : Turn) (number
       begun = λ p. begun_grows o w next gr began p (h.begun p);
       round = round_lasts r r.stamps h.round;
     }
-    doing_lasts (doing.Prepares x) h = writing_lasts x (HasPrepared w) (HasPrepared next) (λ q u e. prepared_grows o w next gr q u e) h
-    doing_lasts (doing.Commits x) h = writing_lasts x (HasCommitted w) (HasCommitted next) (λ q u e. any_grows o w next gr (commits u) q e) h
+    doing_lasts (doing.Prepares x) h = writing_lasts x (HasPrepared w) (HasPrepared next)
+        (λ q u e. prepared_grows o w next gr q u e) h
+    doing_lasts (doing.Commits x) h = writing_lasts x (HasCommitted w) (HasCommitted next)
+        (λ q u e. any_grows o w next gr (commits u) q e) h
 
   pub not_same : (r s : Transaction) → In r w.past.transactions → IsNew c old.clock.counter t s → r.stamp ≡ s.stamp → ⊥
   not_same r s h n e =
@@ -126,14 +163,16 @@ module _ (o : Opening) (w : World) (k : IsKept o w) (c : ℕ) (t : Turn) (number
       let lo : d.client < 65536 = d.high in
       let hi : c < 65536 = n.high in
       let same : d.client ≡ c = omega arith in
-      let b : d.counter ≤ old.clock.counter = subst (λ (z : ℕ). d.counter ≤ (client_at w.now.clients z).clock.counter) same d.old in
+      let b : d.counter ≤ old.clock.counter = subst (λ (z : ℕ). d.counter ≤ (client_at w.now.clients z).clock.counter)
+      same d.old in
       omega arith
 
   pub turn_kept : tag_of old.doing ≤ tag_of t.client.doing → old.clock.counter ≤ t.client.clock.counter
       → ((m : Message) → In m t.sent → IsSent o next c (tag_of t.client.doing) m)
       → IsDoing o next c (last_begun next.past.begun c).partitions t.client.doing
       → ((r : Transaction) → t.writes ≡ Some r → IsNew c old.clock.counter t r)
-      → ((e : Ended) (rows : List Found) → t.over ≡ Some e → e.rows ≡ Some rows → IsRead o w (last_begun w.past.begun c).partitions rows)
+      → ((e : Ended) (rows : List Found) → t.over ≡ Some e → e.rows ≡ Some rows
+      → IsRead o w (last_begun w.past.begun c).partitions rows)
       → ((a : Answer) → t.answer ≡ Some a → IsAnswer o w a)
       → IsKept o next
   turn_kept tag clock sent does drawn reads answers =
@@ -148,7 +187,8 @@ module _ (o : Opening) (w : World) (k : IsKept o w) (c : ℕ) (t : Turn) (number
             (in_cases w.now.messages t.sent h);
         from = λ m h. ⊎_elim
             (λ l. tagged_grows o w next gr m.from m.tag (k.from m l))
-            (λ l. let s = sent m l in subst (λ (z : Message). IsTagged next z.from z.tag) (sym s.is) (subst (λ (z : Client). tag_of t.client.doing ≤ tag_of z.doing) (sym same_now) (le_refl _)))
+            (λ l. let s = sent m l in subst (λ (z : Message). IsTagged next z.from z.tag) (sym s.is)
+            (subst (λ (z : Client). tag_of t.client.doing ≤ tag_of z.doing) (sym same_now) (le_refl _)))
             (in_cases w.now.messages t.sent h);
         to = λ m h. ⊎_elim
             (λ l. tagged_grows o w next gr m.to m.tag (k.to m l))
@@ -178,12 +218,14 @@ module _ (o : Opening) (w : World) (k : IsKept o w) (c : ℕ) (t : Turn) (number
         clients = λ d. ⊎_elim
             (λ (e : (c ≡ d) × (client_at next.now.clients d ≡ t.client)).
             subst (λ (z : Client). IsClient o next d z (last_begun next.past.begun d).partitions) (sym e.1)
-            (subst (λ (z : ℕ). IsClient o next z t.client (last_begun next.past.begun z).partitions) e.0 (record { number = number; clock = own; doing = does })))
+            (subst (λ (z : ℕ). IsClient o next z t.client (last_begun next.past.begun z).partitions) e.0
+            (record { number = number; clock = own; doing = does })))
             (λ (e : (eqb c d ≡ false) × (client_at next.now.clients d ≡ client_at w.now.clients d)).
             let x = client_at w.now.clients d in
             let q = k.clients d in
             subst (λ (z : Client). IsClient o next d z (last_begun next.past.begun d).partitions) (sym e.1)
-            (subst (λ (z : Begun). IsClient o next d x z.partitions) (sym (begun_other t.reads c d (nth_after w.past c t.over) w.now.partitions w.past.begun e.0))
+            (subst (λ (z : Begun). IsClient o next d x z.partitions)
+            (sym (begun_other t.reads c d (nth_after w.past c t.over) w.now.partitions w.past.begun e.0))
             (record {
               number = q.number;
               clock = q.clock;
@@ -197,7 +239,8 @@ module _ (o : Opening) (w : World) (k : IsKept o w) (c : ℕ) (t : Turn) (number
             (λ l.
             let q = in_mapped (read_over (last_begun w.past.begun c)) t.over l in
             subst (λ (z : Read). IsRead o next z.begun.partitions rows) (sym q.2)
-            (read_grows o w next gr (last_begun w.past.begun c).partitions rows (reads q.0 rows q.1 (ap (λ (z : Read). z.rows) (sym q.2) ∙ e))))
+            (read_grows o w next gr (last_begun w.past.begun c).partitions rows
+            (reads q.0 rows q.1 (ap (λ (z : Read). z.rows) (sym q.2) ∙ e))))
             (λ l. read_grows o w next gr f.begun.partitions rows (k.reads f rows l e))
             (in_cases (option_to_list (option_map (read_over (last_begun w.past.begun c)) t.over)) w.past.reads h);
         answers = λ a h. ⊎_elim

@@ -62,7 +62,11 @@ opening limit =
       limit = limit;
       policy = 1;
       items = (picture 0, value.Picture (record { title = 83 ∷ []; content = []; head = head_with 0; home = 0 }))
-          ∷ (album 0, value.Album (record { title = 84 ∷ []; head = head_with 1; home = None; children = picture 0 ∷ [] }))
+          ∷ (
+            album 0,
+            value.Album
+                (record { title = 84 ∷ []; head = head_with 1; home = None; children = picture 0 ∷ [] }),
+          )
           ∷ (list 0, value.List open_list)
           ∷ (list 1, value.List open_list)
           ∷ [];
@@ -96,7 +100,8 @@ stamps_read events =
 -- the Commit to the album's partition is lost; bo reads the picture and the album, and both have the write
 half_commit :
     stamps_read (
-    add_picture ∷ delivers 1 20 ++ event.Deliver 22 ∷ event.Ask 2 bo (ask.Move (picture 65537) (album 0)) ∷ delivers 24 8
+    add_picture ∷ delivers 1 20 ++ event.Deliver 22 ∷ event.Ask 2 bo (ask.Move (picture 65537) (album 0)) ∷ delivers
+    24 8
     )
     ≡ Some (65537 ∷ 65537 ∷ []) ∷ Some (0 ∷ 0 ∷ 0 ∷ []) ∷ Some (0 ∷ []) ∷ []
 unfolding is_match is_given is_asked mentions first_mention verdict is_noted audited flaw_of first_names names_of seen is_closed groups_found

@@ -55,7 +55,8 @@ IsNotedFor world told (answer.Aborted stamp) = HasNotes world told
 IsNotedFor world told (answer.Unsettled stamp why) = HasNotes world told
 IsNotedFor world told (answer.Refused why) = HasNotes world told
 
--- Each answer that was ever told is ruled so, and of its view was noted what there is to be noted (it may be nothing). All
+-- Each answer that was ever told is ruled so, and of its view was noted what there is to be noted (it may be
+-- nothing). All
 -- that was ever noted is noted of such a view.
 pub record RulingsHold (terms : Terms) (world : World) : Type 0 where
   pub answers : (told : Told) → Contains world.past.told told → IsRuledBy terms world told told.answer
