@@ -27,7 +27,7 @@ use Rattle.album_terminate.specs.declared.deciding.StampState.TheVariants as sta
 use Rattle.album_partition.specs.declared.marks.Mark.{Mark}
 use Rattle.album_partition.specs.declared.marks.Mark.TheVariants.{Prepared, Committed, Discarded, Trimmed}
 use Rattle.album_partition.specs.Votes.{NotedVote, new_vote, heard, has_vote}
-use Rattle.album_partition.specs.Answers.{Effect, nothing, says, marks, marks_and_says, prepare_by, commit_by, check_by, get_by, to_get, mark_by, to_part, to_prepared, to_vote, to_status, to_request, to_reply, to_body, effect_of}
+use Rattle.album_partition.specs.Answers.{Action, nothing, says, marks, marks_and_says, prepare_by, commit_by, check_by, get_by, to_get, mark_by, to_part, to_prepared, to_vote, to_status, to_request, to_reply, to_body, action_of}
 use Rattle.album_partition.specs.Partition.{PartitionState, value_at, stamp_for, read_at}
 use Rattle.album_partition.specs.Proper.{is_proper}
 use Rattle.album_partition.specs.Marks.{prepares, commits, state_by, state_of, is_pending, is_full, value_in, version, mark_items, items_at, IsPromisedAgainst}
@@ -65,7 +65,7 @@ pub data IsMarked (o : Opening) (w : World) (p : ℕ) (ms : List Mark) : Option 
   made_discarded : {t : ℕ} → state_of ms t ≡ state.Pending → IsAgainst o w t → IsMarked o w p ms (Some (Discarded t))
   made_trimmed : {i : ℕ} → is_full o.limit ms ≡ false → IsMarked o w p ms (Some (Trimmed i))
 
-pub record IsEffect (o : Opening) (w : World) (p : ℕ) (ms : List Mark) (m : Message) (e : Effect) : Type 1 where
+pub record IsAction (o : Opening) (w : World) (p : ℕ) (ms : List Mark) (m : Message) (e : Action) : Type 1 where
   pub marked : IsMarked o w p ms e.mark
   pub noted : (n : NotedVote) → e.vote ≡ Some n → IsPreparedIn (history w n.part) n.stamp
   pub replied : (v : World) → Grows o w v → history v p ≡ ms ++ option_to_list e.mark → (r : Reply) → e.reply ≡ Some r
@@ -75,48 +75,48 @@ pub record IsEffect (o : Opening) (w : World) (p : ℕ) (ms : List Mark) (m : Me
       → (r : Reply) → e.reply ≡ Some r → SaysWith P r
 
 module _ (o : Opening) (w : World) (p : ℕ) (ms : List Mark) (m : Message) where
-  silent_effect : IsEffect o w p ms m nothing
-  silent_effect = record {
+  silent_action : IsAction o w p ms m nothing
+  silent_action = record {
     marked = no_mark;
     noted = λ n h. none_some h;
     replied = λ v g e r h. none_some h;
     tells = λ P f r h. none_some h;
   }
 
-  says_effect : (b : Reply) → ((v : World) → Grows o w v → IsSay o v (Part p) b)
-      → ((P : ℕ → ℕ → Type 0) → SaysWith P b) → IsEffect o w p ms m (says b)
-  says_effect b fine quiet = record {
+  says_action : (b : Reply) → ((v : World) → Grows o w v → IsSay o v (Part p) b)
+      → ((P : ℕ → ℕ → Type 0) → SaysWith P b) → IsAction o w p ms m (says b)
+  says_action b fine quiet = record {
     marked = no_mark;
     noted = λ n h. none_some h;
     replied = λ v g e r h. subst (IsSay o v (Part p)) (some_same h) (fine v g);
     tells = λ P f r h. subst (SaysWith P) (some_same h) (quiet P);
   }
 
-  marks_effect : (x : Mark) (b : Reply) → IsMarked o w p ms (Some x)
+  marks_action : (x : Mark) (b : Reply) → IsMarked o w p ms (Some x)
       → ((v : World) → Grows o w v → history v p ≡ ms ++ x ∷ [] → IsSay o v (Part p) b)
-      → ((P : ℕ → ℕ → Type 0) → SaysWith P b) → IsEffect o w p ms m (marks_and_says x b)
-  marks_effect x b marked fine quiet = record {
+      → ((P : ℕ → ℕ → Type 0) → SaysWith P b) → IsAction o w p ms m (marks_and_says x b)
+  marks_action x b marked fine quiet = record {
     marked = marked;
     noted = λ n h. none_some h;
     replied = λ v g e r h. subst (IsSay o v (Part p)) (some_same h) (fine v g e);
     tells = λ P f r h. subst (SaysWith P) (some_same h) (quiet P);
   }
 
-  mark_effect : (x : Mark) → IsMarked o w p ms (Some x) → IsEffect o w p ms m (marks x)
-  mark_effect x marked = record {
+  mark_action : (x : Mark) → IsMarked o w p ms (Some x) → IsAction o w p ms m (marks x)
+  mark_action x marked = record {
     marked = marked;
     noted = λ n h. none_some h;
     replied = λ v g e r h. none_some h;
     tells = λ P f r h. none_some h;
   }
 
-  else_effect : (b : Bool) (e f : Effect) → (b ≡ true → IsEffect o w p ms m e) → IsEffect o w p ms m f
-      → IsEffect o w p ms m (cond b e f)
-  else_effect true e f h l = h refl
-  else_effect false e f h l = l
+  else_action : (b : Bool) (e f : Action) → (b ≡ true → IsAction o w p ms m e) → IsAction o w p ms m f
+      → IsAction o w p ms m (cond b e f)
+  else_action true e f h l = h refl
+  else_action false e f h l = l
 
-  clash_effect : IsEffect o w p ms m (says reply.Clash)
-  clash_effect = says_effect reply.Clash (λ v g. tt) (λ P. tt)
+  clash_action : IsAction o w p ms m (says reply.Clash)
+  clash_action = says_action reply.Clash (λ v g. tt) (λ P. tt)
 
 -- partition p takes m
 module _ (o : Opening) (some : 0 < o.parts) (w : World) (k : IsKept o w) (p : ℕ) (h : PartitionState)
@@ -147,60 +147,60 @@ module _ (o : Opening) (some : 0 < o.parts) (w : World) (k : IsKept o w) (p : �
   full_here : is_full h.limit h.marks ≡ is_full o.limit h.marks
   full_here = ap (λ (z : ℕ). is_full z h.marks) placed.limit
 
-  did_prepare : (t : ℕ) → IsPreparedIn h.marks t → IsEffect o w p h.marks m (says (reply.Prepared t))
-  did_prepare t d = says_effect o w p h.marks m (reply.Prepared t)
+  did_prepare : (t : ℕ) → IsPreparedIn h.marks t → IsAction o w p h.marks m (says (reply.Prepared t))
+  did_prepare t d = says_action o w p h.marks m (reply.Prepared t)
       (λ v g. prepared_grows o w v g p t (now_prepared t d)) (λ P. tt)
 
   against_of : (t : ℕ) → state_of h.marks t ≡ state.Discarded → IsAgainst o w t
   against_of t e = sound.discarded t (discarded_tells _ _ _ e)
 
-  did_discard : (t : ℕ) → state_of h.marks t ≡ state.Discarded → IsEffect o w p h.marks m (says (reply.Discarded t))
-  did_discard t e = says_effect o w p h.marks m (reply.Discarded t) (λ v g. against_grows o w v g t (against_of t e))
+  did_discard : (t : ℕ) → state_of h.marks t ≡ state.Discarded → IsAction o w p h.marks m (says (reply.Discarded t))
+  did_discard t e = says_action o w p h.marks m (reply.Discarded t) (λ v g. against_grows o w v g t (against_of t e))
       (λ P. tt)
 
   no_room : (t : ℕ) → state_of h.marks t ≡ state.Unknown → is_full h.limit h.marks ≡ true
-      → IsEffect o w p h.marks m (says (reply.Full t))
-  no_room t u f = says_effect o w p h.marks m (reply.Full t)
+      → IsAction o w p h.marks m (says (reply.Full t))
+  no_room t u f = says_action o w p h.marks m (reply.Full t)
       (λ v g. g.full p t (record {
         unknown = subst (λ (z : List Mark). state_of z t ≡ state.Unknown) (sym here_is) u;
         full = subst (λ (z : List Mark). is_full o.limit z ≡ true) (sym here_is) (sym full_here ∙ f);
       }))
       (λ P. tt)
 
-  prepare_effect : (t : ℕ) (ws : List Row) (js : List ℕ) → m.body ≡ body.Request (Prepare t ws js)
+  prepare_action : (t : ℕ) (ws : List Row) (js : List ℕ) → m.body ≡ body.Request (Prepare t ws js)
       → (full same : Bool) → is_full h.limit h.marks ≡ full → (s : StampState) → state_of h.marks t ≡ s
-      → IsEffect o w p h.marks m (prepare_by full same s t ws js)
-  prepare_effect t ws js e true same f state.Unknown u = no_room t u f
-  prepare_effect t ws js e false same f state.Unknown u =
-      marks_effect o w p h.marks m (Prepared t ws js) (reply.Prepared t)
+      → IsAction o w p h.marks m (prepare_by full same s t ws js)
+  prepare_action t ws js e true same f state.Unknown u = no_room t u f
+  prepare_action t ws js e false same f state.Unknown u =
+      marks_action o w p h.marks m (Prepared t ws js) (reply.Prepared t)
       (made_prepared u (sym full_here ∙ f) (told (body.Request (Prepare t ws js)) e))
       (λ v g q. prepared_in (history v p) t
       (subst (λ (z : List Mark). list_any (prepares t) z ≡ true) (sym q)
       (any_in (prepares t) (h.marks ++ Prepared t ws js ∷ []) (in_right h.marks here) (eq-eqb t t refl))))
       (λ P. tt)
-  prepare_effect t ws js e full same f state.Pending u =
-      else_effect o w p h.marks m same _ _ (λ q. did_prepare t (is_prepared t state.Pending u (inl refl)))
-      (clash_effect o w p h.marks m)
-  prepare_effect t ws js e full same f state.Committed u =
-      else_effect o w p h.marks m same _ _ (λ q. did_prepare t (is_prepared t state.Committed u (inr refl)))
-      (clash_effect o w p h.marks m)
-  prepare_effect t ws js e full same f state.Discarded u = did_discard t u
+  prepare_action t ws js e full same f state.Pending u =
+      else_action o w p h.marks m same _ _ (λ q. did_prepare t (is_prepared t state.Pending u (inl refl)))
+      (clash_action o w p h.marks m)
+  prepare_action t ws js e full same f state.Committed u =
+      else_action o w p h.marks m same _ _ (λ q. did_prepare t (is_prepared t state.Committed u (inr refl)))
+      (clash_action o w p h.marks m)
+  prepare_action t ws js e full same f state.Discarded u = did_discard t u
 
   is_committed : (t : ℕ) → state_of h.marks t ≡ state.Committed → list_any (commits t) (history w p) ≡ true
   is_committed t e = subst (λ (z : List Mark). list_any (commits t) z ≡ true) (sym here_is) (committed_tells _ _ _ e)
 
-  commit_effect : (t : ℕ) → m.body ≡ body.Request (Commit t) → (s : StampState) → state_of h.marks t ≡ s
-      → IsEffect o w p h.marks m (commit_by s t)
-  commit_effect t e state.Unknown u = says_effect o w p h.marks m (reply.NotPrepared t) (λ v g. tt) (λ P. tt)
-  commit_effect t e state.Pending u =
-      marks_effect o w p h.marks m (Committed t) (reply.Committed t)
+  commit_action : (t : ℕ) → m.body ≡ body.Request (Commit t) → (s : StampState) → state_of h.marks t ≡ s
+      → IsAction o w p h.marks m (commit_by s t)
+  commit_action t e state.Unknown u = says_action o w p h.marks m (reply.NotPrepared t) (λ v g. tt) (λ P. tt)
+  commit_action t e state.Pending u =
+      marks_action o w p h.marks m (Committed t) (reply.Committed t)
       (made_committed u (told (body.Request (Commit t)) e))
       (λ v g q. subst (λ (z : List Mark). list_any (commits t) z ≡ true) (sym q)
       (any_in (commits t) (h.marks ++ Committed t ∷ []) (in_right h.marks here) (eq-eqb t t refl)))
       (λ P. tt)
-  commit_effect t e state.Committed u = says_effect o w p h.marks m (reply.Committed t)
+  commit_action t e state.Committed u = says_action o w p h.marks m (reply.Committed t)
       (λ v g. any_grows o w v g (commits t) p (is_committed t u)) (λ P. tt)
-  commit_effect t e state.Discarded u = did_discard t u
+  commit_action t e state.Discarded u = did_discard t u
 
   -- what is refused by a partition of one of its items is against it
   pub against_here : (v : World) (t : ℕ) → Grows o w v → IsPlacedAt o w p t → state_of h.marks t ≡ state.Unknown
@@ -215,21 +215,21 @@ module _ (o : Opening) (some : 0 < o.parts) (w : World) (k : IsKept o w) (p : �
         (record { before = h.marks; later = []; discarded = q; unprepared = (unknown_tells _ _ _ u).2 });
   }
 
-  check_effect : (t : ℕ) → m.body ≡ body.Request (Check t) → (full : Bool) → is_full h.limit h.marks ≡ full
-      → (s : StampState) → state_of h.marks t ≡ s → IsEffect o w p h.marks m (check_by full s t)
-  check_effect t e true f state.Unknown u = no_room t u f
-  check_effect t e false f state.Unknown u =
+  check_action : (t : ℕ) → m.body ≡ body.Request (Check t) → (full : Bool) → is_full h.limit h.marks ≡ full
+      → (s : StampState) → state_of h.marks t ≡ s → IsAction o w p h.marks m (check_by full s t)
+  check_action t e true f state.Unknown u = no_room t u f
+  check_action t e false f state.Unknown u =
       let d = told (body.Request (Check t)) e in
-      marks_effect o w p h.marks m (Discarded t) (reply.Status t vote.Never) (made_refused u (sym full_here ∙ f) d)
+      marks_action o w p h.marks m (Discarded t) (reply.Status t vote.Never) (made_refused u (sym full_here ∙ f) d)
       (λ v g q. against_here v t g d u q) (λ P. tt)
-  check_effect t e full f state.Pending u =
-      says_effect o w p h.marks m (reply.Status t vote.Prepared)
+  check_action t e full f state.Pending u =
+      says_action o w p h.marks m (reply.Status t vote.Prepared)
       (λ v g. prepared_grows o w v g p t (now_prepared t (is_prepared t state.Pending u (inl refl)))) (λ P. tt)
-  check_effect t e full f state.Committed u =
-      says_effect o w p h.marks m (reply.Status t vote.Committed)
+  check_action t e full f state.Committed u =
+      says_action o w p h.marks m (reply.Status t vote.Committed)
       (λ v g. settled_grows o w v g t (sound.committed t (committed_tells _ _ _ u))) (λ P. tt)
-  check_effect t e full f state.Discarded u =
-      says_effect o w p h.marks m (reply.Status t vote.Never) (λ v g. against_grows o w v g t (against_of t u))
+  check_action t e full f state.Discarded u =
+      says_action o w p h.marks m (reply.Status t vote.Never) (λ v g. against_grows o w v g t (against_of t u))
       (λ P. tt)
 
   -- all others are prepared, and so is p
@@ -276,12 +276,12 @@ module _ (o : Opening) (some : 0 < o.parts) (w : World) (k : IsKept o w) (p : �
       go true f = none_some f
       go false f = subst (λ (z : NotedVote). IsPreparedIn (history w z.part) z.stamp) (some_same f) d
 
-  part_effect : (t q : ℕ) → state_of h.marks t ≡ state.Pending → IsPreparedIn (history w q) t
-      → IsEffect o w p h.marks m (to_part h q t)
-  part_effect t q u d = go (have_told (q ∷ heard h.votes t) (others_of h.number h.parts (items_at h.marks t))) refl
+  part_action : (t q : ℕ) → state_of h.marks t ≡ state.Pending → IsPreparedIn (history w q) t
+      → IsAction o w p h.marks m (to_part h q t)
+  part_action t q u d = go (have_told (q ∷ heard h.votes t) (others_of h.number h.parts (items_at h.marks t))) refl
     where
       go : (b : Bool) → have_told (q ∷ heard h.votes t) (others_of h.number h.parts (items_at h.marks t)) ≡ b
-          → IsEffect o w p h.marks m
+          → IsAction o w p h.marks m
           (record {
             mark = mark_by (if b then decision.Commit else decision.Wait) t;
             vote = new_vote h.votes t q;
@@ -300,23 +300,23 @@ module _ (o : Opening) (some : 0 < o.parts) (w : World) (k : IsKept o w) (p : �
         tells = λ P f r l. none_some l;
       }
 
-  prepared_effect : (n : Node) (t : ℕ) → state_of h.marks t ≡ state.Pending → IsVote o w n t vote.Prepared
-      → IsEffect o w p h.marks m (to_prepared h n t)
-  prepared_effect (Part q) t u d = else_effect o w p h.marks m (lies_at q h.parts (items_at h.marks t)) _ _
-      (λ l. part_effect t q u d) (silent_effect o w p h.marks m)
-  prepared_effect (ToClient c) t u d = silent_effect o w p h.marks m
+  prepared_action : (n : Node) (t : ℕ) → state_of h.marks t ≡ state.Pending → IsVote o w n t vote.Prepared
+      → IsAction o w p h.marks m (to_prepared h n t)
+  prepared_action (Part q) t u d = else_action o w p h.marks m (lies_at q h.parts (items_at h.marks t)) _ _
+      (λ l. part_action t q u d) (silent_action o w p h.marks m)
+  prepared_action (ToClient c) t u d = silent_action o w p h.marks m
 
-  vote_effect : (t : ℕ) (x : Vote) → state_of h.marks t ≡ state.Pending → IsVote o w m.from t x
-      → IsEffect o w p h.marks m (to_vote h m.from t x)
-  vote_effect t vote.Prepared u d = prepared_effect m.from t u d
-  vote_effect t vote.Committed u d = mark_effect o w p h.marks m (Committed t) (made_committed u d)
-  vote_effect t vote.Never u d = mark_effect o w p h.marks m (Discarded t) (made_discarded u d)
+  vote_action : (t : ℕ) (x : Vote) → state_of h.marks t ≡ state.Pending → IsVote o w m.from t x
+      → IsAction o w p h.marks m (to_vote h m.from t x)
+  vote_action t vote.Prepared u d = prepared_action m.from t u d
+  vote_action t vote.Committed u d = mark_action o w p h.marks m (Committed t) (made_committed u d)
+  vote_action t vote.Never u d = mark_action o w p h.marks m (Discarded t) (made_discarded u d)
 
-  status_effect : (t : ℕ) (x : Vote) → m.body ≡ body.Reply (reply.Status t x)
-      → IsEffect o w p h.marks m (to_status h m.from t x)
-  status_effect t x e = else_effect o w p h.marks m (is_pending (state_of h.marks t)) _ _
-      (λ l. vote_effect t x (is_pending_tells (state_of h.marks t) l) (told (body.Reply (reply.Status t x)) e))
-      (silent_effect o w p h.marks m)
+  status_action : (t : ℕ) (x : Vote) → m.body ≡ body.Reply (reply.Status t x)
+      → IsAction o w p h.marks m (to_status h m.from t x)
+  status_action t x e = else_action o w p h.marks m (is_pending (state_of h.marks t)) _ _
+      (λ l. vote_action t x (is_pending_tells (state_of h.marks t) l) (told (body.Reply (reply.Status t x)) e))
+      (silent_action o w p h.marks m)
 
   -- the value that is read at a stamp
   read_value : (i s : ℕ) → place_of o.parts i ≡ p → (s ≡ 0) ⊎ (is_some (version h.marks i s) ≡ true)
@@ -341,14 +341,14 @@ module _ (o : Opening) (some : 0 < o.parts) (w : World) (k : IsKept o w) (p : �
       value_of ne x e = ap (λ (b : Bool). unwrap_or (if b then value_in h.items i else version h.marks i s) Missing)
           ne ∙ ap (λ (f : Option Value). unwrap_or f Missing) e
 
-  get_effect : (i : ℕ) (ts : List ℕ) → m.body ≡ body.Request (Get i ts) → IsEffect o w p h.marks m (to_get h i ts)
-  get_effect i ts e = else_effect o w p h.marks m (place_of h.parts i == h.number) _ _
+  get_action : (i : ℕ) (ts : List ℕ) → m.body ≡ body.Request (Get i ts) → IsAction o w p h.marks m (to_get h i ts)
+  get_action i ts e = else_action o w p h.marks m (place_of h.parts i == h.number) _ _
       (λ b. go (sym (ap (λ (z : ℕ). place_of z i) placed.parts) ∙ eqb-true (place_of h.parts i) h.number b
       ∙ placed.number) (read_at h.marks i ts) refl)
-      (clash_effect o w p h.marks m)
+      (clash_action o w p h.marks m)
     where
-      go : place_of o.parts i ≡ p → (f : Option ℕ) → read_at h.marks i ts ≡ f → IsEffect o w p h.marks m (get_by h i f)
-      go at None q = says_effect o w p h.marks m (reply.Gone i) (λ v g. tt) (λ P. tt)
+      go : place_of o.parts i ≡ p → (f : Option ℕ) → read_at h.marks i ts ≡ f → IsAction o w p h.marks m (get_by h i f)
+      go at None q = says_action o w p h.marks m (reply.Gone i) (λ v g. tt) (λ P. tt)
       go at (Some s) q =
           let is : stamp_for h.marks i ts ≡ s = sym (read_high h.marks i ts s q).1 in
           record {
@@ -361,32 +361,32 @@ module _ (o : Opening) (some : 0 < o.parts) (w : World) (k : IsKept o w) (p : �
             tells = λ P f r l. subst (SaysWith P) (some_same l) (subst (λ (z : ℕ). P i z) is (f i ts e at));
           }
 
-  request_effect : (r : Request) → m.body ≡ body.Request r → IsEffect o w p h.marks m (to_request h r)
-  request_effect (Prepare t ws js) e =
-      else_effect o w p h.marks m (is_proper h.number h.parts t ws js) _ _
-      (λ l. prepare_effect t ws js e _ _ refl _ refl)
-      (clash_effect o w p h.marks m)
-  request_effect (Commit t) e = else_effect o w p h.marks m (t == 0) _ _ (λ l. clash_effect o w p h.marks m)
-      (commit_effect t e _ refl)
-  request_effect (Get i ts) e = get_effect i ts e
-  request_effect (Check t) e = else_effect o w p h.marks m (t == 0) _ _ (λ l. clash_effect o w p h.marks m)
-      (check_effect t e _ refl _ refl)
+  request_action : (r : Request) → m.body ≡ body.Request r → IsAction o w p h.marks m (to_request h r)
+  request_action (Prepare t ws js) e =
+      else_action o w p h.marks m (is_proper h.number h.parts t ws js) _ _
+      (λ l. prepare_action t ws js e _ _ refl _ refl)
+      (clash_action o w p h.marks m)
+  request_action (Commit t) e = else_action o w p h.marks m (t == 0) _ _ (λ l. clash_action o w p h.marks m)
+      (commit_action t e _ refl)
+  request_action (Get i ts) e = get_action i ts e
+  request_action (Check t) e = else_action o w p h.marks m (t == 0) _ _ (λ l. clash_action o w p h.marks m)
+      (check_action t e _ refl _ refl)
 
-  reply_effect : (r : Reply) → m.body ≡ body.Reply r → IsEffect o w p h.marks m (to_reply h m.from r)
-  reply_effect (reply.Status t x) e = status_effect t x e
-  reply_effect (reply.Prepared t) e = silent_effect o w p h.marks m
-  reply_effect (reply.Committed t) e = silent_effect o w p h.marks m
-  reply_effect (reply.Discarded t) e = silent_effect o w p h.marks m
-  reply_effect (reply.Version i t v) e = silent_effect o w p h.marks m
-  reply_effect (reply.NotPrepared t) e = silent_effect o w p h.marks m
-  reply_effect reply.Clash e = silent_effect o w p h.marks m
-  reply_effect (reply.Full t) e = silent_effect o w p h.marks m
-  reply_effect (reply.Gone i) e = silent_effect o w p h.marks m
+  reply_action : (r : Reply) → m.body ≡ body.Reply r → IsAction o w p h.marks m (to_reply h m.from r)
+  reply_action (reply.Status t x) e = status_action t x e
+  reply_action (reply.Prepared t) e = silent_action o w p h.marks m
+  reply_action (reply.Committed t) e = silent_action o w p h.marks m
+  reply_action (reply.Discarded t) e = silent_action o w p h.marks m
+  reply_action (reply.Version i t v) e = silent_action o w p h.marks m
+  reply_action (reply.NotPrepared t) e = silent_action o w p h.marks m
+  reply_action reply.Clash e = silent_action o w p h.marks m
+  reply_action (reply.Full t) e = silent_action o w p h.marks m
+  reply_action (reply.Gone i) e = silent_action o w p h.marks m
 
-  body_effect : (b : Body) → m.body ≡ b → IsEffect o w p h.marks m (to_body h m.from b)
-  body_effect (body.Request r) e = request_effect r e
-  body_effect (body.Reply r) e = reply_effect r e
+  body_action : (b : Body) → m.body ≡ b → IsAction o w p h.marks m (to_body h m.from b)
+  body_action (body.Request r) e = request_action r e
+  body_action (body.Reply r) e = reply_action r e
 
-  pub effect_is : IsEffect o w p h.marks m (effect_of h m)
-  effect_is = else_effect o w p h.marks m (is_part m.to h.number) _ _ (λ l. body_effect m.body refl)
-      (silent_effect o w p h.marks m)
+  pub action_is : IsAction o w p h.marks m (action_of h m)
+  action_is = else_action o w p h.marks m (is_part m.to h.number) _ _ (λ l. body_action m.body refl)
+      (silent_action o w p h.marks m)

@@ -14,7 +14,7 @@ use Rattle.album_views.specs.declared.asks.Ask.TheVariants as ask
 use Rattle.album_listing.proofs.GroupsFoundLemmas.{basis-based}
 use Rattle.album_listing.specs.GroupsFound.{basis_on}
 use Rattle.album_listing.specs.Listing.{listed}
-use Rattle.album_permits.specs.Effects.{is_write}
+use Rattle.album_views.specs.Asks.{is_write}
 use Rattle.album_permits.specs.Permits.{PermitState}
 use Rattle.album_permits.specs.Serving.{IsServedFor}
 use Rattle.album_permits.specs.declared.serving.Served.{Served}

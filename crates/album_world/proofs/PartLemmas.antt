@@ -23,7 +23,7 @@ use Rattle.album_terminate.specs.declared.deciding.StampState.TheVariants as sta
 use Rattle.album_partition.specs.declared.marks.Mark.{Mark}
 use Rattle.album_partition.specs.declared.marks.Mark.TheVariants.{Prepared, Committed, Discarded, Trimmed}
 use Rattle.album_partition.specs.Votes.{NotedVote}
-use Rattle.album_partition.specs.Answers.{effect_of, after, answer, reply_to}
+use Rattle.album_partition.specs.Answers.{action_of, after, answer, reply_to}
 use Rattle.album_partition.specs.Sweeps.{sent_by}
 use Rattle.album_partition.specs.Trims.{with_mark}
 use Rattle.album_partition.specs.Partition.{PartitionState, IsPartition, stamp_for}
@@ -52,7 +52,7 @@ use Rattle.album_world.proofs.PlaceLemmas.{other_item}
 use Rattle.album_world.proofs.Invariant.{IsKept, IsPlaced, IsPlacedAt, IsPrepareOf, IsSettled, IsAgainst, IsFine, IsTagged, IsSound, GetsWith, TellsWith, IsAsked, IsAnswered, HasBegun, FirstRound, SecondRound, IsCollectedStamp, IsFetching, IsRound, IsWriting, HasPrepared, HasCommitted, IsDoing}
 use Rattle.album_world.proofs.GrowthLemmas.{Grows, any_grows, tells_more, prepared_grows, fine_grows, tagged_grows, begun_grows, first_round_grows, second_round_grows, founds_grows, stamp_grows, has_fresh_grows, read_grows, answer_grows, drawn_grows, sound_grows, settled_grows, against_grows, prepare_grows}
 use Rattle.album_world.proofs.WroteLemmas.{apart}
-use Rattle.album_world.proofs.ActLemmas.{IsMarked, effect_is}
+use Rattle.album_world.proofs.ActLemmas.{IsMarked, action_is}
 use Rattle.album_world.proofs.ActLemmas.IsMarked.{no_mark, made_prepared, made_committed, made_refused, made_discarded, made_trimmed}
 
 -- ---- a decision never makes room
@@ -515,8 +515,8 @@ pub part_kept : (o : Opening) → 0 < o.parts → (w : World) → IsKept o w →
     → m.to ≡ Part p → (h : PartitionState) → slice_get w.now.partitions p ≡ Some h
     → IsKept o (changed w (AtPart p (after h m) (option_to_list (answer h m))))
 part_kept o some w k p m sent to h got =
-    let e = effect_of h m in
-    let f = effect_is o some w k p h got m sent to in
+    let e = action_of h m in
+    let f = action_is o some w k p h got m sent to in
     let d = k.placed p h got in
     let d' = placed_after o p h m d in
     let replies = option_to_list (answer h m) in
