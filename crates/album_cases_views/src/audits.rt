@@ -48,10 +48,10 @@ fn totals_in<J: Books>(
     other: &[Noted],
 ) -> Result<Totals, Refusal>
     requires names { blanks ≡ record {
-        audit_ok = J.audit_ok;
-        audit_failed = J.audit_failed;
-        alarm_ok = J.alarm_ok;
-        alarm_failed = J.alarm_failed;
+      audit_ok = J.audit_ok;
+      audit_failed = J.audit_failed;
+      alarm_ok = J.alarm_ok;
+      alarm_failed = J.alarm_failed;
     } }
 {
     let mut book = AuditBook::<J>::new(alloc, blanks);
@@ -80,10 +80,10 @@ fn totals(alloc: Global, one: &[Noted], other: &[Noted]) -> Result<Totals, Refus
 /// What the share after so many is.
 fn share_after<J: Books>(alloc: Global, blanks: Blanks, shares: u64) -> Result<(), Refusal>
     requires names { blanks ≡ record {
-        audit_ok = J.audit_ok;
-        audit_failed = J.audit_failed;
-        alarm_ok = J.alarm_ok;
-        alarm_failed = J.alarm_failed;
+      audit_ok = J.audit_ok;
+      audit_failed = J.audit_failed;
+      alarm_ok = J.alarm_ok;
+      alarm_failed = J.alarm_failed;
     } }
 {
     let mut book = AuditBook::<J>::new(alloc, blanks);
@@ -122,5 +122,8 @@ fn each_note_counts_in_its_kind(rt: HostRuntime) {
 #[test]
 fn a_share_for_each_client_number(rt: HostRuntime) {
     assert_eq!(rt; next_share(rt.alloc(), MOST_SHARES - 1), Ok(()));
-    assert_eq!(rt; next_share(rt.alloc(), MOST_SHARES), Err(Refusal::SessionsSpent));
+    assert_eq!(rt;
+        next_share(rt.alloc(), MOST_SHARES),
+        Err(Refusal::SessionsSpent)
+    );
 }

@@ -26,7 +26,14 @@ const LATER: u64 = 131_073;
 const STORE: Store = &[
     ("picture/0", Is::Picture(SEA)),
     ("picture/1", Is::Picture(PictureRow { list: 1, ..SEA })),
-    ("album/0", Is::Album(AlbumRow { list: 2, pictures: 128, ..TRIP })),
+    (
+        "album/0",
+        Is::Album(AlbumRow {
+            list: 2,
+            pictures: 128,
+            ..TRIP
+        }),
+    ),
     ("list/0", Is::List(&[])),
     ("list/1", Is::List(&[])),
     ("list/2", Is::List(&[(ALLOW, "EVERYONE@", 2, 0)])),

@@ -1,7 +1,7 @@
 -- The groups that are found are those that the principal is in, for the law `a_ruling_has_a_basis` (`basis-based`):
 -- after
 -- as many turns as there are answers, and one, nothing grows any more (`groups-fixed`).
-use Rattle.std.proofs.Common.{◌≡◌, ◌≤◌, ◌<◌, ◌↔◌, ℕ, zero, suc, ◌+◌, Bool, true, false, IsTrue, ◌||◌, ◌==◌, cond, bytes_eq, List, [], ◌∷◌, length, filter, map, Option, Some, None, is_some, option_map, Contains, ◌⊎◌, inl, inr, refl, sym, ap, subst, ◌∙◌, arith}
+use Rattle.std.proofs.Common.{◌≡◌, ◌≤◌, ◌<◌, ℕ, zero, suc, ◌+◌, Bool, true, false, ◌==◌, cond, List, [], ◌∷◌, length, filter, map, Option, Some, None, is_some, Contains, ◌⊎◌, inl, inr, refl, sym, ap, subst, ◌∙◌, arith}
 use Rattle.std.specs.Fn.{iterate}
 use Rattle.std.specs.List.{list_any}
 use Rattle.std.specs.Option.{option_map_or}
@@ -25,7 +25,7 @@ use Rattle.album_reader.specs.Answers.{Answer}
 use Rattle.album_reader.specs.Snapshots.{items_read, version_read}
 use Rattle.album_reader.proofs.Snapshots.{length-items}
 use Rattle.album_views.specs.Seen.{seen}
-use Rattle.album_views.proofs.Sets.{has, one-of, in-here}
+use Rattle.album_views.proofs.Sets.{has, one-of}
 use Rattle.album_views.proofs.Turns.{read-has}
 use Rattle.album_listing.specs.Basis.{IsBasis, members_seen}
 use Rattle.album_listing.specs.GroupsFound.{groups_read, brings_in, grown_groups, groups_found, basis_on}

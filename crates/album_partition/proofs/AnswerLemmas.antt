@@ -17,7 +17,7 @@ use Rattle.album_calls.specs.declared.replies.Reply.TheVariants as reply
 use Rattle.album_terminate.specs.declared.deciding.StampState.{StampState}
 use Rattle.album_terminate.specs.declared.deciding.StampState.TheVariants as state
 use Rattle.album_partition.specs.declared.marks.Mark.TheVariants.{Prepared, Committed, Discarded}
-use Rattle.album_partition.specs.Answers.{Action, nothing, says, marks, marks_and_says, is_same, prepare_by, to_prepare, commit_by, to_commit, check_by, to_check, get_by, to_get, says_version, to_part, to_prepared, to_vote, to_status, to_body, action_of}
+use Rattle.album_partition.specs.Answers.{Action, nothing, says, marks, marks_and_says, is_same, prepare_by, to_prepare, commit_by, to_commit, check_by, to_check, get_by, to_get, to_part, to_prepared, to_vote, to_status, to_body, action_of}
 use Rattle.album_partition.specs.Laws.{IsClash}
 use Rattle.album_partition.specs.Marks.{state_of, is_pending, is_full, items_at}
 use Rattle.album_partition.specs.Partition.{PartitionState, value_at, stamp_for, read_at}

@@ -1,7 +1,6 @@
 -- The indexes of rows find the value of each item, for `indexes_of`.
-use Rattle.std.proofs.Common.{◌≡◌, ℕ, zero, suc, ◌<◌, ◌+◌, Bool, true, false, ◌==◌, cond, List, [], ◌∷◌, ◌++◌, length, take, get_or, Option, Some, None, refl, sym, ap, ◌∙◌, subst, arith, if◌then◌else◌}
-use Rattle.std.specs.Prelude.{option_map, option_and_then}
-use Rattle.std.specs.List.{slice_get}
+use Rattle.std.proofs.Common.{◌≡◌, ℕ, zero, suc, ◌<◌, ◌+◌, true, false, ◌==◌, List, [], ◌∷◌, ◌++◌, length, take, get_or, Option, Some, None, refl, sym, ap, ◌∙◌, subst, arith, if◌then◌else◌}
+use Rattle.std.specs.Prelude.{option_and_then}
 use Rattle.std.specs.Option.{option_or}
 use Rattle.std.specs.BTreeMap.{BTreeMap, insert_entry, is_at}
 use Rattle.std.specs.Map.{lookup}
@@ -9,8 +8,7 @@ use Rattle.std.specs.Ordering.{nat_cmp}
 use Rattle.std.proofs.lemmas.Bool.Decides.{nat_tests}
 use Rattle.std.proofs.lemmas.List.{take_more}
 use Rattle.album_items.specs.Openings.{Row, has_single_rows}
-use Rattle.album_items.specs.declared.values.Value.{Value}
-use Rattle.album_partition.specs.FirstValues.{value_of_row, AreIndexes}
+use Rattle.album_partition.specs.FirstValues.{value_of_row}
 use Rattle.album_partition.specs.Marks.{value_in}
 use Rattle.album_partition.proofs.ListLemmas.{same_or_not}
 use Rattle.album_partition.proofs.StateLemmas.{same_stamp, or_none}

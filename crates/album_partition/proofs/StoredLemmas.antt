@@ -1,9 +1,9 @@
 -- The versions stay those of the marks as one mark is made or refused: first the rows of a Prepare one by one, then
 -- versions and latest stamps as one mark more is made, then what `Stored::prepare`, `commit` and `discard` need.
 use Rattle.std.proofs.Common.{◌≡◌, ℕ, zero, suc, ◌<◌, ◌≤◌, ◌+◌, ◌⊎◌, inl, inr, Bool, true, false, ◌==◌, ◌&&◌, ◌||◌, not, nat_le, nat_lt, max, is_some, All, List, [], ◌∷◌, ◌++◌, length, take, get_or, Option, Some, None, refl, sym, ap, ◌∙◌, subst, arith, if◌then◌else◌}
-use Rattle.std.specs.List.{list_any, find, filter_map}
+use Rattle.std.specs.List.{list_any, find}
 use Rattle.std.specs.Option.{option_or}
-use Rattle.std.proofs.lemmas.List.{take_more, append-nil}
+use Rattle.std.proofs.lemmas.List.{take_more}
 use Rattle.std.proofs.lemmas.Bool.{and_parts, or_parts, not-true, le-leb, lt-leb, leb-false, ltb-true, ltb-false}
 use Rattle.std.proofs.lemmas.Bool.Decides.{Decides-eqb}
 use Rattle.album_items.specs.Openings.{Row, same_item, has_single_rows}
@@ -15,7 +15,7 @@ use Rattle.album_terminate.specs.declared.deciding.StampState.TheVariants as sta
 use Rattle.album_partition.specs.declared.marks.Mark.{Mark}
 use Rattle.album_partition.specs.declared.marks.Mark.TheVariants.{Prepared, Committed, Discarded, Trimmed}
 use Rattle.album_partition.specs.History.{kept_by, kept_mark}
-use Rattle.album_partition.specs.Marks.{value_in, prepares, commits, discards, state_of, mark_writes, writes_at, version, has_version, latest, floor, kept_version, has_kept_version, is_unknown, is_pending, may_follow, is_legal}
+use Rattle.album_partition.specs.Marks.{value_in, prepares, commits, state_of, mark_writes, writes_at, version, has_version, latest, floor, kept_version, has_kept_version, is_unknown, is_pending, may_follow, is_legal}
 use Rattle.album_partition.specs.Partition.{read_at}
 use Rattle.album_partition.specs.Stored.{HasAdded, HasCommitted, IsStored}
 use Rattle.album_partition.proofs.LegalLemmas.{is_legal-push}

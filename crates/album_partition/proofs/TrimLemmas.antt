@@ -1,5 +1,5 @@
 -- What a trim changes, and at which stamp an item is read then.
-use Rattle.std.proofs.Common.{◌≡◌, ◌≢◌, ℕ, zero, suc, ◌<◌, ◌≤◌, Bool, true, false, not, ◌==◌, ◌&&◌, ◌||◌, nat_le, List, [], ◌∷◌, ◌++◌, Option, Some, None, is_some, All, Contains, refl, sym, ap, ◌∙◌, subst, arith, if◌then◌else◌}
+use Rattle.std.proofs.Common.{◌≡◌, ◌≢◌, ℕ, zero, suc, ◌<◌, ◌≤◌, Bool, true, false, not, ◌==◌, ◌&&◌, nat_le, List, [], ◌∷◌, ◌++◌, Option, Some, None, is_some, All, Contains, refl, sym, ap, ◌∙◌, subst, arith, if◌then◌else◌}
 use Rattle.std.specs.List.{list_any}
 use Rattle.std.proofs.lemmas.Bool.{leb-true, leb-false, le-leb, or_right}
 use Rattle.std.proofs.lemmas.Bool.Decides.{Decides-eqb}
@@ -8,8 +8,8 @@ use Rattle.album_items.specs.declared.values.Value.{Value}
 use Rattle.album_versions.specs.Best.{best_of, unless_gone}
 use Rattle.album_versions.proofs.Greatest.{best_of-passes, Contains-best_of, All-best_of}
 use Rattle.album_partition.specs.declared.marks.Mark.{Mark}
-use Rattle.album_partition.specs.declared.marks.Mark.TheVariants.{Prepared, Committed, Discarded, Trimmed}
-use Rattle.album_partition.specs.Marks.{trims, version, has_version, latest, before_trim, floor, kept_version, has_kept_version, may_follow, is_legal}
+use Rattle.album_partition.specs.declared.marks.Mark.TheVariants.{Trimmed}
+use Rattle.album_partition.specs.Marks.{trims, version, has_version, latest, before_trim, floor, kept_version, has_kept_version, is_legal}
 use Rattle.album_partition.specs.Partition.{stamp_for, read_at}
 use Rattle.album_partition.proofs.GrowthLemmas.{latest_rises}
 use Rattle.album_partition.proofs.LegalLemmas.{along_legal}

@@ -1,23 +1,16 @@
 -- The versions that were written, and the latest stamps, as one mark more is made.
-use Rattle.std.proofs.Common.{◌≡◌, ℕ, zero, suc, ◌<◌, ◌+◌, Bool, true, false, ◌==◌, ◌&&◌, ◌||◌, not, max, is_some, List, [], ◌∷◌, ◌++◌, length, take, get_or, Option, Some, None, refl, sym, ap, ◌∙◌, subst, arith, if◌then◌else◌}
+use Rattle.std.proofs.Common.{◌≡◌, ℕ, Bool, true, false, ◌==◌, ◌||◌, max, is_some, List, [], ◌∷◌, ◌++◌, Option, None, refl, ap, ◌∙◌, arith, if◌then◌else◌}
 use Rattle.std.specs.List.{list_any, find, filter_map}
-use Rattle.std.specs.Option.{option_or}
-use Rattle.std.proofs.lemmas.List.{take_more, append-nil}
-use Rattle.std.proofs.lemmas.Bool.Decides.{Decides-eqb}
-use Rattle.album_items.specs.Openings.{Row, same_item, has_single_rows}
-use Rattle.album_versions.specs.Versions.{VersionsState, version_at, latest_of, Adds, Commits, Drops}
-use Rattle.album_partition.specs.Marks.{value_in, is_mark_of, prepares, commits, discards, state_of, mark_writes, writes_at, version, has_version, commit_in, committed_stamps, latest, is_unknown, is_pending, may_follow}
-use Rattle.album_partition.specs.Stored.{HasAdded, HasCommitted, IsStored}
+use Rattle.std.proofs.lemmas.List.{append-nil}
+use Rattle.album_items.specs.Openings.{Row}
+use Rattle.album_partition.specs.Marks.{value_in, is_mark_of, prepares, commits, discards, state_of, mark_writes, version, has_version, commit_in, committed_stamps, latest}
 use Rattle.album_partition.proofs.ListLemmas.{same_or_not, turned}
-use Rattle.album_partition.proofs.StateLemmas.{or_none, any_push, any_push_no, find_push_no, find_push_first, prepares_no, discards_no, unknown_tells, pending_tells, same_stamp, find_none, is_unknown_tells, is_pending_tells, committed_is_committed}
-use Rattle.std.proofs.lemmas.Bool.{and_parts, or_parts, not-true}
+use Rattle.album_partition.proofs.StateLemmas.{any_push, any_push_no, find_push_no, find_push_first, prepares_no, discards_no, unknown_tells, same_stamp}
 use Rattle.std.proofs.lemmas.List.Elements.{filter_map-append}
 use Rattle.album_versions.specs.Best.{best_of}
 use Rattle.album_terminate.specs.declared.deciding.StampState.TheVariants as state
 use Rattle.album_partition.specs.declared.marks.Mark.{Mark}
 use Rattle.album_partition.specs.declared.marks.Mark.TheVariants.{Prepared, Committed, Discarded, Trimmed}
-use Rattle.album_terminate.specs.declared.deciding.StampState.{StampState}
-use Rattle.album_partition.specs.History.{kept_by, kept_mark}
 
 -- ---- the greatest number that passes
 

@@ -1,5 +1,5 @@
 -- Which Prepares a partition can follow.
-use Rattle.std.specs.Prelude.{ℕ, Bool, ◌==◌, ◌&&◌, not, nat_le, List, length}
+use Rattle.std.specs.Prelude.{ℕ, Bool, ◌==◌, ◌&&◌, not, List}
 use Rattle.std.specs.List.{list_all, list_any}
 use Rattle.album_items.specs.Openings.{Row, has_single_rows}
 use Rattle.album_items.specs.Places.{is_placed, placed_at}

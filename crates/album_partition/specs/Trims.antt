@@ -1,5 +1,5 @@
 -- What a trim does at a partition.
-use Rattle.std.specs.Prelude.{ℕ, not, ◌==◌, List, ◌++◌, Option, Some, None, option_to_list, Result, Ok, Err, if◌then◌else◌}
+use Rattle.std.specs.Prelude.{ℕ, not, ◌==◌, ◌++◌, Option, Some, None, option_to_list, Result, Ok, Err, if◌then◌else◌}
 use Rattle.album_stamps.specs.Outcome.{◌>>=◌}
 use Rattle.album_stamps.specs.declared.refusals.Refusal.{Refusal}
 use Rattle.album_stamps.specs.declared.refusals.Refusal.TheVariants.{Clash, Full}

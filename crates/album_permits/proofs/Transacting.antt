@@ -1,6 +1,6 @@
 -- What a permit writes is what one transaction may write: `effect_items` and `effect_kinds`, for the law
 -- `an_effect_is_one_transaction`; `Permit::effect` needs `effect_items` too.
-use Rattle.std.proofs.Common.{◌≡◌, ◌≢◌, ◌++◌, ◌==◌, ◌||◌, ◌&&◌, not, ℕ, zero, suc, ◌+◌, ◌<◌, ◌≤◌, nat_le, List, [], ◌∷◌, Bool, true, false, Option, Some, None, is_none, IsTrue, cond, fold, map, find, option_map, length, refl, sym, ap, subst, ◌∙◌, arith, eqb-true, true≢false}
+use Rattle.std.proofs.Common.{◌≡◌, ◌≢◌, ◌++◌, ◌==◌, ◌&&◌, not, ℕ, suc, ◌+◌, ◌<◌, ◌≤◌, nat_le, List, [], ◌∷◌, Bool, true, false, Option, Some, None, is_none, IsTrue, cond, fold, map, find, option_map, length, refl, sym, ap, subst, ◌∙◌, arith, eqb-true}
 use Rattle.std.specs.List.{list_any, list_all, flat_map}
 use Rattle.std.specs.Option.{option_map_or}
 use Rattle.std.proofs.lemmas.Bool.{or_parts, or_from, and_parts, and_from, not-true, not_from_false, eq-eqb, ne_eqb, le-leb}
@@ -18,7 +18,7 @@ use Rattle.album_items.specs.Values.{is_of, head_of, home_of, list_of}
 use Rattle.album_items.specs.declared.values.Value.{Value}
 use Rattle.album_items.specs.declared.values.Value.TheVariants as value
 use Rattle.album_reader.specs.Answers.{Answer}
-use Rattle.album_reader.specs.Snapshots.{version_of, version_read}
+use Rattle.album_reader.specs.Snapshots.{version_of}
 use Rattle.album_views.proofs.Flaws.{asks_objects, objects_few}
 use Rattle.album_views.specs.Asks.{objects_of, is_write}
 use Rattle.album_views.specs.Checks.{flaw_of, owner_flaw, refusal_of}
@@ -30,7 +30,7 @@ use Rattle.album_listing.specs.Basis.{Basis}
 use Rattle.album_listing.specs.Masks.{WRITE_ACL}
 use Rattle.album_permits.specs.Changes.{with_title, with_content, with_home, with_owner, with_members, without_child, with_child}
 use Rattle.album_permits.specs.Effects.{Write, new_head, heritage, list_dropped, taken_out, list_written, written, put, merged, effect_of}
-use Rattle.album_permits.specs.Findings.{and_then_found, is_missing, missing_in, reasons_of, found_by, need_found, needs_found, ruling_of}
+use Rattle.album_permits.specs.Findings.{and_then_found, reasons_of, found_by, need_found, needs_found, ruling_of}
 use Rattle.album_permits.specs.Kinds.{shows_right_kinds}
 use Rattle.album_permits.specs.Needs.{just, needs_of}
 use Rattle.album_permits.specs.Permits.{PermitState, IsPermit}

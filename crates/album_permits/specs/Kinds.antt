@@ -1,5 +1,5 @@
 -- Snapshots whose values are of their items' kinds.
-use Rattle.std.specs.Prelude.{ℕ, List, Bool}
+use Rattle.std.specs.Prelude.{List, Bool}
 use Rattle.std.specs.List.{list_all}
 use Rattle.album_items.specs.ItemIds.{kind_of}
 use Rattle.album_items.specs.Values.{is_of}

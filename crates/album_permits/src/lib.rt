@@ -26,8 +26,8 @@ mod writes;
 
 // What holds of rulings, and of what is written.
 mod laws;
-mod transactions;
 mod meaning;
+mod transactions;
 
 pub use findings::{Denial, Finding};
 pub use laws::{one_ruling, permits_are_spent_on_what_is_named, rulings_look_at_what_is_named};

@@ -1,4 +1,4 @@
-use Rattle.std.proofs.Common.{◌∙◌, sym, ap, List, length, arith}
+use Rattle.std.proofs.Common.{ap, List, length, arith}
 use Rattle.album_partition.specs.declared.marks.Mark.{Mark}
 use Rattle.album_partition.specs.Marks.{mark_stamp}
 use Rattle.album_partition.proofs.HistoryLemmas.{seen, after_prepared, after_committed, after_discarded, count_prepared, count_committed}
