@@ -1,5 +1,5 @@
 // What is ruled on an ask over a store, and the permit that comes of it. Where a call is refused for want of memory it
-// is made once more, with what it handed back: so `rt try --test --fail-alloc 1..` tells whether that is what went in.
+// is made once more, with what it handed back: so `rt try --test --fail-alloc N` tells whether that is what went in.
 use crate::asks::{Verb, ask_of};
 use crate::store::Store;
 use crate::viewing::view_of;
