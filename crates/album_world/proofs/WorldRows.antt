@@ -30,6 +30,13 @@ use Rattle.album_world.specs.declared.events.Event.{Event}
 use Rattle.album_world.specs.declared.events.Event.TheVariants as event
 use Rattle.album_world.specs.declared.outs.Answer.{Answer}
 use Rattle.album_world.specs.declared.outs.Answer.TheVariants as answer
+use Rattle.album_reader.specs.Rounds.Step.{Done, Gone}
+use Rattle.album_views.specs.declared.viewing.Why.TheVariants.{Rounds}
+use Rattle.album_world.specs.declared.clients.Asking.{Asking}
+use Rattle.album_world.specs.declared.clients.Client.{Client}
+use Rattle.album_world.specs.declared.clients.Doing.TheVariants.{Idle}
+use Rattle.album_world.specs.Clients.{newcomer}
+use Rattle.album_world.specs.Turns.{read_turn}
 use Rattle.album_world.specs.Changes.{Change, change_of}
 use Rattle.album_world.specs.Past.{Read, Told}
 use Rattle.album_world.specs.State.{Now}
@@ -137,6 +144,39 @@ gone : answers 1000 (
     ≡ answer.Committed 65537 ∷ answer.Served (served.Picture (picture 0) 65537 (66 ∷ []) []) ∷ []
 unfolding is_match is_given is_asked mentions first_mention verdict is_noted audited flaw_of first_names names_of seen is_closed groups_found
 gone = refl
+
+-- ---- the eighth read
+
+-- bo's client, and its ask to read the picture, for which so many reads were made
+abbrev reader : Client
+reader = record (newcomer 2) { doing = Idle 15 }
+
+abbrev asked : ℕ → Asking
+asked reads = record { viewing = record { ask = ask.Read (picture 0); reads = reads }; principal = bo }
+
+-- the picture was read, and not its list
+abbrev picture_alone : List Row
+picture_alone = record {
+  item = picture 0;
+  stamp = 0;
+  value = value.Picture (record { title = 83 ∷ []; content = []; head = head_with 0; home = 0 });
+} ∷ []
+
+seventh_gone : (read_turn (terms_of (opening 1000)) reader 15 (asked 6) (Gone (picture 0 ∷ []))).answer ≡ None
+seventh_gone = refl
+
+eighth_gone :
+    (read_turn (terms_of (opening 1000)) reader 15 (asked 7) (Gone (picture 0 ∷ []))).answer ≡ Some (answer.Busy Rounds)
+eighth_gone = refl
+
+seventh_open : (read_turn (terms_of (opening 1000)) reader 15 (asked 6) (Done picture_alone)).answer ≡ None
+unfolding first_names names_of seen is_closed
+seventh_open = refl
+
+eighth_open :
+    (read_turn (terms_of (opening 1000)) reader 15 (asked 7) (Done picture_alone)).answer ≡ Some (answer.Busy Rounds)
+unfolding first_names names_of seen is_closed
+eighth_open = refl
 
 -- ---- refusals
 

@@ -51,7 +51,8 @@ asks_by terms number client principal ask (Reads asking round) = Err ClientBusy
 asks_by terms number client principal ask (Prepares writing) = Err ClientBusy
 asks_by terms number client principal ask (Commits writing) = Err ClientBusy
 
--- (each number that is of the type of clients' numbers is a client's, so that the code never meets the first test)
+-- A client that was stopped asks nothing more. (Each number of the type of clients' numbers is a client's, so the code
+-- never meets the first test.)
 abbrev pub asks : Terms → Now → ℕ → Principal → Ask → Result Change Refusal
 asks terms now number principal ask =
     if not (is_client number) then Err BadRequest
@@ -81,11 +82,12 @@ abbrev pub client_takes : Terms → Now → ℕ → Client → Message → Chang
 client_takes terms now number client message =
     if is_stopped now number then Nothing else client_takes_by terms number client message client.doing
 
--- to whom it is sent
+-- whoever it is sent to takes it
 abbrev pub arrives : Terms → Now → Message → Node → Change
 arrives terms now message (Part part) = part_takes part message (slice_get now.partitions part)
 arrives terms now message (OfClient number) = client_takes terms now number (client_at now.clients number) message
 
+-- a message of this number has to be there
 abbrev pub delivers : Terms → Now → Option Message → Result Change Refusal
 delivers terms now None = Err NoSuchMessage
 delivers terms now (Some message) = Ok (arrives terms now message message.to)

@@ -21,6 +21,7 @@ use Rattle.album_world.specs.Changes.Change.{Nothing, AtPart, AtClient, Stops}
 
 -- ---- what it keeps
 
+-- what a change makes of it
 abbrev pub now_after : Now → Change → Now
 now_after now Nothing = now
 now_after now (AtPart part partition messages) =
@@ -46,6 +47,7 @@ abbrev pub nth_after : Past → ℕ → Option Ended → ℕ
 nth_after past number None = 1
 nth_after past number (Some ended) = (last_begun past.begun number).nth + 1
 
+-- a read that begins, with the partitions before this event
 abbrev pub begun_after : Now → Past → ℕ → Turn → List Begun
 begun_after now past number turn =
     if turn.reads
@@ -59,6 +61,7 @@ told_to reads number answer = record { client = number; last = last_read reads n
 abbrev pub noted_of : List Read → ℕ → List Note → Noted
 noted_of reads number notes = record { client = number; last = last_read reads number; notes = notes }
 
+-- what a change adds to it
 abbrev pub past_after : Now → Past → Change → Past
 past_after now past Nothing = past
 past_after now past (AtPart part partition messages) = past
@@ -74,6 +77,7 @@ past_after now past (Stops number) = past
 
 -- ---- an event
 
+-- the world once this is changed
 abbrev pub changed : World → Change → World
 changed world change = record { now = now_after world.now change; past = past_after world.now world.past change }
 
@@ -82,6 +86,7 @@ abbrev pub changed_by : World → Result Change Refusal → World
 changed_by world (Ok change) = changed world change
 changed_by world (Err refusal) = world
 
+-- the world once the event has happened
 abbrev pub happens : Terms → World → Event → World
 happens terms world event = changed_by world (change_of terms world.now event)
 
@@ -92,6 +97,7 @@ abbrev pub numbers_after : ℕ → ℕ → List Out
 numbers_after before zero = []
 numbers_after before (suc count) = numbers_after before count ++ out.Sent (before + count + 1) ∷ []
 
+-- messages that are sent now
 abbrev pub sent_after : Now → List Message → List Out
 sent_after now messages = numbers_after (length now.messages) (length messages)
 
@@ -101,6 +107,7 @@ outs_of_turn now number turn =
     map (out.Noted number) (unwrap_or turn.noted [])
     ++ (sent_after now turn.sent ++ option_to_list (option_map (out.Answered number) turn.answer))
 
+-- what a change tells
 abbrev pub outs_of : Now → Change → List Out
 outs_of now Nothing = []
 outs_of now (AtPart part partition messages) = sent_after now messages
@@ -112,6 +119,7 @@ abbrev pub outs_by : Now → Result Change Refusal → List Out
 outs_by now (Ok change) = outs_of now change
 outs_by now (Err refusal) = []
 
+-- the same, of an event
 abbrev pub tells : Terms → World → Event → List Out
 tells terms world event = outs_by world.now (change_of terms world.now event)
 

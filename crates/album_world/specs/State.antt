@@ -24,6 +24,7 @@ message_of messages (suc index) = slice_get messages index
 
 -- ---- partitions
 
+-- the marks of a partition, if it is there
 abbrev pub marks_of : Option PartitionState → List Mark
 marks_of None = []
 marks_of (Some partition) = partition.marks

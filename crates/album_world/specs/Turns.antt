@@ -66,10 +66,11 @@ still client =
 abbrev pub sends : Client → List Message → Turn
 sends client messages = record (still client) { sent = messages }
 
--- a read of the items begins, in the round behind that of the tag
+-- the client asks the partitions under this tag
 abbrev pub asker_at : Terms → Client → ℕ → Asker
 asker_at terms client tag = record { client = client.number; tag = tag; parts = terms.parts }
 
+-- a read of the items begins, in the round behind that of the tag
 abbrev pub read_begins : Terms → Client → ℕ → Asking → List ℕ → Turn
 read_begins terms client tag asking items =
     record (still (record client { doing = Reads asking (first_round (asker_at terms client (tag + 1)) items) })) {
@@ -111,6 +112,7 @@ abbrev pub draws_by : Terms → Client → ℕ → PermitState → Result ℕ Re
 draws_by terms client tag permit (Ok stamp) = writes_unless terms client tag permit stamp (is_full_for permit stamp)
 draws_by terms client tag permit (Err refusal) = ask_ends client tag (answer.Refused refusal)
 
+-- a stamp is drawn from the client's clock
 abbrev pub draws : Terms → Client → ℕ → PermitState → Turn
 draws terms client tag permit =
     draws_by terms (record client { clock = clock_after_next client.clock }) tag permit (next_of client.clock)
