@@ -28,16 +28,16 @@ ghost use Rattle.album_world.specs.declared.events.Event.TheVariants as Event;
 ghost use Rattle.album_world.specs.declared.outs.Answer.{Answer as Answered};
 ghost use Rattle.album_world.specs.declared.outs.Out.TheVariants as Told;
 
-/// A law: rulings hold. Each answer Served, Denied, Missing, Committed, Aborted, Unsettled or Refused, and each note, is
-/// what the written policy says of the closed view that its client had read last: of that view's lists, owners and
-/// groups, with the policy that the opening names.
+/// A law: rulings hold. Each answer Served, Denied, Missing, Committed, Aborted, Unsettled or Refused, and each
+/// note, is what the written policy says of the closed view that its client had read last: of that view's lists,
+/// owners and groups, with the policy that the opening names.
 pub fn rulings_hold()
     ensures { (opening : Opening) (events : List Happening) → is_opening opening ≡ true
         → RulingsHold (terms_of opening) (run_of opening events) }
 {}
 
-/// A law: the written policy finds one thing of a view. So what is granted is never denied, and what is denied is never
-/// granted.
+/// A law: the written policy finds one thing of a view. So what is granted is never denied, and what is denied is
+/// never granted.
 pub fn one_finding_of_a_view()
     ensures { (case : PermitState) (one other : Finding) → Finds case one → Finds case other → one ≡ other }
 {}
@@ -48,45 +48,46 @@ pub fn what_is_served_is_what_is_asked()
         → served_for permit permit.view.ask ≡ Some served → IsServed permit served }
 {}
 
-/// A law: writes are granted. Each write that a client began, it began on a closed view whose ruling is Granted, and
-/// wrote just its effect, at a stamp greater than all that it saw; each version that a partition has is of just one of
-/// these writes.
+/// A law: writes are granted. Each write that a client began, it began on a closed view whose ruling is Granted,
+/// and wrote just its effect, at a stamp greater than all that it saw; each version that a partition has is of
+/// just one of these writes.
 pub fn writes_are_granted()
     ensures { (opening : Opening) (events : List Happening) → is_opening opening ≡ true
         → WritesAreGranted (terms_of opening) (run_of opening events) }
 {}
 
-/// A law: views are read atomic, and so is every snapshot that a client finishes. No pair fractures it, and each value
-/// is what a committed write wrote at its stamp, or the opening's.
+/// A law: views are read atomic, and so is every snapshot that a client finishes. No pair fractures it, and each
+/// value is what a committed write wrote at its stamp, or the opening's.
 pub fn views_are_read_atomic()
     ensures { (opening : Opening) (events : List Happening) → is_opening opening ≡ true
         → ViewsAreReadAtomic opening (run_of opening events) }
 {}
 
-/// A law: views are fresh. Each item's stamp is at least that of every write that its partition had committed before the
-/// event that began the view's read.
+/// A law: views are fresh. Each item's stamp is at least that of every write that its partition had committed
+/// before the event that began the view's read.
 pub fn views_are_fresh()
     ensures { (opening : Opening) (events : List Happening) → is_opening opening ≡ true
         → ViewsAreFresh (terms_of opening) (run_of opening events) }
 {}
 
-/// A law: outcomes are true. What was answered Committed is committed everywhere; what was answered Aborted is promised
-/// against, and what was answered Unsettled was refused by a full partition: neither is committed by any partition, or
-/// read by anyone, however the run goes on. Refused comes only where the album is full or the clock is spent.
+/// A law: outcomes are true. What was answered Committed is committed everywhere; what was answered Aborted is
+/// promised against, and what was answered Unsettled was refused by a full partition: neither is committed by any
+/// partition, or read by anyone, however the run goes on. Refused comes only where the album is full or the clock
+/// is spent.
 pub fn outcomes_are_true()
     ensures { (opening : Opening) (events : List Happening) → is_opening opening ≡ true
         → OutcomesAreTrue (terms_of opening) (run_of opening events) }
 {}
 
-/// A law: busy has its cause. Wide only where the names of a finished read are too many; Rounds only where the last read
-/// that an ask may have was answered Gone, or is not closed and its names are not too many.
+/// A law: busy has its cause. Wide only where the names of a finished read are too many; Rounds only where the
+/// last read that an ask may have was answered Gone, or is not closed and its names are not too many.
 pub fn busy_has_its_cause()
     ensures { (opening : Opening) (events : List Happening) → is_opening opening ≡ true
         → BusyHasItsCause (run_of opening events) }
 {}
 
-/// A law: what an event tells is in the past of the world after it, with the read that the client had made last. So each
-/// of the promises is one about what events tell.
+/// A law: what an event tells is in the past of the world after it, with the read that the client had made last.
+/// So each of the promises is one about what events tell.
 pub fn what_is_told_is_in_the_past()
     ensures answers { (terms : Terms) (world : World) (event : Happening) (client : ℕ) (answer : Answered)
         → Contains (tells terms world event) (Told.Answered client answer)

@@ -1,10 +1,11 @@
 //! The store as one machine: partitions, clients and the messages between them, and what each event does.
 //!
-//! What comes in: an opening, and then events: asks of clients, messages that are delivered, sweeps, stops and trims, in
-//! whatever order. What goes out: the numbers of messages that are sent, notes, and the answers to asks.
+//! What comes in: an opening, and then events: asks of clients, messages that are delivered, sweeps, stops and
+//! trims, in whatever order. What goes out: the numbers of messages that are sent, notes, and the answers to
+//! asks.
 //!
-//! Read `events` and `outs` first, then specs/, in the order of specs/Lib.antt: what a world keeps, what a client does at
-//! one event, what an event changes, and then what is promised of every run. `laws` has the promises.
+//! Read `events` and `outs` first, then specs/, in the order of specs/Lib.antt: what a world keeps, what a client
+//! does at one event, what an event changes, and then what is promised of every run. `laws` has the promises.
 #![tactic(auto)]
 
 // What happens, and what is told of it.
