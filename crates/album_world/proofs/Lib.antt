@@ -19,3 +19,4 @@ pub mod PromiseLemmas
 pub mod EventLemmas
 pub mod TidyLemmas
 pub mod WorldRows
+pub mod MoveLemmas

@@ -21,7 +21,7 @@ use Rattle.album_writer.specs.Rounds.{prepare_stepped, commit_stepped}
 use Rattle.album_world.specs.declared.events.Event.{Event}
 use Rattle.album_world.specs.declared.events.Event.TheVariants as event
 use Rattle.album_world.specs.Terms.{Terms}
-use Rattle.album_world.specs.declared.clients.Client.{Client}
+use Rattle.album_world.specs.Clients.{Client}
 use Rattle.album_world.specs.declared.clients.Doing.{Doing}
 use Rattle.album_world.specs.declared.clients.Doing.TheVariants.{Idle, Reads, Prepares, Commits}
 use Rattle.album_world.specs.State.{Now, message_of, client_at, is_stopped}

@@ -1,4 +1,5 @@
 pub mod Terms
+pub mod Askings
 pub mod Clients
 pub mod State
 pub mod Past
@@ -6,6 +7,7 @@ pub mod Grants
 pub mod Turns
 pub mod Changes
 pub mod Runs
+pub mod Moves
 pub mod Committing
 pub mod Atomic
 pub mod Fresh

@@ -12,8 +12,18 @@
 mod events;
 mod outs;
 
-// What a world is made of.
+// What is fixed, and what a world is made of.
+mod askings;
 mod clients;
+mod terms;
+
+// What a client does at one event.
+mod moves;
+mod reads;
+mod rulings;
+mod telling;
+mod turns;
+mod writes;
 
 // What holds of every run.
 mod laws;
