@@ -406,3 +406,73 @@ pub rules_done : (terms : Terms) (x y : Client) (tag : ℕ) (who : Principal) (v
     → IsMoved (rules terms x tag who view) moved
 rules_done terms x y tag who view ruled moved ruling at is =
     rw (at, ruled_is terms.policy who view ruled ruling, noted_is terms.policy who view ruled ruling) at is
+
+-- nothing is noted in a write
+unnoted_prepare : (x : Client) (tag : ℕ) (f : WriteStep) → (prepare_turn x tag f).noted ≡ None
+unnoted_prepare x tag (Waits writing) = refl
+unnoted_prepare x tag (Decides writing messages) = refl
+unnoted_prepare x tag (Ends outcome) = refl
+
+unnoted_commit : (x : Client) (tag : ℕ) (f : WriteStep) → (commit_turn x tag f).noted ≡ None
+unnoted_commit x tag (Waits writing) = refl
+unnoted_commit x tag (Decides writing messages) = refl
+unnoted_commit x tag (Ends outcome) = refl
+
+-- a turn in which nothing is noted
+untold_is : (before one : ℕ) (x new : Client) (turn : Turn) (moved : Moved) (outs : List Out) → one ≡ x.number
+    → turn.noted ≡ None → IsMoved turn moved → new ≡ moved.client
+    → outs
+    ≡ numbers_after before (length moved.sent.items) ++ option_to_list (option_map (out.Answered one) moved.answer)
+    → IsTurned before x.number turn new moved.sent.items outs
+untold_is before one x new turn moved outs same none is now e = record {
+  client = now ∙ is.client;
+  sent_is = is.sent;
+  told = rw (none, ← same, ← is.sent, ← is.answer) e;
+}
+
+-- it has taken a message in a write
+pub write_done : (before one : ℕ) (terms : Terms) (x new : Client) (d : Doing) (message : Message) (moved : Moved)
+    (outs : List Out) → one ≡ x.number → is_writing x.doing ≡ true
+    → IsMoved (write_turn (record x { doing = d }) message x.doing) moved → new ≡ moved.client
+    → outs
+    ≡ numbers_after before (length moved.sent.items) ++ option_to_list (option_map (out.Answered one) moved.answer)
+    → IsChangedBy before x (client_takes_by terms x.number x message x.doing) new moved.sent.items outs
+write_done before one terms x new d message moved outs same writes is now e = go x.doing writes is
+  where
+    go : (f : Doing) → is_writing f ≡ true → IsMoved (write_turn (record x { doing = d }) message f) moved
+        → IsChangedBy before x (client_takes_by terms x.number x message f) new moved.sent.items outs
+    go (doing.Idle tag) w i = absurd (cc)
+    go (doing.Reads asking round) w i = absurd (cc)
+    go (doing.Prepares writing) w i =
+        let step = prepare_stepped writing message in
+        (refl, untold_is before one x new (prepare_turn x writing.tag step) moved outs same
+        (unnoted_prepare x writing.tag step)
+        (subst (λ (t : Turn). IsMoved t moved) (same_prepare terms x d writing.tag step) i) now e)
+    go (doing.Commits writing) w i =
+        let step = commit_stepped writing message in
+        (refl, untold_is before one x new (commit_turn x writing.tag step) moved outs same
+        (unnoted_commit x writing.tag step)
+        (subst (λ (t : Turn). IsMoved t moved) (same_commit terms x d writing.tag step) i) now e)
+
+-- and is the same client
+pub write_number : (x : Client) (d : Doing) (message : Message) (moved : Moved) → is_writing x.doing ≡ true
+    → IsMoved (write_turn (record x { doing = d }) message x.doing) moved → moved.client.number ≡ x.number
+write_number x d message moved writes is = go x.doing writes is
+  where
+    go : (f : Doing) → is_writing f ≡ true → IsMoved (write_turn (record x { doing = d }) message f) moved
+        → moved.client.number ≡ x.number
+    go (doing.Idle tag) w i = absurd (cc)
+    go (doing.Reads asking round) w i = absurd (cc)
+    go (doing.Prepares writing) w i =
+        ap (λ (y : Client). y.number) i.client
+        ∙ number_prepare (record x { doing = d }) writing.tag (prepare_stepped writing message)
+    go (doing.Commits writing) w i =
+        ap (λ (y : Client). y.number) i.client
+        ∙ number_commit (record x { doing = d }) writing.tag (commit_stepped writing message)
+
+-- it has taken a message that ends the round of its read
+pub read_done : (before : ℕ) (terms : Terms) (x new : Client) (asking : Asking) (round : RoundState) (message : Message)
+    (sent : List Message) (outs : List Out) → x.doing ≡ doing.Reads asking round
+    → IsTurned before x.number (read_turn terms x round.asker.tag asking (stepped round message)) new sent outs
+    → IsChangedBy before x (client_takes_by terms x.number x message x.doing) new sent outs
+read_done before terms x new asking round message sent outs does is = rw does (refl, is)
