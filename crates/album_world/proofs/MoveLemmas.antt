@@ -1,6 +1,6 @@
 -- What a client becomes is what the model has of it: for the reads (`readable_gone`, `taken_again`, `taken_stepped`), the
 -- rulings (`ruled_is`, `served_only`, `writes_unserved`), the writes, and the two entrances (`read_done`, `write_done`).
-use Rattle.std.proofs.Common.{◌≡◌, ℕ, ◌≤◌, ◌+◌, ◌<◌, ◌^◌, Bool, true, false, not, nat_le, nat_lt, List, [], ◌∷◌, length, map, Option, Some, None, is_some, Result, Ok, Err, refl, sym, ap, ◌∙◌, subst, arith, true≢false, unwrap_or, option_map, option_to_list, ◌++◌, Vec, Global, IsOkAnd, if◌then◌else◌}
+use Rattle.std.proofs.Common.{◌≡◌, ℕ, ◌≤◌, ◌+◌, ◌<◌, ◌^◌, Bool, true, false, not, nat_le, nat_lt, List, [], ◌∷◌, length, map, Option, Some, None, is_some, Result, Ok, Err, refl, sym, ap, ◌∙◌, subst, arith, true≢false, unwrap_or, option_map, option_to_list, ◌++◌, Vec, Global, IsOkAnd, IfOk, OnErr, if◌then◌else◌}
 use Rattle.std.specs.Option.{option_map_or}
 use Rattle.std.proofs.lemmas.List.{length-map}
 use Rattle.album_stamps.specs.Clocks.{ClockState, clock_after_see, clock_after_next, next_of}
@@ -476,3 +476,21 @@ pub read_done : (before : ℕ) (terms : Terms) (x new : Client) (asking : Asking
     → IsTurned before x.number (read_turn terms x round.asker.tag asking (stepped round message)) new sent outs
     → IsChangedBy before x (client_takes_by terms x.number x message x.doing) new sent outs
 read_done before terms x new asking round message sent outs does is = rw does (refl, is)
+
+-- where the round of a copy has ended, so has the reading's own
+pub read_moved : (terms : Terms) (x y : Client) (d : Doing) (asking : Asking) (round copy : RoundState)
+    (message : Message) (moved : Moved) → y ≡ record x { doing = d } → copy ≡ round
+    → IsMoved (read_turn terms y copy.asker.tag asking (stepped copy message)) moved
+    → IsMoved (read_turn terms x round.asker.tag asking (stepped round message)) moved
+read_moved terms x y d asking round copy message moved at same is =
+    subst (λ (t : Turn). IsMoved t moved) (same_read terms x d round.asker.tag asking (stepped round message))
+    (rw (at, same) at is)
+
+-- and it is the same client, also where it is refused
+pub read_number : {T : Type 0} (r : Result T Refusal) (before : ℕ) (terms : Terms) (x new : Client) (asking : Asking)
+    (tag : ℕ) (step : ReadStep) (sent : T → List Message) (outs : T → List Out)
+    → IfOk r (λ v. IsTurned before x.number (read_turn terms x tag asking step) new (sent v) (outs v))
+    → OnErr r (new ≡ x) → new.number ≡ x.number
+read_number (Ok v) before terms x new asking tag step sent outs turned kept =
+    ap (λ (y : Client). y.number) turned.client ∙ number_read terms x tag asking step
+read_number (Err e) before terms x new asking tag step sent outs turned kept = ap (λ (y : Client). y.number) kept
