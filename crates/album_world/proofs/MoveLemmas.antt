@@ -1,6 +1,6 @@
 -- What a client becomes is what the model has of it: for the reads (`readable_gone`, `taken_again`, `taken_stepped`), the
 -- rulings (`ruled_is`, `served_only`, `writes_unserved`), the writes, and the two entrances (`read_done`, `write_done`).
-use Rattle.std.proofs.Common.{◌≡◌, ℕ, ◌≤◌, ◌+◌, ◌<◌, ◌^◌, Bool, true, false, not, nat_le, nat_lt, List, [], ◌∷◌, length, map, Option, Some, None, is_some, Result, Ok, Err, refl, sym, ap, ◌∙◌, subst, arith, true≢false, unwrap_or, option_map, option_to_list, ◌++◌, Vec, Global, IsOkAnd, IfOk, OnErr, if◌then◌else◌}
+use Rattle.std.proofs.Common.{◌≡◌, ℕ, ◌≤◌, ◌+◌, Bool, true, false, nat_le, nat_lt, List, [], ◌∷◌, length, map, Option, Some, None, Result, Ok, Err, refl, sym, ap, ◌∙◌, subst, arith, true≢false, option_map, option_to_list, ◌++◌, IsOkAnd, IfOk, OnErr, if◌then◌else◌}
 use Rattle.std.specs.Option.{option_map_or}
 use Rattle.std.proofs.lemmas.List.{length-map}
 use Rattle.album_stamps.specs.Clocks.{ClockState, clock_after_see, clock_after_next, next_of}
@@ -10,9 +10,8 @@ use Rattle.album_stamps.specs.declared.refusals.Refusal.TheVariants as refusal
 use Rattle.album_calls.specs.declared.messages.Message.{Message}
 use Rattle.album_eval.specs.declared.facts.Principal.{Principal}
 use Rattle.album_eval.specs.declared.policies.Policy.{Policy}
-use Rattle.album_items.specs.Places.{places_of}
-use Rattle.album_reader.specs.Answers.{Asker, Answer as Row, answers_there, are_there, whole}
-use Rattle.album_reader.specs.Rounds.{RoundState, first_round, second_round, next_asker, get_of, gets_of, new_answer, with_answer, end_by, end_of, outcome, taken, is_gone, is_end, stepped, IsOpen}
+use Rattle.album_reader.specs.Answers.{Asker, Answer as Row, answers_there, are_there}
+use Rattle.album_reader.specs.Rounds.{RoundState, next_asker, get_of, gets_of, new_answer, with_answer, end_by, end_of, outcome, taken, is_gone, stepped, IsOpen}
 use Rattle.album_reader.specs.Rounds.{Step as ReadStep}
 use Rattle.album_reader.specs.Rounds.Step.{Same, Next, Done, Gone}
 use Rattle.album_reader.specs.StampSets.{stamps_of}
@@ -45,7 +44,7 @@ use Rattle.album_permits.proofs.Agreeing.{ruling-alike, notes-alike}
 use Rattle.album_permits.proofs.Spending.{served-alike}
 use Rattle.album_writer.specs.Rounds.{WriteStep, prepares_by, prepares_left, commits_by, commits_left, prepare_stepped, commit_stepped}
 use Rattle.album_writer.specs.Rounds.WriteStep.{Waits, Commits as Decides, Ends}
-use Rattle.album_writer.specs.Writing.{WritingState, places_in, prepare_to, prepares_of, commit_to, commits_of, commit_round}
+use Rattle.album_writer.specs.Writing.{WritingState, places_in, prepare_to, prepares_of, commit_to, commit_round}
 use Rattle.album_writer.specs.Told.{told_of}
 use Rattle.album_writer.specs.declared.told.Told.{Told}
 use Rattle.album_writer.specs.declared.told.Told.TheVariants as told
@@ -59,10 +58,9 @@ use Rattle.album_world.specs.Terms.{Terms}
 use Rattle.album_world.specs.Askings.{Asking}
 use Rattle.album_world.specs.Clients.{Client}
 use Rattle.album_world.specs.Grants.{served_for}
-use Rattle.album_world.specs.Turns.{Turn, read_begins, ask_ends, writes_unless, draws_by, draws, grants, rules_by, rules_on, rules, clock_after_rows, views_by, read_ends, read_turn, prepare_turn, commit_turn}
-use Rattle.album_world.specs.Changes.{Change, asks_by, client_takes_by}
-use Rattle.album_world.specs.Changes.Change.{Nothing, AtPart, AtClient, Stops}
-use Rattle.album_world.specs.Moves.{IsMoved, IsTurned, IsChangedBy, IsTakenOf, idle_tag, is_writing, room_of, write_turn}
+use Rattle.album_world.specs.Turns.{Turn, read_begins, writes_unless, draws_by, grants, rules_by, rules, clock_after_rows, views_by, read_turn, prepare_turn, commit_turn}
+use Rattle.album_world.specs.Changes.{asks_by, client_takes_by}
+use Rattle.album_world.specs.Moves.{IsMoved, IsTurned, IsChangedBy, IsTakenOf, idle_tag, is_writing, write_turn}
 use Rattle.album_world.specs.Runs.{numbers_after, outs_of_turn}
 use Rattle.album_world.proofs.GrantLemmas.{served_is, unserved_writes}
 
@@ -444,15 +442,19 @@ write_done before one terms x new d message moved outs same writes is now e = go
     go (doing.Idle tag) w i = absurd (cc)
     go (doing.Reads asking round) w i = absurd (cc)
     go (doing.Prepares writing) w i =
-        let step = prepare_stepped writing message in
-        (refl, untold_is before one x new (prepare_turn x writing.tag step) moved outs same
-        (unnoted_prepare x writing.tag step)
-        (subst (λ (t : Turn). IsMoved t moved) (same_prepare terms x d writing.tag step) i) now e)
+        let step = prepare_stepped writing message in (
+          refl,
+          untold_is before one x new (prepare_turn x writing.tag step) moved outs same
+              (unnoted_prepare x writing.tag step)
+              (subst (λ (t : Turn). IsMoved t moved) (same_prepare terms x d writing.tag step) i) now e,
+        )
     go (doing.Commits writing) w i =
-        let step = commit_stepped writing message in
-        (refl, untold_is before one x new (commit_turn x writing.tag step) moved outs same
-        (unnoted_commit x writing.tag step)
-        (subst (λ (t : Turn). IsMoved t moved) (same_commit terms x d writing.tag step) i) now e)
+        let step = commit_stepped writing message in (
+          refl,
+          untold_is before one x new (commit_turn x writing.tag step) moved outs same
+              (unnoted_commit x writing.tag step)
+              (subst (λ (t : Turn). IsMoved t moved) (same_commit terms x d writing.tag step) i) now e,
+        )
 
 -- and is the same client
 pub write_number : (x : Client) (d : Doing) (message : Message) (moved : Moved) → is_writing x.doing ≡ true

@@ -45,7 +45,12 @@ impl Place {
     }
 
     /// What a message does in a read.
-    pub fn reads(self, asking: &Asking, reading: Reading, message: &Message) -> Result<Moved, Refusal>
+    pub fn reads(
+        self,
+        asking: &Asking,
+        reading: Reading,
+        message: &Message,
+    ) -> Result<Moved, Refusal>
         ensures moved { IfOk result (IsMoved (read_turn self.terms (client_of self) reading.asker.tag asking.now
             (stepped reading message.now))) }
         ensures memory { IsOkUnless result Refusal.OutOfMemory }

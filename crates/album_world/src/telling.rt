@@ -32,13 +32,7 @@ pub fn outs_of(
 }
 
 /// Tells so many messages by their numbers, and then the answer. There is room for them.
-pub fn tell(
-    outs: &mut Vec<Out>,
-    before: u64,
-    number: ClientNo,
-    sent: usize,
-    answer: Option<Answer>,
-)
+pub fn tell(outs: &mut Vec<Out>, before: u64, number: ClientNo, sent: usize, answer: Option<Answer>)
     requires many { before < 2 ^ 63 }
     requires few { sent ≤ MOST_READ_ITEMS }
     requires room { vec_len outs.old + sent + 1 ≤ vec_capacity outs.old }

@@ -77,7 +77,9 @@ impl Client {
             Doing::Reads(asking, reading) => {
                 if reading.is_ended_by(message) {
                     // A reading whose round ends is copied, since nothing may have changed where memory runs out.
-                    let moved = self.place(alloc, terms).reads(asking, reading.copy()?, message)?;
+                    let moved = self
+                        .place(alloc, terms)
+                        .reads(asking, reading.copy()?, message)?;
                     self.turn(alloc, before, moved)
                 } else {
                     self.reads_on(message)?;

@@ -1,4 +1,3 @@
-use Rattle.std.proofs.Common.{arith, length, ap}
 use Rattle.album_world.specs.Moves.{client_of}
 use Rattle.album_world.proofs.MoveLemmas.{few_prepared, none_committed}
 use Rattle.album_world.proofs.moves.Place.writes.Goals as goal
