@@ -1,5 +1,6 @@
--- What a client becomes is what the model has of it: for the reads (`readable_gone`, `taken_again`, `taken_stepped`), the
--- rulings (`ruled_is`, `served_only`, `writes_unserved`), the writes, and the two entrances (`read_done`, `write_done`).
+-- What a client becomes is what the model has of it: for its reads (`few_next`, `readable_gone`, `taken_stepped`), its
+-- rulings (`rules_done`, `served_only`), its writes (`few_prepares`, `just_commits`), and the two entrances (`asked_done`,
+-- `read_done`, `write_done`).
 use Rattle.std.proofs.Common.{◌≡◌, ℕ, ◌≤◌, ◌+◌, Bool, true, false, nat_le, nat_lt, List, [], ◌∷◌, length, map, Option, Some, None, Result, Ok, Err, refl, sym, ap, ◌∙◌, subst, arith, true≢false, option_map, option_to_list, ◌++◌, IsOkAnd, IfOk, OnErr, if◌then◌else◌}
 use Rattle.std.specs.Option.{option_map_or}
 use Rattle.std.proofs.lemmas.List.{length-map}
@@ -68,7 +69,8 @@ use Rattle.album_world.proofs.GrantLemmas.{served_is, unserved_writes}
 
 module _ (viewing : ViewingState) (principal : Principal) where
   -- the same is asked of the same
-  pub taken_again : (items : List ℕ) → refusal_of viewing.ask principal ≡ None → IsTakenOf principal (again viewing items)
+  pub taken_again : (items : List ℕ) → refusal_of viewing.ask principal ≡ None
+      → IsTakenOf principal (again viewing items)
   taken_again items taken = go (nat_le MOST_READS (viewing.reads + 1))
     where
       go :
@@ -77,7 +79,8 @@ module _ (viewing : ViewingState) (principal : Principal) where
       go true = tt
       go false = taken
 
-  pub taken_stepped : (rows : List Row) → refusal_of viewing.ask principal ≡ None → IsTakenOf principal (viewed viewing rows)
+  pub taken_stepped : (rows : List Row) → refusal_of viewing.ask principal ≡ None
+      → IsTakenOf principal (viewed viewing rows)
   taken_stepped rows taken = go (is_closed viewing.ask rows)
     where
       by :
@@ -89,7 +92,9 @@ module _ (viewing : ViewingState) (principal : Principal) where
       go :
           (b : Bool)
           → IsTakenOf principal
-          (if b then Closed (record { ask = viewing.ask; rows = rows }) else unclosed viewing (names_of rows viewing.ask))
+          (if b
+          then Closed (record { ask = viewing.ask; rows = rows })
+          else unclosed viewing (names_of rows viewing.ask))
       go true = taken
       go false = by (nat_lt MOST_READ_ITEMS (length (names_of rows viewing.ask)))
 
@@ -97,7 +102,8 @@ module _ (viewing : ViewingState) (principal : Principal) where
 pub readable_again : (viewing : ViewingState) (items : List ℕ) → AreReadable items → AsksReadable (again viewing items)
 readable_again viewing items readable = go (nat_le MOST_READS (viewing.reads + 1))
   where
-    go : (b : Bool) → AsksReadable (if b then Busy Rounds else Again (record viewing { reads = viewing.reads + 1 }) items)
+    go : (b : Bool)
+        → AsksReadable (if b then Busy Rounds else Again (record viewing { reads = viewing.reads + 1 }) items)
     go true = tt
     go false = readable
 
@@ -154,7 +160,8 @@ pub few_next : (round next : RoundState) (message : Message) (messages : List Me
     → stepped round message ≡ Next next messages → length messages ≤ MOST_READ_ITEMS
 few_next round next message messages is e = subst (AreFew MOST_READ_ITEMS) e (few_stepped round message is.few)
 
-pub few_prepares : (writing : WritingState) → writing.parts ≤ MOST_PARTS → length (prepares_of writing) ≤ MOST_READ_ITEMS
+pub few_prepares : (writing : WritingState) → writing.parts ≤ MOST_PARTS
+    → length (prepares_of writing) ≤ MOST_READ_ITEMS
 few_prepares writing few =
     let places : length (places_in writing) ≤ MOST_PARTS = few_places writing.parts _ few in
     omega (arith, places, length-map (places_in writing) (prepare_to writing))
@@ -231,24 +238,9 @@ served_only permit given reads is = go (served_for permit permit.view.ask) refl
   where
     go : (f : Option Served) → served_for permit permit.view.ask ≡ f → f ≡ Some given
     go (Some more) e =
-        ap Some (served-alike permit.policy permit.principal permit.view.ask permit.view.rows permit.view.rows more given
-        (record { same = λ item named. refl }) (served_is permit permit.view.ask refl more e) is)
+        ap Some (served-alike permit.policy permit.principal permit.view.ask permit.view.rows permit.view.rows more
+        given (record { same = λ item named. refl }) (served_is permit permit.view.ask refl more e) is)
     go None e = absurd (true≢false (sym (unserved_writes permit permit.view.ask e) ∙ reads))
-
--- and what writes is served nothing
-pub writes_unserved : (permit : PermitState) (a : Ask) → is_write a ≡ true → served_for permit a ≡ None
-writes_unserved permit (ask.Read object) e = absurd (cc)
-writes_unserved permit (ask.List album) e = absurd (cc)
-writes_unserved permit (ask.GetList object) e = absurd (cc)
-writes_unserved permit (ask.AddPicture album title content) e = refl
-writes_unserved permit (ask.AddAlbum album title) e = refl
-writes_unserved permit (ask.Retitle object title) e = refl
-writes_unserved permit (ask.Replace object content) e = refl
-writes_unserved permit (ask.Delete object) e = refl
-writes_unserved permit (ask.Move object to) e = refl
-writes_unserved permit (ask.SetLists lists) e = refl
-writes_unserved permit (ask.SetOwner object owner group) e = refl
-writes_unserved permit (ask.SetMembers object members) e = refl
 
 -- why a write doesn't begin
 pub full_told : (b : Bool) → refusal.AlbumFull ≡ (if b then refusal.AlbumFull else refusal.OutOfMemory) → b ≡ true
@@ -259,11 +251,6 @@ pub memory_told : (b : Bool) (why : Refusal) → why ≡ (if b then refusal.Albu
     → (why ≡ refusal.AlbumFull → ⊥) → why ≡ refusal.OutOfMemory
 memory_told true why e other = absurd (other e)
 memory_told false why e other = e
-
--- the clock stays the client's
-pub clock_own : (clock : ClockState) (rows : List Row) → (clock_after_rows clock rows).client ≡ clock.client
-clock_own clock [] = refl
-clock_own clock (row ∷ rows) = clock_own (clock_after_see clock row.stamp) rows
 
 -- ---- what a client did doesn't matter to what it does next
 
@@ -353,7 +340,8 @@ module _ (terms : Terms) (x : Client) where
       number_rules (clock_after_rows x.clock view.rows) tag _ (ruling_of (basis_on terms.policy who view.rows) view.ask)
   number_views tag who (Busy why) = refl
 
-  pub number_read : (tag : ℕ) (asking : Asking) (f : ReadStep) → (read_turn terms x tag asking f).client.number ≡ x.number
+  pub number_read : (tag : ℕ) (asking : Asking) (f : ReadStep)
+      → (read_turn terms x tag asking f).client.number ≡ x.number
   number_read tag asking (Same round) = refl
   number_read tag asking (Next round messages) = refl
   number_read tag asking (Done rows) = number_views tag asking.principal (viewed asking.viewing rows)
@@ -372,7 +360,8 @@ number_commit x tag (Ends outcome) = refl
 -- ---- the two entrances
 
 -- all that is told of what it has moved to
-pub told_is : (before one number : ℕ) (turn : Turn) (moved : Moved) (outs : List Out) → one ≡ number → IsMoved turn moved
+pub told_is : (before one number : ℕ) (turn : Turn) (moved : Moved) (outs : List Out) → one ≡ number
+    → IsMoved turn moved
     → outs
     ≡ map (out.Noted one) moved.notes.items
     ++ (numbers_after before (length moved.sent.items) ++ option_to_list (option_map (out.Answered one) moved.answer))
@@ -386,8 +375,8 @@ idle_is (doing.Prepares writing) other e = absurd (cc)
 idle_is (doing.Commits writing) other e = absurd (cc)
 
 -- it has asked
-pub asked_done : (before : ℕ) (terms : Terms) (x new : Client) (who : Principal) (a : Ask) (tag : ℕ) (sent : List Message)
-    (outs : List Out) → idle_tag x.doing ≡ Some tag → refusal_of a who ≡ None
+pub asked_done : (before : ℕ) (terms : Terms) (x new : Client) (who : Principal) (a : Ask) (tag : ℕ)
+    (sent : List Message) (outs : List Out) → idle_tag x.doing ≡ Some tag → refusal_of a who ≡ None
     → IsTurned before x.number
     (read_begins terms x tag (record { viewing = record { ask = a; reads = 0 }; principal = who }) (objects_of a))
     new sent outs

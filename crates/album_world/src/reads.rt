@@ -4,7 +4,6 @@ ghost use Rattle.album_reader.specs.Rounds.{stepped};
 ghost use Rattle.album_views.specs.Asks.{objects_of};
 ghost use Rattle.album_views.specs.Checks.{refusal_of};
 ghost use Rattle.album_views.specs.Steps.{AreReadable, AsksReadable};
-ghost use Rattle.album_world.specs.Askings.{IsTaken};
 ghost use Rattle.album_world.specs.Moves.{client_of, IsMoved, IsTakenOf};
 ghost use Rattle.album_world.specs.Turns.{read_begins, read_turn, views_by};
 

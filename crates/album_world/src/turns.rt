@@ -96,9 +96,8 @@ impl Client {
 }
 
 impl Client {
-    ghost use Rattle.std.specs.Prelude.{[], IsTrue};
+    ghost use Rattle.std.specs.Prelude.{[]};
     ghost use Rattle.album_stamps.specs.declared.limits.TheConstants.{MOST_PARTS};
-    ghost use Rattle.album_world.specs.Clients.{Client as State};
     ghost use Rattle.album_world.specs.Moves.{client_of, idle_tag, room_of, is_waiting, is_writing, IsMoved, IsTurned};
     ghost use Rattle.album_world.specs.Terms.{Terms as TheTerms};
     ghost use Rattle.album_world.specs.Turns.{Turn};

@@ -6,4 +6,5 @@ use Rattle.album_world.proofs.telling.outs_of.Goals as goal
 pub returns : goal.returns
 returns c =
     let all = take_all c.loop-note.note-index c.args.notes.now c.loop-note-test.false in
-    rw (c.tell.ensures, c.in_ok-reserve.ensures.items, c.loop-note.invariant.told, c.loop-note.invariant.answer, all) refl
+    let i = c.loop-note.invariant in
+    rw (c.tell.ensures, c.in_ok-reserve.ensures.items, i.told, i.answer, all) refl

@@ -18,6 +18,6 @@ returns-clause-done c =
     let clock = ap (λ (y : Client). y.clock) c.place.ensures.client in
     let is = rw (c.place.ensures.terms, number, clock) at c.in_ok-moved.ensures.moved in
     IfOk-weaker c.turn.result _ _ (λ r turned.
-    asked_done c.args.before c.args.terms x c.turn.new.self c.args.principal c.args.ask c.in_ok-tag.tag r.0.items r.1.items
-    idles c.in_ok-check.ensures.refusal turned)
+    asked_done c.args.before c.args.terms x c.turn.new.self c.args.principal c.args.ask c.in_ok-tag.tag r.0.items
+    r.1.items idles c.in_ok-check.ensures.refusal turned)
     (c.turn.ensures.turned (read_begins c.args.terms x c.in_ok-tag.tag asking (objects_of c.args.ask)) is)

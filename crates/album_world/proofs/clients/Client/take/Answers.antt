@@ -21,7 +21,8 @@ returns-in_ok-moved-in-Reads-clause-done c =
     read_moved c.args.terms x (client_of c.place.result) (doing.Idle 0) asking round c.in_ok-copy-in-Reads.field-0
     c.args.message.now c.in_ok-moved-in-Reads.moved c.place.ensures.client c.in_ok-copy-in-Reads.ensures.copy moved in
     IfOk-weaker c.turn.result _ _ (λ r turned.
-    read_done c.args.before c.args.terms x c.turn.new.self asking round c.args.message.now r.0.items r.1.items does turned)
+    read_done c.args.before c.args.terms x c.turn.new.self asking round c.args.message.now r.0.items r.1.items does
+    turned)
     (c.turn.ensures.turned (read_turn c.args.terms x round.asker.tag asking (stepped round c.args.message.now)) is)
 
 pub returns-in_ok-moved-in-Reads-clause-number : goal.returns-in_ok-moved-in-Reads-clause-number

@@ -11,5 +11,7 @@ returns-clause-turned c = λ turn is.
     record {
       client = c.becomes.ensures ∙ is.client;
       sent_is = is.sent;
-      told = told_is c.args.before _ c.args.self.now.number turn c.args.moved _ (ap (λ (x : Client). x.number) c.self.view_is) is outs;
+      told =
+          told_is c.args.before _ c.args.self.now.number turn c.args.moved _
+          (ap (λ (x : Client). x.number) c.self.view_is) is outs;
     }

@@ -13,8 +13,8 @@ returns-clause-done c =
     let is = rw (c.place-place.ensures.client, does) at c.writes-client.ensures.moved in
     let count : c.len.result ≡ length c.writes-client.result.sent.items = search rules in
     let outs = rw (c.in_ok-outs.ensures.items, count) at c.tell.ensures in
-    write_done c.args.before _ c.args.terms x c.becomes.new.self (doing.Idle 0) c.args.message.now c.writes-client.result
-    c.tell.new.outs.items (ap (λ (y : Client). y.number) c.self.view_is) c.requires.writing is c.becomes.ensures outs
+    write_done c.args.before _ c.args.terms x c.becomes.new.self (doing.Idle 0) c.args.message.now
+    c.writes-client.result c.tell.new.outs.items (ap (λ (y : Client). y.number) c.self.view_is) c.requires.writing is c.becomes.ensures outs
 
 pub returns-clause-number : goal.returns-clause-number
 returns-clause-number c =
