@@ -10,3 +10,4 @@ pub mod Json
 pub mod Entries
 pub mod Questions
 pub mod Texts
+pub mod Floats

@@ -5,16 +5,30 @@
 //! `values`. What is written is `output`.
 #![tactic(auto)]
 
+mod ask_shape;
+mod event_line;
+mod event_shape;
 mod fields;
+mod item_shapes;
 mod judge_line;
 mod judge_shape;
 mod lines;
+mod message_json;
 mod numbers;
+mod opening_line;
+mod opening_shape;
+mod out_json;
 mod output;
 mod shapes;
 mod trees;
+mod value_json;
 mod values;
 
+pub use event_line::read_event;
+pub use event_shape::{MOST_DELIVERIES, Spelled};
 pub use judge_line::{Group, JudgeLine, questions_by_line, read_judge};
 pub use lines::{LineIn, Lines, any_pieces, joined_lines};
+pub use opening_line::{OpeningLine, read_opening_line};
+pub use opening_shape::{DEFAULT_LIMIT, DEFAULT_POLICY, Header};
+pub use out_json::write_out;
 pub use output::{refusal_texts, verdict_texts, write_refusal, write_verdict};
