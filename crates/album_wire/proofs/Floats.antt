@@ -29,10 +29,10 @@ use Rattle.album_wire.specs.MessageJson.{write_json, request_json, reply_json, m
 use Rattle.album_wire.specs.OutJson.{note_json, row_json, at_json, reason_json, served_json, answer_json}
 use Rattle.album_wire.specs.declared.message_json.Envelope.{Envelope}
 
-in_list : {A : Type 0} (f : A → Data) → ((a : A) → has_float (f a) ≡ false) → (as : List A)
-    → items_have_float (items_of (map f as)) ≡ false
+in_list : {A : Type 0} (f : A → Data) → ((x : A) → has_float (f x) ≡ false) → (xs : List A)
+    → items_have_float (items_of (map f xs)) ≡ false
 in_list f none [] = refl
-in_list f none (a ∷ as) = rw (none a, in_list f none as) refl
+in_list f none (x ∷ xs) = rw (none x, in_list f none xs) refl
 
 in_items : (items : List ℕ) → items_have_float (items_of (map item_json items)) ≡ false
 in_items items = in_list item_json (λ i. refl) items

@@ -1,5 +1,5 @@
 -- Which events a line spells.
-use Rattle.std.specs.Prelude.{ℕ, suc, ◌-◌, List, [], ◌∷◌, Result, Ok, map}
+use Rattle.std.specs.Prelude.{ℕ, suc, ◌-◌, List, Result, Ok, map}
 use Rattle.std.specs.List.{range_with_len}
 use Rattle.std.specs.Option.{ok_or}
 use Rattle.album_stamps.specs.declared.refusals.Refusal.{Refusal}

@@ -1,5 +1,5 @@
 -- The shape of an event's line: its fields, each of its form, or a bad request.
-use Rattle.std.specs.Prelude.{ℕ, suc, ◌-◌, List, [], ◌∷◌, codes, nat_le, if◌then◌else◌, Option, Result, Ok}
+use Rattle.std.specs.Prelude.{ℕ, suc, ◌-◌, List, [], ◌∷◌, codes, nat_le, if◌then◌else◌, Result, Ok}
 use Rattle.std.specs.Option.{ok_or}
 use Rattle.serde_json.specs.Data.{Data}
 use Rattle.album_stamps.specs.declared.refusals.Refusal.{Refusal}

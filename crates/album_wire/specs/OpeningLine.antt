@@ -1,5 +1,5 @@
 -- What a line of an opening says: how the store is to be opened, an item with its first value, or that this is all.
-use Rattle.std.specs.Prelude.{ℕ, List, Result, Ok, map}
+use Rattle.std.specs.Prelude.{ℕ, List, Result, Ok}
 use Rattle.album_stamps.specs.declared.refusals.Refusal.{Refusal}
 use Rattle.album_stamps.specs.Outcome.{◌>>=◌}
 use Rattle.album_items.specs.declared.values.Head.{Head}

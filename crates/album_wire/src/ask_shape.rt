@@ -78,11 +78,7 @@ pub(crate) fn ask_shape<'a>(alloc: Global, value: &Value<'a>) -> Result<AskShape
     shape_by_word(alloc, word, value)
 }
 
-fn shape_by_word<'a>(
-    alloc: Global,
-    word: &str,
-    value: &Value<'a>,
-) -> Result<AskShape<'a>, Refusal>
+fn shape_by_word<'a>(alloc: Global, word: &str, value: &Value<'a>) -> Result<AskShape<'a>, Refusal>
     ensures { Gives spelled_ask result (shape_by_word word.now (value_data value.now)) }
 {
     match word {

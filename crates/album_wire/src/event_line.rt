@@ -21,11 +21,7 @@ use std::alloc::Global;
 /// Reads the line of an event: the events that it spells, or the first test that it fails. The scratch is room that is
 /// kept from line to line, whatever stood in it.
 #[tactic(auto, unfolding(crate::specs::EventLine::event_line_of))]
-pub fn read_event(
-    alloc: Global,
-    scratch: &mut Scratch,
-    bytes: &[u8],
-) -> Result<Spelled, Refusal>
+pub fn read_event(alloc: Global, scratch: &mut Scratch, bytes: &[u8]) -> Result<Spelled, Refusal>
     ensures { Gives (λ events. events) result (event_line_of bytes.now) }
 {
     let value = data(alloc, scratch, bytes)?;
@@ -36,7 +32,7 @@ pub fn read_event(
 /// Who asks, and then the fields of the ask, in their order.
 #[tactic(auto, unfolding(crate::specs::EventLine::event_read))]
 fn events_of(alloc: Global, shape: EventShape) -> Result<Spelled, Refusal>
-    ensures { Gives (λ events. events) result (event_read (spelled_event shape)) }
+    ensures { Gives (λ events. events) result (event_read (spelled_event shape.entry)) }
 {
     match shape {
         EventShape::Asked {
@@ -54,7 +50,7 @@ fn events_of(alloc: Global, shape: EventShape) -> Result<Spelled, Refusal>
 
 #[tactic(auto, unfolding(crate::specs::EventLine::ask_read))]
 fn ask_of(alloc: Global, shape: AskShape) -> Result<Ask, Refusal>
-    ensures { Gives (λ ask. ask) result (ask_read (spelled_ask shape)) }
+    ensures { Gives (λ ask. ask) result (ask_read (spelled_ask shape.entry)) }
 {
     match shape {
         AskShape::Read { object } => Ok(Ask::Read { object }),

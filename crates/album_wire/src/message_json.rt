@@ -43,8 +43,13 @@ fn request_json(alloc: Global, e: Envelope, request: &Request) -> Result<Value, 
     ensures { IfOk result (λ v. view v ≡ request_json e request.now) }
 {
     match request {
-        Request::Prepare(stamp, writes, items) =>
-            prepare_json(alloc, e, *stamp, writes.as_slice(), items.as_slice()),
+        Request::Prepare(stamp, writes, items) => prepare_json(
+            alloc,
+            e,
+            *stamp,
+            writes.as_slice(),
+            items.as_slice(),
+        ),
         Request::Commit(stamp) => stamped_json(alloc, e, "commit", *stamp),
         Request::Get(item, stamps) => get_json(alloc, e, *item, stamps.as_slice()),
         Request::Check(stamp) => stamped_json(alloc, e, "check", *stamp),
@@ -67,12 +72,7 @@ fn reply_json(alloc: Global, e: Envelope, reply: &Reply) -> Result<Value, AllocE
     }
 }
 
-fn get_json(
-    alloc: Global,
-    e: Envelope,
-    item: ItemId,
-    stamps: &[Stamp],
-) -> Result<Value, AllocError>
+fn get_json(alloc: Global, e: Envelope, item: ItemId, stamps: &[Stamp]) -> Result<Value, AllocError>
     ensures { IfOk result (λ v. view v ≡ get_json e item stamps.now) }
 {
     let from = node_text(alloc, e.from)?;
@@ -187,12 +187,7 @@ fn clash_json(alloc: Global, e: Envelope) -> Result<Value, AllocError>
 }
 
 /// What is said by a word and a stamp alone.
-fn stamped_json(
-    alloc: Global,
-    e: Envelope,
-    word: &str,
-    stamp: Stamp,
-) -> Result<Value, AllocError>
+fn stamped_json(alloc: Global, e: Envelope, word: &str, stamp: Stamp) -> Result<Value, AllocError>
     ensures { IfOk result (λ v. view v ≡ stamped_json e word.now stamp) }
 {
     let from = node_text(alloc, e.from)?;
@@ -240,10 +235,7 @@ fn stamps_json(alloc: Global, stamps: &[Stamp]) -> Result<Value, AllocError>
     Ok(Value::from(values))
 }
 
-fn writes_json(
-    alloc: Global,
-    writes: &[(ItemId, album_items::Value)],
-) -> Result<Value, AllocError>
+fn writes_json(alloc: Global, writes: &[(ItemId, album_items::Value)]) -> Result<Value, AllocError>
     ensures { IfOk result (λ v. view v ≡ writes_json writes.now) }
 {
     let mut values = Vec::with_capacity(alloc, writes.len())?;

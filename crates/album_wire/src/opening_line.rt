@@ -43,7 +43,7 @@ pub fn read_opening_line(
 
 #[tactic(auto, unfolding(crate::specs::OpeningLine::opening_read))]
 fn line_of(alloc: Global, shape: OpeningShape) -> Result<OpeningLine, Refusal>
-    ensures { Gives (λ line. line) result (opening_read (spelled_opening shape)) }
+    ensures { Gives (λ line. line) result (opening_read (spelled_opening shape.entry)) }
 {
     match shape {
         OpeningShape::Open(header) => Ok(OpeningLine::Open(header)),
@@ -55,7 +55,7 @@ fn line_of(alloc: Global, shape: OpeningShape) -> Result<OpeningLine, Refusal>
 /// The values of the fields, in their order.
 #[tactic(auto, unfolding(crate::specs::OpeningLine::value_read))]
 fn value_of(alloc: Global, shape: ValueShape) -> Result<Value, Refusal>
-    ensures { Gives (λ value. value) result (value_read (spelled_value shape)) }
+    ensures { Gives (λ value. value) result (value_read (spelled_value shape.entry)) }
 {
     match shape {
         ValueShape::Picture {
@@ -109,7 +109,7 @@ fn value_of(alloc: Global, shape: ValueShape) -> Result<Value, Refusal>
 
 /// The head with this owner.
 fn head_with(shape: HeadShape, owner: Name) -> Head
-    ensures { result ≡ head_with (spelled_head shape) owner }
+    ensures { result ≡ head_with (spelled_head shape.entry) owner }
 {
     Head {
         owner,

@@ -26,8 +26,9 @@ use std::alloc::{AllocError, Global};
 /// # Errors
 ///
 /// `OutOfMemory`.
+#[tactic(auto, using(crate::proofs::Floats::no_float_in_message, crate::proofs::Floats::no_float_in_note, crate::proofs::Floats::no_float_in_answer), unfolding(crate::specs::OutJson::out_line))]
 pub fn write_out(alloc: Global, out: &Out, message: Option<&Message>) -> Result<Vec<u8>, Refusal>
-    ensures text { IfOk result (λ bytes. bytes.items ≡ out_line out.now (option_map (λ m. m.now) message)) }
+    ensures text { IfOk result (λ bytes. bytes.items ≡ out_line out.now (option_map (λ m. m.now) message.entry)) }
     ensures memory { IsOkUnless result Refusal.OutOfMemory }
 {
     match (out, message) {
@@ -106,8 +107,13 @@ fn served_json(alloc: Global, client: ClientNo, served: &Served) -> Result<Value
             stamp,
             list,
         } => entries_served(alloc, client, *object, *stamp, list.entries()),
-        Served::Listed { album, stamp, rows } =>
-            listed_json(alloc, client, *album, *stamp, rows.as_slice()),
+        Served::Listed { album, stamp, rows } => listed_json(
+            alloc,
+            client,
+            *album,
+            *stamp,
+            rows.as_slice(),
+        ),
     }
 }
 
