@@ -2,6 +2,7 @@
 ghost use Rattle.std.specs.Prelude.{◌≡◌, option_map, false, map, IfOk, IsOkUnless};
 ghost use Rattle.serde_json.specs.View.{view};
 ghost use Rattle.serde_json.specs.Written.{has_float};
+ghost use Rattle.album_wire.specs.MessageJson.{message_json};
 ghost use Rattle.album_wire.specs.OutJson.{note_json, row_json, rows_json, picture_served, group_served, entries_served, listed_json, served_json, at_json, reason_json, reasons_json, denied_json, missing_json, why_word, busy_json, ended_json, unsettled_json, refused_json, answer_json, out_line};
 ghost use Rattle.album_wire.specs.Output.{line_text};
 
@@ -26,26 +27,41 @@ use std::alloc::{AllocError, Global};
 /// # Errors
 ///
 /// `OutOfMemory`.
-#[tactic(auto, using(crate::proofs::Floats::no_float_in_message, crate::proofs::Floats::no_float_in_note, crate::proofs::Floats::no_float_in_answer), unfolding(crate::specs::OutJson::out_line))]
+#[tactic(auto, unfolding(crate::specs::OutJson::out_line))]
 pub fn write_out(alloc: Global, out: &Out, message: Option<&Message>) -> Result<Vec<u8>, Refusal>
     ensures text { IfOk result (λ bytes. bytes.items ≡ out_line out.now (option_map (λ m. m.now) message.entry)) }
     ensures memory { IsOkUnless result Refusal.OutOfMemory }
 {
     match (out, message) {
         (Out::Sent(_), None) => Ok(Vec::new(alloc)),
-        (Out::Sent(number), Some(message)) => {
-            let value = message_json(alloc, *number, message)?;
-            Ok(line(alloc, &value)?)
-        }
-        (Out::Noted(client, note), _) => {
-            let value = note_json(alloc, *client, *note)?;
-            Ok(line(alloc, &value)?)
-        }
-        (Out::Answered(client, answer), _) => {
-            let value = answer_json(alloc, *client, answer)?;
-            Ok(line(alloc, &value)?)
-        }
+        (Out::Sent(number), Some(message)) => Ok(message_line(alloc, *number, message)?),
+        (Out::Noted(client, note), _) => Ok(note_line(alloc, *client, *note)?),
+        (Out::Answered(client, answer), _) => Ok(answer_line(alloc, *client, answer)?),
     }
+}
+
+#[tactic(auto, using(crate::proofs::Floats::no_float_in_message))]
+fn message_line(alloc: Global, number: u64, message: &Message) -> Result<Vec<u8>, AllocError>
+    ensures { IfOk result (λ bytes. bytes.items ≡ line_text (message_json number message.now)) }
+{
+    let value = message_json(alloc, number, message)?;
+    line(alloc, &value)
+}
+
+#[tactic(auto, using(crate::proofs::Floats::no_float_in_note))]
+fn note_line(alloc: Global, client: ClientNo, note: Note) -> Result<Vec<u8>, AllocError>
+    ensures { IfOk result (λ bytes. bytes.items ≡ line_text (note_json client note)) }
+{
+    let value = note_json(alloc, client, note)?;
+    line(alloc, &value)
+}
+
+#[tactic(auto, using(crate::proofs::Floats::no_float_in_answer))]
+fn answer_line(alloc: Global, client: ClientNo, answer: &Answer) -> Result<Vec<u8>, AllocError>
+    ensures { IfOk result (λ bytes. bytes.items ≡ line_text (answer_json client answer.now)) }
+{
+    let value = answer_json(alloc, client, answer)?;
+    line(alloc, &value)
 }
 
 /// The line of a value that has no float.
