@@ -1,6 +1,7 @@
 // Lines of events: what has its shape, with the values of its fields.
-ghost use Rattle.std.specs.Prelude.{◌≡◌, map};
+ghost use Rattle.std.specs.Prelude.{◌≡◌, Ok, Err, codes, map};
 ghost use Rattle.album_stamps.specs.Outcome.{Gives};
+ghost use Rattle.album_items.specs.ItemIds.{picture, album};
 ghost use Rattle.album_wire.specs.AskShape.{spelled_new_list, spelled_ask};
 ghost use Rattle.album_wire.specs.EventLine.{new_list_read, ask_read, event_read, event_line_of};
 ghost use Rattle.album_wire.specs.EventShape.{spelled_event};
@@ -28,6 +29,46 @@ pub fn read_event(alloc: Global, scratch: &mut Scratch, bytes: &[u8]) -> Result<
     let shape = event_shape(alloc, &value)?;
     events_of(alloc, shape)
 }
+
+/// A law: lines of events that were worked out by hand.
+pub fn worked_events()
+    // The deliveries of a range.
+    ensures range { event_line_of (codes "{\"deliver\":[1,20]}") ≡ Ok (Spelled.Range 1 20) }
+    // A range that spells none.
+    ensures backwards { event_line_of
+        (codes "{\"deliver\":[18446744073709551615,0]}")
+        ≡ Ok (Spelled.Range 18446744073709551615 0) }
+    // A range of 2^64 deliveries.
+    ensures wide { event_line_of (codes "{\"deliver\":[0,18446744073709551615]}") ≡ Err Refusal.BadRequest }
+    // Of two equal keys the last counts.
+    ensures last_counts { event_line_of
+        (codes "{\"deliver\":1,\"deliver\":2}")
+        ≡ Ok (Spelled.One (Event.Deliver 2)) }
+    // Keys of two events.
+    ensures two_events { event_line_of (codes "{\"deliver\":1,\"stop\":1}") ≡ Err Refusal.BadRequest }
+    ensures sweep { event_line_of
+        (codes "{\"sweep\":{\"part\":0,\"stamp\":65537}}")
+        ≡ Ok (Spelled.One (Event.Sweep 0 65537)) }
+    // 65536 has the client 0.
+    ensures no_stamp { event_line_of (codes "{\"sweep\":{\"part\":0,\"stamp\":65536}}") ≡ Err Refusal.BadRequest }
+    ensures stop { event_line_of (codes "{\"stop\":65535}") ≡ Ok (Spelled.One (Event.Stop 65535)) }
+    ensures trim { event_line_of
+        (codes "{\"trim\":{\"item\":\"album/3\",\"part\":2}}")
+        ≡ Ok (Spelled.One (Event.Trim 2 (album 3))) }
+    ensures asked { event_line_of
+        (codes "{\"ask\":{\"do\":\"retitle\",\"object\":\"picture/0\",\"title\":\"Bay\"},\"client\":1,\"who\":\"amy@users\"}")
+        ≡ Ok (Spelled.One (Event.Ask 1 (Principal.User (codes "amy")) (Ask.Retitle (picture 0) (codes "Bay")))) }
+    // The client is 0, the who is none, and the content has one digit.
+    ensures shape_first { event_line_of
+        (codes "{\"ask\":{\"content\":\"0\",\"do\":\"replace\",\"object\":\"picture/0\"},\"client\":0,\"who\":\"nobody\"}")
+        ≡ Err Refusal.BadRequest }
+    ensures who_second { event_line_of
+        (codes "{\"ask\":{\"content\":\"0\",\"do\":\"replace\",\"object\":\"picture/0\"},\"client\":1,\"who\":\"nobody\"}")
+        ≡ Err Refusal.BadWho }
+    ensures content_last { event_line_of
+        (codes "{\"ask\":{\"content\":\"0\",\"do\":\"replace\",\"object\":\"picture/0\"},\"client\":1,\"who\":\"bo@users\"}")
+        ≡ Err Refusal.BadText }
+{}
 
 /// Who asks, and then the fields of the ask, in their order.
 #[tactic(auto, unfolding(crate::specs::EventLine::event_read))]

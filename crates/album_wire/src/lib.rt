@@ -26,11 +26,12 @@ mod trees;
 mod value_json;
 mod values;
 
-pub use event_line::read_event;
+pub use event_line::{read_event, worked_events};
 pub use event_shape::{MOST_DELIVERIES, Spelled};
 pub use judge_line::{Group, JudgeLine, questions_by_line, read_judge};
 pub use lines::{LineIn, Lines, any_pieces, joined_lines};
-pub use opening_line::{OpeningLine, read_opening_line};
+pub use message_json::worked_messages;
+pub use opening_line::{OpeningLine, read_opening_line, worked_openings};
 pub use opening_shape::{DEFAULT_LIMIT, DEFAULT_POLICY, Header};
-pub use out_json::write_out;
+pub use out_json::{worked_outs, write_out};
 pub use output::{refusal_texts, verdict_texts, write_refusal, write_verdict};

@@ -1,6 +1,9 @@
 // The line of a message in a trace: {from, k = its number, say = a word, tag, to, and what it says}.
-ghost use Rattle.std.specs.Prelude.{◌≡◌, string_bytes, map, IfOk};
+ghost use Rattle.std.specs.Prelude.{◌≡◌, [], ◌∷◌, codes, string_bytes, map, IfOk};
 ghost use Rattle.serde_json.specs.View.{view};
+ghost use Rattle.album_items.specs.ItemIds.{picture, album};
+ghost use Rattle.album_items.specs.declared.values.Value.TheVariants as ItemValue;
+ghost use Rattle.album_wire.specs.Output.{line_text};
 ghost use Rattle.album_wire.specs.MessageJson.{node_text, vote_word, stamps_json, write_json, writes_json, envelope_of, get_json, prepare_json, version_json, status_json, gone_json, clash_json, stamped_json, request_json, reply_json, said_json, message_json};
 
 use crate::value_json::{item_json, item_list_json, value_json};
@@ -38,6 +41,45 @@ pub(crate) fn message_json(
         Body::Reply(reply) => reply_json(alloc, envelope, reply),
     }
 }
+
+/// A law: lines of messages that were worked out by hand.
+pub fn worked_messages()
+    ensures get { line_text (message_json 1 (record {
+      from = Node.Client 2;
+      to = Node.Part 0;
+      tag = 1;
+      body = Body.Request (Request.Get (picture 0) []);
+    })) ≡ codes "{\"from\":\"c2\",\"item\":\"picture/0\",\"k\":1,\"say\":\"get\",\"stamps\":[],\"tag\":1,\"to\":\"p0\"}\n" }
+    ensures version { line_text (message_json 2 (record {
+      from = Node.Part 0;
+      to = Node.Client 2;
+      tag = 1;
+      body = Body.Reply (Reply.Version (picture 0) 0 (ItemValue.Picture (record {
+        title = codes "Sea";
+        content = 115 ∷ 101 ∷ 97 ∷ [];
+        head = record { owner = codes "amy"; group = 0; list = 0 };
+        home = 0;
+      })));
+    })) ≡ codes "{\"from\":\"p0\",\"item\":\"picture/0\",\"k\":2,\"say\":\"version\",\"stamp\":0,\"tag\":1,\"to\":\"c2\",\"value\":{\"content\":\"736561\",\"group\":0,\"home\":0,\"list\":0,\"owner\":\"amy@users\",\"title\":\"Sea\"}}\n" }
+    ensures second_get { line_text (message_json 3 (record {
+      from = Node.Client 2;
+      to = Node.Part 0;
+      tag = 2;
+      body = Body.Request (Request.Get (picture 0) (0 ∷ []));
+    })) ≡ codes "{\"from\":\"c2\",\"item\":\"picture/0\",\"k\":3,\"say\":\"get\",\"stamps\":[0],\"tag\":2,\"to\":\"p0\"}\n" }
+    ensures prepare { line_text (message_json 9 (record {
+      from = Node.Client 1;
+      to = Node.Part 2;
+      tag = 5;
+      body = Body.Request (Request.Prepare 65537 ((picture 2, ItemValue.Missing) ∷ []) (picture 2 ∷ album 0 ∷ []));
+    })) ≡ codes "{\"from\":\"c1\",\"items\":[\"picture/2\",\"album/0\"],\"k\":9,\"say\":\"prepare\",\"stamp\":65537,\"tag\":5,\"to\":\"p2\",\"writes\":[[\"picture/2\",null]]}\n" }
+    ensures status { line_text (message_json 19 (record {
+      from = Node.Part 0;
+      to = Node.Part 0;
+      tag = 0;
+      body = Body.Reply (Reply.Status 65537 Vote.Prepared);
+    })) ≡ codes "{\"from\":\"p0\",\"k\":19,\"say\":\"status\",\"stamp\":65537,\"tag\":0,\"to\":\"p0\",\"vote\":\"prepared\"}\n" }
+{}
 
 fn request_json(alloc: Global, e: Envelope, request: &Request) -> Result<Value, AllocError>
     ensures { IfOk result (λ v. view v ≡ request_json e request.now) }

@@ -1,7 +1,8 @@
 // The lines of what an event tells: its notes, its answers, and in a trace its messages.
-ghost use Rattle.std.specs.Prelude.{◌≡◌, option_map, false, map, IfOk, IsOkUnless};
+ghost use Rattle.std.specs.Prelude.{◌≡◌, [], ◌∷◌, true, Some, None, codes, option_map, false, map, IfOk, IsOkUnless};
 ghost use Rattle.serde_json.specs.View.{view};
 ghost use Rattle.serde_json.specs.Written.{has_float};
+ghost use Rattle.album_items.specs.ItemIds.{picture, album};
 ghost use Rattle.album_wire.specs.MessageJson.{message_json};
 ghost use Rattle.album_wire.specs.OutJson.{note_json, row_json, rows_json, picture_served, group_served, entries_served, listed_json, served_json, at_json, reason_json, reasons_json, denied_json, missing_json, why_word, busy_json, ended_json, unsettled_json, refused_json, answer_json, out_line};
 ghost use Rattle.album_wire.specs.Output.{line_text};
@@ -39,6 +40,31 @@ pub fn write_out(alloc: Global, out: &Out, message: Option<&Message>) -> Result<
         (Out::Answered(client, answer), _) => Ok(answer_line(alloc, *client, answer)?),
     }
 }
+
+/// A law: lines of notes and answers that were worked out by hand.
+pub fn worked_outs()
+    ensures noted { out_line (Out.Noted 2 (record { object = picture 0; mask = record { 0 = 1 }; index = 1; alarm = false; success = true })) None
+        ≡ codes "{\"alarm\":false,\"audit\":1,\"client\":2,\"mask\":1,\"object\":\"picture/0\",\"success\":true}\n" }
+    ensures served { out_line (Out.Answered 2 (Answer.Served (Served.Picture (picture 0) 65537 (codes "Bay") (115 ∷ 101 ∷ 97 ∷ [])))) None
+        ≡ codes "{\"answer\":\"served\",\"client\":2,\"content\":\"736561\",\"object\":\"picture/0\",\"stamp\":65537,\"title\":\"Bay\"}\n" }
+    ensures listed { out_line (Out.Answered 2 (Answer.Served (Served.Listed (album 0) 0 (record { item = picture 0; title = codes "Sea" } ∷ [])))) None
+        ≡ codes "{\"answer\":\"listed\",\"client\":2,\"object\":\"album/0\",\"rows\":[[\"picture/0\",\"Sea\"]],\"stamp\":0}\n" }
+    ensures denied { out_line (Out.Answered 2 (Answer.Denied (
+        record { object = picture 0; mask = record { 0 = 65536 }; verdict = Verdict.DeniedBy 0 }
+        ∷ record { object = album 0; mask = record { 0 = 64 }; verdict = Verdict.DeniedAtEnd }
+        ∷ []))) None
+        ≡ codes "{\"answer\":\"denied\",\"client\":2,\"reasons\":[[\"picture/0\",65536,0],[\"album/0\",64,\"end\"]]}\n" }
+    ensures busy { out_line (Out.Answered 2 (Answer.Busy Why.Rounds)) None
+        ≡ codes "{\"answer\":\"busy\",\"client\":2,\"why\":\"rounds\"}\n" }
+    ensures committed { out_line (Out.Answered 1 (Answer.Committed 65537)) None
+        ≡ codes "{\"answer\":\"committed\",\"client\":1,\"stamp\":65537}\n" }
+    ensures aborted { out_line (Out.Answered 1 (Answer.Aborted 65537)) None
+        ≡ codes "{\"answer\":\"aborted\",\"client\":1,\"stamp\":65537}\n" }
+    ensures unsettled { out_line (Out.Answered 1 (Answer.Unsettled 131073 Refusal.Full)) None
+        ≡ codes "{\"answer\":\"unsettled\",\"client\":1,\"name\":\"Full\",\"refused\":20,\"stamp\":131073}\n" }
+    ensures refused { out_line (Out.Answered 1 (Answer.Refused Refusal.AlbumFull)) None
+        ≡ codes "{\"client\":1,\"name\":\"AlbumFull\",\"refused\":10}\n" }
+{}
 
 #[tactic(auto, using(crate::proofs::Floats::no_float_in_message))]
 fn message_line(alloc: Global, number: u64, message: &Message) -> Result<Vec<u8>, AllocError>
