@@ -177,3 +177,49 @@ pub record IsReplay (input text : List ℕ) : Type 0 where
   pub front : List ℕ
   pub lines : Replays Unopened (lines_of input) last front
   pub whole : text ≡ front ++ end_text last
+
+-- ---- the same, where memory never runs out
+
+-- the deliveries of a range, with their texts one after another
+abbrev pub delivered : Terms → Bool → World → List Event → World × List ℕ
+delivered terms trace world [] = (world, [])
+delivered terms trace world (event ∷ events) = (
+  (delivered terms trace (happens terms world event) events).0,
+  delivery_text trace world.now (change_of terms world.now event)
+      ++ (delivered terms trace (happens terms world event) events).1,
+)
+
+-- the events that a line spells, with their text
+abbrev pub spelled_run : Terms → Bool → World → Spelled → World × List ℕ
+spelled_run terms trace world (spelled.One event) =
+    (happens terms world event, event_text trace world.now (change_of terms world.now event))
+spelled_run terms trace world (spelled.Range first last) = delivered terms trace world (deliveries first last)
+
+abbrev pub line_run : Terms → Bool → World → Result Spelled Refusal → World × List ℕ
+line_run terms trace world (Ok events) = spelled_run terms trace world events
+line_run terms trace world (Err refusal) = (world, refusal_line refusal)
+
+abbrev pub run_step : Terms → Bool → World × List ℕ → Step
+run_step terms trace ran = record { next = Running terms trace ran.0; text = ran.1 }
+
+abbrev pub taken : Stage → Line → Step
+taken Unopened line = opened_by first_line (opening_line_read line)
+taken (BeingOpened header rows) line = opened_by (later_line header rows) (opening_line_read line)
+taken (Running terms trace world) line = run_step terms trace (line_run terms trace world (event_line_read line))
+taken Over line = silently Over
+
+abbrev pub step_of : Stage → Line → Step
+step_of stage line = if is_blank line then silently stage else taken stage line
+
+-- where a replay stands once the lines are taken, and what is printed of them
+abbrev pub replayed : Stage → List Line → Stage × List ℕ
+replayed stage [] = (stage, [])
+replayed stage (line ∷ lines) = (
+  (replayed (step_of stage line).next lines).0,
+  (step_of stage line).text ++ (replayed (step_of stage line).next lines).1,
+)
+
+-- the text of an input
+unfoldable pub replay_text : List ℕ → List ℕ
+replay_text input =
+    (replayed Unopened (lines_of input)).1 ++ end_text (replayed Unopened (lines_of input)).0
