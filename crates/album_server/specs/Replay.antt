@@ -57,7 +57,7 @@ abbrev pub begun : Opening → Bool → Step
 begun opening trace =
     if is_opening opening then silently (Running (terms_of opening) trace (start opening)) else refused BadOpening
 
--- the header comes first, then the items, then that these are all; a line that stands out of this order is a bad request
+-- The header comes first, then the items, then that these are all; a line out of this order is a bad request.
 abbrev pub first_line : OpeningLine → Step
 first_line (line.Open header) = silently (BeingOpened header [])
 first_line (line.Item item value) = refused BadRequest

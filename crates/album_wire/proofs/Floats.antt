@@ -1,4 +1,5 @@
--- No line that is written has a float. For `write_out`: `no_float_in_note`, `no_float_in_answer` and `no_float_in_message`.
+-- No line that is written has a float. For `write_out`: `no_float_in_note`, `no_float_in_answer` and
+-- `no_float_in_message`.
 use Rattle.std.proofs.Common.{◌≡◌, ℕ, List, [], ◌∷◌, map, false, Some, None, Option, refl}
 use Rattle.serde_json.specs.Data.{Data}
 use Rattle.serde_json.specs.Written.{has_float, items_have_float}

@@ -1,5 +1,5 @@
 -- Lines of events, worked out by hand. For `worked_events`.
-use Rattle.std.proofs.Common.{◌≡◌, codes, Ok, Err, refl}
+use Rattle.std.proofs.Common.{◌≡◌, ◌++◌, codes, Ok, Err, refl}
 use Rattle.album_stamps.specs.declared.refusals.Refusal.TheVariants.{BadRequest, BadWho, BadText}
 use Rattle.album_eval.specs.declared.facts.Principal.TheVariants as principal
 use Rattle.album_items.specs.ItemIds.{picture, album}
@@ -13,7 +13,8 @@ pub range : event_line_of (codes "{\"deliver\":[1,20]}") ≡ Ok (spelled.Range 1
 unfolding lines_on_literals
 range = refl
 
-pub backwards : event_line_of (codes "{\"deliver\":[18446744073709551615,0]}") ≡ Ok (spelled.Range 18446744073709551615 0)
+pub backwards : event_line_of (codes "{\"deliver\":[18446744073709551615,0]}")
+    ≡ Ok (spelled.Range 18446744073709551615 0)
 unfolding lines_on_literals
 backwards = refl
 
@@ -41,22 +42,28 @@ pub stop : event_line_of (codes "{\"stop\":65535}") ≡ Ok (spelled.One (event.S
 unfolding lines_on_literals
 stop = refl
 
-pub trim : event_line_of (codes "{\"trim\":{\"item\":\"album/3\",\"part\":2}}") ≡ Ok (spelled.One (event.Trim 2 (album 3)))
+pub trim : event_line_of (codes "{\"trim\":{\"item\":\"album/3\",\"part\":2}}")
+    ≡ Ok (spelled.One (event.Trim 2 (album 3)))
 unfolding lines_on_literals
 trim = refl
 
-pub asked : event_line_of (codes "{\"ask\":{\"do\":\"retitle\",\"object\":\"picture/0\",\"title\":\"Bay\"},\"client\":1,\"who\":\"amy@users\"}") ≡ Ok (spelled.One (event.Ask 1 (principal.User (codes "amy")) (ask.Retitle (picture 0) (codes "Bay"))))
+pub asked : event_line_of (codes "{\"ask\":{\"do\":\"retitle\",\"object\":\"picture/0\",\"title\":\"Bay\"},"
+    ++ codes "\"client\":1,\"who\":\"amy@users\"}")
+    ≡ Ok (spelled.One (event.Ask 1 (principal.User (codes "amy")) (ask.Retitle (picture 0) (codes "Bay"))))
 unfolding lines_on_literals
 asked = refl
 
-pub shape_first : event_line_of (codes "{\"ask\":{\"content\":\"0\",\"do\":\"replace\",\"object\":\"picture/0\"},\"client\":0,\"who\":\"nobody\"}") ≡ Err BadRequest
+pub shape_first : event_line_of (codes "{\"ask\":{\"content\":\"0\",\"do\":\"replace\","
+    ++ codes "\"object\":\"picture/0\"},\"client\":0,\"who\":\"nobody\"}") ≡ Err BadRequest
 unfolding lines_on_literals
 shape_first = refl
 
-pub who_second : event_line_of (codes "{\"ask\":{\"content\":\"0\",\"do\":\"replace\",\"object\":\"picture/0\"},\"client\":1,\"who\":\"nobody\"}") ≡ Err BadWho
+pub who_second : event_line_of (codes "{\"ask\":{\"content\":\"0\",\"do\":\"replace\","
+    ++ codes "\"object\":\"picture/0\"},\"client\":1,\"who\":\"nobody\"}") ≡ Err BadWho
 unfolding lines_on_literals
 who_second = refl
 
-pub content_last : event_line_of (codes "{\"ask\":{\"content\":\"0\",\"do\":\"replace\",\"object\":\"picture/0\"},\"client\":1,\"who\":\"bo@users\"}") ≡ Err BadText
+pub content_last : event_line_of (codes "{\"ask\":{\"content\":\"0\",\"do\":\"replace\","
+    ++ codes "\"object\":\"picture/0\"},\"client\":1,\"who\":\"bo@users\"}") ≡ Err BadText
 unfolding lines_on_literals
 content_last = refl

@@ -1,5 +1,5 @@
 -- Lines of messages in a trace, worked out by hand. For `worked_messages`.
-use Rattle.std.proofs.Common.{◌≡◌, ◌∷◌, [], codes, refl}
+use Rattle.std.proofs.Common.{◌≡◌, ◌++◌, ◌∷◌, [], codes, refl}
 use Rattle.album_items.specs.ItemIds.{picture, album}
 use Rattle.album_items.specs.declared.values.Value.TheVariants as value
 use Rattle.album_calls.specs.declared.messages.Body.TheVariants as body
@@ -32,7 +32,9 @@ pub version : line_text (message_json 2 (record {
     home = 0;
   })));
 }))
-    ≡ codes "{\"from\":\"p0\",\"item\":\"picture/0\",\"k\":2,\"say\":\"version\",\"stamp\":0,\"tag\":1,\"to\":\"c2\",\"value\":{\"content\":\"736561\",\"group\":0,\"home\":0,\"list\":0,\"owner\":\"amy@users\",\"title\":\"Sea\"}}\n"
+    ≡ codes "{\"from\":\"p0\",\"item\":\"picture/0\",\"k\":2,\"say\":\"version\",\"stamp\":0,\"tag\":1,"
+    ++ codes "\"to\":\"c2\",\"value\":{\"content\":\"736561\",\"group\":0,\"home\":0,\"list\":0,"
+    ++ codes "\"owner\":\"amy@users\",\"title\":\"Sea\"}}\n"
 unfolding lines_on_literals
 version = refl
 
@@ -52,7 +54,8 @@ pub prepare : line_text (message_json 9 (record {
   tag = 5;
   body = body.Request (request.Prepare 65537 ((picture 2, value.Missing) ∷ []) (picture 2 ∷ album 0 ∷ []));
 }))
-    ≡ codes "{\"from\":\"c1\",\"items\":[\"picture/2\",\"album/0\"],\"k\":9,\"say\":\"prepare\",\"stamp\":65537,\"tag\":5,\"to\":\"p2\",\"writes\":[[\"picture/2\",null]]}\n"
+    ≡ codes "{\"from\":\"c1\",\"items\":[\"picture/2\",\"album/0\"],\"k\":9,\"say\":\"prepare\","
+    ++ codes "\"stamp\":65537,\"tag\":5,\"to\":\"p2\",\"writes\":[[\"picture/2\",null]]}\n"
 unfolding lines_on_literals
 prepare = refl
 
@@ -62,6 +65,7 @@ pub status : line_text (message_json 19 (record {
   tag = 0;
   body = body.Reply (reply.Status 65537 vote.Prepared);
 }))
-    ≡ codes "{\"from\":\"p0\",\"k\":19,\"say\":\"status\",\"stamp\":65537,\"tag\":0,\"to\":\"p0\",\"vote\":\"prepared\"}\n"
+    ≡ codes "{\"from\":\"p0\",\"k\":19,\"say\":\"status\",\"stamp\":65537,\"tag\":0,\"to\":\"p0\","
+    ++ codes "\"vote\":\"prepared\"}\n"
 unfolding lines_on_literals
 status = refl

@@ -1,5 +1,5 @@
 -- Lines of openings, worked out by hand. For `worked_openings`.
-use Rattle.std.proofs.Common.{◌≡◌, [], ◌∷◌, codes, true, false, None, Ok, Err, refl}
+use Rattle.std.proofs.Common.{◌≡◌, ◌++◌, [], ◌∷◌, codes, true, false, None, Ok, Err, refl}
 use Rattle.album_stamps.specs.declared.refusals.Refusal.TheVariants.{BadRequest, BadWho, BadText}
 use Rattle.album_items.specs.ItemIds.{picture, album, list}
 use Rattle.album_items.specs.declared.values.Value.TheVariants as value
@@ -17,7 +17,8 @@ pub open_with_parts_alone : opening_line_of (codes "{\"open\":{\"parts\":16}}")
 unfolding lines_on_literals
 open_with_parts_alone = refl
 
-pub picture_line : opening_line_of (codes "{\"item\":\"picture/0\",\"value\":{\"content\":\"736561\",\"group\":0,\"home\":0,\"list\":0,\"owner\":\"amy@users\",\"title\":\"Sea\"}}")
+pub picture_line : opening_line_of (codes "{\"item\":\"picture/0\",\"value\":{\"content\":\"736561\","
+    ++ codes "\"group\":0,\"home\":0,\"list\":0,\"owner\":\"amy@users\",\"title\":\"Sea\"}}")
     ≡ Ok (line.Item (picture 0) (value.Picture (record {
       title = codes "Sea";
       content = 115 ∷ 101 ∷ 97 ∷ [];
@@ -27,7 +28,8 @@ pub picture_line : opening_line_of (codes "{\"item\":\"picture/0\",\"value\":{\"
 unfolding lines_on_literals
 picture_line = refl
 
-pub album_line : opening_line_of (codes "{\"item\":\"album/0\",\"value\":{\"children\":[\"picture/0\"],\"group\":0,\"home\":null,\"list\":1,\"owner\":\"amy@users\",\"title\":\"Trip\"}}")
+pub album_line : opening_line_of (codes "{\"item\":\"album/0\",\"value\":{\"children\":[\"picture/0\"],"
+    ++ codes "\"group\":0,\"home\":null,\"list\":1,\"owner\":\"amy@users\",\"title\":\"Trip\"}}")
     ≡ Ok (line.Item (album 0) (value.Album (record {
       title = codes "Trip";
       head = record { owner = codes "amy"; group = 0; list = 1 };
@@ -37,7 +39,8 @@ pub album_line : opening_line_of (codes "{\"item\":\"album/0\",\"value\":{\"chil
 unfolding lines_on_literals
 album_line = refl
 
-pub another_kind : opening_line_of (codes "{\"item\":\"list/0\",\"value\":{\"content\":\"736561\",\"group\":0,\"home\":0,\"list\":0,\"owner\":\"amy@users\",\"title\":\"Sea\"}}")
+pub another_kind : opening_line_of (codes "{\"item\":\"list/0\",\"value\":{\"content\":\"736561\",\"group\":0,"
+    ++ codes "\"home\":0,\"list\":0,\"owner\":\"amy@users\",\"title\":\"Sea\"}}")
     ≡ Ok (line.Item (list 0) (value.Picture (record {
       title = codes "Sea";
       content = 115 ∷ 101 ∷ 97 ∷ [];
@@ -52,17 +55,20 @@ pub nothing : opening_line_of (codes "{\"item\":\"list/0\",\"value\":null}")
 unfolding lines_on_literals
 nothing = refl
 
-pub no_home : opening_line_of (codes "{\"item\":\"picture/0\",\"value\":{\"content\":\"736561\",\"group\":0,\"home\":null,\"list\":0,\"owner\":\"amy@users\",\"title\":\"Sea\"}}")
+pub no_home : opening_line_of (codes "{\"item\":\"picture/0\",\"value\":{\"content\":\"736561\",\"group\":0,"
+    ++ codes "\"home\":null,\"list\":0,\"owner\":\"amy@users\",\"title\":\"Sea\"}}")
     ≡ Err BadRequest
 unfolding lines_on_literals
 no_home = refl
 
-pub title_first : opening_line_of (codes "{\"item\":\"picture/0\",\"value\":{\"content\":\"736561\",\"group\":0,\"home\":0,\"list\":0,\"owner\":\"amy\",\"title\":\"S\\t\"}}")
+pub title_first : opening_line_of (codes "{\"item\":\"picture/0\",\"value\":{\"content\":\"736561\","
+    ++ codes "\"group\":0,\"home\":0,\"list\":0,\"owner\":\"amy\",\"title\":\"S\\t\"}}")
     ≡ Err BadText
 unfolding lines_on_literals
 title_first = refl
 
-pub owner_last : opening_line_of (codes "{\"item\":\"picture/0\",\"value\":{\"content\":\"736561\",\"group\":0,\"home\":0,\"list\":0,\"owner\":\"amy\",\"title\":\"Sea\"}}")
+pub owner_last : opening_line_of (codes "{\"item\":\"picture/0\",\"value\":{\"content\":\"736561\","
+    ++ codes "\"group\":0,\"home\":0,\"list\":0,\"owner\":\"amy\",\"title\":\"Sea\"}}")
     ≡ Err BadWho
 unfolding lines_on_literals
 owner_last = refl

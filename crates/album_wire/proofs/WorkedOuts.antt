@@ -1,5 +1,5 @@
 -- Lines of what an event tells, worked out by hand. For `worked_outs`.
-use Rattle.std.proofs.Common.{◌≡◌, ◌∷◌, [], codes, true, false, None, refl}
+use Rattle.std.proofs.Common.{◌≡◌, ◌++◌, ◌∷◌, [], codes, true, false, None, refl}
 use Rattle.album_stamps.specs.declared.refusals.Refusal.TheVariants as refusal
 use Rattle.album_eval.specs.declared.verdicts.Verdict.TheVariants as verdict
 use Rattle.album_items.specs.ItemIds.{picture, album}
@@ -10,18 +10,26 @@ use Rattle.album_world.specs.declared.outs.Out.TheVariants as out
 use Rattle.album_wire.specs.OutJson.{out_line}
 use Rattle.album_wire.proofs.OnLiterals.{lines_on_literals}
 
-pub noted : out_line (out.Noted 2 (record { object = picture 0; mask = record { 0 = 1 }; index = 1; alarm = false; success = true })) None
+pub noted : out_line
+    (out.Noted 2 (record { object = picture 0; mask = record { 0 = 1 }; index = 1; alarm = false; success = true }))
+    None
     ≡ codes "{\"alarm\":false,\"audit\":1,\"client\":2,\"mask\":1,\"object\":\"picture/0\",\"success\":true}\n"
 unfolding lines_on_literals
 noted = refl
 
-pub a_picture : out_line (out.Answered 2 (answer.Served (served.Picture (picture 0) 65537 (codes "Bay") (115 ∷ 101 ∷ 97 ∷ [])))) None
-    ≡ codes "{\"answer\":\"served\",\"client\":2,\"content\":\"736561\",\"object\":\"picture/0\",\"stamp\":65537,\"title\":\"Bay\"}\n"
+pub a_picture : out_line
+    (out.Answered 2 (answer.Served (served.Picture (picture 0) 65537 (codes "Bay") (115 ∷ 101 ∷ 97 ∷ []))))
+    None
+    ≡ codes "{\"answer\":\"served\",\"client\":2,\"content\":\"736561\",\"object\":\"picture/0\","
+    ++ codes "\"stamp\":65537,\"title\":\"Bay\"}\n"
 unfolding lines_on_literals
 a_picture = refl
 
-pub listed : out_line (out.Answered 2 (answer.Served (served.Listed (album 0) 0 (record { item = picture 0; title = codes "Sea" } ∷ [])))) None
-    ≡ codes "{\"answer\":\"listed\",\"client\":2,\"object\":\"album/0\",\"rows\":[[\"picture/0\",\"Sea\"]],\"stamp\":0}\n"
+pub listed : out_line
+    (out.Answered 2 (answer.Served (served.Listed (album 0) 0 (record { item = picture 0; title = codes "Sea" } ∷ []))))
+    None
+    ≡ codes "{\"answer\":\"listed\",\"client\":2,\"object\":\"album/0\",\"rows\":[[\"picture/0\",\"Sea\"]],"
+    ++ codes "\"stamp\":0}\n"
 unfolding lines_on_literals
 listed = refl
 

@@ -1,5 +1,5 @@
 // Lines of events: what has its shape, with the values of its fields.
-ghost use Rattle.std.specs.Prelude.{◌≡◌, Ok, Err, codes, map};
+ghost use Rattle.std.specs.Prelude.{◌≡◌, ◌++◌, Ok, Err, codes, map};
 ghost use Rattle.album_stamps.specs.Outcome.{Gives};
 ghost use Rattle.album_items.specs.ItemIds.{picture, album};
 ghost use Rattle.album_wire.specs.AskShape.{spelled_new_list, spelled_ask};
@@ -56,17 +56,21 @@ pub fn worked_events()
         (codes "{\"trim\":{\"item\":\"album/3\",\"part\":2}}")
         ≡ Ok (Spelled.One (Event.Trim 2 (album 3))) }
     ensures asked { event_line_of
-        (codes "{\"ask\":{\"do\":\"retitle\",\"object\":\"picture/0\",\"title\":\"Bay\"},\"client\":1,\"who\":\"amy@users\"}")
+        (codes "{\"ask\":{\"do\":\"retitle\",\"object\":\"picture/0\",\"title\":\"Bay\"},\"client\":1,"
+        ++ codes "\"who\":\"amy@users\"}")
         ≡ Ok (Spelled.One (Event.Ask 1 (Principal.User (codes "amy")) (Ask.Retitle (picture 0) (codes "Bay")))) }
     // The client is 0, the who is none, and the content has one digit.
     ensures shape_first { event_line_of
-        (codes "{\"ask\":{\"content\":\"0\",\"do\":\"replace\",\"object\":\"picture/0\"},\"client\":0,\"who\":\"nobody\"}")
+        (codes "{\"ask\":{\"content\":\"0\",\"do\":\"replace\",\"object\":\"picture/0\"},\"client\":0,"
+        ++ codes "\"who\":\"nobody\"}")
         ≡ Err Refusal.BadRequest }
     ensures who_second { event_line_of
-        (codes "{\"ask\":{\"content\":\"0\",\"do\":\"replace\",\"object\":\"picture/0\"},\"client\":1,\"who\":\"nobody\"}")
+        (codes "{\"ask\":{\"content\":\"0\",\"do\":\"replace\",\"object\":\"picture/0\"},\"client\":1,"
+        ++ codes "\"who\":\"nobody\"}")
         ≡ Err Refusal.BadWho }
     ensures content_last { event_line_of
-        (codes "{\"ask\":{\"content\":\"0\",\"do\":\"replace\",\"object\":\"picture/0\"},\"client\":1,\"who\":\"bo@users\"}")
+        (codes "{\"ask\":{\"content\":\"0\",\"do\":\"replace\",\"object\":\"picture/0\"},\"client\":1,"
+        ++ codes "\"who\":\"bo@users\"}")
         ≡ Err Refusal.BadText }
 {}
 

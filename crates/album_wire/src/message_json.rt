@@ -1,5 +1,5 @@
 // The line of a message in a trace: {from, k = its number, say = a word, tag, to, and what it says}.
-ghost use Rattle.std.specs.Prelude.{◌≡◌, [], ◌∷◌, codes, string_bytes, map, IfOk};
+ghost use Rattle.std.specs.Prelude.{◌≡◌, ◌++◌, [], ◌∷◌, codes, string_bytes, map, IfOk};
 ghost use Rattle.serde_json.specs.View.{view};
 ghost use Rattle.album_items.specs.ItemIds.{picture, album};
 ghost use Rattle.album_items.specs.declared.values.Value.TheVariants as ItemValue;
@@ -49,7 +49,8 @@ pub fn worked_messages()
       to = Node.Part 0;
       tag = 1;
       body = Body.Request (Request.Get (picture 0) []);
-    })) ≡ codes "{\"from\":\"c2\",\"item\":\"picture/0\",\"k\":1,\"say\":\"get\",\"stamps\":[],\"tag\":1,\"to\":\"p0\"}\n" }
+    })) ≡ codes "{\"from\":\"c2\",\"item\":\"picture/0\",\"k\":1,\"say\":\"get\",\"stamps\":[],\"tag\":1,"
+        ++ codes "\"to\":\"p0\"}\n" }
     ensures version { line_text (message_json 2 (record {
       from = Node.Part 0;
       to = Node.Client 2;
@@ -60,25 +61,30 @@ pub fn worked_messages()
         head = record { owner = codes "amy"; group = 0; list = 0 };
         home = 0;
       })));
-    })) ≡ codes "{\"from\":\"p0\",\"item\":\"picture/0\",\"k\":2,\"say\":\"version\",\"stamp\":0,\"tag\":1,\"to\":\"c2\",\"value\":{\"content\":\"736561\",\"group\":0,\"home\":0,\"list\":0,\"owner\":\"amy@users\",\"title\":\"Sea\"}}\n" }
+    })) ≡ codes "{\"from\":\"p0\",\"item\":\"picture/0\",\"k\":2,\"say\":\"version\",\"stamp\":0,\"tag\":1,"
+        ++ codes "\"to\":\"c2\",\"value\":{\"content\":\"736561\",\"group\":0,\"home\":0,\"list\":0,"
+        ++ codes "\"owner\":\"amy@users\",\"title\":\"Sea\"}}\n" }
     ensures second_get { line_text (message_json 3 (record {
       from = Node.Client 2;
       to = Node.Part 0;
       tag = 2;
       body = Body.Request (Request.Get (picture 0) (0 ∷ []));
-    })) ≡ codes "{\"from\":\"c2\",\"item\":\"picture/0\",\"k\":3,\"say\":\"get\",\"stamps\":[0],\"tag\":2,\"to\":\"p0\"}\n" }
+    })) ≡ codes "{\"from\":\"c2\",\"item\":\"picture/0\",\"k\":3,\"say\":\"get\",\"stamps\":[0],\"tag\":2,"
+        ++ codes "\"to\":\"p0\"}\n" }
     ensures prepare { line_text (message_json 9 (record {
       from = Node.Client 1;
       to = Node.Part 2;
       tag = 5;
       body = Body.Request (Request.Prepare 65537 ((picture 2, ItemValue.Missing) ∷ []) (picture 2 ∷ album 0 ∷ []));
-    })) ≡ codes "{\"from\":\"c1\",\"items\":[\"picture/2\",\"album/0\"],\"k\":9,\"say\":\"prepare\",\"stamp\":65537,\"tag\":5,\"to\":\"p2\",\"writes\":[[\"picture/2\",null]]}\n" }
+    })) ≡ codes "{\"from\":\"c1\",\"items\":[\"picture/2\",\"album/0\"],\"k\":9,\"say\":\"prepare\","
+        ++ codes "\"stamp\":65537,\"tag\":5,\"to\":\"p2\",\"writes\":[[\"picture/2\",null]]}\n" }
     ensures status { line_text (message_json 19 (record {
       from = Node.Part 0;
       to = Node.Part 0;
       tag = 0;
       body = Body.Reply (Reply.Status 65537 Vote.Prepared);
-    })) ≡ codes "{\"from\":\"p0\",\"k\":19,\"say\":\"status\",\"stamp\":65537,\"tag\":0,\"to\":\"p0\",\"vote\":\"prepared\"}\n" }
+    })) ≡ codes "{\"from\":\"p0\",\"k\":19,\"say\":\"status\",\"stamp\":65537,\"tag\":0,\"to\":\"p0\","
+        ++ codes "\"vote\":\"prepared\"}\n" }
 {}
 
 fn request_json(alloc: Global, e: Envelope, request: &Request) -> Result<Value, AllocError>

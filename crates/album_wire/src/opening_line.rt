@@ -1,5 +1,5 @@
 // Lines of an opening: how the store is to be opened, the items with their first values, and that this is all.
-ghost use Rattle.std.specs.Prelude.{◌≡◌, [], ◌∷◌, true, false, None, Ok, Err, codes};
+ghost use Rattle.std.specs.Prelude.{◌≡◌, ◌++◌, [], ◌∷◌, true, false, None, Ok, Err, codes};
 ghost use Rattle.album_stamps.specs.Outcome.{Gives};
 ghost use Rattle.album_items.specs.ItemIds.{picture, album, list};
 ghost use Rattle.album_wire.specs.ItemShapes.{spelled_head, spelled_value};
@@ -51,7 +51,8 @@ pub fn worked_openings()
         (codes "{\"open\":{\"parts\":16}}")
         ≡ Ok (OpeningLine.Open (record { parts = 16; limit = 100000; policy = 1; trace = false })) }
     ensures picture_line { opening_line_of
-        (codes "{\"item\":\"picture/0\",\"value\":{\"content\":\"736561\",\"group\":0,\"home\":0,\"list\":0,\"owner\":\"amy@users\",\"title\":\"Sea\"}}")
+        (codes "{\"item\":\"picture/0\",\"value\":{\"content\":\"736561\",\"group\":0,\"home\":0,\"list\":0,"
+        ++ codes "\"owner\":\"amy@users\",\"title\":\"Sea\"}}")
         ≡ Ok (OpeningLine.Item (picture 0) (Value.Picture (record {
           title = codes "Sea";
           content = 115 ∷ 101 ∷ 97 ∷ [];
@@ -59,7 +60,8 @@ pub fn worked_openings()
           home = 0;
         }))) }
     ensures album_line { opening_line_of
-        (codes "{\"item\":\"album/0\",\"value\":{\"children\":[\"picture/0\"],\"group\":0,\"home\":null,\"list\":1,\"owner\":\"amy@users\",\"title\":\"Trip\"}}")
+        (codes "{\"item\":\"album/0\",\"value\":{\"children\":[\"picture/0\"],\"group\":0,\"home\":null,"
+        ++ codes "\"list\":1,\"owner\":\"amy@users\",\"title\":\"Trip\"}}")
         ≡ Ok (OpeningLine.Item (album 0) (Value.Album (record {
           title = codes "Trip";
           head = record { owner = codes "amy"; group = 0; list = 1 };
@@ -68,7 +70,8 @@ pub fn worked_openings()
         }))) }
     // A value of another kind than its item's is read.
     ensures another_kind { opening_line_of
-        (codes "{\"item\":\"list/0\",\"value\":{\"content\":\"736561\",\"group\":0,\"home\":0,\"list\":0,\"owner\":\"amy@users\",\"title\":\"Sea\"}}")
+        (codes "{\"item\":\"list/0\",\"value\":{\"content\":\"736561\",\"group\":0,\"home\":0,\"list\":0,"
+        ++ codes "\"owner\":\"amy@users\",\"title\":\"Sea\"}}")
         ≡ Ok (OpeningLine.Item (list 0) (Value.Picture (record {
           title = codes "Sea";
           content = 115 ∷ 101 ∷ 97 ∷ [];
@@ -77,14 +80,17 @@ pub fn worked_openings()
         }))) }
     ensures nothing { opening_line_of (codes "{\"item\":\"list/0\",\"value\":null}") ≡ Err Refusal.BadRequest }
     ensures no_home { opening_line_of
-        (codes "{\"item\":\"picture/0\",\"value\":{\"content\":\"736561\",\"group\":0,\"home\":null,\"list\":0,\"owner\":\"amy@users\",\"title\":\"Sea\"}}")
+        (codes "{\"item\":\"picture/0\",\"value\":{\"content\":\"736561\",\"group\":0,\"home\":null,"
+        ++ codes "\"list\":0,\"owner\":\"amy@users\",\"title\":\"Sea\"}}")
         ≡ Err Refusal.BadRequest }
     // The owner is none, and the title has a tab.
     ensures title_first { opening_line_of
-        (codes "{\"item\":\"picture/0\",\"value\":{\"content\":\"736561\",\"group\":0,\"home\":0,\"list\":0,\"owner\":\"amy\",\"title\":\"S\\t\"}}")
+        (codes "{\"item\":\"picture/0\",\"value\":{\"content\":\"736561\",\"group\":0,\"home\":0,\"list\":0,"
+        ++ codes "\"owner\":\"amy\",\"title\":\"S\\t\"}}")
         ≡ Err Refusal.BadText }
     ensures owner_last { opening_line_of
-        (codes "{\"item\":\"picture/0\",\"value\":{\"content\":\"736561\",\"group\":0,\"home\":0,\"list\":0,\"owner\":\"amy\",\"title\":\"Sea\"}}")
+        (codes "{\"item\":\"picture/0\",\"value\":{\"content\":\"736561\",\"group\":0,\"home\":0,\"list\":0,"
+        ++ codes "\"owner\":\"amy\",\"title\":\"Sea\"}}")
         ≡ Err Refusal.BadWho }
     ensures begin { opening_line_of (codes "{\"begin\":true}") ≡ Ok OpeningLine.Begin }
     ensures no_begin { opening_line_of (codes "{\"begin\":false}") ≡ Err Refusal.BadRequest }

@@ -1,5 +1,5 @@
 // The lines of what an event tells: its notes, its answers, and in a trace its messages.
-ghost use Rattle.std.specs.Prelude.{◌≡◌, [], ◌∷◌, true, Some, None, codes, option_map, false, map, IfOk, IsOkUnless};
+ghost use Rattle.std.specs.Prelude.{◌≡◌, ◌++◌, [], ◌∷◌, true, Some, None, codes, option_map, false, map, IfOk, IsOkUnless};
 ghost use Rattle.serde_json.specs.View.{view};
 ghost use Rattle.serde_json.specs.Written.{has_float};
 ghost use Rattle.album_items.specs.ItemIds.{picture, album};
@@ -43,17 +43,27 @@ pub fn write_out(alloc: Global, out: &Out, message: Option<&Message>) -> Result<
 
 /// A law: lines of notes and answers that were worked out by hand.
 pub fn worked_outs()
-    ensures noted { out_line (Out.Noted 2 (record { object = picture 0; mask = record { 0 = 1 }; index = 1; alarm = false; success = true })) None
+    ensures noted { out_line
+        (Out.Noted 2 (record { object = picture 0; mask = record { 0 = 1 }; index = 1; alarm = false; success = true }))
+        None
         ≡ codes "{\"alarm\":false,\"audit\":1,\"client\":2,\"mask\":1,\"object\":\"picture/0\",\"success\":true}\n" }
-    ensures served { out_line (Out.Answered 2 (Answer.Served (Served.Picture (picture 0) 65537 (codes "Bay") (115 ∷ 101 ∷ 97 ∷ [])))) None
-        ≡ codes "{\"answer\":\"served\",\"client\":2,\"content\":\"736561\",\"object\":\"picture/0\",\"stamp\":65537,\"title\":\"Bay\"}\n" }
-    ensures listed { out_line (Out.Answered 2 (Answer.Served (Served.Listed (album 0) 0 (record { item = picture 0; title = codes "Sea" } ∷ [])))) None
-        ≡ codes "{\"answer\":\"listed\",\"client\":2,\"object\":\"album/0\",\"rows\":[[\"picture/0\",\"Sea\"]],\"stamp\":0}\n" }
+    ensures served { out_line
+        (Out.Answered 2 (Answer.Served (Served.Picture (picture 0) 65537 (codes "Bay") (115 ∷ 101 ∷ 97 ∷ []))))
+        None
+        ≡ codes "{\"answer\":\"served\",\"client\":2,\"content\":\"736561\",\"object\":\"picture/0\","
+        ++ codes "\"stamp\":65537,\"title\":\"Bay\"}\n" }
+    ensures listed { out_line
+        (Out.Answered 2 (Answer.Served
+        (Served.Listed (album 0) 0 (record { item = picture 0; title = codes "Sea" } ∷ []))))
+        None
+        ≡ codes "{\"answer\":\"listed\",\"client\":2,\"object\":\"album/0\",\"rows\":[[\"picture/0\","
+        ++ codes "\"Sea\"]],\"stamp\":0}\n" }
     ensures denied { out_line (Out.Answered 2 (Answer.Denied (
         record { object = picture 0; mask = record { 0 = 65536 }; verdict = Verdict.DeniedBy 0 }
         ∷ record { object = album 0; mask = record { 0 = 64 }; verdict = Verdict.DeniedAtEnd }
         ∷ []))) None
-        ≡ codes "{\"answer\":\"denied\",\"client\":2,\"reasons\":[[\"picture/0\",65536,0],[\"album/0\",64,\"end\"]]}\n" }
+        ≡ codes "{\"answer\":\"denied\",\"client\":2,\"reasons\":[[\"picture/0\",65536,0],[\"album/0\",64,"
+        ++ codes "\"end\"]]}\n" }
     ensures busy { out_line (Out.Answered 2 (Answer.Busy Why.Rounds)) None
         ≡ codes "{\"answer\":\"busy\",\"client\":2,\"why\":\"rounds\"}\n" }
     ensures committed { out_line (Out.Answered 1 (Answer.Committed 65537)) None

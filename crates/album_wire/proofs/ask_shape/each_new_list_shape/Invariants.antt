@@ -7,4 +7,5 @@ use Rattle.album_wire.proofs.ask_shape.each_new_list_shape.Given as goal
 
 abbrev pub invariant-loop-value : goal.invariant-loop-value
 invariant-loop-value l =
-    with_front (map spelled_new_list l.shapes.items) (each new_list_shape_of (items_data (drop l.value-index l.values))) ≡ each new_list_shape_of (items_data l.values)
+    with_front (map spelled_new_list l.shapes.items) (each new_list_shape_of (items_data (drop l.value-index l.values)))
+    ≡ each new_list_shape_of (items_data l.values)

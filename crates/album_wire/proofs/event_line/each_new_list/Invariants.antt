@@ -7,4 +7,5 @@ use Rattle.album_wire.proofs.event_line.each_new_list.Given as goal
 
 abbrev pub invariant-loop-shape : goal.invariant-loop-shape
 invariant-loop-shape l =
-    with_front l.lists.items (each_of new_list_read (map spelled_new_list (drop l.shape-index l.shapes))) ≡ each_of new_list_read (map spelled_new_list l.shapes)
+    with_front l.lists.items (each_of new_list_read (map spelled_new_list (drop l.shape-index l.shapes)))
+    ≡ each_of new_list_read (map spelled_new_list l.shapes)

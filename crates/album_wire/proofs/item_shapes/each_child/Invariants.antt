@@ -7,4 +7,5 @@ use Rattle.album_wire.proofs.item_shapes.each_child.Given as goal
 
 abbrev pub invariant-loop-value : goal.invariant-loop-value
 invariant-loop-value l =
-    with_front l.children.items (each child_of (items_data (drop l.value-index l.values))) ≡ each child_of (items_data l.values)
+    with_front l.children.items (each child_of (items_data (drop l.value-index l.values)))
+    ≡ each child_of (items_data l.values)

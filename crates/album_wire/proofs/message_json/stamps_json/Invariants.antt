@@ -4,4 +4,5 @@ use Rattle.album_wire.specs.Spelling.{whole_data}
 use Rattle.album_wire.proofs.message_json.stamps_json.Given as goal
 
 abbrev pub invariant-loop-stamp : goal.invariant-loop-stamp
-invariant-loop-stamp l = map view l.values.items ++ map whole_data (drop l.stamp-index l.stamps) ≡ map whole_data l.stamps
+invariant-loop-stamp l =
+    map view l.values.items ++ map whole_data (drop l.stamp-index l.stamps) ≡ map whole_data l.stamps

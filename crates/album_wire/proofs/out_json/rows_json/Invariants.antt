@@ -4,4 +4,5 @@ use Rattle.album_wire.specs.OutJson.{row_json}
 use Rattle.album_wire.proofs.out_json.rows_json.Given as goal
 
 abbrev pub invariant-loop-row : goal.invariant-loop-row
-invariant-loop-row l = map view l.values.items ++ map row_json (drop l.row-index l.rows) ≡ map row_json l.rows
+invariant-loop-row l =
+    map view l.values.items ++ map row_json (drop l.row-index l.rows) ≡ map row_json l.rows

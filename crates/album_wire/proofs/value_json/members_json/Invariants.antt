@@ -4,4 +4,5 @@ use Rattle.album_wire.specs.ValueJson.{member_json}
 use Rattle.album_wire.proofs.value_json.members_json.Given as goal
 
 abbrev pub invariant-loop-member : goal.invariant-loop-member
-invariant-loop-member l = map view l.values.items ++ map member_json (drop l.member-index l.members) ≡ map member_json l.members
+invariant-loop-member l =
+    map view l.values.items ++ map member_json (drop l.member-index l.members) ≡ map member_json l.members
