@@ -3,3 +3,4 @@ pub mod Texts
 pub mod Exchanging
 pub mod Turns
 pub mod Judging
+pub mod Replaying

@@ -2,7 +2,6 @@
 -- what a fault leaves of the answers to lines, behind whole answers and before lines that come later.
 use Rattle.std.proofs.Common.{◌≡◌, ◌≢◌, ◌⊎◌, ℕ, ◌+◌, ◌<◌, List, [], ◌∷◌, ◌++◌, length, take, drop, map, get_or, Bool, true, false, Option, Result, Ok, Err, OnOk, IfErr, MatchBool, inr, refl, sym, ap, ◌∙◌, subst, arith, append_assoc, append-nil, take-append-drop, length-drop}
 use Rattle.std.proofs.lemmas.List.{take_more, map-append, length-map}
-use Rattle.std.specs.Io.KnownBytes.{Appends}
 use Rattle.std.proofs.KnownBytes.{Appends-trans, Appends-nil}
 use Rattle.album_stamps.specs.declared.refusals.Refusal.TheVariants.{OutOfMemory}
 use Rattle.album_wire.specs.Lines.{Line, is_blank}

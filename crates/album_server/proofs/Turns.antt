@@ -42,7 +42,7 @@ has_read_more turns k line piece a b e c d h more short within =
 
 -- ---- the lines of what was read
 
-lines_split : (given later : List ℕ)
+pub lines_split : (given later : List ℕ)
     → lines_of (given ++ later) ≡ ended given ++ ((cut (begun given) later).0 ++ last (cut (begun given) later).1)
 lines_split given later =
     ap (λ c. c.0 ++ last c.1) (cut_append (Some []) given later) ∙ append_assoc (ended given) (cut (begun given) later).0 _

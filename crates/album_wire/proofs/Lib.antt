@@ -10,3 +10,9 @@ pub mod Json
 pub mod Entries
 pub mod Questions
 pub mod Texts
+pub mod Floats
+pub mod OnLiterals
+pub mod WorkedOpenings
+pub mod WorkedMessages
+pub mod WorkedOuts
+pub mod WorkedEvents

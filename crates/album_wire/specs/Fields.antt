@@ -1,11 +1,11 @@
 -- The JSON value of a line, and what must stand where in it, or the line is refused.
-use Rattle.std.specs.Prelude.{ℕ, List, [], ◌∷◌, Bool, true, ◌&&◌, ◌==◌, if◌then◌else◌, bytes_eq, option_and_then, Result, Ok, Err}
+use Rattle.std.specs.Prelude.{ℕ, List, [], ◌∷◌, Bool, true, ◌&&◌, ◌==◌, if◌then◌else◌, bytes_eq, Option, Some, None, is_some, option_and_then, Result, Ok, Err}
 use Rattle.std.specs.List.{list_any}
 use Rattle.std.specs.Option.{ok_or}
 use Rattle.std.specs.Str.{is_utf8}
 use Rattle.serde_json.specs.Data.{Data, Items, no_items, item, Members, no_members, member}
 use Rattle.serde_json.specs.Events.{items_len}
-use Rattle.serde_json.specs.Find.{get, at, as_str, as_u64, as_number, as_array, as_object}
+use Rattle.serde_json.specs.Find.{get, at, as_null, as_bool, as_str, as_u64, as_number, as_array, as_object}
 use Rattle.serde_json.specs.Read.{read}
 use Rattle.album_stamps.specs.declared.refusals.Refusal.{Refusal}
 use Rattle.album_stamps.specs.declared.refusals.Refusal.TheVariants.{BadLine, BadRequest}
@@ -36,6 +36,15 @@ only_of names d = ok_or (as_object d) BadRequest >>= λ members. guard (has_only
 abbrev pub field_of : List ℕ → Data → Result Data Refusal
 field_of name d = ok_or (get name d) BadRequest
 
+-- an object with a member of this name
+abbrev pub has : List ℕ → Data → Bool
+has name d = is_some (get name d)
+
+-- a member that may be left out, and is this then
+abbrev pub member_or : {A : Type 0} → A → (Data → Result A Refusal) → Option Data → Result A Refusal
+member_or other read None = Ok other
+member_or other read (Some d) = read d
+
 -- the item of a list that must be there
 abbrev pub item_of : ℕ → Data → Result Data Refusal
 item_of i d = ok_or (at i d) BadRequest
@@ -48,7 +57,18 @@ text_of d = ok_or (as_str d) BadRequest
 abbrev pub whole_of : Data → Result ℕ Refusal
 whole_of d = ok_or (option_and_then as_u64 (as_number d)) BadRequest
 
+-- true or false
+abbrev pub truth_of : Data → Result Bool Refusal
+truth_of d = ok_or (as_bool d) BadRequest
+
+-- nothing
+abbrev pub is_nothing : Data → Bool
+is_nothing d = is_some (as_null d)
+
 -- a list
+abbrev pub is_list : Data → Bool
+is_list d = is_some (as_array d)
+
 abbrev pub list_of : Data → Result Items Refusal
 list_of d = ok_or (as_array d) BadRequest
 

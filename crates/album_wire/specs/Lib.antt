@@ -4,6 +4,15 @@ pub mod Fields
 pub mod Trees
 pub mod Shapes
 pub mod JudgeShape
+pub mod ItemShapes
+pub mod OpeningShape
+pub mod AskShape
+pub mod EventShape
 pub mod Values
 pub mod JudgeLine
+pub mod OpeningLine
+pub mod EventLine
 pub mod Output
+pub mod ValueJson
+pub mod MessageJson
+pub mod OutJson

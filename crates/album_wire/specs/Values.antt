@@ -2,14 +2,16 @@
 use Rattle.std.specs.Prelude.{ℕ, List, [], ◌∷◌, nat_lt, length, if◌then◌else◌, Result, Ok, Err}
 use Rattle.std.specs.Option.{ok_or}
 use Rattle.album_stamps.specs.declared.refusals.Refusal.{Refusal}
-use Rattle.album_stamps.specs.declared.refusals.Refusal.TheVariants.{BadWho, ListFull}
-use Rattle.album_stamps.specs.declared.limits.TheConstants.{MOST_ENTRIES, MOST_MEMBERS}
+use Rattle.album_stamps.specs.declared.refusals.Refusal.TheVariants.{BadWho, ListFull, BadText}
+use Rattle.album_stamps.specs.declared.limits.TheConstants.{MOST_ENTRIES, MOST_MEMBERS, MOST_CONTENT}
 use Rattle.album_stamps.specs.Outcome.{◌>>=◌}
 use Rattle.album_access.specs.Bits.{mask_of, flags_of}
-use Rattle.album_lists.specs.Whos.{who_of, member_of}
+use Rattle.album_lists.specs.Whos.{user_of, who_of, member_of}
 use Rattle.album_lists.specs.Entries.{access_list_of}
 use Rattle.album_lists.specs.declared.lists.Ace.{Ace}
 use Rattle.album_lists.specs.declared.whos.Member.{Member}
+use Rattle.album_items.specs.Texts.{title_of}
+use Rattle.hex.specs.Hex.{decode_of}
 use Rattle.album_wire.specs.Shapes.{SpelledEntry}
 
 -- each of a list read, or the first refusal
@@ -39,3 +41,25 @@ member_read text = ok_or (member_of text) BadWho
 
 unfoldable pub members_read : List (List ℕ) → Result (List Member) Refusal
 members_read texts = at_most MOST_MEMBERS texts >>= each_of member_read
+
+-- an owner
+abbrev pub owner_read : List ℕ → Result (List ℕ) Refusal
+owner_read text = ok_or (user_of text) BadWho
+
+-- a title
+abbrev pub title_read : List ℕ → Result (List ℕ) Refusal
+title_read text = ok_or (title_of text) BadText
+
+-- a content: two digits a byte, each of 0 to 9 and a to f, in either case
+abbrev pub or_bad_text : {A E : Type 0} → Result A E → Result A Refusal
+or_bad_text (Ok a) = Ok a
+or_bad_text (Err e) = Err BadText
+
+unfoldable pub bytes_read : List ℕ → Result (List ℕ) Refusal
+bytes_read text = or_bad_text (decode_of text)
+
+abbrev pub short : List ℕ → Result (List ℕ) Refusal
+short bytes = if nat_lt MOST_CONTENT (length bytes) then Err BadText else Ok bytes
+
+unfoldable pub content_read : List ℕ → Result (List ℕ) Refusal
+content_read text = bytes_read text >>= short

@@ -5,7 +5,7 @@ ghost use Rattle.json.specs.Value.{members_view};
 ghost use Rattle.serde_json.specs.Data.{no_members};
 ghost use Rattle.serde_json.specs.Find.{get, at};
 ghost use Rattle.album_stamps.specs.Outcome.{Gives};
-ghost use Rattle.album_wire.specs.Fields.{has_only, only_of, sized, field_of, item_of, text_of, whole_of, list_of};
+ghost use Rattle.album_wire.specs.Fields.{has_only, only_of, has, sized, field_of, item_of, text_of, whole_of, truth_of, is_nothing, is_list, list_of};
 ghost use Rattle.album_wire.specs.Trees.{members_in, value_data, items_data};
 
 use crate::numbers::number;
@@ -58,6 +58,13 @@ pub(crate) fn member<'v, 'a>(value: &'v Value<'a>, name: &str) -> Option<&'v Val
     value.get(name)
 }
 
+/// Whether an object has a member of this name.
+pub(crate) fn has(value: &Value<'_>, name: &str) -> bool
+    ensures { result ≡ has name.now (value_data value.now) }
+{
+    member(value, name).is_some()
+}
+
 /// The item of a list that must be there.
 pub(crate) fn item<'v, 'a>(value: &'v Value<'a>, i: usize) -> Result<&'v Value<'a>, Refusal>
     ensures { Gives (λ v. value_data v.now) result (item_of i (value_data value.now)) }
@@ -84,6 +91,30 @@ pub(crate) fn whole(value: &Value<'_>) -> Result<u64, Refusal>
     let numeral = value.as_number().ok_or(Refusal::BadRequest)?;
     let number = number(numeral).ok_or(Refusal::BadRequest)?;
     number.as_u64().ok_or(Refusal::BadRequest)
+}
+
+/// True or false.
+pub(crate) fn truth(value: &Value<'_>) -> Result<bool, Refusal>
+    ensures { Gives (λ b. b) result (truth_of (value_data value.now)) }
+{
+    value.as_bool().ok_or(Refusal::BadRequest)
+}
+
+/// Whether the value is nothing. A number that is out of range is nothing too; no line that is read has one.
+pub(crate) fn is_nothing(value: &Value<'_>) -> bool
+    ensures { result ≡ is_nothing (value_data value.now) }
+{
+    match value {
+        Value::Null => true,
+        Value::Number(text) => number(text).is_none(),
+        Value::Bool(_) | Value::String(_) | Value::Array(_) | Value::Object(_) => false,
+    }
+}
+
+pub(crate) fn is_list(value: &Value<'_>) -> bool
+    ensures { result ≡ is_list (value_data value.now) }
+{
+    matches!(value, Value::Array(_))
 }
 
 /// A list of so many items.

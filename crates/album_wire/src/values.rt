@@ -1,14 +1,17 @@
-// Values of what has its shape: an access list of entries, members of texts, a mask of a number.
+// Values of what has its shape: an access list of entries, members of texts, a mask of a number, and so on.
 ghost use Rattle.std.specs.Prelude.{◌≡◌, List, ℕ, map};
 ghost use Rattle.album_stamps.specs.Outcome.{Gives};
 ghost use Rattle.album_access.specs.Bits.{mask_of, flags_of};
 ghost use Rattle.album_wire.specs.Shapes.{SpelledEntry, spelled_entry};
-ghost use Rattle.album_wire.specs.Values.{each_of, entry_read, entries_read, member_read, members_read};
+ghost use Rattle.album_wire.specs.Values.{each_of, entry_read, entries_read, member_read, members_read, owner_read, title_read, bytes_read, content_read};
 
 use crate::shapes::EntryShape;
 use album_access::{AceFlags, Mask};
-use album_lists::{AccessList, Ace, Member, Who};
+use album_items::{Content, Title};
+use album_lists::{AccessList, Ace, Member, Name, Who, user_name};
 use album_stamps::{MOST_ENTRIES, MOST_MEMBERS, Refusal};
+use bytes::Bytes;
+use hex::FromHexError;
 use std::alloc::Global;
 
 /// The access list of these entries.
@@ -88,4 +91,38 @@ fn each_member(alloc: Global, texts: &[&str]) -> Result<Vec<Member>, Refusal>
         members.push(Member::read(alloc, text)?)?;
     }
     Ok(members)
+}
+
+/// The owner that the text is.
+pub(crate) fn owner(alloc: Global, text: &str) -> Result<Name, Refusal>
+    ensures { Gives (λ name. name) result (owner_read text.now) }
+{
+    user_name(alloc, text)
+}
+
+/// The title that the text is.
+pub(crate) fn title(alloc: Global, text: &str) -> Result<Title, Refusal>
+    ensures { Gives (λ title. title) result (title_read text.now) }
+{
+    Title::of(alloc, text)
+}
+
+/// The content that the text spells in hexadecimal.
+#[tactic(auto, unfolding(crate::specs::Values::content_read))]
+pub(crate) fn content(alloc: Global, text: &str) -> Result<Content, Refusal>
+    ensures { Gives (λ content. content) result (content_read text.now) }
+{
+    let bytes = Bytes::from_vec(bytes(alloc, text)?)?;
+    Ok(Content::of(bytes)?)
+}
+
+#[tactic(auto, unfolding(crate::specs::Values::bytes_read))]
+fn bytes(alloc: Global, text: &str) -> Result<Vec<u8>, Refusal>
+    ensures { Gives (λ bytes. bytes.items) result (bytes_read text.now) }
+{
+    match hex::decode(alloc, text) {
+        Ok(bytes) => Ok(bytes),
+        Err(FromHexError::OutOfMemory) => Err(Refusal::OutOfMemory),
+        Err(_) => Err(Refusal::BadText),
+    }
 }

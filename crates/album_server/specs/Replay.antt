@@ -1,0 +1,225 @@
+-- The text of a replay: what is printed of the lines of an opening, and of the events that the lines behind it spell.
+use Rattle.std.specs.Prelude.{◌≡◌, ◌⊎◌, List, [], ◌∷◌, ◌++◌, ℕ, Bool, if◌then◌else◌, MatchBool, Option, Some, None, Result, Ok, Err}
+use Rattle.std.specs.List.{flat_map}
+use Rattle.album_stamps.specs.declared.refusals.Refusal.{Refusal}
+use Rattle.album_stamps.specs.declared.refusals.Refusal.TheVariants.{OutOfMemory, BadLine, BadRequest, BadOpening}
+use Rattle.album_items.specs.Openings.{Row, is_opening}
+use Rattle.album_items.specs.declared.openings.Opening.{Opening}
+use Rattle.album_calls.specs.declared.messages.Message.{Message}
+use Rattle.album_world.specs.Terms.{Terms, terms_of}
+use Rattle.album_world.specs.State.{Now, message_of}
+use Rattle.album_world.specs.Past.{World}
+use Rattle.album_world.specs.Changes.{Change, change_of}
+use Rattle.album_world.specs.Runs.{now_after, outs_of, happens, start}
+use Rattle.album_world.specs.declared.events.Event.{Event}
+use Rattle.album_world.specs.declared.outs.Out.{Out}
+use Rattle.album_world.specs.declared.outs.Out.TheVariants as out
+use Rattle.album_wire.specs.Lines.{Line, is_blank, lines_of}
+use Rattle.album_wire.specs.OpeningLine.{opening_line_of}
+use Rattle.album_wire.specs.EventLine.{event_line_of, deliveries}
+use Rattle.album_wire.specs.Output.{refusal_line}
+use Rattle.album_wire.specs.OutJson.{out_line}
+use Rattle.album_wire.specs.declared.event_shape.Spelled.{Spelled}
+use Rattle.album_wire.specs.declared.event_shape.Spelled.TheVariants as spelled
+use Rattle.album_wire.specs.declared.opening_line.OpeningLine.{OpeningLine}
+use Rattle.album_wire.specs.declared.opening_line.OpeningLine.TheVariants as line
+use Rattle.album_wire.specs.declared.opening_shape.Header.{Header}
+
+-- Where a replay stands between two lines: nothing is opened yet; it is being opened, with these items so far; the
+-- world runs, in a trace or not; or the opening was refused, and nothing more is printed.
+pub data Stage : Type 0 where
+  Unopened : Stage
+  BeingOpened : Header → List Row → Stage
+  Running : Terms → (trace : Bool) → World → Stage
+  Over : Stage
+
+-- where it stands once a line is taken, and what is printed of the line
+pub record Step : Type 0 where
+  pub next : Stage
+  pub text : List ℕ
+
+-- ---- the opening
+
+-- the first refusal of an opening is printed, and ends the run
+abbrev pub refused : Refusal → Step
+refused refusal = record { next = Over; text = refusal_line refusal }
+
+abbrev pub silently : Stage → Step
+silently next = record { next = next; text = [] }
+
+-- what the lines have said
+abbrev pub opening_of : Header → List Row → Opening
+opening_of header rows =
+    record { parts = header.parts; limit = header.limit; policy = header.policy; items = rows }
+
+-- the world opens, where it may
+abbrev pub begun : Opening → Bool → Step
+begun opening trace =
+    if is_opening opening then silently (Running (terms_of opening) trace (start opening)) else refused BadOpening
+
+-- The header comes first, then the items, then that these are all; a line out of this order is a bad request.
+abbrev pub first_line : OpeningLine → Step
+first_line (line.Open header) = silently (BeingOpened header [])
+first_line (line.Item item value) = refused BadRequest
+first_line line.Begin = refused BadRequest
+
+abbrev pub later_line : Header → List Row → OpeningLine → Step
+later_line header rows (line.Open other) = refused BadRequest
+later_line header rows (line.Item item value) = silently (BeingOpened header (rows ++ (item, value) ∷ []))
+later_line header rows line.Begin = begun (opening_of header rows) header.trace
+
+-- a line that can't be read is refused by the first test that it fails
+abbrev pub opened_by : (OpeningLine → Step) → Result OpeningLine Refusal → Step
+opened_by taken (Ok said) = taken said
+opened_by taken (Err refusal) = refused refusal
+
+-- ---- events
+
+-- the message that is sent, where the world runs in a trace
+abbrev pub message_shown : Bool → Now → Out → Option Message
+message_shown trace now (out.Sent number) = if trace then message_of now.messages number else None
+message_shown trace now (out.Noted client note) = None
+message_shown trace now (out.Answered client answer) = None
+
+-- the lines of what was told, with the messages that are there now
+abbrev pub told_text : Bool → Now → List Out → List ℕ
+told_text trace now outs = flat_map (λ told. out_line told (message_shown trace now told)) outs
+
+-- of an event what it tells, or its refusal
+abbrev pub event_text : Bool → Now → Result Change Refusal → List ℕ
+event_text trace now (Ok change) = told_text trace (now_after now change) (outs_of now change)
+event_text trace now (Err refusal) = refusal_line refusal
+
+-- of a delivery in a range what it tells; that there is no such message, for which alone it is refused, is not printed
+abbrev pub delivery_text : Bool → Now → Result Change Refusal → List ℕ
+delivery_text trace now (Ok change) = told_text trace (now_after now change) (outs_of now change)
+delivery_text trace now (Err refusal) = []
+
+-- An event happens, and its text is printed. Where memory runs out on it, that is printed, and nothing has happened.
+abbrev pub Happens : (Bool → Now → Result Change Refusal → List ℕ)
+    → Terms → Bool → World → Event → World → List ℕ → Type 0
+Happens text_of terms trace world event next text =
+    ((next ≡ happens terms world event) × (text ≡ text_of trace world.now (change_of terms world.now event)))
+    ⊎ ((next ≡ world) × (text ≡ refusal_line OutOfMemory))
+
+-- the deliveries of a range happen one after another
+abbrev pub Delivers : Terms → Bool → World → List Event → World → List ℕ → Type 0
+Delivers terms trace world [] next text = (next ≡ world) × (text ≡ [])
+Delivers terms trace world (event ∷ events) next text =
+    (between : World) × (first : List ℕ) × (others : List ℕ)
+    × Happens delivery_text terms trace world event between first
+    × Delivers terms trace between events next others
+    × (text ≡ first ++ others)
+
+-- the events that a line spells
+abbrev pub Spells : Terms → Bool → World → Spelled → World → List ℕ → Type 0
+Spells terms trace world (spelled.One event) next text = Happens event_text terms trace world event next text
+Spells terms trace world (spelled.Range first last) next text =
+    Delivers terms trace world (deliveries first last) next text
+
+-- a refused line changes nothing
+abbrev pub Runs : Terms → Bool → World → Result Spelled Refusal → World → List ℕ → Type 0
+Runs terms trace world (Ok events) next text = Spells terms trace world events next text
+Runs terms trace world (Err refusal) next text = (next ≡ world) × (text ≡ refusal_line refusal)
+
+-- ---- a line
+
+-- the opening's line, of which nothing is read where it is too long
+abbrev pub opening_line_read : Line → Result OpeningLine Refusal
+opening_line_read None = Err BadLine
+opening_line_read (Some bytes) = opening_line_of bytes
+
+abbrev pub event_line_read : Line → Result Spelled Refusal
+event_line_read None = Err BadLine
+event_line_read (Some bytes) = event_line_of bytes
+
+-- a step of the opening is what its line says, unless memory runs out on that
+abbrev pub IsOpened : Step → Step → Type 0
+IsOpened says step = (step ≡ says) ⊎ (step ≡ refused OutOfMemory)
+
+-- a step of the run
+pub record IsRun (terms : Terms) (trace : Bool) (world : World) (line : Line) (step : Step) : Type 0 where
+  pub world_then : World
+  pub runs : step.next ≡ Running terms trace world_then
+  pub told : Runs terms trace world (event_line_read line) world_then step.text
+      ⊎ ((world_then ≡ world) × (step.text ≡ refusal_line OutOfMemory))
+
+-- what comes of a line that isn't blank
+abbrev pub Takes : Stage → Line → Step → Type 0
+Takes Unopened line step = IsOpened (opened_by first_line (opening_line_read line)) step
+Takes (BeingOpened header rows) line step = IsOpened (opened_by (later_line header rows) (opening_line_read line)) step
+Takes (Running terms trace world) line step = IsRun terms trace world line step
+Takes Over line step = step ≡ silently Over
+
+-- a blank line is skipped
+abbrev pub IsStep : Stage → Line → Step → Type 0
+IsStep stage line step = MatchBool (is_blank line) (step ≡ silently stage) (Takes stage line step)
+
+-- ---- the whole text
+
+-- the lines are taken one after another, up to where it stands then, and this is printed of them
+abbrev pub Replays : Stage → List Line → Stage → List ℕ → Type 0
+Replays stage [] last text = (last ≡ stage) × (text ≡ [])
+Replays stage (line ∷ lines) last text =
+    (step : Step) × (others : List ℕ)
+    × IsStep stage line step × Replays step.next lines last others × (text ≡ step.text ++ others)
+
+-- an input that ends before the world runs is no opening
+abbrev pub end_text : Stage → List ℕ
+end_text Unopened = refusal_line BadOpening
+end_text (BeingOpened header rows) = refusal_line BadOpening
+end_text (Running terms trace world) = []
+end_text Over = []
+
+-- the text that is printed of an input
+pub record IsReplay (input text : List ℕ) : Type 0 where
+  pub last : Stage
+  pub front : List ℕ
+  pub lines : Replays Unopened (lines_of input) last front
+  pub whole : text ≡ front ++ end_text last
+
+-- ---- the same, where memory never runs out
+
+-- the deliveries of a range, with their texts one after another
+abbrev pub delivered : Terms → Bool → World → List Event → World × List ℕ
+delivered terms trace world [] = (world, [])
+delivered terms trace world (event ∷ events) = (
+  (delivered terms trace (happens terms world event) events).0,
+  delivery_text trace world.now (change_of terms world.now event)
+      ++ (delivered terms trace (happens terms world event) events).1,
+)
+
+-- the events that a line spells, with their text
+abbrev pub spelled_run : Terms → Bool → World → Spelled → World × List ℕ
+spelled_run terms trace world (spelled.One event) =
+    (happens terms world event, event_text trace world.now (change_of terms world.now event))
+spelled_run terms trace world (spelled.Range first last) = delivered terms trace world (deliveries first last)
+
+abbrev pub line_run : Terms → Bool → World → Result Spelled Refusal → World × List ℕ
+line_run terms trace world (Ok events) = spelled_run terms trace world events
+line_run terms trace world (Err refusal) = (world, refusal_line refusal)
+
+abbrev pub run_step : Terms → Bool → World × List ℕ → Step
+run_step terms trace ran = record { next = Running terms trace ran.0; text = ran.1 }
+
+abbrev pub taken : Stage → Line → Step
+taken Unopened line = opened_by first_line (opening_line_read line)
+taken (BeingOpened header rows) line = opened_by (later_line header rows) (opening_line_read line)
+taken (Running terms trace world) line = run_step terms trace (line_run terms trace world (event_line_read line))
+taken Over line = silently Over
+
+abbrev pub step_of : Stage → Line → Step
+step_of stage line = if is_blank line then silently stage else taken stage line
+
+-- where a replay stands once the lines are taken, and what is printed of them
+abbrev pub replayed : Stage → List Line → Stage × List ℕ
+replayed stage [] = (stage, [])
+replayed stage (line ∷ lines) = (
+  (replayed (step_of stage line).next lines).0,
+  (step_of stage line).text ++ (replayed (step_of stage line).next lines).1,
+)
+
+-- the text of an input
+unfoldable pub replay_text : List ℕ → List ℕ
+replay_text input =
+    (replayed Unopened (lines_of input)).1 ++ end_text (replayed Unopened (lines_of input)).0

@@ -1,0 +1,113 @@
+-- No line that is written has a float. For `write_out`: `no_float_in_note`, `no_float_in_answer` and
+-- `no_float_in_message`.
+use Rattle.std.proofs.Common.{◌≡◌, ℕ, List, [], ◌∷◌, map, false, Some, None, Option, refl}
+use Rattle.serde_json.specs.Data.{Data}
+use Rattle.serde_json.specs.Written.{has_float, items_have_float}
+use Rattle.serde_json.specs.View.{items_of}
+use Rattle.album_calls.specs.declared.messages.Message.{Message}
+use Rattle.album_calls.specs.declared.messages.Body.{Body}
+use Rattle.album_calls.specs.declared.messages.Body.TheVariants as body
+use Rattle.album_calls.specs.declared.replies.Reply.{Reply}
+use Rattle.album_calls.specs.declared.replies.Reply.TheVariants as reply
+use Rattle.album_calls.specs.declared.requests.Request.{Request}
+use Rattle.album_calls.specs.declared.requests.Request.TheVariants as request
+use Rattle.album_items.specs.declared.values.Value.{Value}
+use Rattle.album_items.specs.declared.values.Value.TheVariants as value
+use Rattle.album_lists.specs.declared.lists.Ace.{Ace}
+use Rattle.album_lists.specs.declared.whos.Member.{Member}
+use Rattle.album_eval.specs.declared.verdicts.Verdict.{Verdict}
+use Rattle.album_eval.specs.declared.verdicts.Verdict.TheVariants as verdict
+use Rattle.album_listing.specs.declared.reasons.Reason.{Reason}
+use Rattle.album_listing.specs.declared.rows.Row.{Row}
+use Rattle.album_permits.specs.declared.notes.Note.{Note}
+use Rattle.album_permits.specs.declared.serving.Served.{Served}
+use Rattle.album_permits.specs.declared.serving.Served.TheVariants as served
+use Rattle.album_world.specs.declared.outs.Answer.{Answer}
+use Rattle.album_world.specs.declared.outs.Answer.TheVariants as answer
+use Rattle.album_wire.specs.Spelling.{whole_data}
+use Rattle.album_wire.specs.ValueJson.{item_json, entry_json, member_json, home_json, value_json}
+use Rattle.album_wire.specs.MessageJson.{write_json, request_json, reply_json, message_json}
+use Rattle.album_wire.specs.OutJson.{note_json, row_json, at_json, reason_json, served_json, answer_json}
+use Rattle.album_wire.specs.declared.message_json.Envelope.{Envelope}
+
+in_list : {A : Type 0} (f : A → Data) → ((x : A) → has_float (f x) ≡ false) → (xs : List A)
+    → items_have_float (items_of (map f xs)) ≡ false
+in_list f none [] = refl
+in_list f none (x ∷ xs) = rw (none x, in_list f none xs) refl
+
+in_items : (items : List ℕ) → items_have_float (items_of (map item_json items)) ≡ false
+in_items items = in_list item_json (λ i. refl) items
+
+in_entries : (entries : List Ace) → items_have_float (items_of (map entry_json entries)) ≡ false
+in_entries entries = in_list entry_json (λ e. refl) entries
+
+in_members : (members : List Member) → items_have_float (items_of (map member_json members)) ≡ false
+in_members members = in_list member_json (λ m. refl) members
+
+in_home : (home : Option ℕ) → has_float (home_json home) ≡ false
+in_home None = refl
+in_home (Some number) = refl
+
+in_value : (v : Value) → has_float (value_json v) ≡ false
+in_value value.Missing = refl
+in_value (value.Picture picture) = refl
+in_value (value.Album album) = rw (in_items album.children, in_home album.home) refl
+in_value (value.List entries) = rw (in_entries entries) refl
+in_value (value.Group group) = rw (in_members group.members) refl
+
+in_write : (row : ℕ × Value) → has_float (write_json row) ≡ false
+in_write row = rw (in_value row.1) refl
+
+in_request : (e : Envelope) (r : Request) → has_float (request_json e r) ≡ false
+in_request e (request.Prepare stamp writes items) = rw (in_list write_json in_write writes, in_items items) refl
+in_request e (request.Commit stamp) = refl
+in_request e (request.Get item stamps) = rw (in_list whole_data (λ s. refl) stamps) refl
+in_request e (request.Check stamp) = refl
+
+in_reply : (e : Envelope) (r : Reply) → has_float (reply_json e r) ≡ false
+in_reply e (reply.Prepared stamp) = refl
+in_reply e (reply.Committed stamp) = refl
+in_reply e (reply.Discarded stamp) = refl
+in_reply e (reply.Version item stamp value) = rw (in_value value) refl
+in_reply e (reply.Status stamp vote) = refl
+in_reply e (reply.NotPrepared stamp) = refl
+in_reply e reply.Clash = refl
+in_reply e (reply.Full stamp) = refl
+in_reply e (reply.Gone item) = refl
+
+pub no_float_in_message : (number : ℕ) (m : Message) → has_float (message_json number m) ≡ false
+no_float_in_message number m = go m.body
+  where
+    go : (b : Body) → has_float (message_json number (record m { body = b })) ≡ false
+    go (body.Request r) = in_request _ r
+    go (body.Reply r) = in_reply _ r
+
+pub no_float_in_note : (client : ℕ) (note : Note) → has_float (note_json client note) ≡ false
+no_float_in_note client note = refl
+
+in_row : (row : Row) → has_float (row_json row) ≡ false
+in_row row = refl
+
+in_at : (v : Verdict) → has_float (at_json v) ≡ false
+in_at verdict.Granted = refl
+in_at (verdict.DeniedBy index) = refl
+in_at verdict.DeniedAtEnd = refl
+
+in_reason : (reason : Reason) → has_float (reason_json reason) ≡ false
+in_reason reason = rw (in_at reason.verdict) refl
+
+in_served : (client : ℕ) (s : Served) → has_float (served_json client s) ≡ false
+in_served client (served.Picture object stamp title content) = refl
+in_served client (served.Group object stamp members) = rw (in_members members) refl
+in_served client (served.Entries object stamp entries) = rw (in_entries entries) refl
+in_served client (served.Listed album stamp rows) = rw (in_list row_json in_row rows) refl
+
+pub no_float_in_answer : (client : ℕ) (a : Answer) → has_float (answer_json client a) ≡ false
+no_float_in_answer client (answer.Served served) = in_served client served
+no_float_in_answer client (answer.Denied reasons) = rw (in_list reason_json in_reason reasons) refl
+no_float_in_answer client (answer.Missing object) = refl
+no_float_in_answer client (answer.Busy why) = refl
+no_float_in_answer client (answer.Committed stamp) = refl
+no_float_in_answer client (answer.Aborted stamp) = refl
+no_float_in_answer client (answer.Unsettled stamp refusal) = refl
+no_float_in_answer client (answer.Refused refusal) = refl

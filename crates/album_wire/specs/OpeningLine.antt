@@ -1,0 +1,45 @@
+-- What a line of an opening says: how the store is to be opened, an item with its first value, or that this is all.
+use Rattle.std.specs.Prelude.{ℕ, List, Result, Ok}
+use Rattle.album_stamps.specs.declared.refusals.Refusal.{Refusal}
+use Rattle.album_stamps.specs.Outcome.{◌>>=◌}
+use Rattle.album_items.specs.declared.values.Head.{Head}
+use Rattle.album_items.specs.declared.values.Value.{Value}
+use Rattle.album_items.specs.declared.values.Value.TheVariants as value
+use Rattle.album_wire.specs.Fields.{data_of}
+use Rattle.album_wire.specs.ItemShapes.{SpelledHead, SpelledValue, Picture, Album, Entries, Group}
+use Rattle.album_wire.specs.OpeningShape.{SpelledOpening, Open, Item, Begin, opening_shape_of}
+use Rattle.album_wire.specs.Values.{title_read, content_read, owner_read, entries_read, members_read}
+use Rattle.album_wire.specs.declared.opening_line.OpeningLine.{OpeningLine}
+use Rattle.album_wire.specs.declared.opening_line.OpeningLine.TheVariants as line
+
+-- the head with this owner
+abbrev pub head_with : SpelledHead → List ℕ → Head
+head_with s owner = record { owner = owner; group = s.group; list = s.list }
+
+-- the values of the fields, in this order, or the first refusal
+unfoldable pub value_read : SpelledValue → Result Value Refusal
+value_read (Picture title content head home) = do
+  title ← title_read title
+  content ← content_read content
+  owner ← owner_read head.owner
+  Ok (value.Picture (record { title = title; content = content; head = head_with head owner; home = home }))
+value_read (Album title head home children) = do
+  title ← title_read title
+  owner ← owner_read head.owner
+  Ok (value.Album (record { title = title; head = head_with head owner; home = home; children = children }))
+value_read (Entries entries) = do
+  list ← entries_read entries
+  Ok (value.List list)
+value_read (Group head members) = do
+  owner ← owner_read head.owner
+  members ← members_read members
+  Ok (value.Group (record { head = head_with head owner; members = members }))
+
+unfoldable pub opening_read : SpelledOpening → Result OpeningLine Refusal
+opening_read (Open header) = Ok (line.Open header)
+opening_read (Item item value) = value_read value >>= λ value. Ok (line.Item item value)
+opening_read Begin = Ok line.Begin
+
+-- what the bytes of a line of an opening say, or the first test that they fail
+unfoldable pub opening_line_of : List ℕ → Result OpeningLine Refusal
+opening_line_of bytes = data_of bytes >>= opening_shape_of >>= opening_read

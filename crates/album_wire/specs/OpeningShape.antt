@@ -1,0 +1,67 @@
+-- The shape of a line of an opening: its fields, each of its form, or a bad request.
+use Rattle.std.specs.Prelude.{ℕ, List, [], ◌∷◌, codes, false, if◌then◌else◌, Result, Ok}
+use Rattle.serde_json.specs.Data.{Data}
+use Rattle.serde_json.specs.Find.{get}
+use Rattle.album_stamps.specs.declared.refusals.Refusal.{Refusal}
+use Rattle.album_stamps.specs.Outcome.{◌>>=◌}
+use Rattle.album_wire.specs.Fields.{guard, only_of, field_of, has, member_or, whole_of, truth_of}
+use Rattle.album_wire.specs.ItemShapes.{SpelledValue, spelled_value, item_named, value_shape_of}
+use Rattle.album_wire.specs.declared.opening_shape.Header.{Header}
+use Rattle.album_wire.specs.declared.opening_shape.OpeningShape.{OpeningShape}
+use Rattle.album_wire.specs.declared.opening_shape.OpeningShape.TheVariants as shape
+use Rattle.album_wire.specs.declared.opening_shape.TheConstants.{DEFAULT_LIMIT, DEFAULT_POLICY}
+
+-- a line of an opening as it is spelled
+pub data SpelledOpening : Type 0 where
+  Open : Header → SpelledOpening
+  Item : (item : ℕ) → SpelledValue → SpelledOpening
+  Begin : SpelledOpening
+
+abbrev pub spelled_opening : OpeningShape → SpelledOpening
+spelled_opening (shape.Open header) = Open header
+spelled_opening (shape.Item item value) = Item item (spelled_value value)
+spelled_opening shape.Begin = Begin
+
+-- the names of the members of a header
+abbrev pub header_keys : List (List ℕ)
+header_keys = codes "parts" ∷ codes "limit" ∷ codes "policy" ∷ codes "trace" ∷ []
+
+-- {parts, and perhaps limit, policy, trace}
+unfoldable pub header_of : Data → Result Header Refusal
+header_of d = do
+  _ ← only_of header_keys d
+  parts ← field_of (codes "parts") d >>= whole_of
+  limit ← member_or DEFAULT_LIMIT whole_of (get (codes "limit") d)
+  policy ← member_or DEFAULT_POLICY whole_of (get (codes "policy") d)
+  trace ← member_or false truth_of (get (codes "trace") d)
+  Ok (record { parts = parts; limit = limit; policy = policy; trace = trace })
+
+-- {"open": header}
+unfoldable pub open_shape_of : Data → Result SpelledOpening Refusal
+open_shape_of d = do
+  _ ← only_of (codes "open" ∷ []) d
+  header ← field_of (codes "open") d >>= header_of
+  Ok (Open header)
+
+-- {"item": item, "value": its value}
+unfoldable pub item_shape_of : Data → Result SpelledOpening Refusal
+item_shape_of d = do
+  _ ← only_of (codes "item" ∷ codes "value" ∷ []) d
+  item ← field_of (codes "item") d >>= item_named
+  value ← field_of (codes "value") d >>= value_shape_of
+  Ok (Item item value)
+
+-- {"begin": true}
+unfoldable pub begin_shape_of : Data → Result SpelledOpening Refusal
+begin_shape_of d = do
+  _ ← only_of (codes "begin" ∷ []) d
+  begin ← field_of (codes "begin") d >>= truth_of
+  _ ← guard begin
+  Ok Begin
+
+-- which of the three, its names tell
+abbrev pub opening_shape_of : Data → Result SpelledOpening Refusal
+opening_shape_of d =
+    if has (codes "open") d then open_shape_of d
+    else if has (codes "item") d then item_shape_of d
+    else begin_shape_of d

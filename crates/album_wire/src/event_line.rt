@@ -1,0 +1,187 @@
+// Lines of events: what has its shape, with the values of its fields.
+ghost use Rattle.std.specs.Prelude.{◌≡◌, ◌++◌, Ok, Err, codes, map};
+ghost use Rattle.album_stamps.specs.Outcome.{Gives};
+ghost use Rattle.album_items.specs.ItemIds.{picture, album};
+ghost use Rattle.album_wire.specs.AskShape.{spelled_new_list, spelled_ask};
+ghost use Rattle.album_wire.specs.EventLine.{new_list_read, ask_read, event_read, event_line_of};
+ghost use Rattle.album_wire.specs.EventShape.{spelled_event};
+ghost use Rattle.album_wire.specs.Values.{each_of};
+
+use crate::ask_shape::{AskShape, NewListShape};
+use crate::event_shape::{EventShape, Spelled, event_shape};
+use crate::trees::data;
+use crate::values::{access_list, content, members, owner, title};
+use album_eval::Principal;
+use album_items::Members;
+use album_stamps::Refusal;
+use album_views::{Ask, NewList, NewLists};
+use album_world::Event;
+use json::Scratch;
+use std::alloc::Global;
+
+/// Reads the line of an event: the events that it spells, or the first test that it fails. The scratch is room that is
+/// kept from line to line, whatever stood in it.
+#[tactic(auto, unfolding(crate::specs::EventLine::event_line_of))]
+pub fn read_event(alloc: Global, scratch: &mut Scratch, bytes: &[u8]) -> Result<Spelled, Refusal>
+    ensures { Gives (λ events. events) result (event_line_of bytes.now) }
+{
+    let value = data(alloc, scratch, bytes)?;
+    let shape = event_shape(alloc, &value)?;
+    events_of(alloc, shape)
+}
+
+/// A law: lines of events that were worked out by hand.
+pub fn worked_events()
+    // The deliveries of a range.
+    ensures range { event_line_of (codes "{\"deliver\":[1,20]}") ≡ Ok (Spelled.Range 1 20) }
+    // A range that spells none.
+    ensures backwards { event_line_of
+        (codes "{\"deliver\":[18446744073709551615,0]}")
+        ≡ Ok (Spelled.Range 18446744073709551615 0) }
+    // A range of 2^64 deliveries.
+    ensures wide { event_line_of (codes "{\"deliver\":[0,18446744073709551615]}") ≡ Err Refusal.BadRequest }
+    // Of two equal keys the last counts.
+    ensures last_counts { event_line_of
+        (codes "{\"deliver\":1,\"deliver\":2}")
+        ≡ Ok (Spelled.One (Event.Deliver 2)) }
+    // Keys of two events.
+    ensures two_events { event_line_of (codes "{\"deliver\":1,\"stop\":1}") ≡ Err Refusal.BadRequest }
+    ensures sweep { event_line_of
+        (codes "{\"sweep\":{\"part\":0,\"stamp\":65537}}")
+        ≡ Ok (Spelled.One (Event.Sweep 0 65537)) }
+    // 65536 has the client 0.
+    ensures no_stamp { event_line_of (codes "{\"sweep\":{\"part\":0,\"stamp\":65536}}") ≡ Err Refusal.BadRequest }
+    ensures stop { event_line_of (codes "{\"stop\":65535}") ≡ Ok (Spelled.One (Event.Stop 65535)) }
+    ensures trim { event_line_of
+        (codes "{\"trim\":{\"item\":\"album/3\",\"part\":2}}")
+        ≡ Ok (Spelled.One (Event.Trim 2 (album 3))) }
+    ensures asked { event_line_of
+        (codes "{\"ask\":{\"do\":\"retitle\",\"object\":\"picture/0\",\"title\":\"Bay\"},\"client\":1,"
+        ++ codes "\"who\":\"amy@users\"}")
+        ≡ Ok (Spelled.One (Event.Ask 1 (Principal.User (codes "amy")) (Ask.Retitle (picture 0) (codes "Bay")))) }
+    // The client is 0, the who is none, and the content has one digit.
+    ensures shape_first { event_line_of
+        (codes "{\"ask\":{\"content\":\"0\",\"do\":\"replace\",\"object\":\"picture/0\"},\"client\":0,"
+        ++ codes "\"who\":\"nobody\"}")
+        ≡ Err Refusal.BadRequest }
+    ensures who_second { event_line_of
+        (codes "{\"ask\":{\"content\":\"0\",\"do\":\"replace\",\"object\":\"picture/0\"},\"client\":1,"
+        ++ codes "\"who\":\"nobody\"}")
+        ≡ Err Refusal.BadWho }
+    ensures content_last { event_line_of
+        (codes "{\"ask\":{\"content\":\"0\",\"do\":\"replace\",\"object\":\"picture/0\"},\"client\":1,"
+        ++ codes "\"who\":\"bo@users\"}")
+        ≡ Err Refusal.BadText }
+{}
+
+/// Who asks, and then the fields of the ask, in their order.
+#[tactic(auto, unfolding(crate::specs::EventLine::event_read))]
+fn events_of(alloc: Global, shape: EventShape) -> Result<Spelled, Refusal>
+    ensures { Gives (λ events. events) result (event_read (spelled_event shape.entry)) }
+{
+    match shape {
+        EventShape::Asked {
+            client,
+            who: text,
+            ask: shape,
+        } => {
+            let who = Principal::read(alloc, text)?;
+            let ask = ask_of(alloc, shape)?;
+            Ok(Spelled::One(Event::Ask(client, who, ask)))
+        }
+        EventShape::Whole(events) => Ok(events),
+    }
+}
+
+#[tactic(auto, unfolding(crate::specs::EventLine::ask_read))]
+fn ask_of(alloc: Global, shape: AskShape) -> Result<Ask, Refusal>
+    ensures { Gives (λ ask. ask) result (ask_read (spelled_ask shape.entry)) }
+{
+    match shape {
+        AskShape::Read { object } => Ok(Ask::Read { object }),
+        AskShape::List { album } => Ok(Ask::List { album }),
+        AskShape::GetList { object } => Ok(Ask::GetList { object }),
+        AskShape::AddPicture {
+            album,
+            title: text,
+            content: digits,
+        } => {
+            let title = title(alloc, text)?;
+            let content = content(alloc, digits)?;
+            Ok(Ask::AddPicture {
+                album,
+                title,
+                content,
+            })
+        }
+        AskShape::AddAlbum { album, title: text } => {
+            let title = title(alloc, text)?;
+            Ok(Ask::AddAlbum { album, title })
+        }
+        AskShape::Retitle {
+            object,
+            title: text,
+        } => {
+            let title = title(alloc, text)?;
+            Ok(Ask::Retitle { object, title })
+        }
+        AskShape::Replace {
+            object,
+            content: digits,
+        } => {
+            let content = content(alloc, digits)?;
+            Ok(Ask::Replace { object, content })
+        }
+        AskShape::Delete { object } => Ok(Ask::Delete { object }),
+        AskShape::Move { object, to } => Ok(Ask::Move { object, to }),
+        AskShape::SetLists { lists: shapes } => {
+            let lists = each_new_list(alloc, &shapes)?;
+            Ok(Ask::SetLists {
+                lists: NewLists::of(lists),
+            })
+        }
+        AskShape::SetOwner {
+            object,
+            owner: text,
+            group,
+        } => {
+            let owner = owner(alloc, text)?;
+            Ok(Ask::SetOwner {
+                object,
+                owner,
+                group,
+            })
+        }
+        AskShape::SetMembers {
+            object,
+            members: texts,
+        } => {
+            let members = members(alloc, &texts)?;
+            Ok(Ask::SetMembers {
+                object,
+                members: Members::of(members),
+            })
+        }
+    }
+}
+
+fn each_new_list(alloc: Global, shapes: &[NewListShape]) -> Result<Vec<NewList>, Refusal>
+    ensures { Gives (λ lists. lists.items) result (each_of new_list_read (map spelled_new_list shapes.now)) }
+{
+    let mut lists = Vec::with_capacity(alloc, shapes.len())?;
+    for shape in shapes {
+        lists.push(new_list(alloc, shape)?)?;
+    }
+    Ok(lists)
+}
+
+#[tactic(auto, unfolding(crate::specs::EventLine::new_list_read))]
+fn new_list(alloc: Global, shape: &NewListShape) -> Result<NewList, Refusal>
+    ensures { Gives (λ new. new) result (new_list_read (spelled_new_list shape.now)) }
+{
+    let list = access_list(alloc, &shape.entries)?;
+    Ok(NewList {
+        object: shape.object,
+        list,
+    })
+}

@@ -1,0 +1,192 @@
+// The shape of an event's line: {ask, client, who}, {deliver = number or [first, last]}, {sweep: {part, stamp}},
+// {stop = client} or {trim: {item, part}}.
+ghost use Rattle.std.specs.Prelude.{◌≡◌, ◌-◌, suc, nat_le};
+ghost use Rattle.std.specs.Option.{ok_or};
+ghost use Rattle.album_stamps.specs.Outcome.{Gives};
+ghost use Rattle.album_stamps.specs.Stamps.{client_of_number};
+ghost use Rattle.album_wire.specs.EventShape.{spelled_event, client_named, stamp_named, part_named, asked_shape_of, range_of, delivered_of, deliver_shape_of, sweep_of, sweep_shape_of, stop_shape_of, trim_of, trim_shape_of, event_shape_of};
+ghost use Rattle.album_wire.specs.Trees.{value_data};
+
+use crate::ask_shape::{AskShape, ask_shape};
+use crate::fields::{field, has, is_list, item, only, sized_list, text, whole};
+use crate::item_shapes::item_named;
+use album_stamps::{ClientNo, Refusal, Stamp};
+use album_world::Event;
+use json::Value;
+use std::alloc::Global;
+
+/// How many deliveries a range may spell.
+pub const MOST_DELIVERIES: u64 = 10_000;
+
+/// The greatest number that a line may give a partition.
+const GREATEST_PART: u64 = 65_535;
+
+/// The events that a line spells.
+#[derive(Debug, Drop)]
+pub enum Spelled {
+    One(Event),
+    /// The deliveries from the first number up to the last: at most `MOST_DELIVERIES`, and none where the first
+    /// is greater.
+    Range(u64, u64),
+}
+
+/// The line of an event as it is spelled. Of every event but an ask, its shape is all.
+#[derive(Drop)]
+pub(crate) enum EventShape<'a> {
+    Asked {
+        client: ClientNo,
+        who: &'a str,
+        ask: AskShape<'a>,
+    },
+    Whole(Spelled),
+}
+
+/// The fields of an event's line, each of its shape, or `BadRequest`. Which event it is, its names tell.
+pub(crate) fn event_shape<'a>(alloc: Global, value: &Value<'a>) -> Result<EventShape<'a>, Refusal>
+    ensures { Gives spelled_event result (event_shape_of (value_data value.now)) }
+{
+    if has(value, "ask") {
+        asked_shape(alloc, value)
+    } else if has(value, "deliver") {
+        deliver_shape(value)
+    } else if has(value, "sweep") {
+        sweep_shape(value)
+    } else if has(value, "stop") {
+        stop_shape(value)
+    } else {
+        trim_shape(value)
+    }
+}
+
+#[tactic(auto, unfolding(crate::specs::EventShape::asked_shape_of))]
+fn asked_shape<'a>(alloc: Global, value: &Value<'a>) -> Result<EventShape<'a>, Refusal>
+    ensures { Gives spelled_event result (asked_shape_of (value_data value.now)) }
+{
+    only(value, &["ask", "client", "who"])?;
+    let ask = ask_shape(alloc, field(value, "ask")?)?;
+    let client = client_named(field(value, "client")?)?;
+    let who = text(field(value, "who")?)?;
+    Ok(EventShape::Asked { client, who, ask })
+}
+
+#[tactic(auto, unfolding(crate::specs::EventShape::deliver_shape_of))]
+fn deliver_shape<'a>(value: &Value<'a>) -> Result<EventShape<'a>, Refusal>
+    ensures { Gives spelled_event result (deliver_shape_of (value_data value.now)) }
+{
+    only(value, &["deliver"])?;
+    let events = delivered(field(value, "deliver")?)?;
+    Ok(EventShape::Whole(events))
+}
+
+/// The number of one message, or a range.
+fn delivered(value: &Value<'_>) -> Result<Spelled, Refusal>
+    ensures { Gives (λ events. events) result (delivered_of (value_data value.now)) }
+{
+    if is_list(value) {
+        return range(value);
+    }
+    let number = whole(value)?;
+    Ok(Spelled::One(Event::Deliver(number)))
+}
+
+#[tactic(auto, unfolding(crate::specs::EventShape::range_of))]
+fn range(value: &Value<'_>) -> Result<Spelled, Refusal>
+    ensures { Gives (λ events. events) result (range_of (value_data value.now)) }
+{
+    sized_list(value, 2)?;
+    let first = whole(item(value, 0)?)?;
+    let last = whole(item(value, 1)?)?;
+    if !are_few(first, last) {
+        return Err(Refusal::BadRequest);
+    }
+    Ok(Spelled::Range(first, last))
+}
+
+/// Whether there are no more numbers from the first up to the last than a range may spell.
+fn are_few(first: u64, last: u64) -> bool
+    ensures { result ≡ nat_le (suc last - first) MOST_DELIVERIES }
+{
+    last < first || last - first < MOST_DELIVERIES
+}
+
+#[tactic(auto, unfolding(crate::specs::EventShape::sweep_shape_of))]
+fn sweep_shape<'a>(value: &Value<'a>) -> Result<EventShape<'a>, Refusal>
+    ensures { Gives spelled_event result (sweep_shape_of (value_data value.now)) }
+{
+    only(value, &["sweep"])?;
+    let events = sweep(field(value, "sweep")?)?;
+    Ok(EventShape::Whole(events))
+}
+
+#[tactic(auto, unfolding(crate::specs::EventShape::sweep_of))]
+fn sweep(value: &Value<'_>) -> Result<Spelled, Refusal>
+    ensures { Gives (λ events. events) result (sweep_of (value_data value.now)) }
+{
+    only(value, &["part", "stamp"])?;
+    let part = part_named(field(value, "part")?)?;
+    let stamp = stamp_named(field(value, "stamp")?)?;
+    Ok(Spelled::One(Event::Sweep(part, stamp)))
+}
+
+#[tactic(auto, unfolding(crate::specs::EventShape::stop_shape_of))]
+fn stop_shape<'a>(value: &Value<'a>) -> Result<EventShape<'a>, Refusal>
+    ensures { Gives spelled_event result (stop_shape_of (value_data value.now)) }
+{
+    only(value, &["stop"])?;
+    let client = client_named(field(value, "stop")?)?;
+    Ok(EventShape::Whole(Spelled::One(Event::Stop(client))))
+}
+
+#[tactic(auto, unfolding(crate::specs::EventShape::trim_shape_of))]
+fn trim_shape<'a>(value: &Value<'a>) -> Result<EventShape<'a>, Refusal>
+    ensures { Gives spelled_event result (trim_shape_of (value_data value.now)) }
+{
+    only(value, &["trim"])?;
+    let events = trim(field(value, "trim")?)?;
+    Ok(EventShape::Whole(events))
+}
+
+#[tactic(auto, unfolding(crate::specs::EventShape::trim_of))]
+fn trim(value: &Value<'_>) -> Result<Spelled, Refusal>
+    ensures { Gives (λ events. events) result (trim_of (value_data value.now)) }
+{
+    only(value, &["item", "part"])?;
+    let item = item_named(field(value, "item")?)?;
+    let part = part_named(field(value, "part")?)?;
+    Ok(Spelled::One(Event::Trim(part, item)))
+}
+
+/// The number of a client, from 1.
+fn client_named(value: &Value<'_>) -> Result<ClientNo, Refusal>
+    ensures { Gives (λ client. client) result (client_named (value_data value.now)) }
+{
+    client_of(whole(value)?).ok_or(Refusal::BadRequest)
+}
+
+fn client_of(number: u64) -> Option<ClientNo>
+    ensures { result ≡ client_of_number number }
+{
+    match u16::try_from(number) {
+        Ok(number) => ClientNo::of(number),
+        Err(_) => None,
+    }
+}
+
+/// A stamp.
+fn stamp_named(value: &Value<'_>) -> Result<Stamp, Refusal>
+    ensures { Gives (λ stamp. stamp) result (stamp_named (value_data value.now)) }
+{
+    Stamp::read(whole(value)?).ok_or(Refusal::BadRequest)
+}
+
+/// The number of a partition, also of one that is not there.
+#[tactic(auto, unfolding(crate::specs::EventShape::part_named))]
+fn part_named(value: &Value<'_>) -> Result<u16, Refusal>
+    ensures { Gives (λ part. part) result (part_named (value_data value.now)) }
+{
+    let part = whole(value)?;
+    if part > GREATEST_PART {
+        return Err(Refusal::BadRequest);
+    }
+    Ok(part as u16)
+}

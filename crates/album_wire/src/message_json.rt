@@ -1,0 +1,303 @@
+// The line of a message in a trace: {from, k = its number, say = a word, tag, to, and what it says}.
+ghost use Rattle.std.specs.Prelude.{◌≡◌, ◌++◌, [], ◌∷◌, codes, string_bytes, map, IfOk};
+ghost use Rattle.serde_json.specs.View.{view};
+ghost use Rattle.album_items.specs.ItemIds.{picture, album};
+ghost use Rattle.album_items.specs.declared.values.Value.TheVariants as ItemValue;
+ghost use Rattle.album_wire.specs.Output.{line_text};
+ghost use Rattle.album_wire.specs.MessageJson.{node_text, vote_word, stamps_json, write_json, writes_json, envelope_of, get_json, prepare_json, version_json, status_json, gone_json, clash_json, stamped_json, request_json, reply_json, said_json, message_json};
+
+use crate::value_json::{item_json, item_list_json, value_json};
+use album_calls::{Body, Message, Node, Reply, Request, Vote};
+use album_items::ItemId;
+use album_stamps::Stamp;
+use serde_json::{Value, json};
+use std::alloc::{AllocError, Global};
+
+/// What every line of a message has beside what the message says.
+#[derive(Clone, Copy)]
+struct Envelope {
+    from: Node,
+    number: u64,
+    tag: u64,
+    to: Node,
+}
+
+/// The message of this number.
+pub(crate) fn message_json(
+    alloc: Global,
+    number: u64,
+    message: &Message,
+) -> Result<Value, AllocError>
+    ensures { IfOk result (λ v. view v ≡ message_json number message.now) }
+{
+    let envelope = Envelope {
+        from: message.from(),
+        number,
+        tag: message.tag(),
+        to: message.to(),
+    };
+    match message.body() {
+        Body::Request(request) => request_json(alloc, envelope, request),
+        Body::Reply(reply) => reply_json(alloc, envelope, reply),
+    }
+}
+
+/// A law: lines of messages that were worked out by hand.
+pub fn worked_messages()
+    ensures get { line_text (message_json 1 (record {
+      from = Node.Client 2;
+      to = Node.Part 0;
+      tag = 1;
+      body = Body.Request (Request.Get (picture 0) []);
+    })) ≡ codes "{\"from\":\"c2\",\"item\":\"picture/0\",\"k\":1,\"say\":\"get\",\"stamps\":[],\"tag\":1,"
+        ++ codes "\"to\":\"p0\"}\n" }
+    ensures version { line_text (message_json 2 (record {
+      from = Node.Part 0;
+      to = Node.Client 2;
+      tag = 1;
+      body = Body.Reply (Reply.Version (picture 0) 0 (ItemValue.Picture (record {
+        title = codes "Sea";
+        content = 115 ∷ 101 ∷ 97 ∷ [];
+        head = record { owner = codes "amy"; group = 0; list = 0 };
+        home = 0;
+      })));
+    })) ≡ codes "{\"from\":\"p0\",\"item\":\"picture/0\",\"k\":2,\"say\":\"version\",\"stamp\":0,\"tag\":1,"
+        ++ codes "\"to\":\"c2\",\"value\":{\"content\":\"736561\",\"group\":0,\"home\":0,\"list\":0,"
+        ++ codes "\"owner\":\"amy@users\",\"title\":\"Sea\"}}\n" }
+    ensures second_get { line_text (message_json 3 (record {
+      from = Node.Client 2;
+      to = Node.Part 0;
+      tag = 2;
+      body = Body.Request (Request.Get (picture 0) (0 ∷ []));
+    })) ≡ codes "{\"from\":\"c2\",\"item\":\"picture/0\",\"k\":3,\"say\":\"get\",\"stamps\":[0],\"tag\":2,"
+        ++ codes "\"to\":\"p0\"}\n" }
+    ensures prepare { line_text (message_json 9 (record {
+      from = Node.Client 1;
+      to = Node.Part 2;
+      tag = 5;
+      body = Body.Request (Request.Prepare 65537 ((picture 2, ItemValue.Missing) ∷ []) (picture 2 ∷ album 0 ∷ []));
+    })) ≡ codes "{\"from\":\"c1\",\"items\":[\"picture/2\",\"album/0\"],\"k\":9,\"say\":\"prepare\","
+        ++ codes "\"stamp\":65537,\"tag\":5,\"to\":\"p2\",\"writes\":[[\"picture/2\",null]]}\n" }
+    ensures status { line_text (message_json 19 (record {
+      from = Node.Part 0;
+      to = Node.Part 0;
+      tag = 0;
+      body = Body.Reply (Reply.Status 65537 Vote.Prepared);
+    })) ≡ codes "{\"from\":\"p0\",\"k\":19,\"say\":\"status\",\"stamp\":65537,\"tag\":0,\"to\":\"p0\","
+        ++ codes "\"vote\":\"prepared\"}\n" }
+{}
+
+fn request_json(alloc: Global, e: Envelope, request: &Request) -> Result<Value, AllocError>
+    ensures { IfOk result (λ v. view v ≡ request_json e request.now) }
+{
+    match request {
+        Request::Prepare(stamp, writes, items) => prepare_json(
+            alloc,
+            e,
+            *stamp,
+            writes.as_slice(),
+            items.as_slice(),
+        ),
+        Request::Commit(stamp) => stamped_json(alloc, e, "commit", *stamp),
+        Request::Get(item, stamps) => get_json(alloc, e, *item, stamps.as_slice()),
+        Request::Check(stamp) => stamped_json(alloc, e, "check", *stamp),
+    }
+}
+
+fn reply_json(alloc: Global, e: Envelope, reply: &Reply) -> Result<Value, AllocError>
+    ensures { IfOk result (λ v. view v ≡ reply_json e reply.now) }
+{
+    match reply {
+        Reply::Prepared(stamp) => stamped_json(alloc, e, "prepared", *stamp),
+        Reply::Committed(stamp) => stamped_json(alloc, e, "committed", *stamp),
+        Reply::Discarded(stamp) => stamped_json(alloc, e, "discarded", *stamp),
+        Reply::Version(item, stamp, value) => version_json(alloc, e, *item, *stamp, value),
+        Reply::Status(stamp, vote) => status_json(alloc, e, *stamp, *vote),
+        Reply::NotPrepared(stamp) => stamped_json(alloc, e, "not_prepared", *stamp),
+        Reply::Clash => clash_json(alloc, e),
+        Reply::Full(stamp) => stamped_json(alloc, e, "full", *stamp),
+        Reply::Gone(item) => gone_json(alloc, e, *item),
+    }
+}
+
+fn get_json(alloc: Global, e: Envelope, item: ItemId, stamps: &[Stamp]) -> Result<Value, AllocError>
+    ensures { IfOk result (λ v. view v ≡ get_json e item stamps.now) }
+{
+    let from = node_text(alloc, e.from)?;
+    let item = item_json(alloc, item)?;
+    let stamps = stamps_json(alloc, stamps)?;
+    let to = node_text(alloc, e.to)?;
+    json!(in alloc; {
+        "from": from,
+        "item": item,
+        "k": e.number,
+        "say": "get",
+        "stamps": stamps,
+        "tag": e.tag,
+        "to": to,
+    })
+}
+
+fn prepare_json(
+    alloc: Global,
+    e: Envelope,
+    stamp: Stamp,
+    writes: &[(ItemId, album_items::Value)],
+    items: &[ItemId],
+) -> Result<Value, AllocError>
+    ensures { IfOk result (λ v. view v ≡ prepare_json e stamp writes.now items.now) }
+{
+    let from = node_text(alloc, e.from)?;
+    let items = item_list_json(alloc, items)?;
+    let to = node_text(alloc, e.to)?;
+    let writes = writes_json(alloc, writes)?;
+    json!(in alloc; {
+        "from": from,
+        "items": items,
+        "k": e.number,
+        "say": "prepare",
+        "stamp": stamp.value(),
+        "tag": e.tag,
+        "to": to,
+        "writes": writes,
+    })
+}
+
+fn version_json(
+    alloc: Global,
+    e: Envelope,
+    item: ItemId,
+    stamp: Stamp,
+    value: &album_items::Value,
+) -> Result<Value, AllocError>
+    ensures { IfOk result (λ v. view v ≡ version_json e item stamp value.now) }
+{
+    let from = node_text(alloc, e.from)?;
+    let item = item_json(alloc, item)?;
+    let to = node_text(alloc, e.to)?;
+    let value = value_json(alloc, value)?;
+    json!(in alloc; {
+        "from": from,
+        "item": item,
+        "k": e.number,
+        "say": "version",
+        "stamp": stamp.value(),
+        "tag": e.tag,
+        "to": to,
+        "value": value,
+    })
+}
+
+fn status_json(alloc: Global, e: Envelope, stamp: Stamp, vote: Vote) -> Result<Value, AllocError>
+    ensures { IfOk result (λ v. view v ≡ status_json e stamp vote) }
+{
+    let from = node_text(alloc, e.from)?;
+    let to = node_text(alloc, e.to)?;
+    json!(in alloc; {
+        "from": from,
+        "k": e.number,
+        "say": "status",
+        "stamp": stamp.value(),
+        "tag": e.tag,
+        "to": to,
+        "vote": vote_word(vote),
+    })
+}
+
+fn gone_json(alloc: Global, e: Envelope, item: ItemId) -> Result<Value, AllocError>
+    ensures { IfOk result (λ v. view v ≡ gone_json e item) }
+{
+    let from = node_text(alloc, e.from)?;
+    let item = item_json(alloc, item)?;
+    let to = node_text(alloc, e.to)?;
+    json!(in alloc; {
+        "from": from,
+        "item": item,
+        "k": e.number,
+        "say": "gone",
+        "tag": e.tag,
+        "to": to,
+    })
+}
+
+fn clash_json(alloc: Global, e: Envelope) -> Result<Value, AllocError>
+    ensures { IfOk result (λ v. view v ≡ clash_json e) }
+{
+    let from = node_text(alloc, e.from)?;
+    let to = node_text(alloc, e.to)?;
+    json!(in alloc; {
+        "from": from,
+        "k": e.number,
+        "say": "clash",
+        "tag": e.tag,
+        "to": to,
+    })
+}
+
+/// What is said by a word and a stamp alone.
+fn stamped_json(alloc: Global, e: Envelope, word: &str, stamp: Stamp) -> Result<Value, AllocError>
+    ensures { IfOk result (λ v. view v ≡ stamped_json e word.now stamp) }
+{
+    let from = node_text(alloc, e.from)?;
+    let to = node_text(alloc, e.to)?;
+    json!(in alloc; {
+        "from": from,
+        "k": e.number,
+        "say": word,
+        "stamp": stamp.value(),
+        "tag": e.tag,
+        "to": to,
+    })
+}
+
+/// `p` and the number of a partition, `c` and that of a client.
+fn node_text(alloc: Global, node: Node) -> Result<String, AllocError>
+    ensures { IfOk result (λ text. string_bytes text ≡ node_text node) }
+{
+    match node {
+        Node::Part(number) => format!(in alloc; "p{number}"),
+        Node::Client(client) => {
+            let number = client.number();
+            format!(in alloc; "c{number}")
+        }
+    }
+}
+
+fn vote_word(vote: Vote) -> &'static str
+    ensures { result.now ≡ vote_word vote }
+{
+    match vote {
+        Vote::Prepared => "prepared",
+        Vote::Committed => "committed",
+        Vote::Never => "never",
+    }
+}
+
+fn stamps_json(alloc: Global, stamps: &[Stamp]) -> Result<Value, AllocError>
+    ensures { IfOk result (λ v. view v ≡ stamps_json stamps.now) }
+{
+    let mut values = Vec::with_capacity(alloc, stamps.len())?;
+    for stamp in stamps {
+        values.push(Value::from(stamp.value()))?;
+    }
+    Ok(Value::from(values))
+}
+
+fn writes_json(alloc: Global, writes: &[(ItemId, album_items::Value)]) -> Result<Value, AllocError>
+    ensures { IfOk result (λ v. view v ≡ writes_json writes.now) }
+{
+    let mut values = Vec::with_capacity(alloc, writes.len())?;
+    for write in writes {
+        values.push(write_json(alloc, write)?)?;
+    }
+    Ok(Value::from(values))
+}
+
+/// [item, value]
+fn write_json(alloc: Global, write: &(ItemId, album_items::Value)) -> Result<Value, AllocError>
+    ensures { IfOk result (λ v. view v ≡ write_json write.now) }
+{
+    let item = item_json(alloc, write.0)?;
+    let value = value_json(alloc, &write.1)?;
+    json!(in alloc; [item, value])
+}

@@ -1,0 +1,174 @@
+// Lines of an opening: how the store is to be opened, the items with their first values, and that this is all.
+ghost use Rattle.std.specs.Prelude.{◌≡◌, ◌++◌, [], ◌∷◌, true, false, None, Ok, Err, codes};
+ghost use Rattle.album_stamps.specs.Outcome.{Gives};
+ghost use Rattle.album_items.specs.ItemIds.{picture, album, list};
+ghost use Rattle.album_wire.specs.ItemShapes.{spelled_head, spelled_value};
+ghost use Rattle.album_wire.specs.OpeningLine.{head_with, value_read, opening_read, opening_line_of};
+ghost use Rattle.album_wire.specs.OpeningShape.{spelled_opening};
+
+use crate::item_shapes::{HeadShape, ValueShape};
+use crate::opening_shape::{Header, OpeningShape, opening_shape};
+use crate::trees::data;
+use crate::values::{access_list, content, members, owner, title};
+use album_items::{Album, Group, Head, ItemId, Items, Members, Picture, Value};
+use album_lists::Name;
+use album_stamps::Refusal;
+use json::Scratch;
+use std::alloc::Global;
+
+/// A line of an opening.
+#[derive(Debug, Drop)]
+pub enum OpeningLine {
+    /// How the store is to be opened. It is the first line.
+    Open(Header),
+    /// An item, with its first value.
+    Item(ItemId, Value),
+    /// The items are all there.
+    Begin,
+}
+
+/// Reads a line of an opening: what it says, or the first test that it fails. The scratch is room that is kept
+/// from line to line, whatever stood in it.
+#[tactic(auto, unfolding(crate::specs::OpeningLine::opening_line_of))]
+pub fn read_opening_line(
+    alloc: Global,
+    scratch: &mut Scratch,
+    bytes: &[u8],
+) -> Result<OpeningLine, Refusal>
+    ensures { Gives (λ line. line) result (opening_line_of bytes.now) }
+{
+    let value = data(alloc, scratch, bytes)?;
+    let shape = opening_shape(alloc, &value)?;
+    line_of(alloc, shape)
+}
+
+/// A law: lines of openings that were worked out by hand.
+pub fn worked_openings()
+    ensures opens { opening_line_of
+        (codes "{\"open\":{\"limit\":1000,\"parts\":3,\"trace\":true}}")
+        ≡ Ok (OpeningLine.Open (record { parts = 3; limit = 1000; policy = 1; trace = true })) }
+    ensures open_with_parts_alone { opening_line_of
+        (codes "{\"open\":{\"parts\":16}}")
+        ≡ Ok (OpeningLine.Open (record { parts = 16; limit = 100000; policy = 1; trace = false })) }
+    ensures picture_line { opening_line_of
+        (codes "{\"item\":\"picture/0\",\"value\":{\"content\":\"736561\",\"group\":0,\"home\":0,\"list\":0,"
+        ++ codes "\"owner\":\"amy@users\",\"title\":\"Sea\"}}")
+        ≡ Ok (OpeningLine.Item (picture 0) (Value.Picture (record {
+          title = codes "Sea";
+          content = 115 ∷ 101 ∷ 97 ∷ [];
+          head = record { owner = codes "amy"; group = 0; list = 0 };
+          home = 0;
+        }))) }
+    ensures album_line { opening_line_of
+        (codes "{\"item\":\"album/0\",\"value\":{\"children\":[\"picture/0\"],\"group\":0,\"home\":null,"
+        ++ codes "\"list\":1,\"owner\":\"amy@users\",\"title\":\"Trip\"}}")
+        ≡ Ok (OpeningLine.Item (album 0) (Value.Album (record {
+          title = codes "Trip";
+          head = record { owner = codes "amy"; group = 0; list = 1 };
+          home = None;
+          children = picture 0 ∷ [];
+        }))) }
+    // A value of another kind than its item's is read.
+    ensures another_kind { opening_line_of
+        (codes "{\"item\":\"list/0\",\"value\":{\"content\":\"736561\",\"group\":0,\"home\":0,\"list\":0,"
+        ++ codes "\"owner\":\"amy@users\",\"title\":\"Sea\"}}")
+        ≡ Ok (OpeningLine.Item (list 0) (Value.Picture (record {
+          title = codes "Sea";
+          content = 115 ∷ 101 ∷ 97 ∷ [];
+          head = record { owner = codes "amy"; group = 0; list = 0 };
+          home = 0;
+        }))) }
+    ensures nothing { opening_line_of (codes "{\"item\":\"list/0\",\"value\":null}") ≡ Err Refusal.BadRequest }
+    ensures no_home { opening_line_of
+        (codes "{\"item\":\"picture/0\",\"value\":{\"content\":\"736561\",\"group\":0,\"home\":null,"
+        ++ codes "\"list\":0,\"owner\":\"amy@users\",\"title\":\"Sea\"}}")
+        ≡ Err Refusal.BadRequest }
+    // The owner is none, and the title has a tab.
+    ensures title_first { opening_line_of
+        (codes "{\"item\":\"picture/0\",\"value\":{\"content\":\"736561\",\"group\":0,\"home\":0,\"list\":0,"
+        ++ codes "\"owner\":\"amy\",\"title\":\"S\\t\"}}")
+        ≡ Err Refusal.BadText }
+    ensures owner_last { opening_line_of
+        (codes "{\"item\":\"picture/0\",\"value\":{\"content\":\"736561\",\"group\":0,\"home\":0,\"list\":0,"
+        ++ codes "\"owner\":\"amy\",\"title\":\"Sea\"}}")
+        ≡ Err Refusal.BadWho }
+    ensures begin { opening_line_of (codes "{\"begin\":true}") ≡ Ok OpeningLine.Begin }
+    ensures no_begin { opening_line_of (codes "{\"begin\":false}") ≡ Err Refusal.BadRequest }
+{}
+
+#[tactic(auto, unfolding(crate::specs::OpeningLine::opening_read))]
+fn line_of(alloc: Global, shape: OpeningShape) -> Result<OpeningLine, Refusal>
+    ensures { Gives (λ line. line) result (opening_read (spelled_opening shape.entry)) }
+{
+    match shape {
+        OpeningShape::Open(header) => Ok(OpeningLine::Open(header)),
+        OpeningShape::Item(item, value) => Ok(OpeningLine::Item(item, value_of(alloc, value)?)),
+        OpeningShape::Begin => Ok(OpeningLine::Begin),
+    }
+}
+
+/// The values of the fields, in their order.
+#[tactic(auto, unfolding(crate::specs::OpeningLine::value_read))]
+fn value_of(alloc: Global, shape: ValueShape) -> Result<Value, Refusal>
+    ensures { Gives (λ value. value) result (value_read (spelled_value shape.entry)) }
+{
+    match shape {
+        ValueShape::Picture {
+            title: text,
+            content: digits,
+            head,
+            home,
+        } => {
+            let title = title(alloc, text)?;
+            let content = content(alloc, digits)?;
+            let owner = owner(alloc, head.owner)?;
+            Ok(Value::Picture(Picture {
+                title,
+                content,
+                head: head_with(head, owner),
+                home,
+            }))
+        }
+        ValueShape::Album {
+            title: text,
+            head,
+            home,
+            children,
+        } => {
+            let title = title(alloc, text)?;
+            let owner = owner(alloc, head.owner)?;
+            Ok(Value::Album(Album {
+                title,
+                head: head_with(head, owner),
+                home,
+                children: Items::of(children),
+            }))
+        }
+        ValueShape::Entries { entries } => {
+            let list = access_list(alloc, &entries)?;
+            Ok(Value::List(list))
+        }
+        ValueShape::Group {
+            head,
+            members: texts,
+        } => {
+            let owner = owner(alloc, head.owner)?;
+            let members = members(alloc, &texts)?;
+            Ok(Value::Group(Group {
+                head: head_with(head, owner),
+                members: Members::of(members),
+            }))
+        }
+    }
+}
+
+/// The head with this owner.
+fn head_with(shape: HeadShape, owner: Name) -> Head
+    ensures { result ≡ head_with (spelled_head shape.entry) owner }
+{
+    Head {
+        owner,
+        group: shape.group,
+        list: shape.list,
+    }
+}

@@ -1,0 +1,119 @@
+// The shape of a line of an opening: {open: {parts, and perhaps limit, policy, trace}}, {item, value} or {begin}.
+ghost use Rattle.std.specs.Prelude.{◌≡◌, option_map};
+ghost use Rattle.album_stamps.specs.Outcome.{Gives};
+ghost use Rattle.album_wire.specs.Fields.{member_or, whole_of, truth_of};
+ghost use Rattle.album_wire.specs.OpeningShape.{spelled_opening, header_of, open_shape_of, item_shape_of, begin_shape_of, opening_shape_of};
+ghost use Rattle.album_wire.specs.Trees.{value_data};
+
+use crate::fields::{field, has, member, only, truth, whole};
+use crate::item_shapes::{ValueShape, item_named, value_shape};
+use album_items::ItemId;
+use album_stamps::Refusal;
+use json::Value;
+use std::alloc::Global;
+
+/// For how many marks the history of a partition has room, where the opening doesn't say it.
+pub const DEFAULT_LIMIT: u64 = 100_000;
+
+/// By which policy lists are judged, where the opening doesn't say it.
+pub const DEFAULT_POLICY: u64 = 1;
+
+/// How the store is to be opened: how many partitions there are, for how many marks the history of each has
+/// room, by which policy lists are judged, and whether each message that is sent is to be told.
+#[derive(Clone, Copy, Debug, PartialEq, Eq)]
+pub struct Header {
+    pub parts: u64,
+    pub limit: u64,
+    pub policy: u64,
+    pub trace: bool,
+}
+
+/// A line of an opening as it is spelled.
+#[derive(Drop)]
+pub(crate) enum OpeningShape<'a> {
+    Open(Header),
+    Item(ItemId, ValueShape<'a>),
+    Begin,
+}
+
+/// The fields of a line of an opening, each of its shape, or `BadRequest`. Which line it is, its names tell.
+pub(crate) fn opening_shape<'a>(
+    alloc: Global,
+    value: &Value<'a>,
+) -> Result<OpeningShape<'a>, Refusal>
+    ensures { Gives spelled_opening result (opening_shape_of (value_data value.now)) }
+{
+    if has(value, "open") {
+        open_shape(value)
+    } else if has(value, "item") {
+        item_shape(alloc, value)
+    } else {
+        begin_shape(value)
+    }
+}
+
+#[tactic(auto, unfolding(crate::specs::OpeningShape::open_shape_of))]
+fn open_shape<'a>(value: &Value<'a>) -> Result<OpeningShape<'a>, Refusal>
+    ensures { Gives spelled_opening result (open_shape_of (value_data value.now)) }
+{
+    only(value, &["open"])?;
+    let header = header_named(field(value, "open")?)?;
+    Ok(OpeningShape::Open(header))
+}
+
+#[tactic(auto, unfolding(crate::specs::OpeningShape::header_of))]
+fn header_named(value: &Value<'_>) -> Result<Header, Refusal>
+    ensures { Gives (λ header. header) result (header_of (value_data value.now)) }
+{
+    only(value, &["parts", "limit", "policy", "trace"])?;
+    let parts = whole(field(value, "parts")?)?;
+    let limit = whole_or(DEFAULT_LIMIT, member(value, "limit"))?;
+    let policy = whole_or(DEFAULT_POLICY, member(value, "policy"))?;
+    let trace = truth_or(false, member(value, "trace"))?;
+    Ok(Header {
+        parts,
+        limit,
+        policy,
+        trace,
+    })
+}
+
+/// A number that may be left out.
+fn whole_or(other: u64, value: Option<&Value<'_>>) -> Result<u64, Refusal>
+    ensures { Gives (λ n. n) result (member_or other whole_of (option_map (λ v. value_data v.now) value.entry)) }
+{
+    match value {
+        None => Ok(other),
+        Some(value) => whole(value),
+    }
+}
+
+fn truth_or(other: bool, value: Option<&Value<'_>>) -> Result<bool, Refusal>
+    ensures { Gives (λ b. b) result (member_or other truth_of (option_map (λ v. value_data v.now) value.entry)) }
+{
+    match value {
+        None => Ok(other),
+        Some(value) => truth(value),
+    }
+}
+
+#[tactic(auto, unfolding(crate::specs::OpeningShape::item_shape_of))]
+fn item_shape<'a>(alloc: Global, value: &Value<'a>) -> Result<OpeningShape<'a>, Refusal>
+    ensures { Gives spelled_opening result (item_shape_of (value_data value.now)) }
+{
+    only(value, &["item", "value"])?;
+    let item = item_named(field(value, "item")?)?;
+    let shape = value_shape(alloc, field(value, "value")?)?;
+    Ok(OpeningShape::Item(item, shape))
+}
+
+#[tactic(auto, unfolding(crate::specs::OpeningShape::begin_shape_of))]
+fn begin_shape<'a>(value: &Value<'a>) -> Result<OpeningShape<'a>, Refusal>
+    ensures { Gives spelled_opening result (begin_shape_of (value_data value.now)) }
+{
+    only(value, &["begin"])?;
+    if !truth(field(value, "begin")?)? {
+        return Err(Refusal::BadRequest);
+    }
+    Ok(OpeningShape::Begin)
+}

@@ -1,0 +1,371 @@
+// The lines of what an event tells: its notes, its answers, and in a trace its messages.
+ghost use Rattle.std.specs.Prelude.{◌≡◌, ◌++◌, [], ◌∷◌, true, Some, None, codes, option_map, false, map, IfOk, IsOkUnless};
+ghost use Rattle.serde_json.specs.View.{view};
+ghost use Rattle.serde_json.specs.Written.{has_float};
+ghost use Rattle.album_items.specs.ItemIds.{picture, album};
+ghost use Rattle.album_wire.specs.MessageJson.{message_json};
+ghost use Rattle.album_wire.specs.OutJson.{note_json, row_json, rows_json, picture_served, group_served, entries_served, listed_json, served_json, at_json, reason_json, reasons_json, denied_json, missing_json, why_word, busy_json, ended_json, unsettled_json, refused_json, answer_json, out_line};
+ghost use Rattle.album_wire.specs.Output.{line_text};
+
+use crate::message_json::message_json;
+use crate::value_json::{entries_json, item_json, members_json};
+use album_calls::Message;
+use album_eval::Verdict;
+use album_items::{Content, ItemId, Title};
+use album_listing::{Reason, Row};
+use album_lists::{Ace, Member};
+use album_permits::{Note, Served};
+use album_stamps::{ClientNo, Refusal, Stamp};
+use album_views::Why;
+use album_world::{Answer, Out};
+use bitflags::Flags;
+use serde_json::{Value, json};
+use std::alloc::{AllocError, Global};
+
+/// The line of what an event tells. That a message is sent has a line where the message is given, and no byte where
+/// it isn't.
+///
+/// # Errors
+///
+/// `OutOfMemory`.
+#[tactic(auto, unfolding(crate::specs::OutJson::out_line))]
+pub fn write_out(alloc: Global, out: &Out, message: Option<&Message>) -> Result<Vec<u8>, Refusal>
+    ensures text { IfOk result (λ bytes. bytes.items ≡ out_line out.now (option_map (λ m. m.now) message.entry)) }
+    ensures memory { IsOkUnless result Refusal.OutOfMemory }
+{
+    match (out, message) {
+        (Out::Sent(_), None) => Ok(Vec::new(alloc)),
+        (Out::Sent(number), Some(message)) => Ok(message_line(alloc, *number, message)?),
+        (Out::Noted(client, note), _) => Ok(note_line(alloc, *client, *note)?),
+        (Out::Answered(client, answer), _) => Ok(answer_line(alloc, *client, answer)?),
+    }
+}
+
+/// A law: lines of notes and answers that were worked out by hand.
+pub fn worked_outs()
+    ensures noted { out_line
+        (Out.Noted 2 (record { object = picture 0; mask = record { 0 = 1 }; index = 1; alarm = false; success = true }))
+        None
+        ≡ codes "{\"alarm\":false,\"audit\":1,\"client\":2,\"mask\":1,\"object\":\"picture/0\",\"success\":true}\n" }
+    ensures served { out_line
+        (Out.Answered 2 (Answer.Served (Served.Picture (picture 0) 65537 (codes "Bay") (115 ∷ 101 ∷ 97 ∷ []))))
+        None
+        ≡ codes "{\"answer\":\"served\",\"client\":2,\"content\":\"736561\",\"object\":\"picture/0\","
+        ++ codes "\"stamp\":65537,\"title\":\"Bay\"}\n" }
+    ensures listed { out_line
+        (Out.Answered 2 (Answer.Served
+        (Served.Listed (album 0) 0 (record { item = picture 0; title = codes "Sea" } ∷ []))))
+        None
+        ≡ codes "{\"answer\":\"listed\",\"client\":2,\"object\":\"album/0\",\"rows\":[[\"picture/0\","
+        ++ codes "\"Sea\"]],\"stamp\":0}\n" }
+    ensures denied { out_line (Out.Answered 2 (Answer.Denied (
+        record { object = picture 0; mask = record { 0 = 65536 }; verdict = Verdict.DeniedBy 0 }
+        ∷ record { object = album 0; mask = record { 0 = 64 }; verdict = Verdict.DeniedAtEnd }
+        ∷ []))) None
+        ≡ codes "{\"answer\":\"denied\",\"client\":2,\"reasons\":[[\"picture/0\",65536,0],[\"album/0\",64,"
+        ++ codes "\"end\"]]}\n" }
+    ensures busy { out_line (Out.Answered 2 (Answer.Busy Why.Rounds)) None
+        ≡ codes "{\"answer\":\"busy\",\"client\":2,\"why\":\"rounds\"}\n" }
+    ensures committed { out_line (Out.Answered 1 (Answer.Committed 65537)) None
+        ≡ codes "{\"answer\":\"committed\",\"client\":1,\"stamp\":65537}\n" }
+    ensures aborted { out_line (Out.Answered 1 (Answer.Aborted 65537)) None
+        ≡ codes "{\"answer\":\"aborted\",\"client\":1,\"stamp\":65537}\n" }
+    ensures unsettled { out_line (Out.Answered 1 (Answer.Unsettled 131073 Refusal.Full)) None
+        ≡ codes "{\"answer\":\"unsettled\",\"client\":1,\"name\":\"Full\",\"refused\":20,\"stamp\":131073}\n" }
+    ensures refused { out_line (Out.Answered 1 (Answer.Refused Refusal.AlbumFull)) None
+        ≡ codes "{\"client\":1,\"name\":\"AlbumFull\",\"refused\":10}\n" }
+{}
+
+#[tactic(auto, using(crate::proofs::Floats::no_float_in_message))]
+fn message_line(alloc: Global, number: u64, message: &Message) -> Result<Vec<u8>, AllocError>
+    ensures { IfOk result (λ bytes. bytes.items ≡ line_text (message_json number message.now)) }
+{
+    let value = message_json(alloc, number, message)?;
+    line(alloc, &value)
+}
+
+#[tactic(auto, using(crate::proofs::Floats::no_float_in_note))]
+fn note_line(alloc: Global, client: ClientNo, note: Note) -> Result<Vec<u8>, AllocError>
+    ensures { IfOk result (λ bytes. bytes.items ≡ line_text (note_json client note)) }
+{
+    let value = note_json(alloc, client, note)?;
+    line(alloc, &value)
+}
+
+#[tactic(auto, using(crate::proofs::Floats::no_float_in_answer))]
+fn answer_line(alloc: Global, client: ClientNo, answer: &Answer) -> Result<Vec<u8>, AllocError>
+    ensures { IfOk result (λ bytes. bytes.items ≡ line_text (answer_json client answer.now)) }
+{
+    let value = answer_json(alloc, client, answer)?;
+    line(alloc, &value)
+}
+
+/// The line of a value that has no float.
+fn line(alloc: Global, value: &Value) -> Result<Vec<u8>, AllocError>
+    requires { has_float (view value.now) ≡ false }
+    ensures { IfOk result (λ bytes. bytes.items ≡ line_text (view value.now)) }
+{
+    let mut bytes = value.to_vec(alloc)?;
+    bytes.push(b'\n')?;
+    Ok(bytes)
+}
+
+fn note_json(alloc: Global, client: ClientNo, note: Note) -> Result<Value, AllocError>
+    ensures { IfOk result (λ v. view v ≡ note_json client note) }
+{
+    let object = item_json(alloc, note.object)?;
+    json!(in alloc; {
+        "alarm": note.alarm,
+        "audit": note.index,
+        "client": client.number(),
+        "mask": note.mask.bits(),
+        "object": object,
+        "success": note.success,
+    })
+}
+
+fn answer_json(alloc: Global, client: ClientNo, answer: &Answer) -> Result<Value, AllocError>
+    ensures { IfOk result (λ v. view v ≡ answer_json client answer.now) }
+{
+    match answer {
+        Answer::Served(served) => served_json(alloc, client, served),
+        Answer::Denied(denial) => denied_json(alloc, client, denial.as_slice()),
+        Answer::Missing(object) => missing_json(alloc, client, *object),
+        Answer::Busy(why) => busy_json(alloc, client, *why),
+        Answer::Committed(stamp) => ended_json(alloc, client, "committed", *stamp),
+        Answer::Aborted(stamp) => ended_json(alloc, client, "aborted", *stamp),
+        Answer::Unsettled(stamp, refusal) => unsettled_json(alloc, client, *stamp, *refusal),
+        Answer::Refused(refusal) => refused_json(alloc, client, *refusal),
+    }
+}
+
+fn served_json(alloc: Global, client: ClientNo, served: &Served) -> Result<Value, AllocError>
+    ensures { IfOk result (λ v. view v ≡ served_json client served.now) }
+{
+    match served {
+        Served::Picture {
+            object,
+            stamp,
+            title,
+            content,
+        } => picture_served(alloc, client, *object, *stamp, title, content),
+        Served::Group {
+            object,
+            stamp,
+            members,
+        } => group_served(alloc, client, *object, *stamp, members.as_slice()),
+        Served::Entries {
+            object,
+            stamp,
+            list,
+        } => entries_served(alloc, client, *object, *stamp, list.entries()),
+        Served::Listed { album, stamp, rows } => listed_json(
+            alloc,
+            client,
+            *album,
+            *stamp,
+            rows.as_slice(),
+        ),
+    }
+}
+
+fn picture_served(
+    alloc: Global,
+    client: ClientNo,
+    object: ItemId,
+    stamp: Stamp,
+    title: &Title,
+    content: &Content,
+) -> Result<Value, AllocError>
+    ensures { IfOk result (λ v. view v ≡ picture_served client object stamp title.now content.now) }
+{
+    let content = hex::encode(alloc, content.as_slice())?;
+    let object = item_json(alloc, object)?;
+    json!(in alloc; {
+        "answer": "served",
+        "client": client.number(),
+        "content": content,
+        "object": object,
+        "stamp": stamp.value(),
+        "title": title.as_str(),
+    })
+}
+
+fn group_served(
+    alloc: Global,
+    client: ClientNo,
+    object: ItemId,
+    stamp: Stamp,
+    members: &[Member],
+) -> Result<Value, AllocError>
+    ensures { IfOk result (λ v. view v ≡ group_served client object stamp members.now) }
+{
+    let members = members_json(alloc, members)?;
+    let object = item_json(alloc, object)?;
+    json!(in alloc; {
+        "answer": "served",
+        "client": client.number(),
+        "members": members,
+        "object": object,
+        "stamp": stamp.value(),
+    })
+}
+
+/// The stamp is that of the list.
+fn entries_served(
+    alloc: Global,
+    client: ClientNo,
+    object: ItemId,
+    stamp: Stamp,
+    entries: &[Ace],
+) -> Result<Value, AllocError>
+    ensures { IfOk result (λ v. view v ≡ entries_served client object stamp entries.now) }
+{
+    let entries = entries_json(alloc, entries)?;
+    let object = item_json(alloc, object)?;
+    json!(in alloc; {
+        "answer": "served",
+        "client": client.number(),
+        "entries": entries,
+        "object": object,
+        "stamp": stamp.value(),
+    })
+}
+
+fn listed_json(
+    alloc: Global,
+    client: ClientNo,
+    album: ItemId,
+    stamp: Stamp,
+    rows: &[Row],
+) -> Result<Value, AllocError>
+    ensures { IfOk result (λ v. view v ≡ listed_json client album stamp rows.now) }
+{
+    let object = item_json(alloc, album)?;
+    let rows = rows_json(alloc, rows)?;
+    json!(in alloc; {
+        "answer": "listed",
+        "client": client.number(),
+        "object": object,
+        "rows": rows,
+        "stamp": stamp.value(),
+    })
+}
+
+fn rows_json(alloc: Global, rows: &[Row]) -> Result<Value, AllocError>
+    ensures { IfOk result (λ v. view v ≡ rows_json rows.now) }
+{
+    let mut values = Vec::with_capacity(alloc, rows.len())?;
+    for row in rows {
+        values.push(row_json(alloc, row)?)?;
+    }
+    Ok(Value::from(values))
+}
+
+/// [item, title]
+fn row_json(alloc: Global, row: &Row) -> Result<Value, AllocError>
+    ensures { IfOk result (λ v. view v ≡ row_json row.now) }
+{
+    let item = item_json(alloc, row.item)?;
+    let title = row.title.as_str();
+    json!(in alloc; [item, title])
+}
+
+fn denied_json(alloc: Global, client: ClientNo, reasons: &[Reason]) -> Result<Value, AllocError>
+    ensures { IfOk result (λ v. view v ≡ denied_json client reasons.now) }
+{
+    let reasons = reasons_json(alloc, reasons)?;
+    json!(in alloc; {"answer": "denied", "client": client.number(), "reasons": reasons})
+}
+
+fn reasons_json(alloc: Global, reasons: &[Reason]) -> Result<Value, AllocError>
+    ensures { IfOk result (λ v. view v ≡ reasons_json reasons.now) }
+{
+    let mut values = Vec::with_capacity(alloc, reasons.len())?;
+    for reason in reasons {
+        values.push(reason_json(alloc, *reason)?)?;
+    }
+    Ok(Value::from(values))
+}
+
+/// [object, mask, at]
+fn reason_json(alloc: Global, reason: Reason) -> Result<Value, AllocError>
+    ensures { IfOk result (λ v. view v ≡ reason_json reason) }
+{
+    let object = item_json(alloc, reason.object)?;
+    let mask = reason.mask.bits();
+    let at = at_json(alloc, reason.verdict)?;
+    json!(in alloc; [object, mask, at])
+}
+
+/// The index of the entry that denies, or the end; of what is granted, nothing.
+fn at_json(alloc: Global, verdict: Verdict) -> Result<Value, AllocError>
+    ensures { IfOk result (λ v. view v ≡ at_json verdict) }
+{
+    match verdict {
+        Verdict::Granted => Ok(Value::Null),
+        Verdict::DeniedBy(index) => Ok(Value::from(index)),
+        Verdict::DeniedAtEnd => Value::try_from_str(alloc, "end"),
+    }
+}
+
+fn missing_json(alloc: Global, client: ClientNo, object: ItemId) -> Result<Value, AllocError>
+    ensures { IfOk result (λ v. view v ≡ missing_json client object) }
+{
+    let object = item_json(alloc, object)?;
+    json!(in alloc; {"answer": "missing", "client": client.number(), "object": object})
+}
+
+fn busy_json(alloc: Global, client: ClientNo, why: Why) -> Result<Value, AllocError>
+    ensures { IfOk result (λ v. view v ≡ busy_json client why) }
+{
+    json!(in alloc; {"answer": "busy", "client": client.number(), "why": why_word(why)})
+}
+
+fn why_word(why: Why) -> &'static str
+    ensures { result.now ≡ why_word why }
+{
+    match why {
+        Why::Rounds => "rounds",
+        Why::Wide => "wide",
+    }
+}
+
+/// A write that ended, by the word that says how.
+fn ended_json(
+    alloc: Global,
+    client: ClientNo,
+    word: &str,
+    stamp: Stamp,
+) -> Result<Value, AllocError>
+    ensures { IfOk result (λ v. view v ≡ ended_json client word.now stamp) }
+{
+    json!(in alloc; {"answer": word, "client": client.number(), "stamp": stamp.value()})
+}
+
+fn unsettled_json(
+    alloc: Global,
+    client: ClientNo,
+    stamp: Stamp,
+    refusal: Refusal,
+) -> Result<Value, AllocError>
+    ensures { IfOk result (λ v. view v ≡ unsettled_json client stamp refusal) }
+{
+    json!(in alloc; {
+        "answer": "unsettled",
+        "client": client.number(),
+        "name": refusal.name(),
+        "refused": refusal.number(),
+        "stamp": stamp.value(),
+    })
+}
+
+fn refused_json(alloc: Global, client: ClientNo, refusal: Refusal) -> Result<Value, AllocError>
+    ensures { IfOk result (λ v. view v ≡ refused_json client refusal) }
+{
+    json!(in alloc; {
+        "client": client.number(),
+        "name": refusal.name(),
+        "refused": refusal.number(),
+    })
+}
