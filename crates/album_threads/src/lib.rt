@@ -1,0 +1,15 @@
+//! The store, running: each partition on a thread of its own, and sessions that ask it.
+#![tactic(auto)]
+
+mod attend;
+mod gate;
+mod inquiries;
+mod keeper;
+mod letters;
+mod mailbox;
+mod naming;
+
+pub use gate::{Gate, Open};
+pub use inquiries::{Inquiry, Notice, Question};
+pub use letters::{Letter, Response};
+pub use naming::Naming;
