@@ -35,12 +35,12 @@ impl<J: Naming> Ends<J> {
     }
 
     /// A session that can't be kept is never told anything.
-    fn register(&mut self, client: ClientNo, end: Sender<Word<J>>) {
-        let _ = self.sessions.insert(client.number(), end);
+    fn register(&mut self, client: u16, end: Sender<Word<J>>) {
+        let _ = self.sessions.insert(client, end);
     }
 
-    fn forget(&mut self, client: ClientNo) {
-        let _ = self.sessions.remove(&client.number());
+    fn forget(&mut self, client: u16) {
+        let _ = self.sessions.remove(&client);
     }
 
     /// A word that the mailbox doesn't take is lost.
@@ -69,24 +69,30 @@ impl<J: Naming> Ends<J> {
     }
 }
 
-/// A partition at work: it, with the owner of its history, and where what it tells goes.
+/// A partition at work: it, with the owner of its history, where what it tells goes, and how many
+/// messages it took.
 #[derive(Drop)]
 pub(crate) struct Post<J: Naming> {
     part: u16,
     keeper: Keeper<J>,
     ends: Ends<J>,
+    number: u64,
 }
 
 impl<J: Naming> Post<J> {
     /// The partition of this number, with its keeper, and where what it tells goes.
     pub(crate) fn new(part: u16, keeper: Keeper<J>, ends: Ends<J>) -> Post<J> {
-        Post { part, keeper, ends }
+        Post {
+            part,
+            keeper,
+            ends,
+            number: 0,
+        }
     }
 
-    /// Takes one word after another, until it is told to leave or all who could tell are gone. A
-    /// letter for which there is no memory is lost.
+    /// Takes one mail after another, until it is told to leave or all who could send one are gone.
     pub(crate) fn attend<R: Wait, G: Gate>(
-        mut self,
+        &mut self,
         rt: &R,
         alloc: Global,
         desk: &Desk,
@@ -96,32 +102,51 @@ impl<J: Naming> Post<J> {
         requires table { desk.now.table ≡ J.table }
         requires terms { desk.now.terms ≡ J.terms }
     {
-        let mut number = 0u64;
         for _ in rt.forever() {
-            match next(rt, mails) {
-                None | Some(Mail::Leave) => return,
-                Some(Mail::Register(client, end)) => self.ends.register(client, end),
-                Some(Mail::Forget(client)) => self.ends.forget(client),
-                Some(Mail::Question(question)) => self.inquire(rt, alloc, desk, question),
-                Some(Mail::Letter(letter)) => {
-                    gate.enter(self.part, number);
-                    self.receive(rt, desk, letter);
-                    gate.leave(self.part, number);
-                    number = number.saturating_add(1);
-                }
+            let Some(mail) = next(rt, mails) else {
+                return;
+            };
+            if !self.take(rt, alloc, desk, gate, mail) {
+                return;
             }
         }
         unreachable!()
     }
 
-    /// Takes a letter, and sends the reply, if there is one.
-    fn receive<R: Wait>(&mut self, rt: &R, desk: &Desk, letter: Letter<J>)
+    /// Takes a mail, and tells whether to go on.
+    fn take<R: Wait, G: Gate>(
+        &mut self,
+        rt: &R,
+        alloc: Global,
+        desk: &Desk,
+        gate: &G,
+        mail: Mail<J>,
+    ) -> bool
         requires table { desk.now.table ≡ J.table }
         requires terms { desk.now.terms ≡ J.terms }
     {
+        match mail {
+            Mail::Leave => return false,
+            Mail::Register(client, end) => self.ends.register(client, end),
+            Mail::Forget(client) => self.ends.forget(client),
+            Mail::Question(question) => self.inquire(rt, alloc, desk, question),
+            Mail::Letter(letter) => self.receive(rt, desk, gate, letter),
+        }
+        true
+    }
+
+    /// Takes a letter, and sends the reply, if there is one. A letter for which there is no memory is
+    /// lost.
+    fn receive<R: Wait, G: Gate>(&mut self, rt: &R, desk: &Desk, gate: &G, letter: Letter<J>)
+        requires table { desk.now.table ≡ J.table }
+        requires terms { desk.now.terms ≡ J.terms }
+    {
+        gate.enter(self.part, self.number);
         if let Ok(Some(response)) = self.keeper.receive(desk, letter) {
             self.ends.send(rt, response);
         }
+        gate.leave(self.part, self.number);
+        self.number = self.number.saturating_add(1);
     }
 
     /// Takes a question, and tells who asks, once what goes to other partitions is sent.

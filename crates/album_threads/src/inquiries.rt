@@ -79,6 +79,13 @@ impl<J: Naming> Question<J> {
         self.client
     }
 
+    /// What is asked.
+    pub fn inquiry(&self) -> Inquiry
+        ensures { result ≡ self.now.inquiry }
+    {
+        self.inquiry
+    }
+
     /// The tag, the inquiry and the pass.
     pub fn open(self) -> (u64, Inquiry, Pass)
         ensures tag { result.0 ≡ self.tag }

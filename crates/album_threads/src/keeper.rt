@@ -147,9 +147,10 @@ impl<J: Naming> Keeper<J> {
         ensures grown { Extends self.old.owner.cut self.new.owner.cut }
         ensures heard { Extends question.pass.cut self.new.owner.cut }
     {
+        let asked = question.inquiry();
         let (tag, inquiry, pass) = question.open();
         self.hear(desk, pass);
-        let told = self.answer(alloc, desk, inquiry, letters);
+        let told = self.answer(alloc, desk, asked, letters);
         let pass = self.owner.split(desk);
         Notice::new(self.part, tag, inquiry, told, pass)
     }

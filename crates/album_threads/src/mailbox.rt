@@ -2,7 +2,6 @@
 use crate::inquiries::{Notice, Question};
 use crate::letters::{Letter, Response};
 use crate::naming::Naming;
-use album_stamps::ClientNo;
 use crossbeam_channel::{Receiver, Sender};
 use std::sync::Wait;
 use std::thread;
@@ -15,13 +14,13 @@ const LOOKS: u32 = 4;
 #[derive(Drop)]
 pub(crate) enum Mail<J: Naming> {
     /// A session of this number begins, and takes here what it is told.
-    Register(ClientNo, Sender<Word<J>>),
+    Register(u16, Sender<Word<J>>),
     /// A message, of a session or of another partition.
     Letter(Letter<J>),
     /// What a session asks beside messages.
     Question(Question<J>),
     /// The session of this number is over.
-    Forget(ClientNo),
+    Forget(u16),
     /// The service closes.
     Leave,
 }
