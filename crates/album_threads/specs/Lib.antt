@@ -2,3 +2,5 @@ pub mod Names
 pub mod Letters
 pub mod Inquiries
 pub mod Keepers
+pub mod Opened
+pub mod Grounds
