@@ -17,6 +17,51 @@ use std::alloc::{AllocError, Global};
 use std::sync::{Arc, Wait};
 use std::thread::{JoinHandle, Threads, spawn};
 
+/// Starts the threads of all partitions, as they open, the last one first, and puts them into
+/// `threads`. Where one can't be had, those that run stay there.
+pub(crate) fn start_all<
+    J: Naming + Send + 'static,
+    R: Threads + Wait + Copy + Send + 'static,
+    G: Gate + Drop + Send + Sync + 'static,
+>(
+    rt: R,
+    alloc: Global,
+    desk: &Arc<Desk, Global>,
+    gate: &Arc<G, Global>,
+    mut owners: Vec<Owner>,
+    mut partitions: Vec<Partition>,
+    mailboxes: &[Sender<Mail<J>>],
+    mut mails: Vec<Receiver<Mail<J>>>,
+    threads: &mut Vec<JoinHandle<()>>,
+) -> Result<(), AllocError>
+    requires table { (arc_value desk.now).table ≡ J.table }
+    requires terms { (arc_value desk.now).terms ≡ J.terms }
+    requires few { J.terms.parts ≤ MOST_PARTS }
+    requires owners { AreFirstOwners (record { table = J.table; terms = J.terms }) J.terms.parts owners.items }
+    requires partitions { AreFirst J.terms J.terms.parts partitions.items }
+{
+    let count = owners.len();
+    for done in 0..count {
+        let Some(owner) = owners.pop() else {
+            return Err(AllocError);
+        };
+        let Some(partition) = partitions.pop() else {
+            return Err(AllocError);
+        };
+        let Some(from) = mails.pop() else {
+            return Err(AllocError);
+        };
+        let part = (count - 1 - done) as u16;
+        let post = post_of(alloc, part, partition, owner, mailboxes)?;
+        let desk = Arc::try_clone(desk)?;
+        let gate = Arc::try_clone(gate)?;
+        // Room first: a thread that runs is kept.
+        threads.reserve(1)?;
+        threads.push_reserved(start(rt, alloc, desk, gate, post, from)?);
+    }
+    Ok(())
+}
+
 /// A partition as it opens, with its owner, and the mailboxes of all.
 pub(crate) fn post_of<J: Naming>(
     alloc: Global,
