@@ -1,0 +1,18 @@
+-- The partitions of an opening, one after another. `partitions_of` cites `first_more`.
+use Rattle.std.proofs.Common.{◌≡◌, ℕ, ◌+◌, List, ◌∷◌, [], ◌++◌, length-append, sym, ap, ◌∙◌, arith}
+use Rattle.std.proofs.lemmas.List.{get_or_push, get_or_append_left}
+use native.Mathlib.Decide.{ℕ_discrete}
+use mathlib.Core.Logic.{dite}
+use Rattle.album_partition.specs.Partition.{PartitionState}
+use Rattle.album_passes.specs.Knowledge.{Terms}
+use Rattle.album_threads.specs.Opened.{first_partition, AreFirst}
+
+-- one partition more
+pub first_more : (terms : Terms) (n : ℕ) (ps : List PartitionState) (p : PartitionState) → AreFirst terms n ps → p ≡ first_partition terms n
+    → AreFirst terms (n + 1) (ps ++ p ∷ [])
+first_more terms n ps p h is = record {
+  count_is = (let long = length-append ps (p ∷ []) in let count = h.count_is in omega arith);
+  each = λ k d l. dite (ℕ_discrete k n)
+      (λ e. get_or_push ps p d k (h.count_is ∙ sym e) ∙ is ∙ ap (first_partition terms) (sym e))
+      (λ other. get_or_append_left ps (p ∷ []) d k (let count = h.count_is in omega arith) ∙ h.each k d (omega arith));
+}

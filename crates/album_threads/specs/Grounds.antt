@@ -1,0 +1,128 @@
+-- On what an answer of a session rests: the cut that it began with, and the one that it has then.
+use Rattle.std.specs.Prelude.{◌≡◌, ℕ, ◌+◌, ◌<◌, ◌≤◌, Bool, true, false, List, [], ◌∷◌, length, sum_by, count_by, Contains, Some, None}
+use Rattle.std.specs.List.{list_any}
+use Rattle.album_stamps.specs.Stamps.{client_number}
+use Rattle.album_stamps.specs.declared.limits.TheConstants.{MOST_READ_ITEMS, MOST_READS}
+use Rattle.album_items.specs.Places.{places_of, rows_placed_at}
+use Rattle.album_items.specs.Transactions.{items_written}
+use Rattle.album_eval.specs.declared.facts.Principal.{Principal}
+use Rattle.album_eval.specs.declared.policies.Policy.{Policy}
+use Rattle.album_terminate.specs.declared.deciding.StampState.TheVariants as state
+use Rattle.album_partition.specs.Marks.{commits, state_of, is_full}
+use Rattle.album_partition.specs.declared.marks.Mark.{Mark}
+use Rattle.album_partition.specs.declared.marks.Mark.TheVariants.{Prepared, Committed, Discarded, Trimmed}
+use Rattle.album_reader.specs.Answers.{Answer}
+use Rattle.album_reader.specs.Snapshots.{items_read}
+use Rattle.album_views.specs.Asks.{objects_of}
+use Rattle.album_views.specs.Naming.{names_of}
+use Rattle.album_views.specs.Views.{IsClosed, IsView}
+use Rattle.album_views.specs.declared.asks.Ask.{Ask}
+use Rattle.album_listing.specs.Basis.{Basis, IsBasis}
+use Rattle.album_permits.specs.Effects.{effect_of}
+use Rattle.album_permits.specs.Findings.{ruling_of}
+use Rattle.album_permits.specs.Notes.{notes_of}
+use Rattle.album_permits.specs.Permits.{PermitState, permit_on}
+use Rattle.album_permits.specs.declared.findings.Finding.{Finding}
+use Rattle.album_permits.specs.declared.notes.Note.{Note}
+use Rattle.album_passes.specs.Cuts.{Cut, prefix_at, announced_for, IsPrefix, IsPromisedSomewhere}
+use Rattle.album_passes.specs.Reads.{IsReadAtomic, IsFreshFrom}
+
+-- ---- a view
+
+-- what was read is read atomic, with the cut's marks as histories, and fresh from the cut with which the ask began
+pub record IsSeen (begun now : Cut) (rows : List Answer) : Type 0 where
+  pub atomic : IsReadAtomic now rows
+  pub fresh : IsFreshFrom begun now rows
+
+-- The ask has a view, of what was so read. Of that, who asks, and the policy, as they would stand in a permit, this
+-- holds.
+pub record IsOnView
+    (begun now : Cut) (policy : Policy) (principal : Principal) (ask : Ask) (Holds : PermitState → Type 0) : Type 0 where
+  pub rows : List Answer
+  pub seen : IsSeen begun now rows
+  pub view : IsView (record { ask = ask; rows = rows })
+  pub holds : Holds (permit_on policy principal ask rows)
+
+-- the written policy finds this
+pub record Finds (case : PermitState) (finding : Finding) : Type 0 where
+  pub basis : Basis
+  pub based : IsBasis case.policy case.principal case.view.rows basis
+  pub is : ruling_of basis case.view.ask ≡ finding
+
+-- and this is noted of it
+pub record Notes (case : PermitState) (notes : List Note) : Type 0 where
+  pub basis : Basis
+  pub based : IsBasis case.policy case.principal case.view.rows basis
+  pub is : notes_of basis case.view.ask ≡ notes
+
+-- ---- a write
+
+-- the items that a permit writes at a stamp, and the partitions concerned
+abbrev pub items_of : PermitState → ℕ → List ℕ
+items_of permit stamp = items_written (effect_of permit stamp)
+
+abbrev pub places_in : Cut → PermitState → ℕ → List ℕ
+places_in cut permit stamp = places_of cut.parts (items_of permit stamp)
+
+-- the stamp is the client's, and was announced after the ask had begun, with just the items that are written
+pub record IsAnnounced (begun now : Cut) (client : ℕ) (permit : PermitState) (stamp : ℕ) : Type 0 where
+  pub own : client_number stamp ≡ client
+  pub new : announced_for begun stamp ≡ None
+  pub announced : announced_for now stamp ≡ Some (items_of permit stamp)
+
+-- a partition has prepared just what is written there, and has committed it
+pub record IsKeptAt (now : Cut) (permit : PermitState) (stamp place : ℕ) : Type 0 where
+  pub prepared : Contains (prefix_at now place)
+      (Prepared stamp (rows_placed_at place now.parts (effect_of permit stamp)) (items_of permit stamp))
+  pub committed : list_any (commits stamp) (prefix_at now place) ≡ true
+
+-- each partition concerned has
+abbrev pub IsKept : Cut → PermitState → ℕ → Type 0
+IsKept now permit stamp =
+    (place : ℕ) → Contains (places_in now permit stamp) place → IsKeptAt now permit stamp place
+
+-- A partition concerned had no room for the stamp when it was unknown there, at a point of its history that the cut has
+-- seen. (So it never prepares it: law `full_stays`.)
+pub record IsWithoutRoom (limit : ℕ) (now : Cut) (permit : PermitState) (stamp : ℕ) : Type 0 where
+  pub place : ℕ
+  pub concerned : Contains (places_in now permit stamp) place
+  pub marks : List Mark
+  pub had : IsPrefix marks (prefix_at now place)
+  pub full : is_full limit marks ≡ true
+  pub unknown : state_of marks stamp ≡ state.Unknown
+
+-- ---- no view
+
+-- what was read is not closed, and names more items than can be read
+pub record IsWide (begun now : Cut) (ask : Ask) : Type 0 where
+  pub rows : List Answer
+  pub seen : IsSeen begun now rows
+  pub lacking : IsClosed ask rows → ⊥
+  pub wide : MOST_READ_ITEMS < length (names_of rows ask)
+
+-- Reads that led to no view, one after another: the first of these items, each next of just what the one before names.
+pub data AreInVain (begun now : Cut) (ask : Ask) : List ℕ → List (List Answer) → Type 0 where
+  NoRead : (items : List ℕ) → AreInVain begun now ask items []
+  OneMore :
+      (items : List ℕ) (rows : List Answer) (later : List (List Answer))
+      → items_read rows ≡ items → IsSeen begun now rows
+      → (IsClosed ask rows → ⊥) → length (names_of rows ask) ≤ MOST_READ_ITEMS
+      → AreInVain begun now ask (names_of rows ask) later → AreInVain begun now ask items (rows ∷ later)
+
+-- the mark is one that trims
+abbrev pub is_trim : Mark → Bool
+is_trim (Prepared stamp writes items) = false
+is_trim (Committed stamp) = false
+is_trim (Discarded stamp) = false
+is_trim (Trimmed item) = true
+
+-- how many marks of the cut trim
+abbrev pub trims_in : Cut → ℕ
+trims_in cut = sum_by (λ marks. count_by is_trim marks) cut.prefixes
+
+-- As many reads were made as an ask may have: those that led to no view, the first of the ask's objects, and beside
+-- them no more that were overtaken by a trim than the cut has gained trims.
+pub record IsOutOfReads (begun now : Cut) (ask : Ask) : Type 0 where
+  pub reads : List (List Answer)
+  pub in_vain : AreInVain begun now ask (objects_of ask) reads
+  pub all : MOST_READS + trims_in begun ≤ length reads + trims_in now

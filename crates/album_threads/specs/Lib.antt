@@ -1,0 +1,6 @@
+pub mod Names
+pub mod Letters
+pub mod Inquiries
+pub mod Keepers
+pub mod Opened
+pub mod Grounds

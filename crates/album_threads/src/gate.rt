@@ -1,0 +1,20 @@
+// What is told of each message that a partition takes.
+
+/// A partition's thread calls `enter` once it has taken its message of this number, from 0, and before it does what the
+/// message asks, and `leave` once its reply is sent. A gate may wait. Registrations and what is asked by `pending`, `sweep`
+/// and `trim` aren't numbered, and don't call it.
+pub trait Gate {
+    fn enter(&self, part: u16, number: u64);
+
+    fn leave(&self, part: u16, number: u64);
+}
+
+/// A gate that does nothing.
+#[derive(Drop)]
+pub struct Open;
+
+impl Gate for Open {
+    fn enter(&self, _part: u16, _number: u64) {}
+
+    fn leave(&self, _part: u16, _number: u64) {}
+}

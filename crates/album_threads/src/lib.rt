@@ -1,0 +1,20 @@
+//! The store, running: each partition on a thread of its own, and sessions that ask it.
+#![tactic(auto)]
+
+mod attend;
+mod gate;
+mod inquiries;
+mod keeper;
+mod laws;
+mod letters;
+mod mailbox;
+mod naming;
+mod opened;
+mod starting;
+
+pub use gate::{Gate, Open};
+pub use inquiries::{Inquiry, Notice, Question};
+pub use laws::grounds_stay;
+pub use letters::{Letter, Response};
+pub use naming::Naming;
+pub use opened::Opened;

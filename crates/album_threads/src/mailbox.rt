@@ -1,0 +1,46 @@
+// Mailboxes: what lies in them, and how the next of it is taken.
+use crate::inquiries::{Notice, Question};
+use crate::letters::{Letter, Response};
+use crate::naming::Naming;
+use crossbeam_channel::{Receiver, Sender};
+use std::sync::Wait;
+use std::thread;
+
+/// How often a thread looks again, and lets others run in between, before it sleeps. To be woken costs
+/// ten times what a message costs that comes meanwhile.
+const LOOKS: u32 = 4;
+
+/// What lies in a partition's mailbox.
+#[derive(Drop)]
+pub(crate) enum Mail<J: Naming> {
+    /// A session of this number begins, and takes here what it is told.
+    Register(u16, Sender<Word<J>>),
+    /// A message, of a session or of another partition.
+    Letter(Letter<J>),
+    /// What a session asks beside messages.
+    Question(Question<J>),
+    /// The session of this number is over.
+    Forget(u16),
+    /// The service closes.
+    Leave,
+}
+
+/// What lies in a session's mailbox.
+#[derive(Drop)]
+pub(crate) enum Word<J: Naming> {
+    /// A reply to a message.
+    Response(Response<J>),
+    /// What is told to a question.
+    Notice(Notice<J>),
+}
+
+/// What comes next, or `None` where all who could send it are gone.
+pub(crate) fn next<T: Drop, R: Wait>(rt: &R, from: &Receiver<T>) -> Option<T> {
+    for _ in 0..LOOKS {
+        if let Ok(message) = from.try_recv(rt) {
+            return Some(message);
+        }
+        thread::yield_now();
+    }
+    from.recv(rt).ok()
+}

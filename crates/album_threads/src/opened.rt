@@ -1,0 +1,119 @@
+// What a service starts with, before any type stands for it.
+ghost use Rattle.std.specs.Prelude.{◌≡◌, ◌≢◌, ℕ, ◌<◌, ◌≤◌, true, false, Some, IfOk, IfErr, OnOk, IsOkUnless};
+ghost use Rattle.album_eval.specs.Policies.{policy_of};
+ghost use Rattle.album_items.specs.Openings.{is_opening};
+ghost use Rattle.album_items.specs.Places.{rows_placed_at};
+ghost use Rattle.album_passes.specs.Desk.{terms_of, AreOwners, first_pass};
+ghost use Rattle.album_threads.specs.Opened.{first_partition, AreFirst};
+
+use album_audit::Blanks;
+use album_eval::Policy;
+use album_items::{ItemId, ItemValues, Opening, Value, place};
+use album_partition::Partition;
+use album_passes::{Desk, Owner, Pass};
+use album_stamps::{MOST_PARTS, Refusal};
+use std::alloc::Global;
+use std::marker::Model;
+
+/// A desk, the partitions with the owners of their histories, the first pass, the policy, and the
+/// ledgers of an audit book. Contracts see the desk, the policy and the ledgers' names.
+#[derive(Drop)]
+pub struct Opened {
+    pub(crate) desk: Desk,
+    pub(crate) owners: Vec<Owner>,
+    pub(crate) partitions: Vec<Partition>,
+    pub(crate) pass: Pass,
+    pub(crate) policy: Policy,
+    pub(crate) blanks: Blanks,
+}
+
+impl Model for Opened {
+    ghost use Rattle.album_threads.specs.Opened.{OpenedState, IsOpened};
+
+    ghost Value = { OpenedState };
+
+    ghost view = { λ o. record { desk = o.desk; policy = o.policy; books = o.blanks } };
+
+    ghost invariant = { λ o. IsOpened o.desk o.owners.items o.partitions.items o.pass };
+}
+
+impl Opened {
+    /// Opens a desk for so many sessions, with the partitions of the opening.
+    ///
+    /// # Errors
+    ///
+    /// `BadOpening` exactly where the opening fails its check, and else `OutOfMemory`.
+    pub fn new(alloc: Global, opening: &Opening, sessions: u16) -> Result<Opened, Refusal>
+        requires sessions { 0 < sessions }
+        ensures terms { IfOk result (λ opened. opened.desk.terms ≡ terms_of opening.now sessions) }
+        ensures policy { IfOk result (λ opened. policy_of opening.now.policy ≡ Some opened.policy) }
+        ensures taken { OnOk result (is_opening opening.now ≡ true) }
+        ensures refused { IfErr result (λ e. e ≢ Refusal.OutOfMemory → e ≡ Refusal.BadOpening) }
+        ensures bad { IfErr result (λ e. e ≡ Refusal.BadOpening → is_opening opening.now ≡ false) }
+    {
+        opening.check()?;
+        let policy = Policy::of(opening.policy).unwrap();
+        let partitions = partitions_of(alloc, opening)?;
+        let (desk, owners, pass) = Desk::open(alloc, opening, sessions)?;
+        Ok(Opened {
+            desk,
+            owners,
+            partitions,
+            pass,
+            policy,
+            blanks: Blanks::new(),
+        })
+    }
+}
+
+/// The partitions of an opening, in order.
+fn partitions_of(alloc: Global, opening: &Opening) -> Result<Vec<Partition>, Refusal>
+    requires { is_opening opening.now ≡ true }
+    ensures partitions { IfOk result (λ partitions. (sessions : ℕ)
+        → AreFirst (terms_of opening.now sessions) opening.now.parts partitions.items) }
+    ensures memory { IsOkUnless result Refusal.OutOfMemory }
+{
+    let mut partitions = Vec::new(alloc);
+    for number in 0..opening.parts as u16 {
+        partitions.push(partition_of(alloc, opening, number)?)?;
+    }
+    Ok(partitions)
+}
+
+/// One of them.
+fn partition_of(alloc: Global, opening: &Opening, number: u16) -> Result<Partition, Refusal>
+    requires opening { is_opening opening.now ≡ true }
+    requires here { number < opening.now.parts }
+    ensures partition { IfOk result (λ partition. (sessions : ℕ)
+        → partition ≡ first_partition (terms_of opening.now sessions) number) }
+    ensures memory { IsOkUnless result Refusal.OutOfMemory }
+{
+    let parts = opening.parts as u16;
+    let items = rows_placed_at(alloc, number, parts, opening.items.as_slice())?;
+    match Partition::new(alloc, number, parts, items, opening.limit) {
+        Ok(partition) => Ok(partition),
+        // Of an opening that passes its check, memory alone can refuse a partition.
+        Err(_) => Err(Refusal::OutOfMemory),
+    }
+}
+
+/// The rows whose items are placed at the partition, in order.
+fn rows_placed_at(
+    alloc: Global,
+    number: u16,
+    parts: u16,
+    rows: &[(ItemId, Value)],
+) -> Result<ItemValues, Refusal>
+    requires low { 1 ≤ parts }
+    requires high { parts ≤ MOST_PARTS }
+    ensures rows { IfOk result (λ placed. placed ≡ rows_placed_at number parts rows.now) }
+    ensures memory { IsOkUnless result Refusal.OutOfMemory }
+{
+    let mut placed = Vec::new(alloc);
+    for row in rows {
+        if place(row.0, parts) == number {
+            placed.push((row.0, row.1.copy()?))?;
+        }
+    }
+    Ok(ItemValues::of(placed))
+}
