@@ -61,9 +61,9 @@ answer_in w (AtClient d t) c a h = ⊎_elim
     (subst (λ (z : ℕ). In (told_to fs z a) (option_to_list (option_map (told_to fs d) t.answer))) (sym s.0)
     (subst (λ (z : Answer). In (told_to fs d z) (option_to_list (option_map (told_to fs d) t.answer))) (sym s.1)
     (mapped_in (told_to fs d) t.answer q.1))))
-    (in_cases (sent_after w.now t.sent) (option_to_list (option_map (out.Answered d) t.answer)) l))
+    (in_cases (sent_after (length w.now.messages) t.sent) (option_to_list (option_map (out.Answered d) t.answer)) l))
     (in_cases (map (out.Noted d) (unwrap_or t.noted []))
-    (sent_after w.now t.sent ++ option_to_list (option_map (out.Answered d) t.answer)) h)
+    (sent_after (length w.now.messages) t.sent ++ option_to_list (option_map (out.Answered d) t.answer)) h)
 
 pub answers_are_kept : (t : Terms) (w : World) (e : Event) (c : ℕ) (a : Answer)
     → Contains (tells t w e) (out.Answered c a)
@@ -85,9 +85,9 @@ note_in w (AtClient d t) c n h = ⊎_elim
     (λ l. ⊎_elim
     (λ i. no_note (length w.now.messages) (length t.sent) i)
     (λ i. let q = in_mapped (out.Answered d) t.answer i in answer_note q.2)
-    (in_cases (sent_after w.now t.sent) (option_to_list (option_map (out.Answered d) t.answer)) l))
+    (in_cases (sent_after (length w.now.messages) t.sent) (option_to_list (option_map (out.Answered d) t.answer)) l))
     (in_cases (map (out.Noted d) (unwrap_or t.noted []))
-    (sent_after w.now t.sent ++ option_to_list (option_map (out.Answered d) t.answer)) h)
+    (sent_after (length w.now.messages) t.sent ++ option_to_list (option_map (out.Answered d) t.answer)) h)
   where
     by : (f : Option (List Note)) → t.noted ≡ f → (m : Note) → In m (unwrap_or f []) → (c ≡ d) × (n ≡ m)
         → IsNoteKept (changed w (AtClient d t)) c n

@@ -29,7 +29,7 @@ use Rattle.album_items.specs.Transactions.{items_written}
 use Rattle.album_writer.specs.Writing.{WritingState, places_in}
 use Rattle.album_world.specs.declared.outs.Answer.{Answer}
 use Rattle.album_world.specs.declared.outs.Answer.TheVariants as answer
-use Rattle.album_world.specs.declared.clients.Client.{Client}
+use Rattle.album_world.specs.Clients.{Client}
 use Rattle.album_world.specs.declared.clients.Doing.{Doing}
 use Rattle.album_world.specs.declared.clients.Doing.TheVariants as doing
 use Rattle.album_world.specs.State.{history_in, client_at}

@@ -43,8 +43,8 @@ use Rattle.album_writer.specs.declared.told.Told.{Told}
 use Rattle.album_writer.specs.declared.told.Told.TheVariants as told
 use Rattle.album_world.specs.declared.outs.Answer.{Answer}
 use Rattle.album_world.specs.declared.outs.Answer.TheVariants as answer
-use Rattle.album_world.specs.declared.clients.Asking.{Asking}
-use Rattle.album_world.specs.declared.clients.Client.{Client}
+use Rattle.album_world.specs.Askings.{Asking}
+use Rattle.album_world.specs.Clients.{Client}
 use Rattle.album_world.specs.declared.clients.Doing.{Doing}
 use Rattle.album_world.specs.declared.clients.Doing.TheVariants as doing
 use Rattle.album_world.specs.Terms.{terms_of}

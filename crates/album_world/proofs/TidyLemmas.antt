@@ -32,8 +32,8 @@ use Rattle.album_writer.specs.Rounds.{WriteStep, prepare_stepped, commit_stepped
 use Rattle.album_writer.specs.Rounds.WriteStep.{Waits, Commits, Ends}
 use Rattle.album_world.specs.declared.events.Event.{Event}
 use Rattle.album_world.specs.declared.events.Event.TheVariants as event
-use Rattle.album_world.specs.declared.clients.Asking.{Asking}
-use Rattle.album_world.specs.declared.clients.Client.{Client}
+use Rattle.album_world.specs.Askings.{Asking}
+use Rattle.album_world.specs.Clients.{Client}
 use Rattle.album_world.specs.declared.clients.Doing.{Doing}
 use Rattle.album_world.specs.declared.clients.Doing.TheVariants as doing
 use Rattle.album_world.specs.declared.outs.Answer.{Answer}

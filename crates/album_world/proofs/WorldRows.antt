@@ -32,8 +32,8 @@ use Rattle.album_world.specs.declared.outs.Answer.{Answer}
 use Rattle.album_world.specs.declared.outs.Answer.TheVariants as answer
 use Rattle.album_reader.specs.Rounds.Step.{Done, Gone}
 use Rattle.album_views.specs.declared.viewing.Why.TheVariants.{Rounds}
-use Rattle.album_world.specs.declared.clients.Asking.{Asking}
-use Rattle.album_world.specs.declared.clients.Client.{Client}
+use Rattle.album_world.specs.Askings.{Asking}
+use Rattle.album_world.specs.Clients.{Client}
 use Rattle.album_world.specs.declared.clients.Doing.TheVariants.{Idle}
 use Rattle.album_world.specs.Clients.{newcomer}
 use Rattle.album_world.specs.Turns.{read_turn}

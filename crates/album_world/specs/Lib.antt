@@ -1,4 +1,5 @@
 pub mod Terms
+pub mod Askings
 pub mod Clients
 pub mod State
 pub mod Past
@@ -15,3 +16,7 @@ pub mod Granted
 pub mod Outcomes
 pub mod Busy
 pub mod Events
+pub mod Flags
+pub mod Moves
+pub mod Registers
+pub mod Seen

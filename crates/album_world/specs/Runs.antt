@@ -97,21 +97,22 @@ abbrev pub numbers_after : ℕ → ℕ → List Out
 numbers_after before zero = []
 numbers_after before (suc count) = numbers_after before count ++ out.Sent (before + count + 1) ∷ []
 
--- messages that are sent now
-abbrev pub sent_after : Now → List Message → List Out
-sent_after now messages = numbers_after (length now.messages) (length messages)
+-- messages that are sent, where so many were sent before
+abbrev pub sent_after : ℕ → List Message → List Out
+sent_after before messages = numbers_after before (length messages)
 
--- what a client's turn tells: first the notes, then the messages, then the answer
-abbrev pub outs_of_turn : Now → ℕ → Turn → List Out
-outs_of_turn now number turn =
+-- what a client's turn tells, where so many messages were sent before: first the notes, then the messages, then the
+-- answer
+abbrev pub outs_of_turn : ℕ → ℕ → Turn → List Out
+outs_of_turn before number turn =
     map (out.Noted number) (unwrap_or turn.noted [])
-    ++ (sent_after now turn.sent ++ option_to_list (option_map (out.Answered number) turn.answer))
+    ++ (sent_after before turn.sent ++ option_to_list (option_map (out.Answered number) turn.answer))
 
 -- what a change tells
 abbrev pub outs_of : Now → Change → List Out
 outs_of now Nothing = []
-outs_of now (AtPart part partition messages) = sent_after now messages
-outs_of now (AtClient number turn) = outs_of_turn now number turn
+outs_of now (AtPart part partition messages) = sent_after (length now.messages) messages
+outs_of now (AtClient number turn) = outs_of_turn (length now.messages) number turn
 outs_of now (Stops number) = []
 
 -- what an event tells: nothing, where it is refused

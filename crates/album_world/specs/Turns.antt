@@ -30,8 +30,8 @@ use Rattle.album_writer.specs.Writing.{WritingState, prepare_round, prepares_of}
 use Rattle.album_writer.specs.declared.outcomes.Outcome.{Outcome}
 use Rattle.album_writer.specs.declared.outcomes.Outcome.TheVariants as outcome
 use Rattle.album_world.specs.Terms.{Terms}
-use Rattle.album_world.specs.declared.clients.Asking.{Asking}
-use Rattle.album_world.specs.declared.clients.Client.{Client}
+use Rattle.album_world.specs.Askings.{Asking}
+use Rattle.album_world.specs.Clients.{Client}
 use Rattle.album_world.specs.declared.clients.Doing.TheVariants.{Idle, Reads, Prepares, Commits}
 use Rattle.album_world.specs.Past.{Transaction}
 use Rattle.album_world.specs.Grants.{served_for}

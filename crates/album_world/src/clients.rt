@@ -1,16 +1,11 @@
 // What a client does between two events.
-use album_eval::Principal;
+ghost use Rattle.std.specs.Prelude.{◌≡◌};
+
+use crate::askings::Asking;
 use album_reader::Reading;
 use album_stamps::{ClientNo, Clock};
-use album_views::Viewing;
 use album_writer::{Committing, Preparing};
-
-/// An ask that has no view yet, and for whom it is asked.
-#[derive(Drop)]
-pub struct Asking {
-    pub viewing: Viewing,
-    pub principal: Principal,
-}
+use std::marker::Model;
 
 /// What a client does. One that is idle keeps the tag of its last round.
 #[derive(Drop)]
@@ -28,4 +23,29 @@ pub struct Client {
     pub number: ClientNo,
     pub clock: Clock,
     pub doing: Doing,
+}
+
+impl Model for Client {
+    ghost use Rattle.album_world.specs.Clients.{Client as State, HasOwnClock};
+
+    ghost Value = { State };
+
+    ghost view = { λ c. record { number = c.number; clock = c.clock; doing = c.doing } };
+
+    ghost invariant = { λ c. HasOwnClock (record { number = c.number; clock = c.clock; doing = c.doing }) };
+}
+
+impl Client {
+    ghost use Rattle.album_world.specs.Clients.{newcomer};
+
+    /// A client that never asked.
+    pub fn new(number: ClientNo) -> Client
+        ensures { result ≡ newcomer number }
+    {
+        Client {
+            number,
+            clock: Clock::new(number),
+            doing: Doing::Idle(0),
+        }
+    }
 }

@@ -13,7 +13,18 @@ mod events;
 mod outs;
 
 // What a world is made of.
+mod askings;
 mod clients;
+mod register;
+mod state;
+mod stopped;
+mod terms;
+
+// What an event does.
+mod opening;
+mod sending;
+mod turns;
+mod world;
 
 // What holds of every run.
 mod laws;
@@ -26,3 +37,4 @@ pub use laws::{
     what_is_told_is_in_the_past, writes_are_granted,
 };
 pub use outs::{Answer, Out};
+pub use world::World;
