@@ -1,12 +1,13 @@
--- What a round makes of the version that a message brings, for `Round::fresh` (`IsFresh-free`) and `Round::take`
--- (`in_order-fresh`, `outcome-fresh`).
-use Rattle.std.proofs.Common.{◌≡◌, ℕ, Bool, true, false, ◌==◌, List, Option, Some, None, is_some, get_or, set, position, Result, Ok, Err, OnErr, refl, sym, ap, ◌∙◌, if◌then◌else◌}
+-- What a round makes of the version that a message brings, for `Round::fresh` (`IsFresh-free`), `Round::take`
+-- (`in_order-fresh`, `outcome-fresh`) and `Round::is_completed_by` (`end-fresh`).
+use Rattle.std.proofs.Common.{◌≡◌, ℕ, zero, suc, ◌+◌, ◌<◌, Bool, true, false, ◌==◌, ◌&&◌, List, [], ◌∷◌, length, take, drop, Option, Some, None, is_some, get_or, set, position, Result, Ok, Err, OnErr, refl, sym, ap, ◌∙◌, arith, add-one, if◌then◌else◌}
 use Rattle.std.specs.Option.{option_map_or}
+use Rattle.std.proofs.Math.Bool.{and_assoc}
 use Rattle.album_calls.specs.declared.messages.Message.{Message}
 use Rattle.album_reader.specs.declared.round.Fresh.{Fresh}
-use Rattle.album_reader.specs.Answers.{Answer, body_version, is_answer}
+use Rattle.album_reader.specs.Answers.{Answer, body_version, is_answer, answers_there, are_there}
 use Rattle.album_reader.specs.Ends.{answer_of, IsFresh}
-use Rattle.album_reader.specs.Rounds.{RoundState, new_answer, with_answer, outcome, taken, are_in_order, IsOpen}
+use Rattle.album_reader.specs.Rounds.{RoundState, new_answer, with_answer, end_by, end_of, outcome, taken, is_end, are_in_order, IsOpen}
 use Rattle.album_reader.specs.Rounds.Step.{Same}
 use Rattle.album_reader.proofs.Others.{new_answer-answer}
 use Rattle.album_reader.proofs.Rounds.{put_answer-set, with_answer-in_order, index-of, index-inside, lacks-absent, lacks-taken, lacks-free}
@@ -56,6 +57,30 @@ IsFresh-free round message fresh lasts tells own e free =
           (lacks-free round fresh.version.item fresh.index lasts e empty);
     }
 
+-- a round is at its end just where each answer is there
+end-outcome : (round : RoundState) → is_end (outcome round) ≡ are_there round.answers
+end-outcome round = go (are_there round.answers)
+  where
+    ended : (stamps : Option (List ℕ)) (answers : List Answer) → is_end (end_by stamps round answers) ≡ true
+    ended None answers = refl
+    ended (Some stamps) answers = refl
+
+    go :
+        (b : Bool)
+        → is_end (option_map_or (end_of round) (if b then Some (answers_there round.answers) else None) (Same round)) ≡ b
+    go true = ended round.stamps _
+    go false = refl
+
+-- with an answer at the index, each is there just where each other one is
+are_there-set :
+    (answers : List (Option Answer)) (index : ℕ) (answer : Answer) → index < length answers
+    → are_there (set answers index (Some answer)) ≡ (are_there (take index answers) && are_there (drop (suc index) answers))
+are_there-set [] index answer inside = absurd (omega arith)
+are_there-set (first ∷ answers) zero answer inside = refl
+are_there-set (first ∷ answers) (suc index) answer inside =
+    ap (λ (b : Bool). is_some first && b) (are_there-set answers index answer (omega arith))
+    ∙ sym (and_assoc (is_some first) _ _)
+
 -- the answers with it at its index
 module _ (round : RoundState) (message : Message) (fresh : Fresh)
     (lasts : IsOpen round) (is : IsFresh round message fresh) where
@@ -86,6 +111,20 @@ module _ (round : RoundState) (message : Message) (fresh : Fresh)
         answers = os;
       })) (sym answers-fresh)
       ∙ sym (ap (λ (o : Option Answer). option_map_or (λ (a : Answer). outcome (with_answer round a)) o (Same round)) is.counts)
+
+  pub end-fresh :
+      is_end (taken round message)
+      ≡ (are_there (take fresh.index round.answers) && are_there (drop (fresh.index + 1) round.answers))
+  end-fresh =
+      ap is_end (sym outcome-fresh)
+      ∙ end-outcome (record {
+        asker = round.asker;
+        items = round.items;
+        stamps = round.stamps;
+        answers = set round.answers fresh.index (Some (answer_of fresh.version));
+      })
+      ∙ are_there-set round.answers fresh.index (answer_of fresh.version) is.inside
+      ∙ rw (add-one) refl
 
 -- what holds anyway holds on an error
 pub on_err_then : {T E P : Type 0} (r : Result T E) → P → OnErr r P

@@ -1,11 +1,12 @@
 -- What keeps a round in order, for `Round::take` (`put_answer-set`, `lacks-free`, `lacks-taken`), for `Round::snapshot`
 -- (`items_read-in_order`) and for what a reading is at each time (`first_open`, `stepped-open`).
-use Rattle.std.proofs.Common.{◌≡◌, ℕ, zero, suc, ◌+◌, ◌<◌, ◌^◌, Bool, true, false, not, ◌&&◌, ◌==◌, List, [], ◌∷◌, length, Option, Some, None, is_some, get_or, set, position, refl, sym, ap, ◌∙◌, if◌then◌else◌, arith}
+use Rattle.std.proofs.Common.{◌≡◌, ℕ, zero, suc, ◌+◌, ◌<◌, ◌≤◌, ◌^◌, Bool, true, false, not, ◌&&◌, ◌==◌, List, [], ◌∷◌, length, Option, Some, None, is_some, get_or, set, position, refl, sym, ap, ◌∙◌, if◌then◌else◌, arith}
 use Rattle.std.specs.Option.{option_map_or}
 use Rattle.std.proofs.lemmas.Bool.{and_parts, and_from, and_right, eqb-true, eq-eqb, not-true, or_parts, or_left, or_right, or_from}
 use Rattle.std.proofs.lemmas.Bool.Decides.{nat_tests}
 use Rattle.std.proofs.lemmas.List.Quantifiers.{position-Some}
 use Rattle.album_stamps.specs.Distinct.{are_single}
+use Rattle.album_stamps.specs.declared.limits.TheConstants.{MOST_READ_ITEMS}
 use Rattle.album_calls.specs.declared.messages.Message.{Message}
 use Rattle.album_reader.specs.Answers.{Asker, Answer, answers_there, are_there}
 use Rattle.album_reader.specs.Rounds.{RoundState, no_answers, first_round, has_item, has_answer, lacks, new_answer, put_answer, with_answer, end_by, end_of, outcome, taken, is_gone, stepped, are_in_order, IsOpen, StaysOpen}
@@ -258,7 +259,7 @@ no_answers-lacking : (items : List ℕ) → (items ≡ [] → ⊥) → are_there
 no_answers-lacking [] some = absurd (some refl)
 no_answers-lacking (item ∷ items) some = refl
 
-some_items :
+pub some_items :
     (items : List ℕ) (answers : List (Option Answer))
     → are_in_order items answers ≡ true → are_there answers ≡ false → items ≡ [] → ⊥
 some_items [] [] order lacking e = absurd (cc)
@@ -267,8 +268,10 @@ some_items (item ∷ items) answers order lacking e = absurd (cc)
 
 pub first_open :
     (asker : Asker) (items : List ℕ)
-    → (items ≡ [] → ⊥) → are_single items ≡ true → asker.tag + 1 < 2 ^ 64 → IsOpen (first_round asker items)
-first_open asker items some single next_tag = record {
+    → (items ≡ [] → ⊥) → length items ≤ MOST_READ_ITEMS → are_single items ≡ true → asker.tag + 1 < 2 ^ 64
+    → IsOpen (first_round asker items)
+first_open asker items some few single next_tag = record {
+  few = few;
   single = single;
   in_order = no_answers-in_order items;
   lacking = no_answers-lacking items some;
@@ -292,6 +295,7 @@ outcome-open round answer lasts = go (are_there (with_answer round answer).answe
 
     by : (stamps : Option (List ℕ)) → StaysOpen (end_by stamps put (answers_there put.answers))
     by None = record {
+      few = lasts.few;
       single = lasts.single;
       in_order = no_answers-in_order round.items;
       lacking = no_answers-lacking round.items (some_items round.items round.answers lasts.in_order lasts.lacking);
@@ -304,6 +308,7 @@ outcome-open round answer lasts = go (are_there (with_answer round answer).answe
         → StaysOpen (option_map_or (end_of put) (if b then Some (answers_there put.answers) else None) (Same put))
     go true e = by round.stamps
     go false e = record {
+      few = lasts.few;
       single = lasts.single;
       in_order = with_answer-in_order round answer lasts;
       lacking = e;

@@ -1,5 +1,5 @@
 // The answers of items, as far as they are there.
-ghost use Rattle.std.specs.Prelude.{◌≡◌, ◌<◌, Some, None, IfOk, length, is_some, slice_index_or, slice_set};
+ghost use Rattle.std.specs.Prelude.{◌≡◌, ◌+◌, ◌<◌, ◌&&◌, drop, take, Some, None, IfOk, length, is_some, slice_index_or, slice_set};
 ghost use Rattle.album_reader.specs.Answers.{are_there, answers_there};
 ghost use Rattle.album_reader.specs.Rounds.{no_answers};
 ghost use Rattle.album_reader.specs.StampSets.{stamps_of};
@@ -94,7 +94,15 @@ impl Answers {
     pub fn are_there(&self) -> bool
         ensures { result ≡ are_there self.now }
     {
-        self.answers.iter().all(|answer| answer.is_some())
+        are_there(self.answers.as_slice())
+    }
+
+    /// Whether each answer is there but that at the index.
+    pub fn are_there_but(&self, index: usize) -> bool
+        requires { index < length self.now }
+        ensures { result ≡ (are_there (take index self.now) && are_there (drop (index + 1) self.now)) }
+    {
+        are_there(&self.answers[..index]) && are_there(&self.answers[index + 1..])
     }
 
     /// The answers that are there, once more.
@@ -111,6 +119,12 @@ impl Answers {
         let stamps = stamps_there(alloc, self.answers.as_slice())?;
         Ok(Stamps::of(stamps))
     }
+}
+
+fn are_there(answers: &[Option<Answer>]) -> bool
+    ensures { result ≡ are_there answers.now }
+{
+    answers.iter().all(|answer| answer.is_some())
 }
 
 fn copies_there(alloc: Global, answers: &[Option<Answer>]) -> Result<Vec<Answer>, AllocError>

@@ -41,6 +41,13 @@ impl Asker {
         Asker { client, tag, parts }
     }
 
+    /// The tag.
+    pub fn tag(self) -> u64
+        ensures { result ≡ self.tag }
+    {
+        self.tag
+    }
+
     /// The same client under the tag one above.
     pub fn next(self) -> Asker
         requires { self.tag + 1 < 2 ^ 64 }

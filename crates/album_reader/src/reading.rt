@@ -2,7 +2,7 @@
 ghost use Rattle.std.specs.Prelude.{◌≡◌, ◌≢◌, ℕ, ◌+◌, ◌<◌, ◌≤◌, ◌^◌, ◌++◌, nat_lt, IsTrue, List, [], ◌∷◌, IsOkAnd, IfOk, IfErr, IsOkUnless, length, if◌then◌else◌};
 ghost use Rattle.album_stamps.specs.Distinct.{are_single};
 ghost use Rattle.album_reader.specs.Ends.{step_by};
-ghost use Rattle.album_reader.specs.Rounds.{StaysOpen};
+ghost use Rattle.album_reader.specs.Rounds.{IsOpen, StaysOpen, is_end};
 ghost use Rattle.album_reader.specs.Steps.{step_of};
 
 use crate::asker::Asker;
@@ -131,6 +131,22 @@ impl Reading {
                 given: Reading { round },
             }),
         }
+    }
+
+    /// Whether the message ends the round, and with the second round the read. It takes no memory, and copies no
+    /// answer.
+    pub fn is_ended_by(&self, message: &Message) -> bool
+        ensures { result ≡ is_end (stepped self.now message.now) }
+    {
+        self.round.is_gone(message) || self.round.is_completed_by(message)
+    }
+
+    /// The tag of the round.
+    pub fn tag(&self) -> u64
+        ensures tag { result ≡ self.now.asker.tag }
+        ensures open { IsOpen self.now }
+    {
+        self.round.tag()
     }
 
     /// The same reading once more.

@@ -38,6 +38,13 @@ impl Snapshot {
         Snapshot { items, answers }
     }
 
+    /// The answers, in the order in which the items were asked.
+    pub fn answers(&self) -> &[Answer]
+        ensures { result.now ≡ self.now }
+    {
+        self.answers.as_slice()
+    }
+
     /// The items, in the order in which they were asked.
     pub fn items(&self) -> &[ItemId]
         ensures { result.now ≡ items_read self.now }

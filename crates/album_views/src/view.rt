@@ -5,7 +5,7 @@ ghost use Rattle.album_views.specs.Views.{IsView};
 
 use crate::asks::Ask;
 use album_items::{ItemId, Value};
-use album_reader::Snapshot;
+use album_reader::{Answer, Snapshot};
 use album_stamps::Stamp;
 use std::marker::Model;
 
@@ -41,6 +41,13 @@ impl View {
         ensures valid { IsView self.now }
     {
         &self.ask
+    }
+
+    /// What was read, in the order of the items.
+    pub fn answers(&self) -> &[Answer]
+        ensures { result.now ≡ self.now.rows }
+    {
+        self.snapshot.answers()
     }
 
     /// The items that were read.

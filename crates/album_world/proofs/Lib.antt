@@ -25,3 +25,4 @@ pub mod OpeningLemmas
 pub mod StoryLemmas
 pub mod CheckLemmas
 pub mod StateLemmas
+pub mod MoveLemmas

@@ -1,5 +1,5 @@
 -- Clients in the order of their first asks, for `Register`: a client stands where its number does, or nowhere.
-use Rattle.std.proofs.Common.{◌≡◌, ℕ, zero, suc, ◌+◌, ◌<◌, Bool, true, false, cond, not, ◌||◌, ◌==◌, eqb, ltb, List, [], ◌∷◌, ◌++◌, map, length, set, get_or, Option, Some, None, position, Result, Ok, Err, IsOkAnd, IfSome, refl, sym, ap, ◌∙◌, subst, arith}
+use Rattle.std.proofs.Common.{◌≡◌, ℕ, zero, suc, ◌+◌, ◌<◌, Bool, true, false, cond, not, ◌||◌, ◌==◌, eqb, ltb, List, [], ◌∷◌, ◌++◌, map, length, set, get_or, Option, Some, None, position, Result, Ok, Err, IsOk, IsOkAnd, IfOk, OnErr, IfSome, refl, sym, ap, ◌∙◌, subst, arith}
 use Rattle.std.specs.List.{list_any, position_or_len}
 use Rattle.std.proofs.lemmas.Bool.{eqb-true, ltb-true}
 use Rattle.album_stamps.specs.declared.refusals.Refusal.{Refusal}
@@ -15,7 +15,8 @@ use Rattle.album_world.specs.Terms.{Terms}
 use Rattle.album_world.specs.State.{client_at, with_client}
 use Rattle.album_world.specs.Changes.{Change, asks_unless}
 use Rattle.album_world.specs.Changes.Change.{Nothing, AtPart, AtClient, Stops}
-use Rattle.album_world.specs.Moves.{IsChangedBy}
+use Rattle.album_world.specs.Turns.{Turn}
+use Rattle.album_world.specs.Moves.{IsChangedBy, IsTurned}
 use Rattle.album_world.specs.Registers.{AreChangedBy, StandsAt, asks_of, has_number, numbers_of, takes_of}
 
 -- where the number stands
@@ -242,3 +243,22 @@ pub keys_push : (cs : List Client) (keys : List ℕ) (n : ℕ) (x : Client) → 
 keys_push cs keys n x same new own =
     ap (λ (b : Bool). cond b keys (keys ++ n ∷ [])) (ap (list_any (λ m. n == m)) same ∙ new)
     ∙ ap (λ (ks : List ℕ). ks ++ n ∷ []) same ∙ ap (λ (m : ℕ). numbers_of cs ++ m ∷ []) (sym own) ∙ sym (numbers_push cs x)
+
+-- what may be asked is refused for memory alone
+pub only_memory : {P : Type 0} (r : Result Change Refusal) → IsOk r → IfOk r (λ change. P) → P
+only_memory (Ok change) may h = h
+only_memory (Err e) may h = absurd (cc)
+
+pub may_there : (n i : ℕ) (cs : List Client) (old : Client) (terms : Terms) (p : Principal) (a : Ask) → StandsAt cs n i
+    → old ≡ get_or cs i old → IsOk (asks_of terms n (client_at cs n) p a) → IsOk (asks_of terms old.number old p a)
+may_there n i cs old terms p a at is h =
+    subst (λ (m : ℕ). IsOk (asks_of terms m old p a)) (sym (ap (λ (c : Client). c.number) is ∙ at.own old))
+    (subst (λ (c : Client). IsOk (asks_of terms n c p a)) (at.client old ∙ sym is) h)
+
+-- a client that had its turn, or was refused it, keeps its number
+pub turned_number : {Told : Type 0} (r : Result Told Refusal) (old new : Client) (turn : Turn) (before : ℕ)
+    (sent : Told → List Message) (outs : Told → List Out) → turn.client.number ≡ old.number
+    → IfOk r (λ told. IsTurned before old.number turn new (sent told) (outs told)) → OnErr r (new ≡ old)
+    → new.number ≡ old.number
+turned_number (Ok told) old new turn before sent outs same h e = ap (λ (c : Client). c.number) h.client ∙ same
+turned_number (Err why) old new turn before sent outs same h e = ap (λ (c : Client). c.number) e

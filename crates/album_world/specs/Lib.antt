@@ -7,6 +7,7 @@ pub mod Grants
 pub mod Turns
 pub mod Changes
 pub mod Runs
+pub mod Moves
 pub mod Committing
 pub mod Atomic
 pub mod Fresh

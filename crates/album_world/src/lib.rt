@@ -12,18 +12,25 @@
 mod events;
 mod outs;
 
-// What a world is made of.
+// What is fixed, and what a world is made of.
 mod askings;
 mod clients;
-mod register;
-mod state;
-mod stopped;
 mod terms;
 
-// What an event does.
-mod opening;
-mod sending;
+// What a client does at one event.
+mod moves;
+mod reads;
+mod rulings;
+mod telling;
 mod turns;
+mod writes;
+
+// What an event does, and the world.
+mod opening;
+mod register;
+mod sending;
+mod state;
+mod stopped;
 mod world;
 
 // What holds of every run.

@@ -1,5 +1,5 @@
 // The clients that have asked.
-ghost use Rattle.std.specs.Prelude.{◌≡◌, ◌≢◌, ◌<◌, ◌≤◌, ◌^◌, ◌++◌, ◌∷◌, false, [], length, Err, IsOk, IsOkAnd, IfOk, IfErr, IfSome, IfNone, OnOk, OnErr, MatchResult};
+ghost use Rattle.std.specs.Prelude.{◌≡◌, ◌≢◌, ◌<◌, ◌≤◌, ◌^◌, ◌++◌, ◌∷◌, false, [], length, Err, IsOk, IsOkAnd, IsOkUnless, IfOk, IfErr, IfSome, IfNone, OnOk, OnErr, MatchResult};
 ghost use Rattle.album_stamps.specs.declared.limits.TheConstants.{MOST_READ_ITEMS};
 ghost use Rattle.album_world.specs.Clients.{newcomer};
 ghost use Rattle.album_world.specs.Registers.{AreChangedBy, StandsAt, asks_of, has_number, takes_of};
@@ -81,12 +81,13 @@ impl Register {
         principal: &Principal,
         ask: &Ask,
         before: u64,
-    ) -> Result<(Vec<Message>, Vec<Out>), AllocError>
+    ) -> Result<(Vec<Message>, Vec<Out>), Refusal>
         requires fits { before < 2 ^ 63 }
         requires may { IsOk (asks_of terms number (client_at self.old number) principal.now ask.now) }
         ensures done { IfOk result (λ told. IsOkAnd (asks_of terms number (client_at self.old number) principal.now ask.now)
             (λ change. AreChangedBy before self.old change self.new told.0.items told.1.items)) }
         ensures few { IfOk result (λ told. length told.0.items ≤ MOST_READ_ITEMS) }
+        ensures memory { IsOkUnless result Refusal.OutOfMemory }
         ensures unchanged { OnErr result (self.new ≡ self.old) }
     {
         match self.index_of(number) {
@@ -105,13 +106,14 @@ impl Register {
         principal: &Principal,
         ask: &Ask,
         before: u64,
-    ) -> Result<(Vec<Message>, Vec<Out>), AllocError>
+    ) -> Result<(Vec<Message>, Vec<Out>), Refusal>
         requires fits { before < 2 ^ 63 }
         requires new { has_number self.old number ≡ false }
         requires may { IsOk (asks_of terms number (newcomer number) principal.now ask.now) }
         ensures done { IfOk result (λ told. IsOkAnd (asks_of terms number (client_at self.old number) principal.now ask.now)
             (λ change. AreChangedBy before self.old change self.new told.0.items told.1.items)) }
         ensures few { IfOk result (λ told. length told.0.items ≤ MOST_READ_ITEMS) }
+        ensures memory { IsOkUnless result Refusal.OutOfMemory }
         ensures unchanged { OnErr result (self.new ≡ self.old) }
     {
         let mut client = Client::new(number);
@@ -142,11 +144,12 @@ impl Register {
         number: ClientNo,
         message: &Message,
         before: u64,
-    ) -> Result<(Vec<Message>, Vec<Out>), AllocError>
+    ) -> Result<(Vec<Message>, Vec<Out>), Refusal>
         requires { before < 2 ^ 63 }
         ensures done { IfOk result (λ told. AreChangedBy before self.old
             (takes_of terms number (client_at self.old number) message.now) self.new told.0.items told.1.items) }
         ensures few { IfOk result (λ told. length told.0.items ≤ MOST_READ_ITEMS) }
+        ensures memory { IsOkUnless result Refusal.OutOfMemory }
         ensures unchanged { OnErr result (self.new ≡ self.old) }
     {
         match self.index_of(number) {

@@ -17,7 +17,7 @@ use album_items::ItemId;
 use album_partition::Partition;
 use album_stamps::{ClientNo, MOST_READ_ITEMS, Refusal, Stamp};
 use album_views::Ask;
-use std::alloc::{AllocError, Global};
+use std::alloc::Global;
 use std::marker::Model;
 
 /// What a world keeps: the partitions, all messages that were ever sent, the clients that have asked, and those that
@@ -153,11 +153,12 @@ impl State {
         terms: Terms,
         client: ClientNo,
         index: usize,
-    ) -> Result<Vec<Out>, AllocError>
+    ) -> Result<Vec<Out>, Refusal>
         requires { index < length self.old.messages }
         ensures changed { (message : Sent) → slice_get self.old.messages index ≡ Some message → IfOk result
             (λ outs. IsChanged self.old (client_takes terms self.old client (client_at self.old.clients client) message) self.new outs.items) }
         ensures unchanged { OnErr result (self.new ≡ self.old) }
+        ensures memory { IsOkUnless result Refusal.OutOfMemory }
     {
         if self.stopped.has(client) {
             return Ok(Vec::new(alloc));

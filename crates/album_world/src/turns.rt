@@ -1,23 +1,31 @@
-// What a client does at one event. (A stand-in, until the real one is merged.)
-ghost use Rattle.std.specs.Prelude.{◌≡◌, ◌≢◌, ◌+◌, ◌<◌, ◌≤◌, ◌^◌, length, Err, IsOk, IsOkAnd, IfOk, IfErr, OnErr, MatchResult};
+// What a client does at one event: it asks, or a message comes to it.
+ghost use Rattle.std.specs.Prelude.{◌≡◌, ◌≢◌, ◌+◌, ◌<◌, ◌≤◌, ◌^◌, length, Err, IsOk, IfOk, IfErr, IsOkAnd, IsOkUnless, MatchResult, OnErr, true, ℕ};
 ghost use Rattle.album_stamps.specs.declared.limits.TheConstants.{MOST_READ_ITEMS};
 ghost use Rattle.album_world.specs.Changes.{client_takes_by};
-ghost use Rattle.album_world.specs.Registers.{asks_of};
 ghost use Rattle.album_world.specs.Moves.{IsChangedBy};
+ghost use Rattle.album_world.specs.Registers.{asks_of};
 
 use crate::clients::{Client, Doing};
+use crate::moves::{Moved, Place};
 use crate::outs::Out;
+use crate::telling::{outs_of, tell};
 use crate::terms::Terms;
 use album_calls::Message;
 use album_eval::Principal;
-use album_stamps::Refusal;
+use album_reader::Step;
+use album_stamps::{Refusal, Refused};
 use album_views::Ask;
-use std::alloc::{AllocError, Global};
+use std::alloc::Global;
+use std::mem;
 
 impl Client {
-    /// Whether the client may ask this, or why not.
+    /// Whether the client may ask this, on behalf of the principal.
+    ///
+    /// # Errors
+    ///
+    /// `ClientBusy` where it waits for an answer; else the first test of the ask that fails.
     #[tactic(auto, using(crate::proofs::CheckLemmas::check_takes_none))]
-    pub(crate) fn may_ask(&self, terms: Terms, principal: &Principal, ask: &Ask) -> Result<(), Refusal>
+    pub fn may_ask(&self, terms: Terms, principal: &Principal, ask: &Ask) -> Result<(), Refusal>
         ensures may { MatchResult result
             (λ _. IsOk (asks_of terms self.now.number self.now principal.now ask.now))
             (λ e. asks_of terms self.now.number self.now principal.now ask.now ≡ Err e) }
@@ -29,41 +37,205 @@ impl Client {
         }
     }
 
-    /// The client asks what it may ask. So many messages were sent before.
-    pub(crate) fn ask(
+    /// The client asks, on behalf of the principal: what it sends, and all that is told. `before` messages were sent
+    /// before.
+    ///
+    /// # Errors
+    ///
+    /// As `may_ask` says; else `OutOfMemory`.
+    pub fn ask(
         &mut self,
-        _alloc: Global,
+        alloc: Global,
         terms: Terms,
         principal: &Principal,
         ask: &Ask,
         before: u64,
-    ) -> Result<(Vec<Message>, Vec<Out>), AllocError>
-        requires fits { before < 2 ^ 63 }
-        requires may { IsOk (asks_of terms self.old.number self.old principal.now ask.now) }
-        ensures done { IfOk result (λ told. IsOkAnd (asks_of terms self.old.number self.old principal.now ask.now)
-            (λ change. IsChangedBy before self.old change self.new told.0.items told.1.items)) }
-        ensures few { IfOk result (λ told. length told.0.items ≤ MOST_READ_ITEMS) }
+    ) -> Result<(Vec<Message>, Vec<Out>), Refusal>
+        requires { before < 2 ^ 63 }
+        ensures done { IfOk result (λ r.
+            IsOkAnd (asks_of terms self.old.number self.old principal.now ask.now)
+            (λ change. IsChangedBy before self.old change self.new r.0.items r.1.items)) }
+        ensures few { IfOk result (λ r. length r.0.items ≤ MOST_READ_ITEMS) }
         ensures number { self.new.number ≡ self.old.number }
+
+        // It is refused as it is to be; else only memory can refuse it. Nothing changes then.
+        ensures refused { IfErr (asks_of terms self.old.number self.old principal.now ask.now)
+            (λ e. result ≡ Err e) }
+        ensures memory { IfOk (asks_of terms self.old.number self.old principal.now ask.now)
+            (λ _. IsOkUnless result Refusal.OutOfMemory) }
         ensures unchanged { OnErr result (self.new ≡ self.old) }
     {
-        Err(AllocError)
+        let tag = self.idle_tag().ok_or(Refusal::ClientBusy)?;
+        ask.check(principal)?;
+        let moved = self.place(alloc, terms).asks(tag, principal.copy()?, ask.copy()?)?;
+        self.turn(alloc, before, moved)
     }
 
-    /// A message comes to the client. So many messages were sent before.
-    pub(crate) fn take(
+    /// A message comes to the client: what it sends, and all that is told. `before` messages were sent before.
+    ///
+    /// # Errors
+    ///
+    /// `OutOfMemory`: nothing has changed then.
+    pub fn take(
         &mut self,
-        _alloc: Global,
+        alloc: Global,
         terms: Terms,
         message: &Message,
         before: u64,
-    ) -> Result<(Vec<Message>, Vec<Out>), AllocError>
+    ) -> Result<(Vec<Message>, Vec<Out>), Refusal>
         requires { before < 2 ^ 63 }
-        ensures done { IfOk result (λ told. IsChangedBy before self.old
-            (client_takes_by terms self.old.number self.old message.now self.old.doing) self.new told.0.items told.1.items) }
-        ensures few { IfOk result (λ told. length told.0.items ≤ MOST_READ_ITEMS) }
+        ensures done { IfOk result (λ r. IsChangedBy before self.old
+            (client_takes_by terms self.old.number self.old message.now self.old.doing)
+            self.new r.0.items r.1.items) }
+        ensures few { IfOk result (λ r. length r.0.items ≤ MOST_READ_ITEMS) }
         ensures number { self.new.number ≡ self.old.number }
+        ensures memory { IsOkUnless result Refusal.OutOfMemory }
         ensures unchanged { OnErr result (self.new ≡ self.old) }
     {
-        Err(AllocError)
+        match &self.doing {
+            Doing::Idle(_) => Ok((Vec::new(alloc), Vec::new(alloc))),
+            Doing::Reads(asking, reading) => {
+                if reading.is_ended_by(message) {
+                    // A reading whose round ends is copied, since nothing may have changed where memory runs out.
+                    let moved = self
+                        .place(alloc, terms)
+                        .reads(asking, reading.copy()?, message)?;
+                    self.turn(alloc, before, moved)
+                } else {
+                    self.reads_on(message)?;
+                    Ok((Vec::new(alloc), Vec::new(alloc)))
+                }
+            }
+            Doing::Prepares(preparing) => {
+                let room = preparing.count();
+                self.writes(alloc, terms, message, before, room)
+            }
+            Doing::Commits(_) => self.writes(alloc, terms, message, before, 0),
+        }
+    }
+}
+
+impl Client {
+    ghost use Rattle.std.specs.Prelude.{[], IsTrue};
+    ghost use Rattle.album_stamps.specs.declared.limits.TheConstants.{MOST_PARTS};
+    ghost use Rattle.album_world.specs.Clients.{Client as State};
+    ghost use Rattle.album_world.specs.Moves.{client_of, idle_tag, room_of, is_waiting, is_writing, IsMoved, IsTurned};
+    ghost use Rattle.album_world.specs.Terms.{Terms as TheTerms};
+    ghost use Rattle.album_world.specs.Turns.{Turn};
+
+    /// The tag of its last round, if it is idle.
+    fn idle_tag(&self) -> Option<u64>
+        ensures { result ≡ idle_tag self.now.doing }
+    {
+        match &self.doing {
+            Doing::Idle(tag) => Some(*tag),
+            Doing::Reads(_, _) | Doing::Prepares(_) | Doing::Commits(_) => None,
+        }
+    }
+
+    /// Where it goes on from.
+    fn place(&self, alloc: Global, terms: Terms) -> Place
+        ensures client { client_of result ≡ record self.now { doing = Doing.Idle 0 } }
+        ensures terms { result.terms ≡ terms }
+    {
+        Place {
+            alloc,
+            terms,
+            number: self.number,
+            clock: self.clock,
+        }
+    }
+
+    /// It becomes what it has moved to, and that is told.
+    fn turn(
+        &mut self,
+        alloc: Global,
+        before: u64,
+        moved: Moved,
+    ) -> Result<(Vec<Message>, Vec<Out>), Refusal>
+        requires { before < 2 ^ 63 }
+        ensures turned { (turn : Turn) → IsMoved turn moved
+            → IfOk result (λ r. IsTurned before self.old.number turn self.new r.0.items r.1.items) }
+        ensures few { IfOk result (λ r. length r.0.items ≤ MOST_READ_ITEMS) }
+        ensures memory { IsOkUnless result Refusal.OutOfMemory }
+        ensures unchanged { OnErr result (self.new ≡ self.old) }
+    {
+        let Moved {
+            client,
+            notes,
+            sent,
+            answer,
+        } = moved;
+        let outs = outs_of(alloc, before, self.number, &notes, sent.len(), answer)?;
+        self.becomes(client);
+        Ok((sent, outs))
+    }
+
+    fn becomes(&mut self, client: Client)
+        ensures { self.new ≡ client }
+    {
+        drop(mem::replace(self, client));
+    }
+
+    /// A message comes that doesn't end the round of its read.
+    fn reads_on(&mut self, message: &Message) -> Result<(), Refusal>
+        requires { is_waiting self.old.doing message.now ≡ true }
+        ensures done { (terms : TheTerms) (before : ℕ) → IfOk result (λ _. IsChangedBy before self.old
+            (client_takes_by terms self.old.number self.old message.now self.old.doing) self.new [] []) }
+        ensures number { self.new.number ≡ self.old.number }
+        ensures memory { IsOkUnless result Refusal.OutOfMemory }
+        ensures unchanged { OnErr result (self.new ≡ self.old) }
+    {
+        match mem::replace(&mut self.doing, Doing::Idle(0)) {
+            Doing::Reads(asking, reading) => match reading.on_reply(message) {
+                Ok(Step::Same(reading)) => {
+                    self.doing = Doing::Reads(asking, reading);
+                    Ok(())
+                }
+                Ok(Step::Next(_, _)) | Ok(Step::Done(_)) | Ok(Step::Gone(_)) => unreachable!(),
+                Err(Refused { refusal, given }) => {
+                    self.doing = Doing::Reads(asking, given);
+                    Err(refusal)
+                }
+            },
+            Doing::Idle(_) | Doing::Prepares(_) | Doing::Commits(_) => unreachable!(),
+        }
+    }
+
+    /// A message comes in a write. A write can't be copied, so there is room for all that is told before it takes
+    /// the message, and no memory is taken after that: `room` is how many messages it may send.
+    fn writes(
+        &mut self,
+        alloc: Global,
+        terms: Terms,
+        message: &Message,
+        before: u64,
+        room: usize,
+    ) -> Result<(Vec<Message>, Vec<Out>), Refusal>
+        requires many { before < 2 ^ 63 }
+        requires writing { is_writing self.old.doing ≡ true }
+        requires room { room_of self.old.doing ≤ room }
+        requires few { room ≤ MOST_PARTS }
+        ensures done { IfOk result (λ r. IsChangedBy before self.old
+            (client_takes_by terms self.old.number self.old message.now self.old.doing)
+            self.new r.0.items r.1.items) }
+        ensures few { IfOk result (λ r. length r.0.items ≤ MOST_READ_ITEMS) }
+        ensures number { self.new.number ≡ self.old.number }
+        ensures memory { IsOkUnless result Refusal.OutOfMemory }
+        ensures unchanged { OnErr result (self.new ≡ self.old) }
+    {
+        let mut outs = Vec::with_capacity(alloc, room + 1)?;
+        let number = self.number;
+        let place = self.place(alloc, terms);
+        let doing = mem::replace(&mut self.doing, Doing::Idle(0));
+        let Moved {
+            client,
+            notes: _,
+            sent,
+            answer,
+        } = place.writes(doing, message);
+        self.becomes(client);
+        tell(&mut outs, before, number, sent.len(), answer);
+        Ok((sent, outs))
     }
 }

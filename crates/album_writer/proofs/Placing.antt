@@ -1,4 +1,5 @@
--- Where writes go, for the law `writes_go_to_their_places`; `begin` needs `some-place`.
+-- Where writes go, for the law `writes_go_to_their_places`; `begin` needs `some-place`, and
+-- `Preparing::count` `few_places`.
 use Rattle.std.proofs.Common.{◌≡◌, ◌≢◌, ◌↔◌, ℕ, zero, suc, ◌+◌, ◌<◌, ◌≤◌, Bool, true, false, cond, List, [], ◌∷◌, filter, get_or, length, Contains, AllPairs, refl, sym, ap, ◌∙◌, subst, arith, mod-lt, true≢false}
 use Rattle.std.specs.List.{range_with_len}
 use Rattle.std.proofs.lemmas.Bool.{eqb-true, eq-eqb}
@@ -6,6 +7,7 @@ use Rattle.std.proofs.lemmas.List.Elements.{at_from_Contains}
 use Rattle.std.proofs.lemmas.List.Folds.{Any-from_list_any, list_any_at}
 use Rattle.std.proofs.lemmas.List.FromFn.{length-range_with_len, get_or-range_with_len}
 use Rattle.std.proofs.lemmas.List.Kept.{AllPairs-filter}
+use Rattle.album_stamps.specs.declared.limits.TheConstants.{MOST_PARTS}
 use Rattle.album_items.specs.ItemIds.{place_of, number_of, kind_of}
 use Rattle.album_items.specs.Openings.{Row}
 use Rattle.album_items.specs.Places.{is_placed, lies_at, places_of, rows_placed_at}
@@ -65,6 +67,23 @@ range-rises a n i j d l inside =
 pub places-rise : (parts : ℕ) (items : List ℕ) → AllPairs (λ a b. a < b) (places_of parts items)
 places-rise parts items =
     AllPairs-filter (λ a b. a < b) (λ part. lies_at part parts items) (range_with_len 0 parts) (range-rises 0 parts)
+
+few-filter : {X : Type 0} (p : X → Bool) → (xs : List X) → length (filter p xs) ≤ length xs
+few-filter p [] = omega arith
+few-filter p (x ∷ xs) = go (p x) (few-filter p xs)
+  where
+    go :
+        (b : Bool) → length (filter p xs) ≤ length xs
+        → length (cond b (x ∷ filter p xs) (filter p xs)) ≤ length (x ∷ xs)
+    go true few = omega (arith, few)
+    go false few = omega (arith, few)
+
+-- no more than there are
+pub few_places :
+    (parts : ℕ) (items : List ℕ) → parts ≤ MOST_PARTS → length (places_of parts items) ≤ MOST_PARTS
+few_places parts items few =
+    let kept = few-filter (λ part. lies_at part parts items) (range_with_len 0 parts) in
+    omega (arith, kept, length-range_with_len 0 parts)
 
 pub concerned :
     (parts place : ℕ) (items : List ℕ) → 1 ≤ parts

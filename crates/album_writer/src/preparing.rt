@@ -1,5 +1,6 @@
 // A write whose Prepares are sent.
-ghost use Rattle.std.specs.Prelude.{◌≡◌, List, [], ◌∷◌, ◌++◌, length};
+ghost use Rattle.std.specs.Prelude.{◌≡◌, ◌≤◌, List, [], ◌∷◌, ◌++◌, length};
+ghost use Rattle.album_stamps.specs.declared.limits.TheConstants.{MOST_PARTS};
 ghost use Rattle.album_calls.specs.declared.messages.Message.{Message};
 ghost use Rattle.album_writer.specs.Given.{told_round, prepare_step_after};
 ghost use Rattle.album_writer.specs.Ready.{IsReady};
@@ -109,8 +110,10 @@ impl Preparing {
     }
 
     /// How many partitions are concerned, and so how many Commits it may send.
+    #[tactic(auto, using(crate::proofs::Placing::few_places))]
     pub fn count(&self) -> usize
-        ensures { result ≡ length (places_in self.now) }
+        ensures count { result ≡ length (places_in self.now) }
+        ensures few { result ≤ MOST_PARTS }
     {
         self.writing.places().len()
     }

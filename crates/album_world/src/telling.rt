@@ -1,0 +1,60 @@
+// What is told of a client's turn.
+ghost use Rattle.std.specs.Prelude.{◌≡◌, ◌+◌, ◌<◌, ◌≤◌, ◌^◌, ◌++◌, length, map, option_map, option_to_list, vec_len, vec_capacity, IfOk, OnOk};
+ghost use Rattle.album_stamps.specs.declared.limits.TheConstants.{MOST_READ_ITEMS};
+ghost use Rattle.album_world.specs.Runs.{numbers_after};
+
+use crate::outs::{Answer, Out};
+use album_permits::Note;
+use album_stamps::ClientNo;
+use std::alloc::{AllocError, Global};
+
+/// The outputs that tell the notes, then so many messages by their numbers, and then the answer.
+pub fn outs_of(
+    alloc: Global,
+    before: u64,
+    number: ClientNo,
+    notes: &[Note],
+    sent: usize,
+    answer: Option<Answer>,
+) -> Result<Vec<Out>, AllocError>
+    requires many { before < 2 ^ 63 }
+    requires few { sent ≤ MOST_READ_ITEMS }
+    ensures { IfOk result (λ outs. outs.items ≡ map (Out.Noted number) notes.now
+        ++ (numbers_after before sent ++ option_to_list (option_map (Out.Answered number) answer))) }
+{
+    let mut outs = Vec::new(alloc);
+    for note in notes {
+        outs.push(Out::Noted(number, *note))?;
+    }
+    outs.reserve(sent + 1)?;
+    tell(&mut outs, before, number, sent, answer);
+    Ok(outs)
+}
+
+/// Tells so many messages by their numbers, and then the answer. There is room for them.
+pub fn tell(outs: &mut Vec<Out>, before: u64, number: ClientNo, sent: usize, answer: Option<Answer>)
+    requires many { before < 2 ^ 63 }
+    requires few { sent ≤ MOST_READ_ITEMS }
+    requires room { vec_len outs.old + sent + 1 ≤ vec_capacity outs.old }
+    ensures { outs.new.items ≡ outs.old.items
+        ++ (numbers_after before sent ++ option_to_list (option_map (Out.Answered number) answer)) }
+{
+    tell_sent(outs, before, sent);
+    if let Some(answer) = answer {
+        outs.push_reserved(Out::Answered(number, answer));
+    }
+}
+
+/// Tells so many messages by their numbers. There is room for them.
+fn tell_sent(outs: &mut Vec<Out>, before: u64, sent: usize)
+    requires many { before < 2 ^ 63 }
+    requires few { sent ≤ MOST_READ_ITEMS }
+    requires room { vec_len outs.old + sent ≤ vec_capacity outs.old }
+    ensures items { outs.new.items ≡ outs.old.items ++ numbers_after before sent }
+    ensures len { vec_len outs.new ≡ vec_len outs.old + sent }
+    ensures capacity { vec_capacity outs.new ≡ vec_capacity outs.old }
+{
+    for index in 0..sent {
+        outs.push_reserved(Out::Sent(before + index as u64 + 1));
+    }
+}
