@@ -19,4 +19,10 @@ pub mod PromiseLemmas
 pub mod EventLemmas
 pub mod TidyLemmas
 pub mod WorldRows
+pub mod FlagLemmas
+pub mod RegisterLemmas
+pub mod OpeningLemmas
+pub mod StoryLemmas
+pub mod CheckLemmas
+pub mod StateLemmas
 pub mod MoveLemmas

@@ -104,6 +104,12 @@ abbrev pub trims : ℕ → ℕ → Option PartitionState → Result Change Refus
 trims part item None = Err NoSuchPart
 trims part item (Some partition) = trimmed partition item >>= λ changed. Ok (AtPart part changed [])
 
+-- ---- a stop
+
+-- a client stops once
+abbrev pub stops : Now → ℕ → Result Change Refusal
+stops now number = if is_stopped now number then Err Stopped else Ok (Stops number)
+
 -- ---- an event
 
 -- what it changes in a world with these terms, or the first reason for which it is refused
@@ -111,5 +117,5 @@ abbrev pub change_of : Terms → Now → Event → Result Change Refusal
 change_of terms now (event.Ask number principal ask) = asks terms now number principal ask
 change_of terms now (event.Deliver number) = delivers terms now (message_of now.messages number)
 change_of terms now (event.Sweep part stamp) = sweeps part stamp (slice_get now.partitions part)
-change_of terms now (event.Stop number) = if is_stopped now number then Err Stopped else Ok (Stops number)
+change_of terms now (event.Stop number) = stops now number
 change_of terms now (event.Trim part item) = trims part item (slice_get now.partitions part)

@@ -17,3 +17,7 @@ pub mod Granted
 pub mod Outcomes
 pub mod Busy
 pub mod Events
+pub mod Flags
+pub mod Moves
+pub mod Registers
+pub mod Seen

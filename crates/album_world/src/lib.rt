@@ -25,6 +25,14 @@ mod telling;
 mod turns;
 mod writes;
 
+// What an event does, and the world.
+mod opening;
+mod register;
+mod sending;
+mod state;
+mod stopped;
+mod world;
+
 // What holds of every run.
 mod laws;
 
@@ -36,3 +44,4 @@ pub use laws::{
     what_is_told_is_in_the_past, writes_are_granted,
 };
 pub use outs::{Answer, Out};
+pub use world::World;

@@ -1,8 +1,9 @@
 // What a client does at one event: it asks, or a message comes to it.
-ghost use Rattle.std.specs.Prelude.{◌≡◌, ◌+◌, ◌<◌, ◌≤◌, ◌^◌, length, IfOk, IfErr, IsOkAnd, IsOkUnless, OnErr, true, ℕ};
+ghost use Rattle.std.specs.Prelude.{◌≡◌, ◌≢◌, ◌+◌, ◌<◌, ◌≤◌, ◌^◌, length, Err, IsOk, IfOk, IfErr, IsOkAnd, IsOkUnless, MatchResult, OnErr, true, ℕ};
 ghost use Rattle.album_stamps.specs.declared.limits.TheConstants.{MOST_READ_ITEMS};
-ghost use Rattle.album_world.specs.Changes.{asks_by, client_takes_by};
+ghost use Rattle.album_world.specs.Changes.{client_takes_by};
 ghost use Rattle.album_world.specs.Moves.{IsChangedBy};
+ghost use Rattle.album_world.specs.Registers.{asks_of};
 
 use crate::clients::{Client, Doing};
 use crate::moves::{Moved, Place};
@@ -18,36 +19,55 @@ use std::alloc::Global;
 use std::mem;
 
 impl Client {
+    /// Whether the client may ask this, on behalf of the principal.
+    ///
+    /// # Errors
+    ///
+    /// `ClientBusy` where it waits for an answer; else the first test of the ask that fails.
+    #[tactic(auto, using(crate::proofs::CheckLemmas::check_takes_none))]
+    pub fn may_ask(&self, terms: Terms, principal: &Principal, ask: &Ask) -> Result<(), Refusal>
+        ensures may { MatchResult result
+            (λ _. IsOk (asks_of terms self.now.number self.now principal.now ask.now))
+            (λ e. asks_of terms self.now.number self.now principal.now ask.now ≡ Err e) }
+        ensures not_memory { IfErr result (λ e. e ≢ Refusal.OutOfMemory) }
+    {
+        match &self.doing {
+            Doing::Idle(_) => ask.check(principal),
+            Doing::Reads(_, _) | Doing::Prepares(_) | Doing::Commits(_) => Err(Refusal::ClientBusy),
+        }
+    }
+
     /// The client asks, on behalf of the principal: what it sends, and all that is told. `before` messages were sent
     /// before.
     ///
     /// # Errors
     ///
-    /// `ClientBusy` where it waits for an answer; else the first test of the ask that fails; else `OutOfMemory`.
+    /// As `may_ask` says; else `OutOfMemory`.
     pub fn ask(
         &mut self,
         alloc: Global,
         terms: Terms,
-        principal: Principal,
-        ask: Ask,
+        principal: &Principal,
+        ask: &Ask,
         before: u64,
     ) -> Result<(Vec<Message>, Vec<Out>), Refusal>
         requires { before < 2 ^ 63 }
         ensures done { IfOk result (λ r.
-            IsOkAnd (asks_by terms self.old.number self.old principal ask self.old.doing)
+            IsOkAnd (asks_of terms self.old.number self.old principal.now ask.now)
             (λ change. IsChangedBy before self.old change self.new r.0.items r.1.items)) }
         ensures few { IfOk result (λ r. length r.0.items ≤ MOST_READ_ITEMS) }
+        ensures number { self.new.number ≡ self.old.number }
 
         // It is refused as it is to be; else only memory can refuse it. Nothing changes then.
-        ensures refused { IfErr (asks_by terms self.old.number self.old principal ask self.old.doing)
+        ensures refused { IfErr (asks_of terms self.old.number self.old principal.now ask.now)
             (λ e. result ≡ Err e) }
-        ensures memory { IfOk (asks_by terms self.old.number self.old principal ask self.old.doing)
+        ensures memory { IfOk (asks_of terms self.old.number self.old principal.now ask.now)
             (λ _. IsOkUnless result Refusal.OutOfMemory) }
         ensures unchanged { OnErr result (self.new ≡ self.old) }
     {
         let tag = self.idle_tag().ok_or(Refusal::ClientBusy)?;
-        ask.check(&principal)?;
-        let moved = self.place(alloc, terms).asks(tag, principal, ask)?;
+        ask.check(principal)?;
+        let moved = self.place(alloc, terms).asks(tag, principal.copy()?, ask.copy()?)?;
         self.turn(alloc, before, moved)
     }
 

@@ -1,0 +1,264 @@
+-- Clients in the order of their first asks, for `Register`: a client stands where its number does, or nowhere.
+use Rattle.std.proofs.Common.{◌≡◌, ℕ, zero, suc, ◌+◌, ◌<◌, Bool, true, false, cond, not, ◌||◌, ◌==◌, eqb, ltb, List, [], ◌∷◌, ◌++◌, map, length, set, get_or, Option, Some, None, position, Result, Ok, Err, IsOk, IsOkAnd, IfOk, OnErr, IfSome, refl, sym, ap, ◌∙◌, subst, arith}
+use Rattle.std.specs.List.{list_any, position_or_len}
+use Rattle.std.proofs.lemmas.Bool.{eqb-true, ltb-true}
+use Rattle.album_stamps.specs.declared.refusals.Refusal.{Refusal}
+use Rattle.album_calls.specs.declared.messages.Message.{Message}
+use Rattle.album_eval.specs.declared.facts.Principal.{Principal}
+use Rattle.album_views.specs.Checks.{refusal_of}
+use Rattle.album_views.specs.declared.asks.Ask.{Ask}
+use Rattle.album_reader.proofs.Snapshots.{sameness-sym}
+use Rattle.album_world.specs.Clients.{Client}
+use Rattle.album_world.specs.Clients.{newcomer}
+use Rattle.album_world.specs.declared.outs.Out.{Out}
+use Rattle.album_world.specs.Terms.{Terms}
+use Rattle.album_world.specs.State.{client_at, with_client}
+use Rattle.album_world.specs.Changes.{Change, asks_unless}
+use Rattle.album_world.specs.Changes.Change.{Nothing, AtPart, AtClient, Stops}
+use Rattle.album_world.specs.Turns.{Turn}
+use Rattle.album_world.specs.Moves.{IsChangedBy, IsTurned}
+use Rattle.album_world.specs.Registers.{AreChangedBy, StandsAt, asks_of, has_number, numbers_of, takes_of}
+
+-- where the number stands
+abbrev place : ℕ → List Client → ℕ
+place n cs = position_or_len (λ m. n == m) (numbers_of cs)
+
+-- ---- a client that is there
+
+-- where the first client has the number, and where it hasn't
+place_here : (c : Client) (cs : List Client) (n : ℕ) → (n == c.number) ≡ true → place n (c ∷ cs) ≡ 0
+place_here c cs n e = ap (λ t. cond (not t) (1 + place n cs) 0) e
+
+place_there : (c : Client) (cs : List Client) (n : ℕ) → (n == c.number) ≡ false → place n (c ∷ cs) ≡ suc (place n cs)
+place_there c cs n e = ap (λ t. cond (not t) (1 + place n cs) 0) e ∙ omega arith
+
+less : (c : Client) (cs : List Client) (n : ℕ) → (n == c.number) ≡ false → place n (c ∷ cs) < length (c ∷ cs)
+    → place n cs < length cs
+less c cs n e h = omega (arith, place_there c cs n e, h)
+
+there_by : (c : Client) (cs : List Client) (n : ℕ) (d : Client) (b : Bool) → (n == c.number) ≡ b
+    → (place n cs < length cs → client_at cs n ≡ get_or cs (place n cs) d) → place n (c ∷ cs) < length (c ∷ cs)
+    → client_at (c ∷ cs) n ≡ get_or (c ∷ cs) (place n (c ∷ cs)) d
+there_by c cs n d true e rest h =
+    ap (λ t. cond t c (client_at cs n)) (sameness-sym c.number n ∙ e)
+    ∙ sym (ap (λ k. get_or (c ∷ cs) k d) (place_here c cs n e))
+there_by c cs n d false e rest h =
+    ap (λ t. cond t c (client_at cs n)) (sameness-sym c.number n ∙ e) ∙ rest (less c cs n e h)
+    ∙ sym (ap (λ k. get_or (c ∷ cs) k d) (place_there c cs n e))
+
+there : (cs : List Client) (n : ℕ) (d : Client) → place n cs < length cs → client_at cs n ≡ get_or cs (place n cs) d
+there [] n d h = absurd (omega arith)
+there (c ∷ cs) n d h = there_by c cs n d (n == c.number) refl (there cs n d) h
+
+own_by : (c : Client) (cs : List Client) (n : ℕ) (d : Client) (b : Bool) → (n == c.number) ≡ b
+    → (place n cs < length cs → (get_or cs (place n cs) d).number ≡ n) → place n (c ∷ cs) < length (c ∷ cs)
+    → (get_or (c ∷ cs) (place n (c ∷ cs)) d).number ≡ n
+own_by c cs n d true e rest h =
+    ap (λ k. (get_or (c ∷ cs) k d).number) (place_here c cs n e) ∙ sym (eqb-true n c.number e)
+own_by c cs n d false e rest h =
+    ap (λ k. (get_or (c ∷ cs) k d).number) (place_there c cs n e) ∙ rest (less c cs n e h)
+
+own : (cs : List Client) (n : ℕ) (d : Client) → place n cs < length cs → (get_or cs (place n cs) d).number ≡ n
+own [] n d h = absurd (omega arith)
+own (c ∷ cs) n d h = own_by c cs n d (n == c.number) refl (own cs n d) h
+
+put_by : (c : Client) (cs : List Client) (n : ℕ) (x : Client) (b : Bool) → (n == c.number) ≡ b → x.number ≡ n
+    → (place n cs < length cs → with_client x cs ≡ set cs (place n cs) x) → place n (c ∷ cs) < length (c ∷ cs)
+    → with_client x (c ∷ cs) ≡ set (c ∷ cs) (place n (c ∷ cs)) x
+put_by c cs n x true e q rest h =
+    ap (λ t. cond t (x ∷ cs) (c ∷ with_client x cs)) (ap (λ m. c.number == m) q ∙ sameness-sym c.number n ∙ e)
+    ∙ sym (ap (λ k. set (c ∷ cs) k x) (place_here c cs n e))
+put_by c cs n x false e q rest h =
+    ap (λ t. cond t (x ∷ cs) (c ∷ with_client x cs)) (ap (λ m. c.number == m) q ∙ sameness-sym c.number n ∙ e)
+    ∙ ap (λ xs. c ∷ xs) (rest (less c cs n e h)) ∙ sym (ap (λ k. set (c ∷ cs) k x) (place_there c cs n e))
+
+put : (cs : List Client) (n : ℕ) (x : Client) → x.number ≡ n → place n cs < length cs
+    → with_client x cs ≡ set cs (place n cs) x
+put [] n x q h = absurd (omega arith)
+put (c ∷ cs) n x q h = put_by c cs n x (n == c.number) refl q (put cs n x q) h
+
+-- ---- one that isn't
+
+absent : (c : Client) (cs : List Client) (n : ℕ) → list_any (λ m. n == m) (numbers_of (c ∷ cs)) ≡ false → (n == c.number) ≡ false
+absent c cs n h = go (n == c.number) refl
+  where
+    go : (b : Bool) → (n == c.number) ≡ b → (n == c.number) ≡ false
+    go true e = absurd (cc)
+    go false e = e
+
+absent_rest : (c : Client) (cs : List Client) (n : ℕ) → list_any (λ m. n == m) (numbers_of (c ∷ cs)) ≡ false
+    → list_any (λ m. n == m) (numbers_of cs) ≡ false
+absent_rest c cs n h = sym (ap (λ t. t || list_any (λ m. n == m) (numbers_of cs)) (absent c cs n h)) ∙ h
+
+pub new_client : (cs : List Client) (n : ℕ) → list_any (λ m. n == m) (numbers_of cs) ≡ false → client_at cs n ≡ newcomer n
+new_client [] n h = refl
+new_client (c ∷ cs) n h =
+    ap (λ t. cond t c (client_at cs n)) (sameness-sym c.number n ∙ absent c cs n h) ∙ new_client cs n (absent_rest c cs n h)
+
+pub put_last : (cs : List Client) (n : ℕ) (x : Client) → list_any (λ m. n == m) (numbers_of cs) ≡ false → x.number ≡ n
+    → with_client x cs ≡ cs ++ x ∷ []
+put_last [] n x h q = refl
+put_last (c ∷ cs) n x h q =
+    ap (λ t. cond t (x ∷ cs) (c ∷ with_client x cs)) (ap (λ m. c.number == m) q ∙ sameness-sym c.number n ∙ absent c cs n h)
+    ∙ ap (λ xs. c ∷ xs) (put_last cs n x (absent_rest c cs n h) q)
+
+-- ---- their numbers
+
+pub numbers_push : (cs : List Client) (x : Client) → numbers_of (cs ++ x ∷ []) ≡ numbers_of cs ++ x.number ∷ []
+numbers_push [] x = refl
+numbers_push (c ∷ cs) x = ap (λ ns. c.number ∷ ns) (numbers_push cs x)
+
+pub numbers_set : (cs : List Client) (i : ℕ) (x d : Client) → x.number ≡ (get_or cs i d).number
+    → numbers_of (set cs i x) ≡ numbers_of cs
+numbers_set [] i x d e = refl
+numbers_set (c ∷ cs) zero x d e = ap (λ n. n ∷ numbers_of cs) e
+numbers_set (c ∷ cs) (suc i) x d e = ap (λ ns. c.number ∷ ns) (numbers_set cs i x d e)
+
+-- ---- by the index of the number
+
+lengths : (cs : List Client) → length (numbers_of cs) ≡ length cs
+lengths [] = refl
+lengths (c ∷ cs) = ap suc (lengths cs)
+
+abbrev option_else : Option ℕ → ℕ
+option_else None = 0
+option_else (Some k) = k
+
+index_by : (b : Bool) (p i : ℕ) → cond b (Some p) None ≡ Some i → (b ≡ true) × (p ≡ i)
+index_by true p i e = (refl, ap option_else e)
+index_by false p i e = absurd (cc)
+
+module _ (cs : List Client) (n i : ℕ) (found : position (λ m. n == m) (map (λ (c : Client). c.number) cs) ≡ Some i) where
+  is_place : (place n cs < length cs) × (place n cs ≡ i)
+  is_place =
+      let h = index_by (ltb (place n cs) (length (numbers_of cs))) (place n cs) i found in
+      let inside : place n cs < length (numbers_of cs) = ltb-true (place n cs) (length (numbers_of cs)) h.0 in
+      (omega (arith, inside, lengths cs), h.1)
+
+  pub stands : StandsAt cs n i
+  stands = record {
+    inside = omega (arith, is_place.0, is_place.1);
+    client = λ d. there cs n d is_place.0 ∙ ap (λ k. get_or cs k d) is_place.1;
+    own = λ d. sym (ap (λ k. (get_or cs k d).number) is_place.1) ∙ own cs n d is_place.0;
+    put = λ x q. put cs n x q is_place.0 ∙ ap (λ k. set cs k x) is_place.1;
+  }
+
+-- ---- what one client does among all
+
+-- nothing is changed where a client is put back as it was
+put_back : (cs : List Client) (i : ℕ) (d : Client) → d ≡ get_or cs i d → set cs i d ≡ cs
+put_back [] i d e = refl
+put_back (c ∷ cs) zero d e = ap (λ x. x ∷ cs) e
+put_back (c ∷ cs) (suc i) d e = ap (λ xs. c ∷ xs) (put_back cs i d e)
+
+module _ (before n i : ℕ) (cs : List Client) (old x : Client) (at : StandsAt cs n i) (is : old ≡ get_or cs i old)
+    (kept : x.number ≡ old.number) where
+  its_number : x.number ≡ n
+  its_number = kept ∙ ap (λ (c : Client). c.number) is ∙ at.own old
+
+  its_state : client_at cs n ≡ old
+  its_state = at.client old ∙ sym is
+
+  among : (change : Change) (sent : List Message) (outs : List Out) → IsChangedBy before old change x sent outs
+      → AreChangedBy before cs change (set cs i x) sent outs
+  among Nothing sent outs h = record {
+    clients = ap (λ c. set cs i c) h.client ∙ put_back cs i old is;
+    silent = h.silent;
+    untold = h.untold;
+  }
+  among (AtPart p held messages) sent outs h = absurd h
+  among (AtClient m turn) sent outs h = record {
+    clients = sym (at.put x its_number) ∙ ap (λ c. with_client c cs) h.1.client;
+    sent_is = h.1.sent_is;
+    told = h.1.told;
+  }
+  among (Stops m) sent outs h = absurd h
+
+  -- a message
+  pub taken : (terms : Terms) (message : Message) (sent : List Message) (outs : List Out)
+      → IsChangedBy before old (takes_of terms old.number old message) x sent outs
+      → AreChangedBy before cs (takes_of terms n (client_at cs n) message) (set cs i x) sent outs
+  taken terms message sent outs h =
+      subst (λ (c : Client). AreChangedBy before cs (takes_of terms n c message) (set cs i x) sent outs) (sym its_state)
+      (subst (λ (m : ℕ). AreChangedBy before cs (takes_of terms m old message) (set cs i x) sent outs)
+      (sym kept ∙ its_number) (among (takes_of terms old.number old message) sent outs h))
+
+  all_of : (r : Result Change Refusal) (sent : List Message) (outs : List Out)
+      → IsOkAnd r (λ change. IsChangedBy before old change x sent outs)
+      → IsOkAnd r (λ change. AreChangedBy before cs change (set cs i x) sent outs)
+  all_of (Ok change) sent outs h = among change sent outs h
+  all_of (Err e) sent outs h = h
+
+  -- an ask
+  pub asked : (terms : Terms) (principal : Principal) (ask : Ask) (sent : List Message) (outs : List Out)
+      → IsOkAnd (asks_of terms old.number old principal ask) (λ change. IsChangedBy before old change x sent outs)
+      → IsOkAnd (asks_of terms n (client_at cs n) principal ask) (λ change. AreChangedBy before cs change (set cs i x) sent outs)
+  asked terms principal ask sent outs h =
+      subst (λ (c : Client). IsOkAnd (asks_of terms n c principal ask) (λ change. AreChangedBy before cs change (set cs i x) sent outs))
+      (sym its_state)
+      (subst (λ (m : ℕ). IsOkAnd (asks_of terms m old principal ask) (λ change. AreChangedBy before cs change (set cs i x) sent outs))
+      (sym kept ∙ its_number) (all_of (asks_of terms old.number old principal ask) sent outs h))
+
+-- one that never asked
+module _ (before n : ℕ) (cs : List Client) (x : Client) (new : has_number cs n ≡ false) (own_number : x.number ≡ n)
+    (terms : Terms) (principal : Principal) (ask : Ask) (sent : List Message) (outs : List Out) where
+  first_by : (f : Option Refusal)
+      → IsOkAnd (asks_unless terms n (newcomer n) 0 principal ask f) (λ change. IsChangedBy before (newcomer n) change x sent outs)
+      → IsOkAnd (asks_unless terms n (newcomer n) 0 principal ask f) (λ change. AreChangedBy before cs change (cs ++ x ∷ []) sent outs)
+  first_by (Some e) h = h
+  first_by None h = record {
+    clients = sym (put_last cs n x new own_number) ∙ ap (λ c. with_client c cs) h.1.client;
+    sent_is = h.1.sent_is;
+    told = h.1.told;
+  }
+
+  pub first_asked : IsOkAnd (asks_of terms n (newcomer n) principal ask) (λ change. IsChangedBy before (newcomer n) change x sent outs)
+      → IsOkAnd (asks_of terms n (client_at cs n) principal ask) (λ change. AreChangedBy before cs change (cs ++ x ∷ []) sent outs)
+  first_asked h =
+      subst (λ (c : Client). IsOkAnd (asks_of terms n c principal ask) (λ change. AreChangedBy before cs change (cs ++ x ∷ []) sent outs))
+      (sym (new_client cs n new)) (first_by (refusal_of ask principal) h)
+
+-- where the number stands, if it does
+pub stands_if : (cs : List Client) (keys : List ℕ) (n : ℕ) (r : Option ℕ) → keys ≡ numbers_of cs
+    → r ≡ position (λ m. n == m) keys → IfSome r (StandsAt cs n)
+stands_if cs keys n None same e = tt
+stands_if cs keys n (Some i) same e = stands cs n i (sym (e ∙ ap (position (λ m. n == m)) same))
+
+-- a message to one that never asked does nothing
+pub new_takes_nothing : (before n : ℕ) (cs : List Client) (terms : Terms) (message : Message) (sent : List Message) (outs : List Out)
+    → has_number cs n ≡ false → sent ≡ [] → outs ≡ []
+    → AreChangedBy before cs (takes_of terms n (client_at cs n) message) cs sent outs
+new_takes_nothing before n cs terms message sent outs new s o =
+    subst (λ (c : Client). AreChangedBy before cs (takes_of terms n c message) cs sent outs) (sym (new_client cs n new))
+    (record { clients = refl; silent = s; untold = o })
+
+-- the numbers, once a client has had its turn, and once one has come
+pub keys_set : (cs : List Client) (keys : List ℕ) (i : ℕ) (x old : Client) → keys ≡ numbers_of cs → x.number ≡ old.number
+    → old ≡ get_or cs i old → keys ≡ numbers_of (set cs i x)
+keys_set cs keys i x old same kept is =
+    same ∙ sym (numbers_set cs i x old (kept ∙ ap (λ (c : Client). c.number) is))
+
+pub keys_push : (cs : List Client) (keys : List ℕ) (n : ℕ) (x : Client) → keys ≡ numbers_of cs → has_number cs n ≡ false → x.number ≡ n
+    → cond (list_any (λ m. n == m) keys) keys (keys ++ n ∷ []) ≡ numbers_of (cs ++ x ∷ [])
+keys_push cs keys n x same new own =
+    ap (λ (b : Bool). cond b keys (keys ++ n ∷ [])) (ap (list_any (λ m. n == m)) same ∙ new)
+    ∙ ap (λ (ks : List ℕ). ks ++ n ∷ []) same ∙ ap (λ (m : ℕ). numbers_of cs ++ m ∷ []) (sym own) ∙ sym (numbers_push cs x)
+
+-- what may be asked is refused for memory alone
+pub only_memory : {P : Type 0} (r : Result Change Refusal) → IsOk r → IfOk r (λ change. P) → P
+only_memory (Ok change) may h = h
+only_memory (Err e) may h = absurd (cc)
+
+pub may_there : (n i : ℕ) (cs : List Client) (old : Client) (terms : Terms) (p : Principal) (a : Ask) → StandsAt cs n i
+    → old ≡ get_or cs i old → IsOk (asks_of terms n (client_at cs n) p a) → IsOk (asks_of terms old.number old p a)
+may_there n i cs old terms p a at is h =
+    subst (λ (m : ℕ). IsOk (asks_of terms m old p a)) (sym (ap (λ (c : Client). c.number) is ∙ at.own old))
+    (subst (λ (c : Client). IsOk (asks_of terms n c p a)) (at.client old ∙ sym is) h)
+
+-- a client that had its turn, or was refused it, keeps its number
+pub turned_number : {Told : Type 0} (r : Result Told Refusal) (old new : Client) (turn : Turn) (before : ℕ)
+    (sent : Told → List Message) (outs : Told → List Out) → turn.client.number ≡ old.number
+    → IfOk r (λ told. IsTurned before old.number turn new (sent told) (outs told)) → OnErr r (new ≡ old)
+    → new.number ≡ old.number
+turned_number (Ok told) old new turn before sent outs same h e = ap (λ (c : Client). c.number) h.client ∙ same
+turned_number (Err why) old new turn before sent outs same h e = ap (λ (c : Client). c.number) e

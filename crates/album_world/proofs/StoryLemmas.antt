@@ -1,0 +1,110 @@
+-- A step more of each past that a world may have, for `World`.
+use Rattle.std.proofs.Common.{◌≡◌, ◌≢◌, ℕ, true, List, [], ◌∷◌, ◌++◌, Result, Ok, Err, IfOk, IfErr, OnErr, IsOk, refl, sym, ap, ◌∙◌, subst, append-nil, append_assoc}
+use Rattle.album_stamps.specs.declared.refusals.Refusal.{Refusal}
+use Rattle.album_stamps.specs.declared.refusals.Refusal.TheVariants.{OutOfMemory}
+use Rattle.album_items.specs.Openings.{is_opening}
+use Rattle.album_items.specs.declared.openings.Opening.{Opening}
+use Rattle.album_world.specs.declared.events.Event.{Event}
+use Rattle.album_world.specs.declared.outs.Out.{Out}
+use Rattle.album_world.specs.Terms.{Terms, terms_of}
+use Rattle.album_world.specs.State.{Now}
+use Rattle.album_world.specs.Past.{World}
+use Rattle.album_world.specs.Changes.{Change, change_of}
+use Rattle.album_world.specs.Runs.{changed_by, happens, now_after, outs_by, outs_of, run, run_of, start, tells}
+use Rattle.album_world.specs.Seen.{WorldState, IsDone, IsRefused, IsStepped, IsBehind, IsReached, IsInPast, GoesOn, AreStepped, RunsOn, done_of}
+use Rattle.album_world.proofs.EventLemmas.{answers_are_kept, notes_are_kept}
+
+-- ---- one event more
+
+pub run_more : (t : Terms) (w : World) (es : List Event) (e : Event) → run t w (es ++ e ∷ []) ≡ happens t (run t w es) e
+run_more t w [] e = refl
+run_more t w (x ∷ es) e = run_more t (happens t w x) es e
+
+-- what a past leads to is what is seen
+leads : (t : Terms) (w : World) (old new : Now) (e : Event) (outs : List Out) → w.now ≡ old → IsDone t old e new outs
+    → new ≡ (happens t w e).now
+leads t w old new e outs same d =
+    d.kept ∙ ap (λ (n : Now). now_after n d.change) (sym same)
+    ∙ sym (ap (λ (r : Result Change Refusal). (changed_by w r).now) (ap (λ (n : Now). change_of t n e) same ∙ d.is))
+
+-- and what it tells is what is told
+told : (t : Terms) (w : World) (old new : Now) (e : Event) (outs : List Out) → w.now ≡ old → IsDone t old e new outs
+    → outs ≡ tells t w e
+told t w old new e outs same d =
+    d.told ∙ ap (λ (n : Now). outs_of n d.change) (sym same)
+    ∙ sym (ap (λ (r : Result Change Refusal). outs_by w.now r) (ap (λ (n : Now). change_of t n e) same ∙ d.is))
+
+-- ---- a past
+
+behind_more : (o : Opening) (es : List Event) (e : Event) (old : WorldState) (new : Now) (outs : List Out)
+    → IsBehind o es old → IsDone old.terms old.kept e new outs → IsBehind o (es ++ e ∷ []) (record { terms = old.terms; kept = new })
+behind_more o es e old new outs b d = record {
+  passes = b.passes;
+  terms = b.terms;
+  kept = leads (terms_of o) (run_of o es) old.kept new e outs (sym b.kept)
+      (subst (λ (t : Terms). IsDone t old.kept e new outs) b.terms d)
+      ∙ sym (ap (λ (w : World). w.now) (run_more (terms_of o) (start o) es e));
+}
+
+in_past_of : (t : Terms) (w : World) (e : Event) (outs : List Out) → outs ≡ tells t w e → IsInPast (happens t w e) outs
+in_past_of t w e outs same = subst (IsInPast (happens t w e)) (sym same) (record {
+  answers = λ c a i. answers_are_kept t w e c a i;
+  notes = λ c n i. notes_are_kept t w e c n i;
+})
+
+in_past_more : (o : Opening) (es : List Event) (e : Event) (old : WorldState) (new : Now) (outs : List Out)
+    → IsBehind o es old → IsDone old.terms old.kept e new outs → IsInPast (run_of o (es ++ e ∷ [])) outs
+in_past_more o es e old new outs b d =
+    let done : IsDone (terms_of o) old.kept e new outs = subst (λ (t : Terms). IsDone t old.kept e new outs) b.terms d in
+    subst (λ (w : World). IsInPast w outs) (sym (run_more (terms_of o) (start o) es e))
+    (in_past_of (terms_of o) (run_of o es) e outs (told (terms_of o) (run_of o es) old.kept new e outs (sym b.kept) done))
+
+-- ---- for `step`
+
+module _ {Told : Type 0} (view : Told → List Out) (old : WorldState) (e : Event) (new : Now) where
+  pub reached_if : (r : Result Told Refusal) → IfOk r (λ x. IsDone old.terms old.kept e new (view x)) → OnErr r (new ≡ old.kept)
+      → IsReached old → IsReached (record { terms = old.terms; kept = new })
+  reached_if (Ok x) d u h = record {
+    opening = h.opening;
+    events = h.events ++ e ∷ [];
+    behind = behind_more h.opening h.events e old new (view x) h.behind d;
+  }
+  reached_if (Err y) d u h = subst (λ (n : Now). IsReached (record { terms = old.terms; kept = n })) (sym u) h
+
+  pub goes_on_if : (r : Result Told Refusal) → IfOk r (λ x. IsDone old.terms old.kept e new (view x))
+      → IfOk r (λ x. GoesOn old e (record { terms = old.terms; kept = new }) (view x))
+  goes_on_if (Ok x) d = λ o es b. (behind_more o es e old new (view x) b d, in_past_more o es e old new (view x) b d)
+  goes_on_if (Err y) d = tt
+
+-- ---- for `run`
+
+module _ {Told : Type 0} (view : Told → List Out) (t : Terms) where
+  -- one event more
+  pub stepped_more : (old mid new : Now) (es : List Event) (e : Event) (rs : List (Result Told Refusal)) (r : Result Told Refusal)
+      → AreStepped view t old es mid rs → IsStepped view t mid e new r → AreStepped view t old (es ++ e ∷ []) new (rs ++ r ∷ [])
+  stepped_more old mid new [] e [] r h s = (new, subst (λ (n : Now). IsStepped view t n e new r) h s, refl)
+  stepped_more old mid new [] e (q ∷ rs) r h s = absurd h
+  stepped_more old mid new (x ∷ es) e [] r h s = absurd h
+  stepped_more old mid new (x ∷ es) e (q ∷ rs) r h s = (h.0, h.1, stepped_more h.0 mid new es e rs r h.2 s)
+
+  runs_on : (o : Opening) (before : List Event) (old new : Now) (es : List Event) (rs : List (Result Told Refusal))
+      → AreStepped view t old es new rs → IsBehind o before (record { terms = t; kept = old })
+      → IsBehind o (before ++ done_of es rs) (record { terms = t; kept = new })
+  runs_on o before old new [] [] h b = subst (λ (xs : List Event). IsBehind o xs (record { terms = t; kept = new })) (sym (append-nil before))
+      (subst (λ (n : Now). IsBehind o before (record { terms = t; kept = n })) (sym h) b)
+  runs_on o before old new [] (r ∷ rs) h b = absurd h
+  runs_on o before old new (e ∷ es) [] h b = absurd h
+  runs_on o before old new (e ∷ es) (Ok x ∷ rs) h b =
+      subst (λ (xs : List Event). IsBehind o xs (record { terms = t; kept = new })) (append_assoc before (e ∷ []) (done_of es rs))
+      (runs_on o (before ++ e ∷ []) h.0 new es rs h.2
+      (behind_more o before e (record { terms = t; kept = old }) h.0 (view x) b h.1))
+  runs_on o before old new (e ∷ es) (Err y ∷ rs) h b =
+      runs_on o before h.0 new es rs h.2
+      (subst (λ (n : Now). IsBehind o before (record { terms = t; kept = n })) (sym h.1.kept) b)
+
+  pub run_goes_on : (old : WorldState) (new : Now) (es : List Event) (rs : List (Result Told Refusal)) → old.terms ≡ t
+      → AreStepped view t old.kept es new rs → RunsOn old es (record { terms = old.terms; kept = new }) rs
+  run_goes_on old new es rs same h = λ o before b.
+      subst (λ (u : Terms). IsBehind o (before ++ done_of es rs) (record { terms = u; kept = new })) (sym same)
+      (runs_on o before old.kept new es rs h
+      (subst (λ (u : Terms). IsBehind o before (record { terms = u; kept = old.kept })) same b))

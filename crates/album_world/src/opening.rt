@@ -1,0 +1,71 @@
+// The partitions as a world opens.
+ghost use Rattle.std.specs.Prelude.{◌≡◌, ◌<◌, ◌≤◌, map, true, IfOk, IsOkUnless};
+ghost use Rattle.std.specs.List.{range_with_len};
+ghost use Rattle.album_items.specs.Openings.{is_opening};
+ghost use Rattle.album_items.specs.Places.{rows_placed_at};
+ghost use Rattle.album_stamps.specs.declared.limits.TheConstants.{MOST_PARTS};
+ghost use Rattle.album_world.specs.Runs.{opens};
+ghost use Rattle.album_world.specs.Terms.{terms_of};
+
+use crate::terms::Terms;
+use album_eval::Policy;
+use album_items::{ItemId, ItemValues, Opening, Value, place};
+use album_partition::Partition;
+use album_stamps::Refusal;
+use std::alloc::Global;
+
+/// The terms that the opening names.
+pub(crate) fn terms_of(opening: &Opening) -> Terms
+    requires { is_opening opening.now ≡ true }
+    ensures { result ≡ terms_of opening.now }
+{
+    let policy = Policy::of(opening.policy).unwrap_or(Policy::One);
+    Terms::new(opening.parts as u16, policy)
+}
+
+/// All partitions, in the order of their numbers.
+#[tactic(auto, using(crate::proofs::OpeningLemmas::one_more))]
+pub(crate) fn partitions_of(alloc: Global, opening: &Opening, parts: u16) -> Result<Vec<Partition>, Refusal>
+    requires passes { is_opening opening.now ≡ true }
+    requires parts { opening.now.parts ≡ parts }
+    ensures partitions { IfOk result (λ partitions. partitions.items ≡ map (opens opening.now) (range_with_len 0 parts)) }
+    ensures memory { IsOkUnless result Refusal.OutOfMemory }
+{
+    let mut partitions = Vec::new(alloc);
+    for part in 0..parts {
+        partitions.push(opens(alloc, opening, parts, part)?)?;
+    }
+    Ok(partitions)
+}
+
+/// The partition of this number, with its items.
+#[tactic(auto, using(crate::proofs::OpeningLemmas::may_be_opened, crate::proofs::OpeningLemmas::opened_so))]
+fn opens(alloc: Global, opening: &Opening, parts: u16, part: u16) -> Result<Partition, Refusal>
+    requires passes { is_opening opening.now ≡ true }
+    requires parts { opening.now.parts ≡ parts }
+    requires here { part < parts }
+    ensures partition { IfOk result (λ partition. partition ≡ opens opening.now part) }
+    ensures memory { IsOkUnless result Refusal.OutOfMemory }
+{
+    let items = items_at(alloc, opening.items.as_slice(), parts, part)?;
+    match Partition::new(alloc, part, parts, items, opening.limit) {
+        Ok(partition) => Ok(partition),
+        Err(refused) => Err(refused.refusal),
+    }
+}
+
+/// The items that are placed at the partition, with their first values.
+fn items_at(alloc: Global, rows: &[(ItemId, Value)], parts: u16, part: u16) -> Result<ItemValues, Refusal>
+    requires low { 1 ≤ parts }
+    requires high { parts ≤ MOST_PARTS }
+    ensures items { IfOk result (λ items. items ≡ rows_placed_at part parts rows.now) }
+    ensures memory { IsOkUnless result Refusal.OutOfMemory }
+{
+    let mut own = Vec::new(alloc);
+    for row in rows {
+        if place(row.0, parts) == part {
+            own.push((row.0, row.1.copy()?))?;
+        }
+    }
+    Ok(ItemValues::of(own))
+}
