@@ -1,11 +1,11 @@
 -- An ask's check wants no memory, for `may_ask`.
-use Rattle.std.proofs.Common.{◌≡◌, Bool, true, false, Option, Some, None, if◌then◌else◌}
+use Rattle.std.proofs.Common.{◌≡◌, Bool, true, false, Some, None, if◌then◌else◌}
 use Rattle.album_stamps.specs.declared.refusals.Refusal.{Refusal}
 use Rattle.album_stamps.specs.declared.refusals.Refusal.TheVariants.{OutOfMemory, BadRequest, TooManyItems, ListFull, BadFlags, NoOwner}
 use Rattle.album_eval.specs.declared.facts.Principal.{Principal}
 use Rattle.album_views.specs.declared.asks.Ask.{Ask}
 use Rattle.album_lists.specs.Whos.{or_else}
-use Rattle.album_views.specs.Checks.{refusal_of, flaw_of, owner_flaw}
+use Rattle.album_views.specs.Checks.{refusal_of, flaw_of}
 
 first : (a b c d f : Bool) (e : Refusal) → e ≡ OutOfMemory
     → or_else (if a then Some BadRequest else if b then Some TooManyItems else if c then Some ListFull else if d then Some BadFlags else None)

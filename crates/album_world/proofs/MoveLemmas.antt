@@ -4,7 +4,7 @@
 use Rattle.std.proofs.Common.{◌≡◌, ℕ, ◌≤◌, ◌+◌, Bool, true, false, nat_le, nat_lt, List, [], ◌∷◌, length, map, Option, Some, None, Result, Ok, Err, refl, sym, ap, ◌∙◌, subst, arith, true≢false, option_map, option_to_list, ◌++◌, IsOkAnd, IfOk, OnErr, if◌then◌else◌}
 use Rattle.std.specs.Option.{option_map_or}
 use Rattle.std.proofs.lemmas.List.{length-map}
-use Rattle.album_stamps.specs.Clocks.{ClockState, clock_after_see, clock_after_next, next_of}
+use Rattle.album_stamps.specs.Clocks.{ClockState, clock_after_next, next_of}
 use Rattle.album_stamps.specs.declared.limits.TheConstants.{MOST_PARTS, MOST_READ_ITEMS, MOST_READS}
 use Rattle.album_stamps.specs.declared.refusals.Refusal.{Refusal}
 use Rattle.album_stamps.specs.declared.refusals.Refusal.TheVariants as refusal
@@ -25,7 +25,6 @@ use Rattle.album_views.specs.Steps.{again, unclosed, AreReadable, AsksReadable}
 use Rattle.album_views.specs.Steps.{stepped as viewed}
 use Rattle.album_views.specs.Views.{ViewingState, ViewState, is_closed}
 use Rattle.album_views.specs.declared.asks.Ask.{Ask}
-use Rattle.album_views.specs.declared.asks.Ask.TheVariants as ask
 use Rattle.album_views.specs.declared.viewing.ViewStep.{ViewStep}
 use Rattle.album_views.specs.declared.viewing.ViewStep.TheVariants.{Again, Closed, Busy}
 use Rattle.album_views.specs.declared.viewing.Why.TheVariants.{Rounds, Wide}

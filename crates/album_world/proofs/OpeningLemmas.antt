@@ -1,14 +1,13 @@
 -- Partitions as they open, for `partitions_of`.
-use Rattle.std.proofs.Common.{◌≡◌, ℕ, zero, suc, ◌+◌, ◌<◌, Bool, true, false, not, cond, ◌&&◌, ◌||◌, ltb, List, [], ◌∷◌, ◌++◌, map, filter, Result, Ok, Err, refl, sym, ap, ◌∙◌, arith, add-one, if◌then◌else◌, nat_lt}
+use Rattle.std.proofs.Common.{◌≡◌, ℕ, zero, suc, ◌+◌, ◌<◌, Bool, true, false, not, cond, ◌&&◌, ◌||◌, List, [], ◌∷◌, ◌++◌, map, filter, Ok, Err, refl, sym, ap, ◌∙◌, arith, add-one, if◌then◌else◌}
 use Rattle.std.specs.List.{list_all, list_any, range_with_len}
 use Rattle.std.proofs.lemmas.Bool.{lt-ltb}
 use Rattle.album_stamps.specs.Distinct.{no_two}
-use Rattle.album_stamps.specs.declared.refusals.Refusal.{Refusal}
 use Rattle.album_stamps.specs.declared.refusals.Refusal.TheVariants.{BadOpening, NoSuchPart}
 use Rattle.album_items.specs.Openings.{Row, is_opening, has_parts, has_limit, has_policy, has_few_items, is_right_row, is_low_row, has_own_value, has_few_children, has_single_children, has_single_rows, has_own_lists, has_fit_lists, same_item}
 use Rattle.album_items.specs.Places.{is_placed, rows_placed_at}
 use Rattle.album_items.specs.declared.openings.Opening.{Opening}
-use Rattle.album_partition.specs.Partition.{PartitionState, opened, opening_state, may_open, has_own_rows}
+use Rattle.album_partition.specs.Partition.{PartitionState, opened, may_open, has_own_rows}
 use Rattle.album_world.specs.Runs.{opens}
 use Rattle.album_world.proofs.ListLemmas.{and_left, and_right, and_both, not_true}
 

@@ -1,11 +1,11 @@
 -- What an event changes in what a world keeps, for `State`.
-use Rattle.std.proofs.Common.{◌≡◌, ◌≢◌, ℕ, zero, suc, ◌<◌, ◌≤◌, Bool, true, false, not, cond, nat_lt, List, [], ◌∷◌, ◌++◌, length, set, get_or, Option, Some, None, option_to_list, Result, Ok, Err, IsOk, IsOkAnd, IfOk, IfErr, refl, sym, ap, ◌∙◌, subst, append-nil, arith}
+use Rattle.std.proofs.Common.{◌≡◌, ℕ, zero, suc, ◌<◌, ◌≤◌, Bool, true, false, not, cond, List, [], ◌∷◌, ◌++◌, length, set, get_or, Option, Some, None, option_to_list, Result, Ok, Err, IsOk, IsOkAnd, refl, sym, ap, ◌∙◌, subst, append-nil, arith}
 use Rattle.std.specs.List.{slice_get}
 use Rattle.std.proofs.lemmas.Option.{slice_get-get_or}
 use Rattle.album_stamps.specs.Outcome.{◌>>=◌}
 use Rattle.album_stamps.specs.Stamps.{is_client}
 use Rattle.album_stamps.specs.declared.refusals.Refusal.{Refusal}
-use Rattle.album_stamps.specs.declared.refusals.Refusal.TheVariants.{OutOfMemory, BadRequest, Stopped, NoSuchMessage, NoSuchPart}
+use Rattle.album_stamps.specs.declared.refusals.Refusal.TheVariants.{BadRequest, Stopped, NoSuchMessage, NoSuchPart}
 use Rattle.album_calls.specs.declared.messages.Message.{Message}
 use Rattle.album_calls.specs.declared.nodes.Node.{Node}
 use Rattle.album_calls.specs.declared.nodes.Node.TheVariants.{Part, Client as OfClient}
@@ -21,7 +21,7 @@ use Rattle.album_world.specs.Clients.{Client}
 use Rattle.album_world.specs.State.{Now, client_at, is_stopped, message_of, with_number}
 use Rattle.album_world.specs.Changes.{Change, asks, arrives, client_takes, delivers, part_takes, stops, sweeps, trims}
 use Rattle.album_world.specs.Changes.Change.{Nothing, AtPart, AtClient, Stops}
-use Rattle.album_world.specs.Runs.{now_after, outs_of, sent_after}
+use Rattle.album_world.specs.Runs.{now_after, sent_after}
 use Rattle.album_world.specs.Registers.{AreChangedBy, asks_of, takes_of}
 use Rattle.album_world.specs.Seen.{IsChanged, IsMade}
 

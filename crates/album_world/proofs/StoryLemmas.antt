@@ -1,8 +1,6 @@
 -- A step more of each past that a world may have, for `World`.
-use Rattle.std.proofs.Common.{◌≡◌, ◌≢◌, ℕ, true, List, [], ◌∷◌, ◌++◌, Result, Ok, Err, IfOk, IfErr, OnErr, IsOk, refl, sym, ap, ◌∙◌, subst, append-nil, append_assoc}
+use Rattle.std.proofs.Common.{◌≡◌, List, [], ◌∷◌, ◌++◌, Result, Ok, Err, IfOk, OnErr, refl, sym, ap, ◌∙◌, subst, append-nil, append_assoc}
 use Rattle.album_stamps.specs.declared.refusals.Refusal.{Refusal}
-use Rattle.album_stamps.specs.declared.refusals.Refusal.TheVariants.{OutOfMemory}
-use Rattle.album_items.specs.Openings.{is_opening}
 use Rattle.album_items.specs.declared.openings.Opening.{Opening}
 use Rattle.album_world.specs.declared.events.Event.{Event}
 use Rattle.album_world.specs.declared.outs.Out.{Out}
@@ -11,7 +9,7 @@ use Rattle.album_world.specs.State.{Now}
 use Rattle.album_world.specs.Past.{World}
 use Rattle.album_world.specs.Changes.{Change, change_of}
 use Rattle.album_world.specs.Runs.{changed_by, happens, now_after, outs_by, outs_of, run, run_of, start, tells}
-use Rattle.album_world.specs.Seen.{WorldState, IsDone, IsRefused, IsStepped, IsBehind, IsReached, IsInPast, GoesOn, AreStepped, RunsOn, done_of}
+use Rattle.album_world.specs.Seen.{WorldState, IsDone, IsStepped, IsBehind, IsReached, IsInPast, GoesOn, AreStepped, RunsOn, done_of}
 use Rattle.album_world.proofs.EventLemmas.{answers_are_kept, notes_are_kept}
 
 -- ---- one event more

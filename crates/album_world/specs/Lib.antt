@@ -18,6 +18,5 @@ pub mod Outcomes
 pub mod Busy
 pub mod Events
 pub mod Flags
-pub mod Moves
 pub mod Registers
 pub mod Seen

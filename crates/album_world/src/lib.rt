@@ -4,8 +4,15 @@
 //! trims, in whatever order. What goes out: the numbers of messages that are sent, notes, and the answers to
 //! asks.
 //!
-//! Read `events` and `outs` first, then specs/, in the order of specs/Lib.antt: what a world keeps, what a client
-//! does at one event, what an event changes, and then what is promised of every run. `laws` has the promises.
+//! What holds of it: for every list of events of clients, partitions, losses, repeats and terminations, each request
+//! answered from a view is served, listed or committed only as the written policy allows on that view's lists, owners
+//! and groups, denied exactly where it does not, naming its first denying entry or the list's end; the view is read
+//! atomic and, item by item, no older than what was committed everywhere before its read. `World::step` has it, clause
+//! by clause.
+//!
+//! Read `events`, `outs` and `world` first, then specs/, in the order of specs/Lib.antt: what a world keeps, what a
+//! client does at one event, what an event changes, and then what is promised of every run. `laws` has the promises
+//! once more, of the definitions alone.
 #![tactic(auto)]
 
 // What happens, and what is told of it.

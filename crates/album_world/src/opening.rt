@@ -25,7 +25,11 @@ pub(crate) fn terms_of(opening: &Opening) -> Terms
 
 /// All partitions, in the order of their numbers.
 #[tactic(auto, using(crate::proofs::OpeningLemmas::one_more))]
-pub(crate) fn partitions_of(alloc: Global, opening: &Opening, parts: u16) -> Result<Vec<Partition>, Refusal>
+pub(crate) fn partitions_of(
+    alloc: Global,
+    opening: &Opening,
+    parts: u16,
+) -> Result<Vec<Partition>, Refusal>
     requires passes { is_opening opening.now ≡ true }
     requires parts { opening.now.parts ≡ parts }
     ensures partitions { IfOk result (λ partitions. partitions.items ≡ map (opens opening.now) (range_with_len 0 parts)) }
@@ -55,7 +59,12 @@ fn opens(alloc: Global, opening: &Opening, parts: u16, part: u16) -> Result<Part
 }
 
 /// The items that are placed at the partition, with their first values.
-fn items_at(alloc: Global, rows: &[(ItemId, Value)], parts: u16, part: u16) -> Result<ItemValues, Refusal>
+fn items_at(
+    alloc: Global,
+    rows: &[(ItemId, Value)],
+    parts: u16,
+    part: u16,
+) -> Result<ItemValues, Refusal>
     requires low { 1 ≤ parts }
     requires high { parts ≤ MOST_PARTS }
     ensures items { IfOk result (λ items. items ≡ rows_placed_at part parts rows.now) }

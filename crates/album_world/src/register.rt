@@ -59,7 +59,13 @@ impl Register {
 
     /// Whether the client may ask this, or why not.
     #[tactic(auto, using(crate::proofs::CheckLemmas::check_takes_none, crate::proofs::RegisterLemmas::new_client))]
-    pub fn may_ask(&self, terms: Terms, number: ClientNo, principal: &Principal, ask: &Ask) -> Result<(), Refusal>
+    pub fn may_ask(
+        &self,
+        terms: Terms,
+        number: ClientNo,
+        principal: &Principal,
+        ask: &Ask,
+    ) -> Result<(), Refusal>
         ensures may { MatchResult result
             (λ _. IsOk (asks_of terms number (client_at self.now number) principal.now ask.now))
             (λ e. asks_of terms number (client_at self.now number) principal.now ask.now ≡ Err e) }

@@ -27,7 +27,11 @@ pub(crate) fn send(messages: &mut Vec<Message>, mut sent: Vec<Message>)
 }
 
 /// Sends the reply, if there is one, and tells its number. There is room for both.
-pub(crate) fn send_reply(messages: &mut Vec<Message>, mut outs: Vec<Out>, reply: Option<Message>) -> Vec<Out>
+pub(crate) fn send_reply(
+    messages: &mut Vec<Message>,
+    mut outs: Vec<Out>,
+    reply: Option<Message>,
+) -> Vec<Out>
     requires room { vec_len messages.old + 1 ≤ vec_capacity messages.old }
     requires place { 1 ≤ vec_capacity outs }
     requires none { outs.items ≡ [] }

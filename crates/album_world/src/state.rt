@@ -81,7 +81,9 @@ impl State {
         self.clients.may_ask(terms, client, principal, ask)?;
         self.messages.reserve(MOST_READ_ITEMS)?;
         let before = self.messages.len() as u64;
-        let (sent, outs) = self.clients.ask(alloc, terms, client, principal, ask, before)?;
+        let (sent, outs) = self
+            .clients
+            .ask(alloc, terms, client, principal, ask, before)?;
         send(&mut self.messages, sent);
         Ok(outs)
     }
@@ -165,7 +167,9 @@ impl State {
         }
         self.messages.reserve(MOST_READ_ITEMS)?;
         let before = self.messages.len() as u64;
-        let (sent, outs) = self.clients.take(alloc, terms, client, &self.messages[index], before)?;
+        let (sent, outs) = self
+            .clients
+            .take(alloc, terms, client, &self.messages[index], before)?;
         send(&mut self.messages, sent);
         Ok(outs)
     }

@@ -67,7 +67,9 @@ impl Client {
     {
         let tag = self.idle_tag().ok_or(Refusal::ClientBusy)?;
         ask.check(principal)?;
-        let moved = self.place(alloc, terms).asks(tag, principal.copy()?, ask.copy()?)?;
+        let moved = self
+            .place(alloc, terms)
+            .asks(tag, principal.copy()?, ask.copy()?)?;
         self.turn(alloc, before, moved)
     }
 

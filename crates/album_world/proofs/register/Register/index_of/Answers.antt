@@ -1,4 +1,4 @@
-use Rattle.std.proofs.Common.{◌≡◌, ℕ, ◌==◌, ap, ◌∙◌, rules, position}
+use Rattle.std.proofs.Common.{ℕ, ◌==◌, ap, ◌∙◌, rules, position}
 use Rattle.album_world.proofs.RegisterLemmas.{stands_if}
 use Rattle.album_world.proofs.register.Register.index_of.Goals as goal
 

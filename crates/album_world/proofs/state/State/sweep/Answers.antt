@@ -1,4 +1,4 @@
-use Rattle.std.proofs.Common.{◌≡◌, ◌++◌, ◌<◌, Ok, length, slice_index_or, refl, rules}
+use Rattle.std.proofs.Common.{◌≡◌, ◌++◌, ◌<◌, Ok, length, slice_index_or, rules}
 use Rattle.album_partition.specs.Sweeps.{swept}
 use Rattle.album_world.specs.State.{Now}
 use Rattle.album_world.specs.Runs.{sent_after}

@@ -1,4 +1,4 @@
-use Rattle.std.proofs.Common.{◌≡◌, ◌++◌, ◌<◌, slice_index_or, Some, false, length, slice_get, subst, rules}
+use Rattle.std.proofs.Common.{◌≡◌, ◌++◌, ◌<◌, slice_index_or, false, length, subst, rules}
 use Rattle.album_calls.specs.declared.messages.Message.{Message}
 use Rattle.album_world.specs.Registers.{AreChangedBy, takes_of}
 use Rattle.album_world.specs.State.{Now, client_at, is_stopped}

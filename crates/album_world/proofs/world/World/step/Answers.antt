@@ -50,4 +50,3 @@ returns-clause-outcomes_are_true c = λ opening events behind. outcomes_are_true
 
 pub returns-clause-busy_has_its_cause : goal.returns-clause-busy_has_its_cause
 returns-clause-busy_has_its_cause c = λ opening events behind. busy_has_its_cause opening events behind.passes
-
