@@ -15,3 +15,15 @@ returns-clause-no_such_message c = worked.no_such_message
 
 pub returns-clause-stopped_twice : goal.returns-clause-stopped_twice
 returns-clause-stopped_twice c = worked.stopped_twice
+
+pub returns-clause-traced : goal.returns-clause-traced
+returns-clause-traced c = worked.traced
+
+pub returns-clause-written_and_read : goal.returns-clause-written_and_read
+returns-clause-written_and_read c = worked.written_and_read
+
+pub returns-clause-anonymous_adds : goal.returns-clause-anonymous_adds
+returns-clause-anonymous_adds c = worked.anonymous_adds
+
+pub returns-clause-noted : goal.returns-clause-noted
+returns-clause-noted c = worked.noted
