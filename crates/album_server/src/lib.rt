@@ -15,4 +15,4 @@ mod writing;
 pub use engine::judge;
 pub use fault::Fault;
 pub use judged::one_judgement;
-pub use replays::{replays_are_computed, replays_go_on};
+pub use replays::{replays_are_computed, replays_go_on, worked_replays};

@@ -1,5 +1,5 @@
 // The text of a replay: laws of it.
-ghost use Rattle.std.specs.Prelude.{List, [], ℕ, ◌++◌};
+ghost use Rattle.std.specs.Prelude.{◌≡◌, ◌++◌, List, [], ℕ, codes};
 ghost use Rattle.album_wire.specs.Lines.{Line, ended};
 ghost use Rattle.album_server.specs.Replay.{Stage, Unopened, Over, Replays, IsReplay, replay_text};
 ghost use Rattle.album_server.specs.Writes.{IsPrefixOf};
@@ -22,4 +22,101 @@ pub fn replays_go_on()
 
     // Once an opening was refused, nothing more is printed.
     ensures over { (lines : List Line) → Replays Over lines Over [] }
+{}
+
+/// A law: texts of replays that were worked out by hand.
+pub fn worked_replays()
+    ensures nothing_at_all { replay_text [] ≡ codes "{\"name\":\"BadOpening\",\"refused\":22}\n" }
+    ensures no_begin { replay_text (codes "{\"open\":{\"parts\":1}}\n \n")
+        ≡ codes "{\"name\":\"BadOpening\",\"refused\":22}\n" }
+    ensures no_header { replay_text (codes "{\"begin\":true}\n{\"deliver\":1}\n")
+        ≡ codes "{\"name\":\"BadRequest\",\"refused\":3}\n" }
+
+    // A range tells nothing of a message that is not there, and the input ends in the middle of a line.
+    ensures no_such_message { replay_text
+        (codes "{\"open\":{\"parts\":1}}\n{\"begin\":true}\n{\"deliver\":[1,9]}\n{\"deliver\":9}\n{\"deliver\":")
+        ≡ codes "{\"name\":\"NoSuchMessage\",\"refused\":14}\n{\"name\":\"BadLine\",\"refused\":2}\n" }
+    ensures stopped_twice { replay_text
+        (codes "{\"open\":{\"parts\":1}}\n{\"begin\":true}\n{\"stop\":1}\n{\"stop\":1}\n")
+        ≡ codes "{\"name\":\"Stopped\",\"refused\":16}\n" }
+
+    // A read in a trace.
+    ensures traced { replay_text
+        (codes "{\"open\":{\"limit\":1000,\"parts\":3,\"trace\":true}}\n"
+        ++ codes "{\"item\":\"picture/0\",\"value\":{\"content\":\"736561\",\"group\":0,\"home\":0,\"list\":0,"
+        ++ codes "\"owner\":\"amy@users\",\"title\":\"Sea\"}}\n"
+        ++ codes "{\"item\":\"album/0\",\"value\":{\"children\":[\"picture/0\"],\"group\":0,\"home\":null,"
+        ++ codes "\"list\":1,\"owner\":\"amy@users\",\"title\":\"Trip\"}}\n"
+        ++ codes "{\"item\":\"list/0\",\"value\":{\"entries\":[[\"allow\",\"OWNER@\",2032127,0],[\"allow\","
+        ++ codes "\"EVERYONE@\",1,0]]}}\n"
+        ++ codes "{\"item\":\"list/1\",\"value\":{\"entries\":[[\"allow\",\"OWNER@\",2032127,0],[\"allow\","
+        ++ codes "\"EVERYONE@\",1,0]]}}\n"
+        ++ codes "{\"begin\":true}\n"
+        ++ codes "{\"ask\":{\"do\":\"read\",\"object\":\"picture/0\"},\"client\":2,\"who\":\"bo@users\"}\n"
+        ++ codes "{\"deliver\":1}\n"
+        ++ codes "{\"deliver\":2}\n")
+        ≡ codes "{\"from\":\"c2\",\"item\":\"picture/0\",\"k\":1,\"say\":\"get\",\"stamps\":[],\"tag\":1,"
+        ++ codes "\"to\":\"p0\"}\n"
+        ++ codes "{\"from\":\"p0\",\"item\":\"picture/0\",\"k\":2,\"say\":\"version\",\"stamp\":0,\"tag\":1,"
+        ++ codes "\"to\":\"c2\",\"value\":{\"content\":\"736561\",\"group\":0,\"home\":0,\"list\":0,"
+        ++ codes "\"owner\":\"amy@users\",\"title\":\"Sea\"}}\n"
+        ++ codes "{\"from\":\"c2\",\"item\":\"picture/0\",\"k\":3,\"say\":\"get\",\"stamps\":[0],\"tag\":2,"
+        ++ codes "\"to\":\"p0\"}\n" }
+
+    // A picture gets another title, and is read.
+    ensures written_and_read { replay_text
+        (codes "{\"open\":{\"limit\":1000,\"parts\":3,\"trace\":false}}\n"
+        ++ codes "{\"item\":\"picture/0\",\"value\":{\"content\":\"736561\",\"group\":0,\"home\":0,\"list\":0,"
+        ++ codes "\"owner\":\"amy@users\",\"title\":\"Sea\"}}\n"
+        ++ codes "{\"item\":\"album/0\",\"value\":{\"children\":[\"picture/0\"],\"group\":0,\"home\":null,"
+        ++ codes "\"list\":1,\"owner\":\"amy@users\",\"title\":\"Trip\"}}\n"
+        ++ codes "{\"item\":\"list/0\",\"value\":{\"entries\":[[\"allow\",\"OWNER@\",2032127,0],[\"allow\","
+        ++ codes "\"EVERYONE@\",1,0]]}}\n"
+        ++ codes "{\"item\":\"list/1\",\"value\":{\"entries\":[[\"allow\",\"OWNER@\",2032127,0],[\"allow\","
+        ++ codes "\"EVERYONE@\",1,0]]}}\n"
+        ++ codes "{\"begin\":true}\n"
+        ++ codes "{\"ask\":{\"do\":\"retitle\",\"object\":\"picture/0\",\"title\":\"Bay\"},\"client\":1,"
+        ++ codes "\"who\":\"amy@users\"}\n"
+        ++ codes "{\"deliver\":[1,20]}\n"
+        ++ codes "{\"ask\":{\"do\":\"read\",\"object\":\"picture/0\"},\"client\":2,\"who\":\"bo@users\"}\n"
+        ++ codes "{\"deliver\":[21,36]}\n")
+        ≡ codes "{\"answer\":\"committed\",\"client\":1,\"stamp\":65537}\n"
+        ++ codes "{\"answer\":\"served\",\"client\":2,\"content\":\"736561\",\"object\":\"picture/0\","
+        ++ codes "\"stamp\":65537,\"title\":\"Bay\"}\n" }
+
+    ensures anonymous_adds { replay_text
+        (codes "{\"open\":{\"limit\":1000,\"parts\":3,\"trace\":false}}\n"
+        ++ codes "{\"item\":\"picture/0\",\"value\":{\"content\":\"736561\",\"group\":0,\"home\":0,\"list\":0,"
+        ++ codes "\"owner\":\"amy@users\",\"title\":\"Sea\"}}\n"
+        ++ codes "{\"item\":\"album/0\",\"value\":{\"children\":[\"picture/0\"],\"group\":0,\"home\":null,"
+        ++ codes "\"list\":1,\"owner\":\"amy@users\",\"title\":\"Trip\"}}\n"
+        ++ codes "{\"item\":\"list/0\",\"value\":{\"entries\":[[\"allow\",\"OWNER@\",2032127,0],[\"allow\","
+        ++ codes "\"EVERYONE@\",1,0]]}}\n"
+        ++ codes "{\"item\":\"list/1\",\"value\":{\"entries\":[[\"allow\",\"OWNER@\",2032127,0],[\"allow\","
+        ++ codes "\"EVERYONE@\",1,0]]}}\n"
+        ++ codes "{\"begin\":true}\n"
+        ++ codes "{\"ask\":{\"album\":\"album/0\",\"content\":\"\",\"do\":\"add_picture\",\"title\":\"\"},"
+        ++ codes "\"client\":1,\"who\":\"ANONYMOUS@\"}\n"
+        ++ codes "{\"deliver\":1}\n")
+        ≡ codes "{\"name\":\"NoOwner\",\"refused\":9}\n"
+        ++ codes "{\"name\":\"NoSuchMessage\",\"refused\":14}\n" }
+
+    // Who reads is noted.
+    ensures noted { replay_text
+        (codes "{\"open\":{\"limit\":1000,\"parts\":3,\"trace\":false}}\n"
+        ++ codes "{\"item\":\"picture/0\",\"value\":{\"content\":\"736561\",\"group\":0,\"home\":0,\"list\":0,"
+        ++ codes "\"owner\":\"amy@users\",\"title\":\"Sea\"}}\n"
+        ++ codes "{\"item\":\"album/0\",\"value\":{\"children\":[\"picture/0\"],\"group\":0,\"home\":null,"
+        ++ codes "\"list\":1,\"owner\":\"amy@users\",\"title\":\"Trip\"}}\n"
+        ++ codes "{\"item\":\"list/0\",\"value\":{\"entries\":[[\"audit\",\"bo@users\",1,48],[\"allow\","
+        ++ codes "\"EVERYONE@\",1,0]]}}\n"
+        ++ codes "{\"item\":\"list/1\",\"value\":{\"entries\":[[\"allow\",\"OWNER@\",2032127,0],[\"allow\","
+        ++ codes "\"EVERYONE@\",1,0]]}}\n"
+        ++ codes "{\"begin\":true}\n"
+        ++ codes "{\"ask\":{\"do\":\"read\",\"object\":\"picture/0\"},\"client\":2,\"who\":\"bo@users\"}\n"
+        ++ codes "{\"deliver\":[1,16]}\n")
+        ≡ codes "{\"alarm\":false,\"audit\":0,\"client\":2,\"mask\":1,\"object\":\"picture/0\","
+        ++ codes "\"success\":true}\n"
+        ++ codes "{\"answer\":\"served\",\"client\":2,\"content\":\"736561\",\"object\":\"picture/0\",\"stamp\":0,"
+        ++ codes "\"title\":\"Sea\"}\n" }
 {}
