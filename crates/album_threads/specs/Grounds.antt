@@ -37,7 +37,8 @@ pub record IsSeen (begun now : Cut) (rows : List Answer) : Type 0 where
 -- The ask has a view, of what was so read. Of that, who asks, and the policy, as they would stand in a permit, this
 -- holds.
 pub record IsOnView
-    (begun now : Cut) (policy : Policy) (principal : Principal) (ask : Ask) (Holds : PermitState → Type 0) : Type 0 where
+    (begun now : Cut) (policy : Policy) (principal : Principal) (ask : Ask) (Holds : PermitState → Type 0)
+    : Type 0 where
   pub rows : List Answer
   pub seen : IsSeen begun now rows
   pub view : IsView (record { ask = ask; rows = rows })
