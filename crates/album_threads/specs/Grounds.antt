@@ -24,7 +24,7 @@ use Rattle.album_permits.specs.Notes.{notes_of}
 use Rattle.album_permits.specs.Permits.{PermitState, permit_on}
 use Rattle.album_permits.specs.declared.findings.Finding.{Finding}
 use Rattle.album_permits.specs.declared.notes.Note.{Note}
-use Rattle.album_passes.specs.Cuts.{Cut, prefix_at, announced_for, IsPrefix, IsPromisedSomewhere}
+use Rattle.album_passes.specs.Cuts.{Cut, prefix_at, announced_for, IsPrefix}
 use Rattle.album_passes.specs.Reads.{IsReadAtomic, IsFreshFrom}
 
 -- ---- a view

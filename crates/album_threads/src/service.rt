@@ -49,10 +49,7 @@ impl<J: Naming + Send + 'static> Service<J> {
     /// # Errors
     ///
     /// `OutOfMemory`, also where a thread can't be had. No thread runs then.
-    pub fn open<
-        R: Threads + Wait + Copy + Send + 'static,
-        G: Gate + Drop + Send + Sync + 'static,
-    >(
+    pub fn open<R: Threads + Wait + Copy + Send + 'static, G: Gate + Drop + Send + Sync + 'static>(
         rt: R,
         alloc: Global,
         opened: Opened,
@@ -87,7 +84,15 @@ impl<J: Naming + Send + 'static> Service<J> {
         let (mailboxes, mails) = mailboxes_for(alloc, owners.len())?;
         let mut threads = Vec::new(alloc);
         let started = start_all(
-            rt, alloc, &desk, &gate, owners, partitions, &mailboxes, mails, &mut threads,
+            rt,
+            alloc,
+            &desk,
+            &gate,
+            owners,
+            partitions,
+            &mailboxes,
+            mails,
+            &mut threads,
         );
         if started.is_err() {
             leave_all(&rt, &mailboxes, threads);
