@@ -1,6 +1,5 @@
 -- The grounds of an answer stay as the cut grows: the law `grounds_stay` cites the lemmas that are `pub`.
-use Rattle.std.proofs.Common.{◌≡◌, ℕ, ◌<◌, true, List, ◌++◌, length, length-append, get_or, Contains, sym, ◌∙◌, subst, arith}
-use Rattle.std.specs.List.{list_any}
+use Rattle.std.proofs.Common.{ℕ, ◌<◌, List, ◌++◌, length, length-append, Contains, sym, ◌∙◌, subst, arith}
 use Rattle.std.proofs.lemmas.List.{get_or_append_left}
 use Rattle.album_items.specs.Places.{places_of, rows_placed_at}
 use Rattle.album_partition.specs.Marks.{commits}

@@ -1,12 +1,11 @@
 -- What the owner's cut has beside each mark that a partition makes. `Keeper` cites the lemmas that are `pub`; the main
 -- one is `mark_backed`.
-use Rattle.std.proofs.Common.{◌≡◌, ◌≢◌, ◌⊎◌, ⊎_elim, ℕ, zero, suc, ◌+◌, ◌<◌, ◌≤◌, Bool, true, false, ◌==◌, ◌&&◌, cond, List, [], ◌∷◌, ◌++◌, map, filter, length, get_or, if◌then◌else◌, All, Contains, Option, Some, None, option_to_list, refl, sym, ap, ◌∙◌, subst, arith, append-nil, length-append}
+use Rattle.std.proofs.Common.{◌≡◌, ⊎_elim, ℕ, zero, suc, ◌<◌, ◌≤◌, Bool, true, false, ◌==◌, List, [], ◌∷◌, ◌++◌, map, filter, length, get_or, if◌then◌else◌, All, Contains, Option, Some, None, option_to_list, refl, sym, ap, ◌∙◌, subst, arith, append-nil, length-append}
 use Rattle.std.specs.List.{list_any}
 use Rattle.std.proofs.lemmas.Bool.Decides.{Decides-eqb}
 use Rattle.std.proofs.lemmas.List.Elements.{All-nil, All-cons, All-head, All-tail, All-append, All-contains, All-weaker}
 use Rattle.std.proofs.lemmas.List.Folds.{Any-from_list_any}
 use Rattle.album_items.specs.ItemIds.{place_of}
-use Rattle.album_items.specs.Openings.{Row}
 use Rattle.album_items.specs.Places.{is_placed, lies_at, others_of, rows_placed_at}
 use Rattle.atomic_table.specs.Seated.{TableId}
 use Rattle.album_calls.specs.Nodes.{is_part}
@@ -19,10 +18,9 @@ use Rattle.album_calls.specs.declared.nodes.Vote.{Vote}
 use Rattle.album_calls.specs.declared.nodes.Vote.TheVariants as vote
 use Rattle.album_calls.specs.declared.requests.Request.TheVariants.{Prepare, Commit, Check}
 use Rattle.album_calls.specs.declared.replies.Reply.TheVariants as reply
-use Rattle.album_terminate.specs.declared.deciding.StampState.TheVariants as state
-use Rattle.album_partition.specs.Answers.{Action, nothing, to_body, to_part, action_of, with_action, after}
+use Rattle.album_partition.specs.Answers.{Action, nothing, to_body, action_of, after}
 use Rattle.album_partition.specs.Laws.{IsCause}
-use Rattle.album_partition.specs.Marks.{prepares, commits, discards, state_of, items_at, may_follow, is_legal, load}
+use Rattle.album_partition.specs.Marks.{prepares, items_at, may_follow, is_legal, load}
 use Rattle.album_partition.specs.Partition.{PartitionState}
 use Rattle.album_partition.specs.Votes.{NotedVote, has_vote, new_vote, heard}
 use Rattle.album_partition.specs.declared.marks.Mark.{Mark}
@@ -31,7 +29,7 @@ use Rattle.album_partition.proofs.AnswerLemmas.{Acts, idle, said, prepared, comm
 use Rattle.album_partition.proofs.LegalLemmas.{follows}
 use Rattle.album_partition.proofs.LawLemmas.{marks_are_caused}
 use Rattle.album_partition.proofs.StateLemmas.{unknown_tells, pending_tells}
-use Rattle.album_passes.specs.Cuts.{Cut, prefix_at, IsPreparedThroughout, IsBacked, IsSound, IsPrefix, Extends}
+use Rattle.album_passes.specs.Cuts.{Cut, prefix_at, IsBacked, IsSound, Extends}
 use Rattle.album_passes.specs.Changes.{marked_cut}
 use Rattle.album_passes.proofs.ClosedLemmas.{committed_tells, discarded_tells, proper_within, discarded_backs, votes_back}
 use Rattle.album_passes.proofs.CutLemmas.{backed_marked}
@@ -95,25 +93,25 @@ cause_backs limit c p m s inside shown votes h (Prepared t ws is) here a =
     (record { announced = announced; within = proper_within p.number p.parts t ws is a.proper })
 cause_backs limit c p m s inside shown votes h (Committed t) here why =
     backed_marked c p.number (Committed t) (⊎_elim
-      (λ asked. shown_as c m (body.Request (Commit t)) asked h)
-      (λ voted. ⊎_elim
-        (λ told. let v = voter c m.from t vote.Committed (shown_as c m (body.Reply (reply.Status t vote.Committed)) told h) in
-        committed_tells c v.0 t s.closed v.2)
-        (λ last.
-        let told = shown_as c m (body.Reply (reply.Status t vote.Prepared)) last.told h in
-        let theirs : list_any (prepares t) (prefix_at c last.part) ≡ true = subst (λ (n : Node). ShowsVote c n t vote.Prepared) last.sender told in
-        let own : list_any (prepares t) (prefix_at c p.number) ≡ true = ap (list_any (prepares t)) (sym shown.marks) ∙ (pending_tells _ _ _ why.0).2 in
-        let heard_all = All-cons (λ (q : ℕ). list_any (prepares t) (prefix_at c q) ≡ true) last.part (heard p.votes t) theirs
-        (all_heard (λ (u q : ℕ). list_any (prepares u) (prefix_at c q) ≡ true) p.votes t votes) in
-        let others : All (λ (q : ℕ). list_any (prepares t) (prefix_at c q) ≡ true) (others_of p.number p.parts (items_at p.marks t)) =
-        All-weaker (Contains (last.part ∷ heard p.votes t)) (λ (q : ℕ). list_any (prepares t) (prefix_at c q) ≡ true)
-        (λ q k. All-contains (λ (q : ℕ). list_any (prepares t) (prefix_at c q) ≡ true) (last.part ∷ heard p.votes t) q heard_all k)
-        (others_of p.number p.parts (items_at p.marks t)) last.others in
-        votes_back c p.number t s inside own
-        (subst (λ (y : ℕ × List Mark). All (λ (q : ℕ). list_any (prepares t) (prefix_at c q) ≡ true) (others_of p.number y.0 (items_at y.1 t)))
-          (λ i. (shown.parts i, shown.marks i)) others))
-        voted)
-      why.1)
+    (λ asked. shown_as c m (body.Request (Commit t)) asked h)
+    (λ voted. ⊎_elim
+    (λ told. let v = voter c m.from t vote.Committed (shown_as c m (body.Reply (reply.Status t vote.Committed)) told h) in
+    committed_tells c v.0 t s.closed v.2)
+    (λ last.
+    let told = shown_as c m (body.Reply (reply.Status t vote.Prepared)) last.told h in
+    let theirs : list_any (prepares t) (prefix_at c last.part) ≡ true = subst (λ (n : Node). ShowsVote c n t vote.Prepared) last.sender told in
+    let own : list_any (prepares t) (prefix_at c p.number) ≡ true = ap (list_any (prepares t)) (sym shown.marks) ∙ (pending_tells _ _ _ why.0).2 in
+    let heard_all = All-cons (λ (q : ℕ). list_any (prepares t) (prefix_at c q) ≡ true) last.part (heard p.votes t) theirs
+    (all_heard (λ (u q : ℕ). list_any (prepares u) (prefix_at c q) ≡ true) p.votes t votes) in
+    let others : All (λ (q : ℕ). list_any (prepares t) (prefix_at c q) ≡ true) (others_of p.number p.parts (items_at p.marks t)) =
+    All-weaker (Contains (last.part ∷ heard p.votes t)) (λ (q : ℕ). list_any (prepares t) (prefix_at c q) ≡ true)
+    (λ q k. All-contains (λ (q : ℕ). list_any (prepares t) (prefix_at c q) ≡ true) (last.part ∷ heard p.votes t) q heard_all k)
+    (others_of p.number p.parts (items_at p.marks t)) last.others in
+    votes_back c p.number t s inside own
+    (subst (λ (y : ℕ × List Mark). All (λ (q : ℕ). list_any (prepares t) (prefix_at c q) ≡ true) (others_of p.number y.0 (items_at y.1 t)))
+    (λ i. (shown.parts i, shown.marks i)) others))
+    voted)
+    why.1)
 cause_backs limit c p m s inside shown votes h (Discarded t) here why = ⊎_elim
     (λ checked.
     let k = check_here c m.to p.number t here (shown_as c m (body.Request (Check t)) checked.asked h) in

@@ -1,7 +1,6 @@
 -- What a reply shows that goes on to another partition, and that what is shown stays so. `Response::into_letter` cites
 -- `answer_shows`, and `Keeper::receive` cites `shows_more`.
-use Rattle.std.proofs.Common.{◌≡◌, ℕ, Bool, true, false, List, Some, None, refl, sym, ap, ◌∙◌, subst}
-use Rattle.std.specs.List.{list_any}
+use Rattle.std.proofs.Common.{◌≡◌, ℕ, Bool, true, false, List, refl, sym, subst}
 use Rattle.album_calls.specs.declared.messages.Body.{Body}
 use Rattle.album_calls.specs.declared.messages.Body.TheVariants as body
 use Rattle.album_calls.specs.declared.messages.Message.{Message}
@@ -14,7 +13,6 @@ use Rattle.album_calls.specs.declared.requests.Request.TheVariants.{Prepare, Com
 use Rattle.album_calls.specs.declared.replies.Reply.{Reply}
 use Rattle.album_calls.specs.declared.replies.Reply.TheVariants as reply
 use Rattle.album_terminate.specs.declared.deciding.StampState.TheVariants as state
-use Rattle.album_partition.specs.Answers.{after}
 use Rattle.album_partition.specs.Laws.{IsTrueOf}
 use Rattle.album_partition.specs.Marks.{state_by, prepares}
 use Rattle.album_partition.specs.declared.marks.Mark.{Mark}

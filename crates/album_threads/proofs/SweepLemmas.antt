@@ -1,8 +1,8 @@
 -- What goes out for a stamp that is pending, and what comes of a trim. `Keeper::sweep`, `trim` and `answer` cite the
 -- lemmas that are `pub`.
-use Rattle.std.proofs.Common.{rules, ◌≡◌, ◌≢◌, ◌⊎◌, inl, inr, ⊎_elim, ℕ, Bool, true, false, not, ◌==◌, ◌&&◌, List, [], ◌∷◌, ◌++◌, map, filter, get_or, if◌then◌else◌, All, Contains, Option, Some, None, Result, Ok, Err, option_to_list, refl, sym, ap, ◌∙◌, subst, arith, append-nil}
+use Rattle.std.proofs.Common.{◌≡◌, ◌≢◌, ℕ, Bool, true, false, not, ◌==◌, List, [], ◌∷◌, ◌++◌, map, filter, get_or, if◌then◌else◌, All, Contains, Option, Some, None, Result, Ok, Err, option_to_list, refl, sym, ap, ◌∙◌, subst, append-nil}
 use Rattle.std.specs.List.{list_any, range_with_len}
-use Rattle.std.proofs.lemmas.Bool.{and_parts, eqb-false}
+use Rattle.std.proofs.lemmas.Bool.{and_parts}
 use Rattle.std.proofs.lemmas.Bool.Decides.{Decides-eqb}
 use Rattle.std.proofs.lemmas.List.Elements.{All-nil, All-cons, All-contains_itself, All-map}
 use Rattle.atomic_table.specs.Seated.{TableId}
@@ -13,7 +13,6 @@ use Rattle.album_items.specs.ItemIds.{place_of}
 use Rattle.album_items.specs.Places.{is_placed, lies_at, is_other, others_of}
 use Rattle.album_calls.specs.declared.messages.Message.{Message}
 use Rattle.album_terminate.specs.Asking.{check_to}
-use Rattle.album_terminate.specs.declared.deciding.StampState.{StampState}
 use Rattle.album_terminate.specs.declared.deciding.StampState.TheVariants as state
 use Rattle.album_partition.specs.Marks.{prepares, state_of, is_pending, items_at, mark_items, is_full, latest, floor}
 use Rattle.album_partition.specs.Partition.{PartitionState}
@@ -85,9 +84,9 @@ swept_shown limit c p t ms s shown e = go (is_pending (state_of p.marks t)) refl
     go true f g =
         let own : list_any (prepares t) (prefix_at c p.number) ≡ true = ap (list_any (prepares t)) (sym shown.marks) ∙ (pending_tells _ _ _ (is_pending_tells (state_of p.marks t) f)).2 in
         let lie : All (λ (q : ℕ). lies_at q p.parts (items_at p.marks t) ≡ true) others =
-            (λ k d l. other_lies p.number p.parts (items_at p.marks t) (get_or others k d) (all_kept (is_other p.number p.parts (items_at p.marks t)) (range_with_len 0 p.parts) k d l)) in
+        (λ k d l. other_lies p.number p.parts (items_at p.marks t) (get_or others k d) (all_kept (is_other p.number p.parts (items_at p.marks t)) (range_with_len 0 p.parts) k d l)) in
         let there_too : All (λ (q : ℕ). lies_at q c.parts (items_at (prefix_at c p.number) t) ≡ true) others =
-            subst (λ (y : ℕ × List Mark). All (λ (q : ℕ). lies_at q y.0 (items_at y.1 t) ≡ true) others) (λ i. (shown.parts i, shown.marks i)) lie in
+        subst (λ (y : ℕ × List Mark). All (λ (q : ℕ). lies_at q y.0 (items_at y.1 t) ≡ true) others) (λ i. (shown.parts i, shown.marks i)) lie in
         let same : sent_by p.number t others ≡ ms = cc (g) in
         subst (All (Shows c)) same (sent_shown c p.number t s own others there_too)
     go false f g = absurd (cc (g))

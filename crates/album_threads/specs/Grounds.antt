@@ -24,7 +24,7 @@ use Rattle.album_permits.specs.Notes.{notes_of}
 use Rattle.album_permits.specs.Permits.{PermitState, permit_on}
 use Rattle.album_permits.specs.declared.findings.Finding.{Finding}
 use Rattle.album_permits.specs.declared.notes.Note.{Note}
-use Rattle.album_passes.specs.Cuts.{Cut, prefix_at, announced_for, IsPrefix, IsPromisedSomewhere}
+use Rattle.album_passes.specs.Cuts.{Cut, prefix_at, announced_for, IsPrefix}
 use Rattle.album_passes.specs.Reads.{IsReadAtomic, IsFreshFrom}
 
 -- ---- a view
@@ -37,7 +37,8 @@ pub record IsSeen (begun now : Cut) (rows : List Answer) : Type 0 where
 -- The ask has a view, of what was so read. Of that, who asks, and the policy, as they would stand in a permit, this
 -- holds.
 pub record IsOnView
-    (begun now : Cut) (policy : Policy) (principal : Principal) (ask : Ask) (Holds : PermitState → Type 0) : Type 0 where
+    (begun now : Cut) (policy : Policy) (principal : Principal) (ask : Ask) (Holds : PermitState → Type 0)
+    : Type 0 where
   pub rows : List Answer
   pub seen : IsSeen begun now rows
   pub view : IsView (record { ask = ask; rows = rows })

@@ -1,5 +1,6 @@
 -- What a service starts with.
-use Rattle.std.specs.Prelude.{◌≡◌, ℕ, ◌<◌, List, length, slice_index_or}
+use Rattle.std.specs.Prelude.{◌≡◌, ℕ, ◌<◌, ◌≤◌, List, length, slice_index_or}
+use Rattle.album_stamps.specs.declared.limits.TheConstants.{MOST_PARTS}
 use Rattle.album_items.specs.Places.{rows_placed_at}
 use Rattle.album_eval.specs.declared.policies.Policy.{Policy}
 use Rattle.album_partition.specs.Partition.{PartitionState, opening_state}
@@ -26,9 +27,11 @@ pub record OpenedState : Type 0 where
   pub policy : Policy
   pub books : LedgerNames
 
--- the partitions are those of the desk's terms as they open, with their owners, and the pass is its first one
+-- There are not too many partitions; they are those of the desk's terms as they open, with their owners, and the pass
+-- is its first one.
 pub record IsOpened
     (desk : DeskState) (owners : List OwnerState) (partitions : List PartitionState) (pass : PassState) : Type 0 where
+  pub few : desk.terms.parts ≤ MOST_PARTS
   pub owned : AreOwners desk owners
   pub opened : AreFirst desk.terms desk.terms.parts partitions
   pub first : pass ≡ first_pass desk

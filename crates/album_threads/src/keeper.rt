@@ -195,12 +195,7 @@ impl<J: Naming> Keeper<J> {
     }
 
     /// What goes to other partitions for a stamp that is pending, as letters.
-    fn sweep(
-        &mut self,
-        alloc: Global,
-        desk: &Desk,
-        stamp: Stamp,
-    ) -> Result<Vec<Letter<J>>, Refusal>
+    fn sweep(&mut self, alloc: Global, desk: &Desk, stamp: Stamp) -> Result<Vec<Letter<J>>, Refusal>
         requires table { desk.now.table ≡ J.table }
         requires sound { IsSound self.old.owner.cut }
         ensures letters { IfOk result (λ letters. swept self.old.partition stamp

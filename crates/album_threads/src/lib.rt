@@ -10,6 +10,7 @@ mod letters;
 mod mailbox;
 mod naming;
 mod opened;
+mod service;
 mod starting;
 
 pub use gate::{Gate, Open};
@@ -18,3 +19,4 @@ pub use laws::grounds_stay;
 pub use letters::{Letter, Response};
 pub use naming::Naming;
 pub use opened::Opened;
+pub use service::Service;

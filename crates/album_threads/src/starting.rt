@@ -97,9 +97,12 @@ pub(crate) fn start<
     requires table { (arc_value desk).table ≡ J.table }
     requires terms { (arc_value desk).terms ≡ J.terms }
 {
-    let Ok(thread) = spawn(&rt, move || -> ()
-        requires { ((arc_value desk).table ≡ J.table) × ((arc_value desk).terms ≡ J.terms) }
-    { attend_alone::<J, R, G>(rt, alloc, desk, gate, post, mails) }) else {
+    let Ok(thread) = spawn(
+        &rt,
+        move || -> ()
+            requires { ((arc_value desk).table ≡ J.table) × ((arc_value desk).terms ≡ J.terms) }
+        { attend_alone::<J, R, G>(rt, alloc, desk, gate, post, mails) },
+    ) else {
         return Err(AllocError);
     };
     Ok(thread)

@@ -1,7 +1,6 @@
-use Rattle.std.proofs.Common.{rules, ◌≡◌, ◌<◌, ◌≤◌, true, length, ap, sym, ◌∙◌, subst, arith}
-use Rattle.album_partition.specs.declared.marks.Mark.{Mark}
+use Rattle.std.proofs.Common.{rules, ap, sym, ◌∙◌}
 use Rattle.album_partition.specs.Marks.{is_legal}
-use Rattle.album_threads.proofs.KeeperLemmas.{IsMade, next_some, made_follows}
+use Rattle.album_threads.proofs.KeeperLemmas.{next_some, made_follows}
 use Rattle.album_threads.proofs.keeper.append_next.Goals as goal
 
 -- the mark beyond the owner's history is the one that was made

@@ -10,7 +10,7 @@ loop-number-preserved c = λ sessions.
     let items : c.push.new.self.items ≡ c.loop-number.partitions.items ++ c.in_ok-partition_of.field-0 ∷ [] = search rules in
     subst (λ (ps : List PartitionState). AreFirst (terms_of c.args.opening.now sessions) (c.loop-number.number + 1) ps) (sym items)
     (first_more (terms_of c.args.opening.now sessions) c.loop-number.number c.loop-number.partitions.items c.in_ok-partition_of.field-0
-      (c.loop-number.invariant sessions) (c.in_ok-partition_of.ensures.partition sessions))
+    (c.loop-number.invariant sessions) (c.in_ok-partition_of.ensures.partition sessions))
 
 pub returns-clause-partitions : goal.returns-clause-partitions
 returns-clause-partitions c = λ sessions.

@@ -1,4 +1,4 @@
-use Rattle.std.proofs.Common.{◌≡◌, ℕ}
+use Rattle.std.proofs.Common.{ℕ}
 use Rattle.album_passes.specs.Desk.{terms_of}
 use Rattle.album_threads.specs.Opened.{AreFirst}
 use Rattle.album_threads.proofs.opened.partitions_of.Given as goal

@@ -1,12 +1,6 @@
-use Rattle.std.proofs.Common.{rules, ◌≡◌, List, sym, subst, ap, ◌∙◌}
-use Rattle.album_terminate.specs.declared.deciding.StampState.TheVariants as state
-use Rattle.album_partition.specs.Marks.{state_of}
-use Rattle.album_partition.specs.declared.marks.Mark.{Mark}
-use Rattle.album_passes.specs.Cuts.{prefix_at}
-use Rattle.album_threads.specs.Inquiries.{Tells, TellsSwept}
-use Rattle.album_threads.specs.Keepers.{KeeperState}
+use Rattle.std.proofs.Common.{sym, subst}
+use Rattle.album_threads.specs.Inquiries.{Tells}
 use Rattle.album_threads.specs.declared.inquiries.Inquiry.{Inquiry}
-use Rattle.album_threads.proofs.SweepLemmas.{swept_pending, swept_refused}
 use Rattle.album_threads.proofs.keeper.Keeper.answer.Goals as goal
 
 pub returns-in-Pending-clause-told : goal.returns-in-Pending-clause-told

@@ -1,6 +1,5 @@
-use Rattle.std.proofs.Common.{rules, ◌≡◌, ap, sym, ◌∙◌, subst}
-use Rattle.album_calls.specs.declared.messages.Message.{Message}
-use Rattle.album_passes.specs.Cuts.{Cut, Extends}
+use Rattle.std.proofs.Common.{◌≡◌, ap, sym, ◌∙◌, subst}
+use Rattle.album_passes.specs.Cuts.{Extends}
 use Rattle.album_passes.specs.Owner.{OwnerState}
 use Rattle.album_passes.specs.Pass.{PassState}
 use Rattle.album_passes.proofs.CutLemmas.{extends_trans}

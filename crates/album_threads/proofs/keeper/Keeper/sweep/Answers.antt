@@ -1,4 +1,4 @@
-use Rattle.std.proofs.Common.{rules, ◌≡◌, Ok}
+use Rattle.std.proofs.Common.{rules}
 use Rattle.album_threads.proofs.SweepLemmas.{swept_shown}
 use Rattle.album_threads.proofs.keeper.Keeper.sweep.Goals as goal
 

@@ -1,8 +1,4 @@
-use Rattle.std.proofs.Common.{rules, ◌≡◌, ap, sym, ◌∙◌, subst, refl, ◌++◌, option_to_list}
-use Rattle.album_calls.specs.declared.messages.Message.{Message}
-use Rattle.album_partition.specs.Answers.{after, action_of}
-use Rattle.album_partition.specs.Partition.{PartitionState}
-use Rattle.album_passes.specs.Cuts.{prefix_at}
+use Rattle.std.proofs.Common.{rules}
 use Rattle.album_threads.proofs.KeeperLemmas.{message_next, keeper_after}
 use Rattle.album_threads.proofs.keeper.Keeper.take.Goals as goal
 
@@ -14,5 +10,5 @@ pub invariant_of-self-2 : goal.invariant_of-self-2
 invariant_of-self-2 g c = (
   search rules,
   keeper_after g.J.Naming.table g.J.Naming.terms.limit _ c.args.message.now c.receive.new.self c.append_next.new.owner c.self.invariant.1 (search rules) (search rules)
-  c.append_next.ensures.table c.append_next.ensures.part c.append_next.ensures.grown c.append_next.ensures.marks,
+      c.append_next.ensures.table c.append_next.ensures.part c.append_next.ensures.grown c.append_next.ensures.marks,
 )

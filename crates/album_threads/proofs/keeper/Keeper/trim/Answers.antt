@@ -1,4 +1,4 @@
-use Rattle.std.proofs.Common.{rules, ◌≡◌, ℕ, List, ap, sym, ◌∙◌, subst}
+use Rattle.std.proofs.Common.{rules, ◌≡◌, List, ap, sym, ◌∙◌, subst}
 use Rattle.album_partition.specs.Marks.{floor, latest}
 use Rattle.album_partition.specs.Partition.{PartitionState}
 use Rattle.album_partition.specs.declared.marks.Mark.{Mark}
@@ -15,7 +15,7 @@ pub invariant_of-self-in-Ok : goal.invariant_of-self-in-Ok
 invariant_of-self-in-Ok g c = (
   search rules,
   keeper_trimmed g.J.Naming.table g.J.Naming.terms.limit _ c.args.item c.trim.new.self c.append_next.new.owner c.self.invariant.1 (search rules)
-  c.append_next.ensures.table c.append_next.ensures.part c.append_next.ensures.grown c.append_next.ensures.marks,
+      c.append_next.ensures.table c.append_next.ensures.part c.append_next.ensures.grown c.append_next.ensures.marks,
 )
 
 pub returns-in-Ok-clause-told : goal.returns-in-Ok-clause-told

@@ -1,0 +1,175 @@
+// A running service: a thread for each partition.
+ghost use Rattle.std.specs.Prelude.{◌≡◌, IsOkUnless, None};
+ghost use Rattle.std.specs.Arc.{arc_value};
+
+use crate::gate::Gate;
+use crate::mailbox::Mail;
+use crate::naming::Naming;
+use crate::opened::Opened;
+use crate::starting::start_all;
+use album_audit::{AuditBook, Totals};
+use album_eval::Policy;
+use album_passes::{Desk, Pass};
+use album_stamps::Refusal;
+use crossbeam_channel::{Receiver, SendError, Sender, unbounded};
+use std::alloc::{AllocError, Global};
+use std::marker::PhantomData;
+use std::sync::{Arc, Mutex, Wait};
+use std::thread;
+use std::thread::{JoinHandle, Threads};
+
+/// The pass from which those of the sessions are split.
+#[derive(Drop)]
+struct Seed<J: Naming> {
+    pass: Pass,
+    of: PhantomData<J>,
+    ghost table_is: { pass.table ≡ J.table },
+    ghost unnumbered: { pass.number ≡ None },
+}
+
+/// A running service, of the desk, the policy and the audit book that `J` names. It has threads, and
+/// ends by `close`.
+pub struct Service<J: Naming> {
+    desk: Arc<Desk, Global>,
+    policy: Policy,
+    seed: Mutex<Seed<J>>,
+    book: Mutex<AuditBook<J>>,
+    /// Of the partitions, in order.
+    mailboxes: Vec<Sender<Mail<J>>>,
+    threads: Vec<JoinHandle<()>>,
+    ghost table_is: { (arc_value desk).table ≡ J.table },
+    ghost terms_are: { (arc_value desk).terms ≡ J.terms },
+    ghost policy_is: { policy ≡ J.policy },
+}
+
+impl<J: Naming + Send + 'static> Service<J> {
+    /// Starts a thread for each partition of what was opened. Each message that one takes passes the
+    /// gate.
+    ///
+    /// # Errors
+    ///
+    /// `OutOfMemory`, also where a thread can't be had. No thread runs then.
+    pub fn open<R: Threads + Wait + Copy + Send + 'static, G: Gate + Drop + Send + Sync + 'static>(
+        rt: R,
+        alloc: Global,
+        opened: Opened,
+        gate: G,
+    ) -> Result<Service<J>, Refusal>
+        requires table { opened.desk.table ≡ J.table }
+        requires terms { opened.desk.terms ≡ J.terms }
+        requires policy { opened.policy ≡ J.policy }
+        requires books { opened.books ≡ record {
+          audit_ok = J.audit_ok;
+          audit_failed = J.audit_failed;
+          alarm_ok = J.alarm_ok;
+          alarm_failed = J.alarm_failed;
+        } }
+        ensures memory { IsOkUnless result Refusal.OutOfMemory }
+    {
+        let Opened {
+            desk,
+            owners,
+            partitions,
+            pass,
+            policy,
+            blanks,
+        } = opened;
+        let desk = Arc::new(alloc, desk)?;
+        let gate = Arc::new(alloc, gate)?;
+        let book = Mutex::new(AuditBook::new(alloc, blanks));
+        let seed = Mutex::new(Seed {
+            pass,
+            of: PhantomData,
+        });
+        let (mailboxes, mails) = mailboxes_for(alloc, owners.len())?;
+        let mut threads = Vec::new(alloc);
+        let started = start_all(
+            rt,
+            alloc,
+            &desk,
+            &gate,
+            owners,
+            partitions,
+            &mailboxes,
+            mails,
+            &mut threads,
+        );
+        if started.is_err() {
+            leave_all(&rt, &mailboxes, threads);
+            return Err(Refusal::OutOfMemory);
+        }
+        Ok(Service {
+            desk,
+            policy,
+            seed,
+            book,
+            mailboxes,
+            threads,
+        })
+    }
+
+    /// Ends the partitions' threads, once each has taken what was sent to it before, and gives the
+    /// totals of the audit book.
+    pub fn close<R: Threads + Wait>(self, rt: &R) -> Totals {
+        let Service {
+            desk: _,
+            policy: _,
+            seed: _,
+            book,
+            mailboxes,
+            threads,
+        } = self;
+        leave_all(rt, &mailboxes, threads);
+        book.lock(rt).totals()
+    }
+}
+
+impl<J: Naming> Service<J> {
+    /// The totals of the audit book so far.
+    pub fn totals<R: Wait>(&self, rt: &R) -> Totals {
+        self.book.lock(rt).totals()
+    }
+}
+
+/// So many mailboxes, and where what is sent to them comes.
+fn mailboxes_for<J: Naming>(
+    alloc: Global,
+    count: usize,
+) -> Result<(Vec<Sender<Mail<J>>>, Vec<Receiver<Mail<J>>>), AllocError> {
+    let mut mailboxes = Vec::new(alloc);
+    let mut mails = Vec::new(alloc);
+    for _ in 0..count {
+        let (to, from) = unbounded(alloc)?;
+        mailboxes.push(to)?;
+        mails.push(from)?;
+    }
+    Ok((mailboxes, mails))
+}
+
+/// Tells each partition's thread to leave, and joins those that run.
+fn leave_all<J: Naming, R: Threads + Wait>(
+    rt: &R,
+    mailboxes: &[Sender<Mail<J>>],
+    threads: Vec<JoinHandle<()>>,
+) {
+    for mailbox in mailboxes {
+        leave(rt, mailbox);
+    }
+    for thread in threads {
+        thread.join(rt);
+    }
+}
+
+/// Tells a partition's thread to leave, again until its mailbox takes it.
+fn leave<J: Naming, R: Wait>(rt: &R, mailbox: &Sender<Mail<J>>) {
+    for _ in rt.forever() {
+        let sent = mailbox.send(rt, Mail::Leave);
+        let again = matches!(&sent, Err(SendError::OutOfMemory(_)));
+        drop(sent);
+        if !again {
+            return;
+        }
+        thread::yield_now();
+    }
+    unreachable!()
+}
