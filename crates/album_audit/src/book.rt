@@ -105,7 +105,10 @@ impl<J: Books> AuditBook<J> {
     /// `SessionsSpent` exactly where a share was given for each client number; the book stays as it is.
     pub fn share(&mut self) -> Result<Share<J>, Refusal>
         ensures share { IfOk result (λ share. share ≡ none) }
-        ensures given { OnOk result (self.new ≡ record self.old { given = self.old.given + 1; out = self.old.out + 1 }) }
+        ensures given { OnOk result (self.new ≡ record self.old {
+          given = self.old.given + 1;
+          out = self.old.out + 1;
+        }) }
         ensures spent { IfErr result (λ e. (e ≡ Refusal.SessionsSpent) × (CLIENTS ≤ self.old.given + 1)) }
         ensures unchanged { OnErr result (self.new ≡ self.old) }
     {
@@ -136,7 +139,8 @@ impl<J: Books> AuditBook<J> {
         ensures book { OnOk result (self.new ≡ record self.old {
           records = self.old.records ++ record { client = client; note = note } ∷ [];
         }) }
-        ensures share { OnOk result (share.new ≡ plus share.old (totals_of (record { client = client; note = note } ∷ []))) }
+        ensures share { OnOk result
+            (share.new ≡ plus share.old (totals_of (record { client = client; note = note } ∷ []))) }
         ensures memory { IsOkUnless result Refusal.OutOfMemory }
         ensures unchanged { OnErr result ((self.new ≡ self.old) × (share.new ≡ share.old)) }
     {

@@ -4,4 +4,4 @@ pub mod Exchanging
 pub mod Turns
 pub mod Judging
 pub mod Replaying
-pub mod WorkedReplays
+pub mod OnLiterals

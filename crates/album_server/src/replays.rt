@@ -2,6 +2,7 @@
 ghost use Rattle.std.specs.Prelude.{◌≡◌, ◌++◌, List, [], ℕ, codes};
 ghost use Rattle.album_wire.specs.Lines.{Line, ended};
 ghost use Rattle.album_server.specs.Replay.{Stage, Unopened, Over, Replays, IsReplay, replay_text};
+ghost use Rattle.album_server.specs.WorkedOpening.{owners_all, trip_opened};
 ghost use Rattle.album_server.specs.Writes.{IsPrefixOf};
 
 /// A law: each input has a text. It is computed, where memory never runs out.
@@ -42,16 +43,7 @@ pub fn worked_replays()
 
     // A read in a trace.
     ensures traced { replay_text
-        (codes "{\"open\":{\"limit\":1000,\"parts\":3,\"trace\":true}}\n"
-        ++ codes "{\"item\":\"picture/0\",\"value\":{\"content\":\"736561\",\"group\":0,\"home\":0,\"list\":0,"
-        ++ codes "\"owner\":\"amy@users\",\"title\":\"Sea\"}}\n"
-        ++ codes "{\"item\":\"album/0\",\"value\":{\"children\":[\"picture/0\"],\"group\":0,\"home\":null,"
-        ++ codes "\"list\":1,\"owner\":\"amy@users\",\"title\":\"Trip\"}}\n"
-        ++ codes "{\"item\":\"list/0\",\"value\":{\"entries\":[[\"allow\",\"OWNER@\",2032127,0],[\"allow\","
-        ++ codes "\"EVERYONE@\",1,0]]}}\n"
-        ++ codes "{\"item\":\"list/1\",\"value\":{\"entries\":[[\"allow\",\"OWNER@\",2032127,0],[\"allow\","
-        ++ codes "\"EVERYONE@\",1,0]]}}\n"
-        ++ codes "{\"begin\":true}\n"
+        (trip_opened (codes "true") owners_all
         ++ codes "{\"ask\":{\"do\":\"read\",\"object\":\"picture/0\"},\"client\":2,\"who\":\"bo@users\"}\n"
         ++ codes "{\"deliver\":1}\n"
         ++ codes "{\"deliver\":2}\n")
@@ -65,16 +57,7 @@ pub fn worked_replays()
 
     // A picture gets another title, and is read.
     ensures written_and_read { replay_text
-        (codes "{\"open\":{\"limit\":1000,\"parts\":3,\"trace\":false}}\n"
-        ++ codes "{\"item\":\"picture/0\",\"value\":{\"content\":\"736561\",\"group\":0,\"home\":0,\"list\":0,"
-        ++ codes "\"owner\":\"amy@users\",\"title\":\"Sea\"}}\n"
-        ++ codes "{\"item\":\"album/0\",\"value\":{\"children\":[\"picture/0\"],\"group\":0,\"home\":null,"
-        ++ codes "\"list\":1,\"owner\":\"amy@users\",\"title\":\"Trip\"}}\n"
-        ++ codes "{\"item\":\"list/0\",\"value\":{\"entries\":[[\"allow\",\"OWNER@\",2032127,0],[\"allow\","
-        ++ codes "\"EVERYONE@\",1,0]]}}\n"
-        ++ codes "{\"item\":\"list/1\",\"value\":{\"entries\":[[\"allow\",\"OWNER@\",2032127,0],[\"allow\","
-        ++ codes "\"EVERYONE@\",1,0]]}}\n"
-        ++ codes "{\"begin\":true}\n"
+        (trip_opened (codes "false") owners_all
         ++ codes "{\"ask\":{\"do\":\"retitle\",\"object\":\"picture/0\",\"title\":\"Bay\"},\"client\":1,"
         ++ codes "\"who\":\"amy@users\"}\n"
         ++ codes "{\"deliver\":[1,20]}\n"
@@ -85,16 +68,7 @@ pub fn worked_replays()
         ++ codes "\"stamp\":65537,\"title\":\"Bay\"}\n" }
 
     ensures anonymous_adds { replay_text
-        (codes "{\"open\":{\"limit\":1000,\"parts\":3,\"trace\":false}}\n"
-        ++ codes "{\"item\":\"picture/0\",\"value\":{\"content\":\"736561\",\"group\":0,\"home\":0,\"list\":0,"
-        ++ codes "\"owner\":\"amy@users\",\"title\":\"Sea\"}}\n"
-        ++ codes "{\"item\":\"album/0\",\"value\":{\"children\":[\"picture/0\"],\"group\":0,\"home\":null,"
-        ++ codes "\"list\":1,\"owner\":\"amy@users\",\"title\":\"Trip\"}}\n"
-        ++ codes "{\"item\":\"list/0\",\"value\":{\"entries\":[[\"allow\",\"OWNER@\",2032127,0],[\"allow\","
-        ++ codes "\"EVERYONE@\",1,0]]}}\n"
-        ++ codes "{\"item\":\"list/1\",\"value\":{\"entries\":[[\"allow\",\"OWNER@\",2032127,0],[\"allow\","
-        ++ codes "\"EVERYONE@\",1,0]]}}\n"
-        ++ codes "{\"begin\":true}\n"
+        (trip_opened (codes "false") owners_all
         ++ codes "{\"ask\":{\"album\":\"album/0\",\"content\":\"\",\"do\":\"add_picture\",\"title\":\"\"},"
         ++ codes "\"client\":1,\"who\":\"ANONYMOUS@\"}\n"
         ++ codes "{\"deliver\":1}\n")
@@ -103,16 +77,7 @@ pub fn worked_replays()
 
     // Who reads is noted.
     ensures noted { replay_text
-        (codes "{\"open\":{\"limit\":1000,\"parts\":3,\"trace\":false}}\n"
-        ++ codes "{\"item\":\"picture/0\",\"value\":{\"content\":\"736561\",\"group\":0,\"home\":0,\"list\":0,"
-        ++ codes "\"owner\":\"amy@users\",\"title\":\"Sea\"}}\n"
-        ++ codes "{\"item\":\"album/0\",\"value\":{\"children\":[\"picture/0\"],\"group\":0,\"home\":null,"
-        ++ codes "\"list\":1,\"owner\":\"amy@users\",\"title\":\"Trip\"}}\n"
-        ++ codes "{\"item\":\"list/0\",\"value\":{\"entries\":[[\"audit\",\"bo@users\",1,48],[\"allow\","
-        ++ codes "\"EVERYONE@\",1,0]]}}\n"
-        ++ codes "{\"item\":\"list/1\",\"value\":{\"entries\":[[\"allow\",\"OWNER@\",2032127,0],[\"allow\","
-        ++ codes "\"EVERYONE@\",1,0]]}}\n"
-        ++ codes "{\"begin\":true}\n"
+        (trip_opened (codes "false") (codes "[\"audit\",\"bo@users\",1,48]")
         ++ codes "{\"ask\":{\"do\":\"read\",\"object\":\"picture/0\"},\"client\":2,\"who\":\"bo@users\"}\n"
         ++ codes "{\"deliver\":[1,16]}\n")
         ≡ codes "{\"alarm\":false,\"audit\":0,\"client\":2,\"mask\":1,\"object\":\"picture/0\","

@@ -1,5 +1,5 @@
 -- No line that is written has a float. For `write_out`: `no_float_in_note`, `no_float_in_answer` and
--- `no_float_in_message`.
+-- `no_float_in_message`; for `write_talk`: `no_float_in_talk`.
 use Rattle.std.proofs.Common.{◌≡◌, ℕ, List, [], ◌∷◌, map, false, Some, None, Option, refl}
 use Rattle.serde_json.specs.Data.{Data}
 use Rattle.serde_json.specs.Written.{has_float, items_have_float}
@@ -28,7 +28,10 @@ use Rattle.album_wire.specs.Spelling.{whole_data}
 use Rattle.album_wire.specs.ValueJson.{item_json, entry_json, member_json, home_json, value_json}
 use Rattle.album_wire.specs.MessageJson.{write_json, request_json, reply_json, message_json}
 use Rattle.album_wire.specs.OutJson.{note_json, row_json, at_json, reason_json, served_json, answer_json}
+use Rattle.album_wire.specs.TalkJson.{talk_json}
 use Rattle.album_wire.specs.declared.message_json.Envelope.{Envelope}
+use Rattle.album_wire.specs.declared.talk_json.TalkOut.{TalkOut}
+use Rattle.album_wire.specs.declared.talk_json.TalkOut.TheVariants as talk
 
 in_list : {A : Type 0} (f : A → Data) → ((x : A) → has_float (f x) ≡ false) → (xs : List A)
     → items_have_float (items_of (map f xs)) ≡ false
@@ -111,3 +114,11 @@ no_float_in_answer client (answer.Committed stamp) = refl
 no_float_in_answer client (answer.Aborted stamp) = refl
 no_float_in_answer client (answer.Unsettled stamp refusal) = refl
 no_float_in_answer client (answer.Refused refusal) = refl
+
+pub no_float_in_talk : (told : TalkOut) → has_float (talk_json told) ≡ false
+no_float_in_talk (talk.Hello client) = refl
+no_float_in_talk (talk.Pending stamps) = rw (in_list whole_data (λ s. refl) stamps.items) refl
+no_float_in_talk talk.Swept = refl
+no_float_in_talk talk.Trimmed = refl
+no_float_in_talk (talk.Serving port) = refl
+no_float_in_talk (talk.Totals audits alarms) = refl

@@ -12,7 +12,3 @@ pub mod Questions
 pub mod Texts
 pub mod Floats
 pub mod OnLiterals
-pub mod WorkedOpenings
-pub mod WorkedMessages
-pub mod WorkedOuts
-pub mod WorkedEvents

@@ -14,10 +14,13 @@ use Rattle.album_wire.specs.Values.{entry_read, entries_read, members_read, byte
 use Rattle.album_wire.specs.ItemShapes.{child_of, head_shape_of, picture_shape_of, album_shape_of, list_shape_of, group_shape_of}
 use Rattle.album_wire.specs.OpeningShape.{header_of, open_shape_of, item_shape_of, begin_shape_of}
 use Rattle.album_wire.specs.OpeningLine.{value_read, opening_read, opening_line_of}
-use Rattle.album_wire.specs.AskShape.{retitle_shape_of, replace_shape_of, new_list_shape_of, set_lists_shape_of}
+use Rattle.album_wire.specs.AskShape.{read_shape_of, retitle_shape_of, replace_shape_of, new_list_shape_of, set_lists_shape_of}
 use Rattle.album_wire.specs.EventShape.{part_named, asked_shape_of, range_of, deliver_shape_of, sweep_of, sweep_shape_of, stop_shape_of, trim_of, trim_shape_of}
 use Rattle.album_wire.specs.EventLine.{new_list_read, ask_read, event_read, event_line_of}
+use Rattle.album_wire.specs.TalkShape.{hello_shape_of, talk_ask_shape_of, pending_shape_of, talk_sweep_shape_of, talk_trim_shape_of}
+use Rattle.album_wire.specs.TalkLine.{talk_read, talk_line_of}
 use Rattle.album_wire.specs.OutJson.{out_line}
+use Rattle.album_wire.specs.TalkJson.{talk_text}
 
 unfoldable pub whos_on_literals : ⊤
 unfolding digits before user_of whole_number_of group_of member_of special_of who_of principal_of
@@ -51,6 +54,10 @@ unfoldable pub events_on_literals : ⊤
 unfolding asks_on_literals parts_on_literals asked_shape_of ask_read event_read event_line_of
 events_on_literals = tt
 
+unfoldable pub talks_on_literals : ⊤
+unfolding read_shape_of hello_shape_of talk_ask_shape_of pending_shape_of talk_sweep_shape_of talk_trim_shape_of talk_read talk_line_of talk_text
+talks_on_literals = tt
+
 unfoldable pub lines_on_literals : ⊤
-unfolding is_utf8 chars serde_json_on_literals data_of openings_on_literals events_on_literals out_line
+unfolding is_utf8 chars serde_json_on_literals data_of openings_on_literals events_on_literals talks_on_literals out_line
 lines_on_literals = tt

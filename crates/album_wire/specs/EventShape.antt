@@ -74,19 +74,19 @@ deliver_shape_of d = do
   Ok (Whole events)
 
 -- {part, stamp}
-unfoldable pub sweep_of : Data → Result Spelled Refusal
+unfoldable pub sweep_of : Data → Result (ℕ × ℕ) Refusal
 sweep_of d = do
   _ ← only_of (codes "part" ∷ codes "stamp" ∷ []) d
   part ← field_of (codes "part") d >>= part_named
   stamp ← field_of (codes "stamp") d >>= stamp_named
-  Ok (spelled.One (event.Sweep part stamp))
+  Ok (part, stamp)
 
 -- {"sweep": {..}}
 unfoldable pub sweep_shape_of : Data → Result SpelledEvent Refusal
 sweep_shape_of d = do
   _ ← only_of (codes "sweep" ∷ []) d
-  events ← field_of (codes "sweep") d >>= sweep_of
-  Ok (Whole events)
+  sweep ← field_of (codes "sweep") d >>= sweep_of
+  Ok (Whole (spelled.One (event.Sweep sweep.0 sweep.1)))
 
 -- {"stop": a client's number}
 unfoldable pub stop_shape_of : Data → Result SpelledEvent Refusal
@@ -96,19 +96,19 @@ stop_shape_of d = do
   Ok (Whole (spelled.One (event.Stop client)))
 
 -- {item, part}
-unfoldable pub trim_of : Data → Result Spelled Refusal
+unfoldable pub trim_of : Data → Result (ℕ × ℕ) Refusal
 trim_of d = do
   _ ← only_of (codes "item" ∷ codes "part" ∷ []) d
   item ← field_of (codes "item") d >>= item_named
   part ← field_of (codes "part") d >>= part_named
-  Ok (spelled.One (event.Trim part item))
+  Ok (part, item)
 
 -- {"trim": {..}}
 unfoldable pub trim_shape_of : Data → Result SpelledEvent Refusal
 trim_shape_of d = do
   _ ← only_of (codes "trim" ∷ []) d
-  events ← field_of (codes "trim") d >>= trim_of
-  Ok (Whole events)
+  trim ← field_of (codes "trim") d >>= trim_of
+  Ok (Whole (spelled.One (event.Trim trim.0 trim.1)))
 
 -- which of them, its names tell
 abbrev pub event_shape_of : Data → Result SpelledEvent Refusal

@@ -8,11 +8,14 @@ pub mod ItemShapes
 pub mod OpeningShape
 pub mod AskShape
 pub mod EventShape
+pub mod TalkShape
 pub mod Values
 pub mod JudgeLine
 pub mod OpeningLine
 pub mod EventLine
+pub mod TalkLine
 pub mod Output
 pub mod ValueJson
 pub mod MessageJson
 pub mod OutJson
+pub mod TalkJson

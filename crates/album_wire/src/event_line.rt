@@ -94,7 +94,7 @@ fn events_of(alloc: Global, shape: EventShape) -> Result<Spelled, Refusal>
 }
 
 #[tactic(auto, unfolding(crate::specs::EventLine::ask_read))]
-fn ask_of(alloc: Global, shape: AskShape) -> Result<Ask, Refusal>
+pub(crate) fn ask_of(alloc: Global, shape: AskShape) -> Result<Ask, Refusal>
     ensures { Gives (λ ask. ask) result (ask_read (spelled_ask shape.entry)) }
 {
     match shape {

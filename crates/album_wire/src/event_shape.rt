@@ -10,6 +10,7 @@ ghost use Rattle.album_wire.specs.Trees.{value_data};
 use crate::ask_shape::{AskShape, ask_shape};
 use crate::fields::{field, has, is_list, item, only, sized_list, text, whole};
 use crate::item_shapes::item_named;
+use album_items::ItemId;
 use album_stamps::{ClientNo, Refusal, Stamp};
 use album_world::Event;
 use json::Value;
@@ -114,18 +115,19 @@ fn sweep_shape<'a>(value: &Value<'a>) -> Result<EventShape<'a>, Refusal>
     ensures { Gives spelled_event result (sweep_shape_of (value_data value.now)) }
 {
     only(value, &["sweep"])?;
-    let events = sweep(field(value, "sweep")?)?;
-    Ok(EventShape::Whole(events))
+    let (part, stamp) = sweep(field(value, "sweep")?)?;
+    Ok(EventShape::Whole(Spelled::One(Event::Sweep(part, stamp))))
 }
 
+/// Where is swept, and what.
 #[tactic(auto, unfolding(crate::specs::EventShape::sweep_of))]
-fn sweep(value: &Value<'_>) -> Result<Spelled, Refusal>
-    ensures { Gives (λ events. events) result (sweep_of (value_data value.now)) }
+pub(crate) fn sweep(value: &Value<'_>) -> Result<(u16, Stamp), Refusal>
+    ensures { Gives (λ sweep. sweep) result (sweep_of (value_data value.now)) }
 {
     only(value, &["part", "stamp"])?;
     let part = part_named(field(value, "part")?)?;
     let stamp = stamp_named(field(value, "stamp")?)?;
-    Ok(Spelled::One(Event::Sweep(part, stamp)))
+    Ok((part, stamp))
 }
 
 #[tactic(auto, unfolding(crate::specs::EventShape::stop_shape_of))]
@@ -142,18 +144,19 @@ fn trim_shape<'a>(value: &Value<'a>) -> Result<EventShape<'a>, Refusal>
     ensures { Gives spelled_event result (trim_shape_of (value_data value.now)) }
 {
     only(value, &["trim"])?;
-    let events = trim(field(value, "trim")?)?;
-    Ok(EventShape::Whole(events))
+    let (part, item) = trim(field(value, "trim")?)?;
+    Ok(EventShape::Whole(Spelled::One(Event::Trim(part, item))))
 }
 
+/// Where versions are let go, and of what.
 #[tactic(auto, unfolding(crate::specs::EventShape::trim_of))]
-fn trim(value: &Value<'_>) -> Result<Spelled, Refusal>
-    ensures { Gives (λ events. events) result (trim_of (value_data value.now)) }
+pub(crate) fn trim(value: &Value<'_>) -> Result<(u16, ItemId), Refusal>
+    ensures { Gives (λ trim. trim) result (trim_of (value_data value.now)) }
 {
     only(value, &["item", "part"])?;
     let item = item_named(field(value, "item")?)?;
     let part = part_named(field(value, "part")?)?;
-    Ok(Spelled::One(Event::Trim(part, item)))
+    Ok((part, item))
 }
 
 /// The number of a client, from 1.
@@ -181,7 +184,7 @@ fn stamp_named(value: &Value<'_>) -> Result<Stamp, Refusal>
 
 /// The number of a partition, also of one that is not there.
 #[tactic(auto, unfolding(crate::specs::EventShape::part_named))]
-fn part_named(value: &Value<'_>) -> Result<u16, Refusal>
+pub(crate) fn part_named(value: &Value<'_>) -> Result<u16, Refusal>
     ensures { Gives (λ part. part) result (part_named (value_data value.now)) }
 {
     let part = whole(value)?;

@@ -3,8 +3,9 @@
 //! Bytes come in, and a judge line, a line of an opening or the events of a line go out, or the line's refusal; a
 //! verdict or what a world tells comes in, and a line goes out. Read `lines` first, then `judge_line`: the shape of a
 //! line (`judge_shape`, by `shapes` and `fields`), then its `values`. `opening_line` and `event_line` go the same way,
-//! by `opening_shape` and `item_shapes`, by `event_shape` and `ask_shape`. What is written is `output` and `out_json`,
-//! which makes a JSON value first, by `value_json` and `message_json`.
+//! by `opening_shape` and `item_shapes`, by `event_shape` and `ask_shape`; `talk_line`, what a connection says, by
+//! `talk_shape`. What is written is `output`, `out_json` and `talk_json`, which make a JSON value first, by `value_json`
+//! and `message_json`.
 #![tactic(auto)]
 
 mod ask_shape;
@@ -22,6 +23,9 @@ mod opening_shape;
 mod out_json;
 mod output;
 mod shapes;
+mod talk_json;
+mod talk_line;
+mod talk_shape;
 mod trees;
 mod value_json;
 mod values;
@@ -35,3 +39,5 @@ pub use opening_line::{OpeningLine, read_opening_line, worked_openings};
 pub use opening_shape::{DEFAULT_LIMIT, DEFAULT_POLICY, Header};
 pub use out_json::{worked_outs, write_out};
 pub use output::{refusal_texts, verdict_texts, write_refusal, write_verdict};
+pub use talk_json::{Counted, TalkOut, worked_talk_outs, write_talk};
+pub use talk_line::{TalkLine, read_talk, worked_talks};

@@ -273,7 +273,7 @@ fn vote_word(vote: Vote) -> &'static str
     }
 }
 
-fn stamps_json(alloc: Global, stamps: &[Stamp]) -> Result<Value, AllocError>
+pub(crate) fn stamps_json(alloc: Global, stamps: &[Stamp]) -> Result<Value, AllocError>
     ensures { IfOk result (λ v. view v ≡ stamps_json stamps.now) }
 {
     let mut values = Vec::with_capacity(alloc, stamps.len())?;

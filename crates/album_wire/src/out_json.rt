@@ -101,7 +101,7 @@ fn answer_line(alloc: Global, client: ClientNo, answer: &Answer) -> Result<Vec<u
 }
 
 /// The line of a value that has no float.
-fn line(alloc: Global, value: &Value) -> Result<Vec<u8>, AllocError>
+pub(crate) fn line(alloc: Global, value: &Value) -> Result<Vec<u8>, AllocError>
     requires { has_float (view value.now) ≡ false }
     ensures { IfOk result (λ bytes. bytes.items ≡ line_text (view value.now)) }
 {

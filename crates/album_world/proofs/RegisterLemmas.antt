@@ -20,60 +20,60 @@ use Rattle.album_world.specs.Moves.{IsChangedBy, IsTurned}
 use Rattle.album_world.specs.Registers.{AreChangedBy, StandsAt, asks_of, has_number, numbers_of, takes_of}
 
 -- where the number stands
-abbrev place : ℕ → List Client → ℕ
-place n cs = position_or_len (λ m. n == m) (numbers_of cs)
+abbrev index_in : ℕ → List Client → ℕ
+index_in n cs = position_or_len (λ m. n == m) (numbers_of cs)
 
 -- ---- a client that is there
 
 -- where the first client has the number, and where it hasn't
-place_here : (c : Client) (cs : List Client) (n : ℕ) → (n == c.number) ≡ true → place n (c ∷ cs) ≡ 0
-place_here c cs n e = ap (λ t. cond (not t) (1 + place n cs) 0) e
+index_here : (c : Client) (cs : List Client) (n : ℕ) → (n == c.number) ≡ true → index_in n (c ∷ cs) ≡ 0
+index_here c cs n e = ap (λ t. cond (not t) (1 + index_in n cs) 0) e
 
-place_there : (c : Client) (cs : List Client) (n : ℕ) → (n == c.number) ≡ false → place n (c ∷ cs) ≡ suc (place n cs)
-place_there c cs n e = ap (λ t. cond (not t) (1 + place n cs) 0) e ∙ omega arith
+index_there : (c : Client) (cs : List Client) (n : ℕ) → (n == c.number) ≡ false → index_in n (c ∷ cs) ≡ suc (index_in n cs)
+index_there c cs n e = ap (λ t. cond (not t) (1 + index_in n cs) 0) e ∙ omega arith
 
-less : (c : Client) (cs : List Client) (n : ℕ) → (n == c.number) ≡ false → place n (c ∷ cs) < length (c ∷ cs)
-    → place n cs < length cs
-less c cs n e h = omega (arith, place_there c cs n e, h)
+less : (c : Client) (cs : List Client) (n : ℕ) → (n == c.number) ≡ false → index_in n (c ∷ cs) < length (c ∷ cs)
+    → index_in n cs < length cs
+less c cs n e h = omega (arith, index_there c cs n e, h)
 
 there_by : (c : Client) (cs : List Client) (n : ℕ) (d : Client) (b : Bool) → (n == c.number) ≡ b
-    → (place n cs < length cs → client_at cs n ≡ get_or cs (place n cs) d) → place n (c ∷ cs) < length (c ∷ cs)
-    → client_at (c ∷ cs) n ≡ get_or (c ∷ cs) (place n (c ∷ cs)) d
+    → (index_in n cs < length cs → client_at cs n ≡ get_or cs (index_in n cs) d) → index_in n (c ∷ cs) < length (c ∷ cs)
+    → client_at (c ∷ cs) n ≡ get_or (c ∷ cs) (index_in n (c ∷ cs)) d
 there_by c cs n d true e rest h =
     ap (λ t. cond t c (client_at cs n)) (sameness-sym c.number n ∙ e)
-    ∙ sym (ap (λ k. get_or (c ∷ cs) k d) (place_here c cs n e))
+    ∙ sym (ap (λ k. get_or (c ∷ cs) k d) (index_here c cs n e))
 there_by c cs n d false e rest h =
     ap (λ t. cond t c (client_at cs n)) (sameness-sym c.number n ∙ e) ∙ rest (less c cs n e h)
-    ∙ sym (ap (λ k. get_or (c ∷ cs) k d) (place_there c cs n e))
+    ∙ sym (ap (λ k. get_or (c ∷ cs) k d) (index_there c cs n e))
 
-there : (cs : List Client) (n : ℕ) (d : Client) → place n cs < length cs → client_at cs n ≡ get_or cs (place n cs) d
+there : (cs : List Client) (n : ℕ) (d : Client) → index_in n cs < length cs → client_at cs n ≡ get_or cs (index_in n cs) d
 there [] n d h = absurd (omega arith)
 there (c ∷ cs) n d h = there_by c cs n d (n == c.number) refl (there cs n d) h
 
 own_by : (c : Client) (cs : List Client) (n : ℕ) (d : Client) (b : Bool) → (n == c.number) ≡ b
-    → (place n cs < length cs → (get_or cs (place n cs) d).number ≡ n) → place n (c ∷ cs) < length (c ∷ cs)
-    → (get_or (c ∷ cs) (place n (c ∷ cs)) d).number ≡ n
+    → (index_in n cs < length cs → (get_or cs (index_in n cs) d).number ≡ n) → index_in n (c ∷ cs) < length (c ∷ cs)
+    → (get_or (c ∷ cs) (index_in n (c ∷ cs)) d).number ≡ n
 own_by c cs n d true e rest h =
-    ap (λ k. (get_or (c ∷ cs) k d).number) (place_here c cs n e) ∙ sym (eqb-true n c.number e)
+    ap (λ k. (get_or (c ∷ cs) k d).number) (index_here c cs n e) ∙ sym (eqb-true n c.number e)
 own_by c cs n d false e rest h =
-    ap (λ k. (get_or (c ∷ cs) k d).number) (place_there c cs n e) ∙ rest (less c cs n e h)
+    ap (λ k. (get_or (c ∷ cs) k d).number) (index_there c cs n e) ∙ rest (less c cs n e h)
 
-own : (cs : List Client) (n : ℕ) (d : Client) → place n cs < length cs → (get_or cs (place n cs) d).number ≡ n
+own : (cs : List Client) (n : ℕ) (d : Client) → index_in n cs < length cs → (get_or cs (index_in n cs) d).number ≡ n
 own [] n d h = absurd (omega arith)
 own (c ∷ cs) n d h = own_by c cs n d (n == c.number) refl (own cs n d) h
 
 put_by : (c : Client) (cs : List Client) (n : ℕ) (x : Client) (b : Bool) → (n == c.number) ≡ b → x.number ≡ n
-    → (place n cs < length cs → with_client x cs ≡ set cs (place n cs) x) → place n (c ∷ cs) < length (c ∷ cs)
-    → with_client x (c ∷ cs) ≡ set (c ∷ cs) (place n (c ∷ cs)) x
+    → (index_in n cs < length cs → with_client x cs ≡ set cs (index_in n cs) x) → index_in n (c ∷ cs) < length (c ∷ cs)
+    → with_client x (c ∷ cs) ≡ set (c ∷ cs) (index_in n (c ∷ cs)) x
 put_by c cs n x true e q rest h =
     ap (λ t. cond t (x ∷ cs) (c ∷ with_client x cs)) (ap (λ m. c.number == m) q ∙ sameness-sym c.number n ∙ e)
-    ∙ sym (ap (λ k. set (c ∷ cs) k x) (place_here c cs n e))
+    ∙ sym (ap (λ k. set (c ∷ cs) k x) (index_here c cs n e))
 put_by c cs n x false e q rest h =
     ap (λ t. cond t (x ∷ cs) (c ∷ with_client x cs)) (ap (λ m. c.number == m) q ∙ sameness-sym c.number n ∙ e)
-    ∙ ap (λ xs. c ∷ xs) (rest (less c cs n e h)) ∙ sym (ap (λ k. set (c ∷ cs) k x) (place_there c cs n e))
+    ∙ ap (λ xs. c ∷ xs) (rest (less c cs n e h)) ∙ sym (ap (λ k. set (c ∷ cs) k x) (index_there c cs n e))
 
-put : (cs : List Client) (n : ℕ) (x : Client) → x.number ≡ n → place n cs < length cs
-    → with_client x cs ≡ set cs (place n cs) x
+put : (cs : List Client) (n : ℕ) (x : Client) → x.number ≡ n → index_in n cs < length cs
+    → with_client x cs ≡ set cs (index_in n cs) x
 put [] n x q h = absurd (omega arith)
 put (c ∷ cs) n x q h = put_by c cs n x (n == c.number) refl q (put cs n x q) h
 
@@ -129,18 +129,18 @@ index_by true p i e = (refl, ap option_else e)
 index_by false p i e = absurd (cc)
 
 module _ (cs : List Client) (n i : ℕ) (found : position (λ m. n == m) (map (λ (c : Client). c.number) cs) ≡ Some i) where
-  is_place : (place n cs < length cs) × (place n cs ≡ i)
-  is_place =
-      let h = index_by (ltb (place n cs) (length (numbers_of cs))) (place n cs) i found in
-      let inside : place n cs < length (numbers_of cs) = ltb-true (place n cs) (length (numbers_of cs)) h.0 in
+  is_index : (index_in n cs < length cs) × (index_in n cs ≡ i)
+  is_index =
+      let h = index_by (ltb (index_in n cs) (length (numbers_of cs))) (index_in n cs) i found in
+      let inside : index_in n cs < length (numbers_of cs) = ltb-true (index_in n cs) (length (numbers_of cs)) h.0 in
       (omega (arith, inside, lengths cs), h.1)
 
   pub stands : StandsAt cs n i
   stands = record {
-    inside = omega (arith, is_place.0, is_place.1);
-    client = λ d. there cs n d is_place.0 ∙ ap (λ k. get_or cs k d) is_place.1;
-    own = λ d. sym (ap (λ k. (get_or cs k d).number) is_place.1) ∙ own cs n d is_place.0;
-    put = λ x q. put cs n x q is_place.0 ∙ ap (λ k. set cs k x) is_place.1;
+    inside = omega (arith, is_index.0, is_index.1);
+    client = λ d. there cs n d is_index.0 ∙ ap (λ k. get_or cs k d) is_index.1;
+    own = λ d. sym (ap (λ k. (get_or cs k d).number) is_index.1) ∙ own cs n d is_index.0;
+    put = λ x q. put cs n x q is_index.0 ∙ ap (λ k. set cs k x) is_index.1;
   }
 
 -- ---- what one client does among all
@@ -244,11 +244,7 @@ keys_push cs keys n x same new own =
     ap (λ (b : Bool). cond b keys (keys ++ n ∷ [])) (ap (list_any (λ m. n == m)) same ∙ new)
     ∙ ap (λ (ks : List ℕ). ks ++ n ∷ []) same ∙ ap (λ (m : ℕ). numbers_of cs ++ m ∷ []) (sym own) ∙ sym (numbers_push cs x)
 
--- what may be asked is refused for memory alone
-pub only_memory : {P : Type 0} (r : Result Change Refusal) → IsOk r → IfOk r (λ change. P) → P
-only_memory (Ok change) may h = h
-only_memory (Err e) may h = absurd (cc)
-
+-- what may be asked by the number may be asked by the client that stands there
 pub may_there : (n i : ℕ) (cs : List Client) (old : Client) (terms : Terms) (p : Principal) (a : Ask) → StandsAt cs n i
     → old ≡ get_or cs i old → IsOk (asks_of terms n (client_at cs n) p a) → IsOk (asks_of terms old.number old p a)
 may_there n i cs old terms p a at is h =

@@ -1,6 +1,8 @@
 -- A step more of each past that a world may have, for `World`.
-use Rattle.std.proofs.Common.{◌≡◌, List, [], ◌∷◌, ◌++◌, Result, Ok, Err, IfOk, OnErr, refl, sym, ap, ◌∙◌, subst, append-nil, append_assoc}
+use Rattle.std.proofs.Common.{◌≡◌, ◌≢◌, ◌<◌, ◌+◌, ℕ, suc, length, take, get_or, List, [], ◌∷◌, ◌++◌, Result, Ok, Err, IsOk, IfOk, IfErr, OnErr, refl, sym, ap, ◌∙◌, subst, append-nil, append_assoc, add-one}
+use Rattle.std.proofs.Math.Seq.{take-suc}
 use Rattle.album_stamps.specs.declared.refusals.Refusal.{Refusal}
+use Rattle.album_stamps.specs.declared.refusals.Refusal.TheVariants.{OutOfMemory}
 use Rattle.album_items.specs.declared.openings.Opening.{Opening}
 use Rattle.album_world.specs.declared.events.Event.{Event}
 use Rattle.album_world.specs.declared.outs.Out.{Out}
@@ -9,7 +11,7 @@ use Rattle.album_world.specs.State.{Now}
 use Rattle.album_world.specs.Past.{World}
 use Rattle.album_world.specs.Changes.{Change, change_of}
 use Rattle.album_world.specs.Runs.{changed_by, happens, now_after, outs_by, outs_of, run, run_of, start, tells}
-use Rattle.album_world.specs.Seen.{WorldState, IsDone, IsStepped, IsBehind, IsReached, IsInPast, GoesOn, AreStepped, RunsOn, done_of}
+use Rattle.album_world.specs.Seen.{WorldState, IsDone, IsRefused, IsStepped, IsBehind, IsReached, IsInPast, GoesOn, AreStepped, RunsOn, done_of}
 use Rattle.album_world.proofs.EventLemmas.{answers_are_kept, notes_are_kept}
 
 -- ---- one event more
@@ -85,6 +87,32 @@ module _ {Told : Type 0} (view : Told → List Out) (t : Terms) where
   stepped_more old mid new (x ∷ es) e [] r h s = absurd h
   stepped_more old mid new (x ∷ es) e (q ∷ rs) r h s = (h.0, h.1, stepped_more h.0 mid new es e rs r h.2 s)
 
+  stepped_by : (old new : WorldState) (e : Event) (r : Result Told Refusal) → old.terms ≡ t
+      → IfOk r (λ x. IsDone old.terms old.kept e new.kept (view x))
+      → IfErr r (λ y. y ≢ OutOfMemory → change_of old.terms old.kept e ≡ Err y)
+      → IfErr r (λ y. y ≡ OutOfMemory → IsOk (change_of old.terms old.kept e))
+      → OnErr r (new ≡ old)
+      → IsStepped view t old.kept e new.kept r
+  stepped_by old new e (Ok x) same d f m u = subst (λ (u : Terms). IsDone u old.kept e new.kept (view x)) same d
+  stepped_by old new e (Err y) same d f m u = subst (λ (u : Terms). IsRefused u old.kept e new.kept y) same
+      (record { kept = ap (λ (w : WorldState). w.kept) u; refused = f; memory = m })
+
+  -- a turn of the loop
+  pub next_stepped : (first : Now) (old new : WorldState) (es : List Event) (i : ℕ) (e : Event)
+      (rs : List (Result Told Refusal)) (r : Result Told Refusal) → i < length es → e ≡ get_or es i e → old.terms ≡ t
+      → AreStepped view t first (take i es) old.kept rs
+      → IfOk r (λ x. IsDone old.terms old.kept e new.kept (view x))
+      → IfErr r (λ y. y ≢ OutOfMemory → change_of old.terms old.kept e ≡ Err y)
+      → IfErr r (λ y. y ≡ OutOfMemory → IsOk (change_of old.terms old.kept e))
+      → OnErr r (new ≡ old)
+      → AreStepped view t first (take (i + 1) es) new.kept (rs ++ r ∷ [])
+  next_stepped first old new es i e rs r within at same h d f m u =
+      let more = stepped_more first old.kept new.kept (take i es) e rs r h (stepped_by old new e r same d f m u) in
+      subst (λ (xs : List Event). AreStepped view t first xs new.kept (rs ++ r ∷ []))
+      (ap (λ (x : Event). take i es ++ x ∷ []) at ∙ sym (take-suc es i e within)
+      ∙ ap (λ (n : ℕ). take n es) (sym (add-one i)))
+      more
+
   runs_on : (o : Opening) (before : List Event) (old new : Now) (es : List Event) (rs : List (Result Told Refusal))
       → AreStepped view t old es new rs → IsBehind o before (record { terms = t; kept = old })
       → IsBehind o (before ++ done_of es rs) (record { terms = t; kept = new })
@@ -100,9 +128,10 @@ module _ {Told : Type 0} (view : Told → List Out) (t : Terms) where
       runs_on o before h.0 new es rs h.2
       (subst (λ (n : Now). IsBehind o before (record { terms = t; kept = n })) (sym h.1.kept) b)
 
-  pub run_goes_on : (old : WorldState) (new : Now) (es : List Event) (rs : List (Result Told Refusal)) → old.terms ≡ t
-      → AreStepped view t old.kept es new rs → RunsOn old es (record { terms = old.terms; kept = new }) rs
-  run_goes_on old new es rs same h = λ o before b.
-      subst (λ (u : Terms). IsBehind o (before ++ done_of es rs) (record { terms = u; kept = new })) (sym same)
-      (runs_on o before old.kept new es rs h
-      (subst (λ (u : Terms). IsBehind o before (record { terms = u; kept = old.kept })) same b))
+-- and all of it
+pub run_goes_on : {Told : Type 0} (view : Told → List Out) (old new : WorldState) (es : List Event)
+    (rs : List (Result Told Refusal)) → new.terms ≡ old.terms
+    → AreStepped view old.terms old.kept es new.kept rs → RunsOn old es new rs
+run_goes_on view old new es rs same h = λ o before b.
+    subst (λ (u : Terms). IsBehind o (before ++ done_of es rs) (record { terms = u; kept = new.kept })) (sym same)
+    (runs_on view old.terms o before old.kept new.kept es rs h b)

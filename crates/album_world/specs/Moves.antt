@@ -12,7 +12,7 @@ use Rattle.album_writer.specs.Writing.{places_in}
 use Rattle.album_world.specs.declared.clients.Doing.{Doing}
 use Rattle.album_world.specs.declared.clients.Doing.TheVariants.{Idle, Reads, Prepares, Commits}
 use Rattle.album_world.specs.declared.moves.Moved.{Moved}
-use Rattle.album_world.specs.declared.moves.Place.{Place}
+use Rattle.album_world.specs.declared.moves.Actor.{Actor}
 use Rattle.album_world.specs.declared.outs.Out.{Out}
 use Rattle.album_world.specs.Clients.{Client}
 use Rattle.album_world.specs.Turns.{Turn, still, prepare_turn, commit_turn}
@@ -20,9 +20,9 @@ use Rattle.album_world.specs.Changes.{Change}
 use Rattle.album_world.specs.Changes.Change.{Nothing, AtPart, AtClient, Stops}
 use Rattle.album_world.specs.Runs.{outs_of_turn}
 
--- the client in this place, as if it were idle: what it does doesn't matter to where it goes
-abbrev pub client_of : Place → Client
-client_of place = record { number = place.number; clock = place.clock; doing = Idle 0 }
+-- the client that acts, as if it were idle: what it does doesn't matter to where it goes
+abbrev pub client_of : Actor → Client
+client_of actor = record { number = actor.number; clock = actor.clock; doing = Idle 0 }
 
 -- ---- what it does
 

@@ -37,7 +37,7 @@ asks_of terms number client principal ask = asks_by terms number client principa
 abbrev pub takes_of : Terms → ℕ → Client → Message → Change
 takes_of terms number client message = client_takes_by terms number client message client.doing
 
--- a client has had its turn, and stands in its place, or behind the others
+-- a client has had its turn, and stands where it stood, or behind the others
 pub record HasTurned
     (before number : ℕ) (turn : Turn) (old new : List Client) (sent : List Message) (outs : List Out) : Type 0 where
   pub clients : new ≡ with_client turn.client old

@@ -95,8 +95,8 @@ abbrev pub OfEachPast : WorldState → (Opening → World → Type 0) → Type 0
 OfEachPast world Holds =
     (opening : Opening) (events : List Event) → IsBehind opening events world → Holds opening (run_of opening events)
 
--- What the event told is in the past, of which it is the last: each answer, and each note, with the read that its client
--- had made last.
+-- What the event told is in the past, of which it is the last: each answer, and each note, with the read that its
+-- client had made last.
 pub record IsInPast (past : World) (outs : List Out) : Type 0 where
   pub answers :
       (client : ℕ) (answer : Answer) → Contains outs (out.Answered client answer)

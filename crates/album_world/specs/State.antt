@@ -40,7 +40,7 @@ abbrev pub client_at : List Client → ℕ → Client
 client_at [] number = newcomer number
 client_at (client ∷ clients) number = if client.number == number then client else client_at clients number
 
--- the client in its place, or behind the others
+-- the client where it stands, or behind the others
 abbrev pub with_client : Client → List Client → List Client
 with_client client [] = client ∷ []
 with_client client (first ∷ clients) =

@@ -46,7 +46,7 @@ impl Moved {
 
 /// A client with its clock, whatever it does, and the terms of its world.
 #[derive(Clone, Copy)]
-pub struct Place {
+pub struct Actor {
     pub alloc: Global,
     pub terms: Terms,
     pub number: ClientNo,
@@ -54,7 +54,7 @@ pub struct Place {
     ghost own: { clock.client ≡ number },
 }
 
-impl Place {
+impl Actor {
     ghost use Rattle.album_world.specs.Moves.{client_of, IsMoved};
     ghost use Rattle.album_world.specs.Turns.{ask_ends};
 

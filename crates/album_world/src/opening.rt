@@ -32,7 +32,8 @@ pub(crate) fn partitions_of(
 ) -> Result<Vec<Partition>, Refusal>
     requires passes { is_opening opening.now ≡ true }
     requires parts { opening.now.parts ≡ parts }
-    ensures partitions { IfOk result (λ partitions. partitions.items ≡ map (opens opening.now) (range_with_len 0 parts)) }
+    ensures partitions { IfOk result
+        (λ partitions. partitions.items ≡ map (opens opening.now) (range_with_len 0 parts)) }
     ensures memory { IsOkUnless result Refusal.OutOfMemory }
 {
     let mut partitions = Vec::new(alloc);

@@ -9,7 +9,7 @@ ghost use Rattle.album_world.specs.Turns.{read_begins, read_turn, views_by};
 
 use crate::askings::Asking;
 use crate::clients::Doing;
-use crate::moves::{Moved, Place};
+use crate::moves::{Moved, Actor};
 use crate::outs::Answer;
 use album_calls::Message;
 use album_eval::Principal;
@@ -18,7 +18,7 @@ use album_reader::{Reading, Step};
 use album_stamps::Refusal;
 use album_views::{Ask, ViewStep, Viewing};
 
-impl Place {
+impl Actor {
     /// An ask that the principal may ask begins, with a read of its objects.
     pub fn asks(self, tag: u64, principal: Principal, ask: Ask) -> Result<Moved, Refusal>
         requires taken { refusal_of ask principal ≡ None }

@@ -78,7 +78,7 @@ impl Register {
     }
 
     /// The client asks what it may ask. So many messages were sent before.
-    #[tactic(auto, using(crate::proofs::RegisterLemmas::asked, crate::proofs::RegisterLemmas::new_client, crate::proofs::RegisterLemmas::keys_set))]
+    #[tactic(auto, using(crate::proofs::RegisterLemmas::asked, crate::proofs::RegisterLemmas::may_there, crate::proofs::RegisterLemmas::new_client, crate::proofs::RegisterLemmas::keys_set))]
     pub fn ask(
         &mut self,
         alloc: Global,
@@ -90,7 +90,8 @@ impl Register {
     ) -> Result<(Vec<Message>, Vec<Out>), Refusal>
         requires fits { before < 2 ^ 63 }
         requires may { IsOk (asks_of terms number (client_at self.old number) principal.now ask.now) }
-        ensures done { IfOk result (λ told. IsOkAnd (asks_of terms number (client_at self.old number) principal.now ask.now)
+        ensures done { IfOk result (λ told.
+            IsOkAnd (asks_of terms number (client_at self.old number) principal.now ask.now)
             (λ change. AreChangedBy before self.old change self.new told.0.items told.1.items)) }
         ensures few { IfOk result (λ told. length told.0.items ≤ MOST_READ_ITEMS) }
         ensures memory { IsOkUnless result Refusal.OutOfMemory }
@@ -116,7 +117,8 @@ impl Register {
         requires fits { before < 2 ^ 63 }
         requires new { has_number self.old number ≡ false }
         requires may { IsOk (asks_of terms number (newcomer number) principal.now ask.now) }
-        ensures done { IfOk result (λ told. IsOkAnd (asks_of terms number (client_at self.old number) principal.now ask.now)
+        ensures done { IfOk result (λ told.
+            IsOkAnd (asks_of terms number (client_at self.old number) principal.now ask.now)
             (λ change. AreChangedBy before self.old change self.new told.0.items told.1.items)) }
         ensures few { IfOk result (λ told. length told.0.items ≤ MOST_READ_ITEMS) }
         ensures memory { IsOkUnless result Refusal.OutOfMemory }

@@ -7,7 +7,7 @@ ghost use Rattle.album_world.specs.Grants.{served_for};
 ghost use Rattle.album_world.specs.Moves.{client_of, IsMoved};
 ghost use Rattle.album_world.specs.Turns.{clock_after_rows, grants, rules, rules_by};
 
-use crate::moves::{Moved, Place};
+use crate::moves::{Moved, Actor};
 use crate::outs::Answer;
 use album_eval::Principal;
 use album_permits::{Permit, Ruled, Ruling, rule_on};
@@ -15,7 +15,7 @@ use album_reader::Answer as Row;
 use album_stamps::{Clock, Refusal, Refused};
 use album_views::View;
 
-impl Place {
+impl Actor {
     /// The ask of the view is ruled on, once the clock has seen the view's stamps.
     pub fn rules(self, tag: u64, principal: &Principal, view: View) -> Result<Moved, Refusal>
         requires fits { tag + 2 < 2 ^ 64 }
@@ -25,19 +25,19 @@ impl Place {
     {
         let alloc = self.alloc;
         let policy = self.terms.policy();
-        let place = self.after(&view);
+        let actor = self.after(&view);
         let ruled = rule_on(alloc, view, principal, policy)?;
-        place.tells(tag, ruled)
+        actor.tells(tag, ruled)
     }
 
-    /// The same place once its clock has seen the view's stamps.
-    fn after(self, view: &View) -> Place
+    /// The same actor once its clock has seen the view's stamps.
+    fn after(self, view: &View) -> Actor
         ensures client { client_of result ≡ record (client_of self) {
           clock = clock_after_rows self.clock view.now.rows;
         } }
         ensures terms { result.terms ≡ self.terms }
     {
-        Place {
+        Actor {
             alloc: self.alloc,
             terms: self.terms,
             number: self.number,

@@ -1,21 +1,21 @@
 // Messages that are sent, and the outputs that tell of them.
-ghost use Rattle.std.specs.Prelude.{◌≡◌, ◌+◌, ◌<◌, ◌≤◌, ◌^◌, ◌++◌, length, option_to_list, vec_len, vec_capacity, [], IfOk};
+ghost use Rattle.std.specs.Prelude.{◌≡◌, ◌+◌, ◌<◌, ◌≤◌, ◌^◌, ◌++◌, length, option_to_list, vec_len, vec_capacity, []};
 ghost use Rattle.album_world.specs.Runs.{numbers_after, sent_after};
 
 use crate::outs::Out;
 use album_calls::Message;
-use std::alloc::{AllocError, Global};
 
-/// The numbers of so many messages, which are sent behind the others.
-pub(crate) fn tell_sent(alloc: Global, before: u64, count: usize) -> Result<Vec<Out>, AllocError>
-    requires { before + count < 2 ^ 64 }
-    ensures { IfOk result (λ outs. outs.items ≡ numbers_after before count) }
+/// Tells so many messages by their numbers, behind those that were sent before. There is room for them.
+pub(crate) fn tell_sent(outs: &mut Vec<Out>, before: u64, count: usize)
+    requires many { before + count < 2 ^ 64 }
+    requires room { vec_len outs.old + count ≤ vec_capacity outs.old }
+    ensures items { outs.new.items ≡ outs.old.items ++ numbers_after before count }
+    ensures len { vec_len outs.new ≡ vec_len outs.old + count }
+    ensures capacity { vec_capacity outs.new ≡ vec_capacity outs.old }
 {
-    let mut outs = Vec::with_capacity(alloc, count)?;
     for index in 0..count {
-        outs.push(Out::Sent(before + index as u64 + 1))?;
+        outs.push_reserved(Out::Sent(before + index as u64 + 1));
     }
-    Ok(outs)
 }
 
 /// Sends the messages, for which there is room.
@@ -33,7 +33,7 @@ pub(crate) fn send_reply(
     reply: Option<Message>,
 ) -> Vec<Out>
     requires room { vec_len messages.old + 1 ≤ vec_capacity messages.old }
-    requires place { 1 ≤ vec_capacity outs }
+    requires space { 1 ≤ vec_capacity outs }
     requires none { outs.items ≡ [] }
     ensures messages { messages.new.items ≡ messages.old.items ++ option_to_list reply }
     ensures outs { result.items ≡ sent_after (length messages.old.items) (option_to_list reply) }

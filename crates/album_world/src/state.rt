@@ -70,9 +70,12 @@ impl State {
         principal: &Principal,
         ask: &Ask,
     ) -> Result<Vec<Out>, Refusal>
-        ensures done { IfOk result (λ outs. IsMade (asks terms self.old client principal.now ask.now) self.old self.new outs.items) }
-        ensures refused { IfErr result (λ e. e ≢ Refusal.OutOfMemory → asks terms self.old client principal.now ask.now ≡ Err e) }
-        ensures memory { IfErr result (λ e. e ≡ Refusal.OutOfMemory → IsOk (asks terms self.old client principal.now ask.now)) }
+        ensures done { IfOk result
+            (λ outs. IsMade (asks terms self.old client principal.now ask.now) self.old self.new outs.items) }
+        ensures refused { IfErr result
+            (λ e. e ≢ Refusal.OutOfMemory → asks terms self.old client principal.now ask.now ≡ Err e) }
+        ensures memory { IfErr result
+            (λ e. e ≡ Refusal.OutOfMemory → IsOk (asks terms self.old client principal.now ask.now)) }
         ensures unchanged { OnErr result (self.new ≡ self.old) }
     {
         if self.stopped.has(client) {
@@ -91,9 +94,13 @@ impl State {
     /// The message of this number comes to whom it is sent.
     #[tactic(auto, using(crate::proofs::StateLemmas::part_delivered, crate::proofs::StateLemmas::client_delivered, crate::proofs::StateLemmas::delivered_is, crate::proofs::StateLemmas::not_there))]
     fn deliver(&mut self, alloc: Global, terms: Terms, number: u64) -> Result<Vec<Out>, Refusal>
-        ensures done { IfOk result (λ outs. IsMade (delivers terms self.old (message_of self.old.messages number)) self.old self.new outs.items) }
-        ensures refused { IfErr result (λ e. e ≢ Refusal.OutOfMemory → delivers terms self.old (message_of self.old.messages number) ≡ Err e) }
-        ensures memory { IfErr result (λ e. e ≡ Refusal.OutOfMemory → IsOk (delivers terms self.old (message_of self.old.messages number))) }
+        ensures done { IfOk result
+            (λ outs. IsMade (delivers terms self.old (message_of self.old.messages number))
+            self.old self.new outs.items) }
+        ensures refused { IfErr result
+            (λ e. e ≢ Refusal.OutOfMemory → delivers terms self.old (message_of self.old.messages number) ≡ Err e) }
+        ensures memory { IfErr result
+            (λ e. e ≡ Refusal.OutOfMemory → IsOk (delivers terms self.old (message_of self.old.messages number))) }
         ensures unchanged { OnErr result (self.new ≡ self.old) }
     {
         let Some(index) = self.index_of(number) else {
@@ -108,7 +115,8 @@ impl State {
 
     /// Where the message of this number stands.
     fn index_of(&self, number: u64) -> Option<usize>
-        ensures found { IfSome result (λ index. message_of self.now.messages number ≡ slice_get self.now.messages index) }
+        ensures found { IfSome result
+            (λ index. message_of self.now.messages number ≡ slice_get self.now.messages index) }
         ensures inside { IfSome result (λ index. index < length self.now.messages) }
         ensures missing { IfNone result (message_of self.now.messages number ≡ None) }
     {
@@ -133,7 +141,8 @@ impl State {
     fn to_part(&mut self, alloc: Global, part: u16, index: usize) -> Result<Vec<Out>, Refusal>
         requires { index < length self.old.messages }
         ensures changed { (message : Sent) → slice_get self.old.messages index ≡ Some message → IfOk result
-            (λ outs. IsChanged self.old (part_takes part message (slice_get self.old.partitions part)) self.new outs.items) }
+            (λ outs. IsChanged self.old (part_takes part message (slice_get self.old.partitions part))
+            self.new outs.items) }
         ensures unchanged { OnErr result (self.new ≡ self.old) }
         ensures memory { IsOkUnless result Refusal.OutOfMemory }
     {
@@ -158,7 +167,8 @@ impl State {
     ) -> Result<Vec<Out>, Refusal>
         requires { index < length self.old.messages }
         ensures changed { (message : Sent) → slice_get self.old.messages index ≡ Some message → IfOk result
-            (λ outs. IsChanged self.old (client_takes terms self.old client (client_at self.old.clients client) message) self.new outs.items) }
+            (λ outs. IsChanged self.old (client_takes terms self.old client (client_at self.old.clients client) message)
+            self.new outs.items) }
         ensures unchanged { OnErr result (self.new ≡ self.old) }
         ensures memory { IsOkUnless result Refusal.OutOfMemory }
     {
@@ -177,9 +187,12 @@ impl State {
     /// The partition asks others how the stamp stands there.
     #[tactic(auto, using(crate::proofs::StateLemmas::swept_done, crate::proofs::StateLemmas::swept_refused, crate::proofs::StateLemmas::swept_may, crate::proofs::StateLemmas::swept_nowhere, crate::proofs::StateLemmas::part_is, crate::proofs::StateLemmas::no_part))]
     fn sweep(&mut self, alloc: Global, part: u16, stamp: Stamp) -> Result<Vec<Out>, Refusal>
-        ensures done { IfOk result (λ outs. IsMade (sweeps part stamp (slice_get self.old.partitions part)) self.old self.new outs.items) }
-        ensures refused { IfErr result (λ e. e ≢ Refusal.OutOfMemory → sweeps part stamp (slice_get self.old.partitions part) ≡ Err e) }
-        ensures memory { IfErr result (λ e. e ≡ Refusal.OutOfMemory → IsOk (sweeps part stamp (slice_get self.old.partitions part))) }
+        ensures done { IfOk result
+            (λ outs. IsMade (sweeps part stamp (slice_get self.old.partitions part)) self.old self.new outs.items) }
+        ensures refused { IfErr result
+            (λ e. e ≢ Refusal.OutOfMemory → sweeps part stamp (slice_get self.old.partitions part) ≡ Err e) }
+        ensures memory { IfErr result
+            (λ e. e ≡ Refusal.OutOfMemory → IsOk (sweeps part stamp (slice_get self.old.partitions part))) }
         ensures unchanged { OnErr result (self.new ≡ self.old) }
     {
         let part = usize::from(part);
@@ -188,7 +201,8 @@ impl State {
         }
         let sent = self.partitions[part].sweep(stamp)?;
         self.messages.reserve(sent.len())?;
-        let outs = tell_sent(alloc, self.messages.len() as u64, sent.len())?;
+        let mut outs = Vec::with_capacity(alloc, sent.len())?;
+        tell_sent(&mut outs, self.messages.len() as u64, sent.len());
         send(&mut self.messages, sent);
         Ok(outs)
     }
@@ -211,9 +225,12 @@ impl State {
     /// The partition lets versions of the item go.
     #[tactic(auto, using(crate::proofs::StateLemmas::trimmed_done, crate::proofs::StateLemmas::trimmed_refused, crate::proofs::StateLemmas::trimmed_may, crate::proofs::StateLemmas::trimmed_nowhere, crate::proofs::StateLemmas::part_is, crate::proofs::StateLemmas::no_part))]
     fn trim(&mut self, alloc: Global, part: u16, item: ItemId) -> Result<Vec<Out>, Refusal>
-        ensures done { IfOk result (λ outs. IsMade (trims part item (slice_get self.old.partitions part)) self.old self.new outs.items) }
-        ensures refused { IfErr result (λ e. e ≢ Refusal.OutOfMemory → trims part item (slice_get self.old.partitions part) ≡ Err e) }
-        ensures memory { IfErr result (λ e. e ≡ Refusal.OutOfMemory → IsOk (trims part item (slice_get self.old.partitions part))) }
+        ensures done { IfOk result
+            (λ outs. IsMade (trims part item (slice_get self.old.partitions part)) self.old self.new outs.items) }
+        ensures refused { IfErr result
+            (λ e. e ≢ Refusal.OutOfMemory → trims part item (slice_get self.old.partitions part) ≡ Err e) }
+        ensures memory { IfErr result
+            (λ e. e ≡ Refusal.OutOfMemory → IsOk (trims part item (slice_get self.old.partitions part))) }
         ensures unchanged { OnErr result (self.new ≡ self.old) }
     {
         let part = usize::from(part);

@@ -4,6 +4,7 @@ ghost use Rattle.album_stamps.specs.declared.limits.TheConstants.{MOST_READ_ITEM
 ghost use Rattle.album_world.specs.Runs.{numbers_after};
 
 use crate::outs::{Answer, Out};
+use crate::sending::tell_sent;
 use album_permits::Note;
 use album_stamps::ClientNo;
 use std::alloc::{AllocError, Global};
@@ -42,19 +43,5 @@ pub fn tell(outs: &mut Vec<Out>, before: u64, number: ClientNo, sent: usize, ans
     tell_sent(outs, before, sent);
     if let Some(answer) = answer {
         outs.push_reserved(Out::Answered(number, answer));
-    }
-}
-
-/// Tells so many messages by their numbers. There is room for them.
-fn tell_sent(outs: &mut Vec<Out>, before: u64, sent: usize)
-    requires many { before < 2 ^ 63 }
-    requires few { sent ≤ MOST_READ_ITEMS }
-    requires room { vec_len outs.old + sent ≤ vec_capacity outs.old }
-    ensures items { outs.new.items ≡ outs.old.items ++ numbers_after before sent }
-    ensures len { vec_len outs.new ≡ vec_len outs.old + sent }
-    ensures capacity { vec_capacity outs.new ≡ vec_capacity outs.old }
-{
-    for index in 0..sent {
-        outs.push_reserved(Out::Sent(before + index as u64 + 1));
     }
 }

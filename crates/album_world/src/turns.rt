@@ -6,7 +6,7 @@ ghost use Rattle.album_world.specs.Moves.{IsChangedBy};
 ghost use Rattle.album_world.specs.Registers.{asks_of};
 
 use crate::clients::{Client, Doing};
-use crate::moves::{Moved, Place};
+use crate::moves::{Moved, Actor};
 use crate::outs::Out;
 use crate::telling::{outs_of, tell};
 use crate::terms::Terms;
@@ -37,12 +37,13 @@ impl Client {
         }
     }
 
-    /// The client asks, on behalf of the principal: what it sends, and all that is told. `before` messages were sent
-    /// before.
+    /// The client asks what it may ask, on behalf of the principal: what it sends, and all that is told. `before`
+    /// messages were sent before.
     ///
     /// # Errors
     ///
-    /// As `may_ask` says; else `OutOfMemory`.
+    /// `OutOfMemory`: nothing has changed then.
+    #[tactic(auto, using(crate::proofs::CheckLemmas::is_idle, crate::proofs::CheckLemmas::is_taken))]
     pub fn ask(
         &mut self,
         alloc: Global,
@@ -51,24 +52,21 @@ impl Client {
         ask: &Ask,
         before: u64,
     ) -> Result<(Vec<Message>, Vec<Out>), Refusal>
-        requires { before < 2 ^ 63 }
+        requires fits { before < 2 ^ 63 }
+        requires may { IsOk (asks_of terms self.old.number self.old principal.now ask.now) }
         ensures done { IfOk result (λ r.
             IsOkAnd (asks_of terms self.old.number self.old principal.now ask.now)
             (λ change. IsChangedBy before self.old change self.new r.0.items r.1.items)) }
         ensures few { IfOk result (λ r. length r.0.items ≤ MOST_READ_ITEMS) }
         ensures number { self.new.number ≡ self.old.number }
-
-        // It is refused as it is to be; else only memory can refuse it. Nothing changes then.
-        ensures refused { IfErr (asks_of terms self.old.number self.old principal.now ask.now)
-            (λ e. result ≡ Err e) }
-        ensures memory { IfOk (asks_of terms self.old.number self.old principal.now ask.now)
-            (λ _. IsOkUnless result Refusal.OutOfMemory) }
+        ensures memory { IsOkUnless result Refusal.OutOfMemory }
         ensures unchanged { OnErr result (self.new ≡ self.old) }
     {
-        let tag = self.idle_tag().ok_or(Refusal::ClientBusy)?;
-        ask.check(principal)?;
+        let Some(tag) = self.idle_tag() else {
+            unreachable!()
+        };
         let moved = self
-            .place(alloc, terms)
+            .actor(alloc, terms)
             .asks(tag, principal.copy()?, ask.copy()?)?;
         self.turn(alloc, before, moved)
     }
@@ -100,7 +98,7 @@ impl Client {
                 if reading.is_ended_by(message) {
                     // A reading whose round ends is copied, since nothing may have changed where memory runs out.
                     let moved = self
-                        .place(alloc, terms)
+                        .actor(alloc, terms)
                         .reads(asking, reading.copy()?, message)?;
                     self.turn(alloc, before, moved)
                 } else {
@@ -135,11 +133,11 @@ impl Client {
     }
 
     /// Where it goes on from.
-    fn place(&self, alloc: Global, terms: Terms) -> Place
+    fn actor(&self, alloc: Global, terms: Terms) -> Actor
         ensures client { client_of result ≡ record self.now { doing = Doing.Idle 0 } }
         ensures terms { result.terms ≡ terms }
     {
-        Place {
+        Actor {
             alloc,
             terms,
             number: self.number,
@@ -227,14 +225,14 @@ impl Client {
     {
         let mut outs = Vec::with_capacity(alloc, room + 1)?;
         let number = self.number;
-        let place = self.place(alloc, terms);
+        let actor = self.actor(alloc, terms);
         let doing = mem::replace(&mut self.doing, Doing::Idle(0));
         let Moved {
             client,
             notes: _,
             sent,
             answer,
-        } = place.writes(doing, message);
+        } = actor.writes(doing, message);
         self.becomes(client);
         tell(&mut outs, before, number, sent.len(), answer);
         Ok((sent, outs))

@@ -8,7 +8,7 @@ ghost use Rattle.album_world.specs.Fresh.{ViewsAreFresh};
 ghost use Rattle.album_world.specs.Granted.{WritesAreGranted};
 ghost use Rattle.album_world.specs.Outcomes.{OutcomesAreTrue};
 ghost use Rattle.album_world.specs.Rulings.{RulingsHold};
-ghost use Rattle.album_world.specs.Seen.{GoesOn, IsDone, IsReached, OfEachPast, opened};
+ghost use Rattle.album_world.specs.Seen.{AreStepped, GoesOn, IsDone, IsReached, OfEachPast, RunsOn, opened};
 ghost use Rattle.album_world.specs.State.{message_of};
 ghost use Rattle.album_world.specs.Terms.{terms_of};
 
@@ -104,6 +104,36 @@ impl World {
         ensures busy_has_its_cause { OfEachPast self.new (λ opening past. BusyHasItsCause past) }
     {
         self.state.step(self.alloc, self.terms, event)
+    }
+
+    /// Lets one event after the other happen, and gives of each what `step` does.
+    ///
+    /// # Errors
+    ///
+    /// `OutOfMemory`, before any of them. Nothing is changed then.
+    pub fn run(&mut self, events: &[Event]) -> Result<Vec<Result<Vec<Out>, Refusal>>, Refusal>
+        ensures done { IfOk result (λ results.
+            AreStepped (λ outs. outs.items) self.old.terms self.old.kept events.now self.new.kept results.items) }
+        ensures memory { IsOkUnless result Refusal.OutOfMemory }
+        ensures unchanged { OnErr result (self.new ≡ self.old) }
+        ensures terms { self.new.terms ≡ self.old.terms }
+
+        // Each past goes on with the events that are not refused.
+        ensures goes_on { IfOk result (λ results. RunsOn self.old events.now self.new results.items) }
+
+        // And this holds of each past.
+        ensures rulings_hold { OfEachPast self.new (λ opening past. RulingsHold (terms_of opening) past) }
+        ensures writes_are_granted { OfEachPast self.new (λ opening past. WritesAreGranted (terms_of opening) past) }
+        ensures views_are_read_atomic { OfEachPast self.new ViewsAreReadAtomic }
+        ensures views_are_fresh { OfEachPast self.new (λ opening past. ViewsAreFresh (terms_of opening) past) }
+        ensures outcomes_are_true { OfEachPast self.new (λ opening past. OutcomesAreTrue (terms_of opening) past) }
+        ensures busy_has_its_cause { OfEachPast self.new (λ opening past. BusyHasItsCause past) }
+    {
+        let mut results = Vec::with_capacity(self.alloc, events.len())?;
+        for event in events {
+            results.push_reserved(self.step(event));
+        }
+        Ok(results)
     }
 
     /// The message of this number. The first that was sent is 1.

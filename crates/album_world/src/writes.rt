@@ -10,14 +10,14 @@ ghost use Rattle.album_writer.specs.Rounds.{commit_stepped, prepare_stepped};
 ghost use Rattle.album_writer.specs.Writing.{places_in};
 
 use crate::clients::Doing;
-use crate::moves::{Moved, Place};
+use crate::moves::{Moved, Actor};
 use crate::outs::Answer;
 use album_calls::Message;
 use album_permits::Permit;
 use album_stamps::{Refusal, Refused, Stamp};
 use album_writer::{CommitStep, Committing, Outcome, PrepareStep, Preparing};
 
-impl Place {
+impl Actor {
     /// A stamp is drawn for the write of the permit's ask.
     pub fn draws(mut self, tag: u64, permit: Permit) -> Result<Moved, Refusal>
         requires fits { tag + 2 < 2 ^ 64 }

@@ -1,41 +1,55 @@
-use Rattle.album_wire.proofs.WorkedEvents as worked
+use Rattle.std.proofs.Common.{refl}
+use Rattle.album_wire.proofs.OnLiterals.{lines_on_literals}
 use Rattle.album_wire.proofs.event_line.worked_events.Goals as goal
 
 pub returns-clause-range : goal.returns-clause-range
-returns-clause-range c = worked.range
+unfolding lines_on_literals
+returns-clause-range c = refl
 
 pub returns-clause-backwards : goal.returns-clause-backwards
-returns-clause-backwards c = worked.backwards
+unfolding lines_on_literals
+returns-clause-backwards c = refl
 
 pub returns-clause-wide : goal.returns-clause-wide
-returns-clause-wide c = worked.wide
+unfolding lines_on_literals
+returns-clause-wide c = refl
 
 pub returns-clause-last_counts : goal.returns-clause-last_counts
-returns-clause-last_counts c = worked.last_counts
+unfolding lines_on_literals
+returns-clause-last_counts c = refl
 
 pub returns-clause-two_events : goal.returns-clause-two_events
-returns-clause-two_events c = worked.two_events
+unfolding lines_on_literals
+returns-clause-two_events c = refl
 
 pub returns-clause-sweep : goal.returns-clause-sweep
-returns-clause-sweep c = worked.sweep
+unfolding lines_on_literals
+returns-clause-sweep c = refl
 
 pub returns-clause-no_stamp : goal.returns-clause-no_stamp
-returns-clause-no_stamp c = worked.no_stamp
+unfolding lines_on_literals
+returns-clause-no_stamp c = refl
 
 pub returns-clause-stop : goal.returns-clause-stop
-returns-clause-stop c = worked.stop
+unfolding lines_on_literals
+returns-clause-stop c = refl
 
 pub returns-clause-trim : goal.returns-clause-trim
-returns-clause-trim c = worked.trim
+unfolding lines_on_literals
+returns-clause-trim c = refl
 
 pub returns-clause-asked : goal.returns-clause-asked
-returns-clause-asked c = worked.asked
+unfolding lines_on_literals
+returns-clause-asked c = refl
 
 pub returns-clause-shape_first : goal.returns-clause-shape_first
-returns-clause-shape_first c = worked.shape_first
+unfolding lines_on_literals
+returns-clause-shape_first c = refl
 
 pub returns-clause-who_second : goal.returns-clause-who_second
-returns-clause-who_second c = worked.who_second
+unfolding lines_on_literals
+returns-clause-who_second c = refl
 
 pub returns-clause-content_last : goal.returns-clause-content_last
-returns-clause-content_last c = worked.content_last
+unfolding lines_on_literals
+returns-clause-content_last c = refl

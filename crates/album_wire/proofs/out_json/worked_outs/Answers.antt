@@ -1,29 +1,39 @@
-use Rattle.album_wire.proofs.WorkedOuts as worked
+use Rattle.std.proofs.Common.{refl}
+use Rattle.album_wire.proofs.OnLiterals.{lines_on_literals}
 use Rattle.album_wire.proofs.out_json.worked_outs.Goals as goal
 
 pub returns-clause-noted : goal.returns-clause-noted
-returns-clause-noted c = worked.noted
+unfolding lines_on_literals
+returns-clause-noted c = refl
 
 pub returns-clause-served : goal.returns-clause-served
-returns-clause-served c = worked.a_picture
+unfolding lines_on_literals
+returns-clause-served c = refl
 
 pub returns-clause-listed : goal.returns-clause-listed
-returns-clause-listed c = worked.listed
+unfolding lines_on_literals
+returns-clause-listed c = refl
 
 pub returns-clause-denied : goal.returns-clause-denied
-returns-clause-denied c = worked.denied
+unfolding lines_on_literals
+returns-clause-denied c = refl
 
 pub returns-clause-busy : goal.returns-clause-busy
-returns-clause-busy c = worked.busy
+unfolding lines_on_literals
+returns-clause-busy c = refl
 
 pub returns-clause-committed : goal.returns-clause-committed
-returns-clause-committed c = worked.committed
+unfolding lines_on_literals
+returns-clause-committed c = refl
 
 pub returns-clause-aborted : goal.returns-clause-aborted
-returns-clause-aborted c = worked.aborted
+unfolding lines_on_literals
+returns-clause-aborted c = refl
 
 pub returns-clause-unsettled : goal.returns-clause-unsettled
-returns-clause-unsettled c = worked.unsettled
+unfolding lines_on_literals
+returns-clause-unsettled c = refl
 
 pub returns-clause-refused : goal.returns-clause-refused
-returns-clause-refused c = worked.refused
+unfolding lines_on_literals
+returns-clause-refused c = refl

@@ -1,7 +1,10 @@
-use Rattle.std.proofs.Common.{◌≡◌}
+use Rattle.std.proofs.Common.{◌≡◌, ◌+◌, ◌++◌, vec_len, vec_capacity}
 use Rattle.album_world.specs.Runs.{numbers_after}
 use Rattle.album_world.proofs.sending.tell_sent.Given as goal
 
--- the numbers so far
 abbrev pub invariant-loop-index : goal.invariant-loop-index
-invariant-loop-index l = l.outs.items ≡ numbers_after l.before l.index
+invariant-loop-index l = record {
+  items : l.outs.items ≡ l.fn.outs.items ++ numbers_after l.before l.index;
+  len : vec_len l.outs ≡ vec_len l.fn.outs + l.index;
+  capacity : vec_capacity l.outs ≡ vec_capacity l.fn.outs;
+}

@@ -16,10 +16,10 @@ returns-in_ok-moved-in-Reads-clause-done c =
     let round = c.in-Reads.reading in
     let does : x.doing ≡ doing.Reads asking round =
     sym (ap (λ (y : Client). y.doing) c.self.view_is) ∙ c.in-Reads.is in
-    let moved = rw c.place.ensures.terms at c.in_ok-moved-in-Reads.ensures.moved in
+    let moved = rw c.actor.ensures.terms at c.in_ok-moved-in-Reads.ensures.moved in
     let is =
-    read_moved c.args.terms x (client_of c.place.result) (doing.Idle 0) asking round c.in_ok-copy-in-Reads.field-0
-    c.args.message.now c.in_ok-moved-in-Reads.moved c.place.ensures.client c.in_ok-copy-in-Reads.ensures.copy moved in
+    read_moved c.args.terms x (client_of c.actor.result) (doing.Idle 0) asking round c.in_ok-copy-in-Reads.field-0
+    c.args.message.now c.in_ok-moved-in-Reads.moved c.actor.ensures.client c.in_ok-copy-in-Reads.ensures.copy moved in
     IfOk-weaker c.turn.result _ _ (λ r turned.
     read_done c.args.before c.args.terms x c.turn.new.self asking round c.args.message.now r.0.items r.1.items does
     turned)
@@ -31,10 +31,10 @@ returns-in_ok-moved-in-Reads-clause-number c =
     let asking = c.in-Reads.asking in
     let round = c.in-Reads.reading in
     let step = stepped round c.args.message.now in
-    let moved = rw c.place.ensures.terms at c.in_ok-moved-in-Reads.ensures.moved in
+    let moved = rw c.actor.ensures.terms at c.in_ok-moved-in-Reads.ensures.moved in
     let is =
-    read_moved c.args.terms x (client_of c.place.result) (doing.Idle 0) asking round c.in_ok-copy-in-Reads.field-0
-    c.args.message.now c.in_ok-moved-in-Reads.moved c.place.ensures.client c.in_ok-copy-in-Reads.ensures.copy moved in
+    read_moved c.args.terms x (client_of c.actor.result) (doing.Idle 0) asking round c.in_ok-copy-in-Reads.field-0
+    c.args.message.now c.in_ok-moved-in-Reads.moved c.actor.ensures.client c.in_ok-copy-in-Reads.ensures.copy moved in
     read_number c.turn.result c.args.before c.args.terms x c.turn.new.self asking round.asker.tag step
     (λ r. r.0.items) (λ r. r.1.items)
     (c.turn.ensures.turned (read_turn c.args.terms x round.asker.tag asking step) is) c.turn.ensures.unchanged

@@ -1,8 +1,8 @@
-use Rattle.std.proofs.Common.{◌≡◌, IsOk, IsOkAnd, rules}
+use Rattle.std.proofs.Common.{◌≡◌, IsOkAnd, rules}
 use Rattle.album_world.specs.Clients.{newcomer}
 use Rattle.album_world.specs.Moves.{IsChangedBy}
 use Rattle.album_world.specs.Registers.{asks_of}
-use Rattle.album_world.proofs.RegisterLemmas.{first_asked, only_memory}
+use Rattle.album_world.proofs.RegisterLemmas.{first_asked}
 use Rattle.album_world.proofs.register.Register.enter.Goals as goal
 
 -- what it does as a newcomer is done among all
@@ -14,11 +14,3 @@ returns-clause-done c =
     let done = first_asked c.args.before c.args.number c.args.self.now c.ask.new.self c.requires.new own c.args.terms
     c.args.principal.now c.args.ask.now c.in_ok-told.told.0.items c.in_ok-told.told.1.items turned in
     search (rules, done)
-
--- it may ask, so only memory refuses it
-pub returns-in_err-told-clause-memory : goal.returns-in_err-told-clause-memory
-returns-in_err-told-clause-memory c =
-    let may : IsOk (asks_of c.args.terms c.new-client.result.number c.new-client.result c.args.principal.now c.args.ask.now) = search rules in
-    let told = only_memory (asks_of c.args.terms c.new-client.result.number c.new-client.result c.args.principal.now c.args.ask.now)
-    may c.ask.ensures.memory in
-    search (rules, told)

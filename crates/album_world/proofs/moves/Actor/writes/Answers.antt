@@ -1,6 +1,6 @@
 use Rattle.album_world.specs.Moves.{client_of}
 use Rattle.album_world.proofs.MoveLemmas.{few_prepared, none_committed}
-use Rattle.album_world.proofs.moves.Place.writes.Goals as goal
+use Rattle.album_world.proofs.moves.Actor.writes.Goals as goal
 
 -- it sends the Commits at most
 pub returns-in-Prepares-clause-room : goal.returns-in-Prepares-clause-room

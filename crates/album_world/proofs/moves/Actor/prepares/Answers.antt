@@ -1,6 +1,6 @@
 use Rattle.std.proofs.Common.{arith, sym}
 use Rattle.album_world.proofs.MoveLemmas.{just_commits}
-use Rattle.album_world.proofs.moves.Place.prepares.Goals as goal
+use Rattle.album_world.proofs.moves.Actor.prepares.Goals as goal
 
 pub with-requires-in-Commit : goal.with-requires-in-Commit
 with-requires-in-Commit c =

@@ -2,7 +2,7 @@ use Rattle.std.proofs.lemmas.Result.{IfOk-weaker}
 use Rattle.album_permits.specs.Permits.{PermitState}
 use Rattle.album_world.specs.Moves.{client_of}
 use Rattle.album_world.proofs.MoveLemmas.{rules_done}
-use Rattle.album_world.proofs.moves.Place.rules.Goals as goal
+use Rattle.album_world.proofs.moves.Actor.rules.Goals as goal
 
 -- a ruling is the one that is computed
 pub returns-clause-moved : goal.returns-clause-moved
@@ -14,6 +14,6 @@ returns-clause-moved c =
     } in
     let ruled = rw c.policy-policy.ensures at c.in_ok-ruled.ensures.ruled in
     IfOk-weaker c.tells.result _ _ (λ moved is.
-    rules_done c.args.self.terms (client_of c.args.self) (client_of c.after-place.result) c.args.tag
-    c.args.principal.now c.args.view c.in_ok-ruled.ruled moved ruled c.after-place.ensures.client (rw c.after-place.ensures.terms at is))
+    rules_done c.args.self.terms (client_of c.args.self) (client_of c.after-actor.result) c.args.tag
+    c.args.principal.now c.args.view c.in_ok-ruled.ruled moved ruled c.after-actor.ensures.client (rw c.after-actor.ensures.terms at is))
     (c.tells.ensures.moved case ruled.kept)

@@ -2,7 +2,7 @@ use Rattle.std.proofs.Common.{◌+◌}
 use Rattle.album_writer.specs.Writing.{prepare_round}
 use Rattle.album_world.proofs.MoveLemmas.{few_prepares, full_told, memory_told}
 use Rattle.album_permits.specs.Effects.{is_full_for}
-use Rattle.album_world.proofs.moves.Place.write_begins.Goals as goal
+use Rattle.album_world.proofs.moves.Actor.write_begins.Goals as goal
 
 pub with-requires : goal.with-requires
 with-requires c =

@@ -1,6 +1,6 @@
 use Rattle.std.proofs.Common.{sym}
 use Rattle.album_world.proofs.MoveLemmas.{few_next, readable_gone, taken_stepped}
-use Rattle.album_world.proofs.moves.Place.reads.Goals as goal
+use Rattle.album_world.proofs.moves.Actor.reads.Goals as goal
 
 -- the second round has as many messages as the first
 pub with-requires-in-Next : goal.with-requires-in-Next

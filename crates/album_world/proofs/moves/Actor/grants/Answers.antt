@@ -1,6 +1,6 @@
 use Rattle.std.proofs.Common.{sym, ◌∙◌}
 use Rattle.album_world.proofs.MoveLemmas.{served_only}
-use Rattle.album_world.proofs.moves.Place.grants.Goals as goal
+use Rattle.album_world.proofs.moves.Actor.grants.Goals as goal
 
 -- what is served is what is computed
 pub returns-in-Ok-clause-moved : goal.returns-in-Ok-clause-moved

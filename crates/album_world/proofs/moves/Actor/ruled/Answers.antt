@@ -1,5 +1,5 @@
 use Rattle.std.proofs.Common.{◌≡◌}
-use Rattle.album_world.proofs.moves.Place.ruled.Goals as goal
+use Rattle.album_world.proofs.moves.Actor.ruled.Goals as goal
 
 -- the permit is the one of which the model speaks
 pub returns-in-Granted-clause-moved : goal.returns-in-Granted-clause-moved

@@ -1,0 +1,125 @@
+// The lines that a service writes beside the answers to asks.
+ghost use Rattle.std.specs.Prelude.{◌≡◌, ◌++◌, ◌∷◌, [], codes, IfOk, IsOkUnless};
+ghost use Rattle.serde_json.specs.View.{view};
+ghost use Rattle.album_wire.specs.Output.{line_text};
+ghost use Rattle.album_wire.specs.TalkJson.{hello_json, pending_json, done_json, serving_json, counted_json, totals_json, talk_json, talk_text};
+
+use crate::message_json::stamps_json;
+use crate::out_json::line;
+use album_stamps::{ClientNo, Refusal, Stamp};
+use serde_json::{Value, json};
+use std::alloc::{AllocError, Global};
+
+/// How many records of a sort there are: of asks that succeeded, and of asks that failed.
+#[derive(Debug, Clone, Copy)]
+pub struct Counted {
+    pub succeeded: u64,
+    pub failed: u64,
+}
+
+/// What a service says beside the answers to asks.
+#[derive(Debug, Drop)]
+pub enum TalkOut {
+    /// Who speaks is the client of this number.
+    Hello(ClientNo),
+    /// These stamps are pending, rising.
+    Pending(Vec<Stamp>),
+    Swept,
+    Trimmed,
+    /// The service listens at this port.
+    Serving(u16),
+    /// What the audit book has in all.
+    Totals { audits: Counted, alarms: Counted },
+}
+
+/// The line of it.
+///
+/// # Errors
+///
+/// `OutOfMemory`.
+#[tactic(auto, using(crate::proofs::Floats::no_float_in_talk), unfolding(crate::specs::TalkJson::talk_text))]
+pub fn write_talk(alloc: Global, out: &TalkOut) -> Result<Vec<u8>, Refusal>
+    ensures text { IfOk result (λ bytes. bytes.items ≡ talk_text out.now) }
+    ensures memory { IsOkUnless result Refusal.OutOfMemory }
+{
+    let value = talk_json(alloc, out)?;
+    Ok(line(alloc, &value)?)
+}
+
+/// A law: the text of each, byte for byte.
+pub fn worked_talk_outs()
+    ensures hello { talk_text (TalkOut.Hello 1) ≡ codes "{\"answer\":\"hello\",\"client\":1}\n" }
+    ensures swept { talk_text TalkOut.Swept ≡ codes "{\"answer\":\"swept\"}\n" }
+    ensures trimmed { talk_text TalkOut.Trimmed ≡ codes "{\"answer\":\"trimmed\"}\n" }
+    ensures serving { talk_text (TalkOut.Serving 7070) ≡ codes "{\"answer\":\"serving\",\"port\":7070}\n" }
+    ensures totals { talk_text (TalkOut.Totals
+        (record { succeeded = 1; failed = 0 }) (record { succeeded = 0; failed = 2 }))
+        ≡ codes "{\"alarms\":[0,2],\"audits\":[1,0]}\n" }
+{}
+
+fn talk_json(alloc: Global, out: &TalkOut) -> Result<Value, AllocError>
+    ensures { IfOk result (λ v. view v ≡ talk_json out.now) }
+{
+    match out {
+        TalkOut::Hello(client) => hello_json(alloc, *client),
+        TalkOut::Pending(stamps) => pending_json(alloc, stamps),
+        TalkOut::Swept => done_json(alloc, "swept"),
+        TalkOut::Trimmed => done_json(alloc, "trimmed"),
+        TalkOut::Serving(port) => serving_json(alloc, *port),
+        TalkOut::Totals { audits, alarms } => totals_json(alloc, *audits, *alarms),
+    }
+}
+
+fn hello_json(alloc: Global, client: ClientNo) -> Result<Value, AllocError>
+    ensures { IfOk result (λ v. view v ≡ hello_json client) }
+{
+    json!(in alloc; {
+        "answer": "hello",
+        "client": client.number(),
+    })
+}
+
+fn pending_json(alloc: Global, stamps: &[Stamp]) -> Result<Value, AllocError>
+    ensures { IfOk result (λ v. view v ≡ pending_json stamps.now) }
+{
+    let stamps = stamps_json(alloc, stamps)?;
+    json!(in alloc; {
+        "answer": "pending",
+        "stamps": stamps,
+    })
+}
+
+fn done_json(alloc: Global, word: &str) -> Result<Value, AllocError>
+    ensures { IfOk result (λ v. view v ≡ done_json word.now) }
+{
+    json!(in alloc; {
+        "answer": word,
+    })
+}
+
+fn serving_json(alloc: Global, port: u16) -> Result<Value, AllocError>
+    ensures { IfOk result (λ v. view v ≡ serving_json port) }
+{
+    json!(in alloc; {
+        "answer": "serving",
+        "port": port,
+    })
+}
+
+fn totals_json(alloc: Global, audits: Counted, alarms: Counted) -> Result<Value, AllocError>
+    ensures { IfOk result (λ v. view v ≡ totals_json audits alarms) }
+{
+    let alarms = counted_json(alloc, alarms)?;
+    let audits = counted_json(alloc, audits)?;
+    json!(in alloc; {
+        "alarms": alarms,
+        "audits": audits,
+    })
+}
+
+/// [those that succeeded, those that failed]
+fn counted_json(alloc: Global, counted: Counted) -> Result<Value, AllocError>
+    ensures { IfOk result (λ v. view v ≡ counted_json counted) }
+{
+    json!(in alloc; [counted.succeeded, counted.failed])
+}

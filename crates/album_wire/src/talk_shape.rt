@@ -1,0 +1,85 @@
+// The shape of a line of a connection: {who}, {ask: {..}}, {pending = part}, {sweep: {part, stamp}} or
+// {trim: {item, part}}.
+ghost use Rattle.album_stamps.specs.Outcome.{Gives};
+ghost use Rattle.album_wire.specs.TalkShape.{spelled_talk, hello_shape_of, talk_ask_shape_of, pending_shape_of, talk_sweep_shape_of, talk_trim_shape_of, talk_shape_of};
+ghost use Rattle.album_wire.specs.Trees.{value_data};
+
+use crate::ask_shape::{AskShape, ask_shape};
+use crate::event_shape::{part_named, sweep, trim};
+use crate::fields::{field, has, only, text};
+use album_items::ItemId;
+use album_stamps::{Refusal, Stamp};
+use json::Value;
+use std::alloc::Global;
+
+/// The line of a connection as it is spelled.
+#[derive(Drop)]
+pub(crate) enum TalkShape<'a> {
+    Hello { who: &'a str },
+    Ask { ask: AskShape<'a> },
+    Pending { part: u16 },
+    Sweep { part: u16, stamp: Stamp },
+    Trim { part: u16, item: ItemId },
+}
+
+/// The fields of a connection's line, each of its shape, or `BadRequest`. Which line it is, its names tell.
+pub(crate) fn talk_shape<'a>(alloc: Global, value: &Value<'a>) -> Result<TalkShape<'a>, Refusal>
+    ensures { Gives spelled_talk result (talk_shape_of (value_data value.now)) }
+{
+    if has(value, "who") {
+        hello_shape(value)
+    } else if has(value, "ask") {
+        talk_ask_shape(alloc, value)
+    } else if has(value, "pending") {
+        pending_shape(value)
+    } else if has(value, "sweep") {
+        talk_sweep_shape(value)
+    } else {
+        talk_trim_shape(value)
+    }
+}
+
+#[tactic(auto, unfolding(crate::specs::TalkShape::hello_shape_of))]
+fn hello_shape<'a>(value: &Value<'a>) -> Result<TalkShape<'a>, Refusal>
+    ensures { Gives spelled_talk result (hello_shape_of (value_data value.now)) }
+{
+    only(value, &["who"])?;
+    let who = text(field(value, "who")?)?;
+    Ok(TalkShape::Hello { who })
+}
+
+#[tactic(auto, unfolding(crate::specs::TalkShape::talk_ask_shape_of))]
+fn talk_ask_shape<'a>(alloc: Global, value: &Value<'a>) -> Result<TalkShape<'a>, Refusal>
+    ensures { Gives spelled_talk result (talk_ask_shape_of (value_data value.now)) }
+{
+    only(value, &["ask"])?;
+    let ask = ask_shape(alloc, field(value, "ask")?)?;
+    Ok(TalkShape::Ask { ask })
+}
+
+#[tactic(auto, unfolding(crate::specs::TalkShape::pending_shape_of))]
+fn pending_shape<'a>(value: &Value<'a>) -> Result<TalkShape<'a>, Refusal>
+    ensures { Gives spelled_talk result (pending_shape_of (value_data value.now)) }
+{
+    only(value, &["pending"])?;
+    let part = part_named(field(value, "pending")?)?;
+    Ok(TalkShape::Pending { part })
+}
+
+#[tactic(auto, unfolding(crate::specs::TalkShape::talk_sweep_shape_of))]
+fn talk_sweep_shape<'a>(value: &Value<'a>) -> Result<TalkShape<'a>, Refusal>
+    ensures { Gives spelled_talk result (talk_sweep_shape_of (value_data value.now)) }
+{
+    only(value, &["sweep"])?;
+    let (part, stamp) = sweep(field(value, "sweep")?)?;
+    Ok(TalkShape::Sweep { part, stamp })
+}
+
+#[tactic(auto, unfolding(crate::specs::TalkShape::talk_trim_shape_of))]
+fn talk_trim_shape<'a>(value: &Value<'a>) -> Result<TalkShape<'a>, Refusal>
+    ensures { Gives spelled_talk result (talk_trim_shape_of (value_data value.now)) }
+{
+    only(value, &["trim"])?;
+    let (part, item) = trim(field(value, "trim")?)?;
+    Ok(TalkShape::Trim { part, item })
+}
