@@ -1,0 +1,60 @@
+"""What the benches measure of a run of the program: its time, and its peak memory. ALBUM can name another program."""
+import fcntl
+import os
+import struct
+import subprocess
+import sys
+import termios
+import time
+
+HERE = os.path.dirname(os.path.abspath(__file__))
+ALBUM = os.environ.get("ALBUM", os.path.join(HERE, "..", "album"))
+
+
+def prepare():
+    """Builds the program, where it isn't."""
+    subprocess.run([ALBUM, "--help"], stdout=subprocess.DEVNULL, check=True)
+
+
+def seconds_of(subcommand, path):
+    """The seconds that one run over the file takes."""
+    with open(path, "rb") as lines:
+        began = time.monotonic()
+        finish(subprocess.Popen([ALBUM, subcommand], stdin=lines, stdout=subprocess.DEVNULL))
+        return time.monotonic() - began
+
+
+def peak_of(subcommand, path):
+    """The most memory (KiB) that a run over the file's bytes has held.
+
+    The kernel's figure for a process that has ended counts this script too, of which the process
+    is a copy at first. So the program is asked while it waits for more than the last byte.
+    """
+    with open(path, "rb") as lines:
+        child = subprocess.Popen([ALBUM, subcommand], stdin=subprocess.PIPE, stdout=subprocess.DEVNULL)
+        for piece in iter(lambda: lines.read(1 << 16), b""):
+            child.stdin.write(piece)
+        child.stdin.flush()
+        while unread(child.stdin) > 0 or not is_waiting(child.pid):
+            time.sleep(0.001)
+        with open("/proc/%d/status" % child.pid) as status:
+            peak = next(int(row.split()[1]) for row in status if row.startswith("VmHWM:"))
+        child.stdin.close()
+        finish(child)
+        return peak
+
+
+def unread(pipe):
+    """How many bytes of the pipe are not read yet."""
+    return struct.unpack("i", fcntl.ioctl(pipe, termios.FIONREAD, b"\0" * 4))[0]
+
+
+def is_waiting(process):
+    """Whether the process sleeps. (Its name, which stands in brackets before its state, has no bracket.)"""
+    with open("/proc/%d/stat" % process) as stat:
+        return stat.read().rpartition(") ")[2].startswith("S")
+
+
+def finish(child):
+    if child.wait() != 0:
+        sys.exit("bench: the program ended with status %d" % child.returncode)
