@@ -4,3 +4,4 @@ pub mod SweepLemmas
 pub mod OpenedLemmas
 pub mod GroundLemmas
 pub mod StartLemmas
+pub mod SessionLemmas

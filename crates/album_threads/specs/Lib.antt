@@ -4,3 +4,4 @@ pub mod Inquiries
 pub mod Keepers
 pub mod Opened
 pub mod Grounds
+pub mod Sessions

@@ -27,10 +27,13 @@ pub record OpenedState : Type 0 where
   pub policy : Policy
   pub books : LedgerNames
 
--- There are not too many partitions; they are those of the desk's terms as they open, with their owners, and the pass
--- is its first one.
+-- There are so many partitions, not too few of them nor too many; they are those of the desk's terms as they open, with
+-- their owners, and the pass is its first one.
 pub record IsOpened
-    (desk : DeskState) (owners : List OwnerState) (partitions : List PartitionState) (pass : PassState) : Type 0 where
+    (desk : DeskState) (parts : ℕ) (owners : List OwnerState) (partitions : List PartitionState) (pass : PassState)
+    : Type 0 where
+  pub parts_are : desk.terms.parts ≡ parts
+  pub some : 1 ≤ desk.terms.parts
   pub few : desk.terms.parts ≤ MOST_PARTS
   pub owned : AreOwners desk owners
   pub opened : AreFirst desk.terms desk.terms.parts partitions

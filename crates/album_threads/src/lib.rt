@@ -2,6 +2,7 @@
 #![tactic(auto)]
 
 mod attend;
+mod caller;
 mod gate;
 mod inquiries;
 mod keeper;
@@ -11,6 +12,7 @@ mod mailbox;
 mod naming;
 mod opened;
 mod service;
+mod session;
 mod starting;
 
 pub use gate::{Gate, Open};
@@ -20,3 +22,4 @@ pub use letters::{Letter, Response};
 pub use naming::Naming;
 pub use opened::Opened;
 pub use service::Service;
+pub use session::Session;

@@ -20,6 +20,7 @@ use std::marker::Model;
 #[derive(Drop)]
 pub struct Opened {
     pub(crate) desk: Desk,
+    pub(crate) parts: u16,
     pub(crate) owners: Vec<Owner>,
     pub(crate) partitions: Vec<Partition>,
     pub(crate) pass: Pass,
@@ -34,7 +35,7 @@ impl Model for Opened {
 
     ghost view = { λ o. record { desk = o.desk; policy = o.policy; books = o.blanks } };
 
-    ghost invariant = { λ o. IsOpened o.desk o.owners.items o.partitions.items o.pass };
+    ghost invariant = { λ o. IsOpened o.desk o.parts o.owners.items o.partitions.items o.pass };
 }
 
 impl Opened {
@@ -57,6 +58,7 @@ impl Opened {
         let (desk, owners, pass) = Desk::open(alloc, opening, sessions)?;
         Ok(Opened {
             desk,
+            parts: opening.parts as u16,
             owners,
             partitions,
             pass,

@@ -1,11 +1,16 @@
 // A running service: a thread for each partition.
-ghost use Rattle.std.specs.Prelude.{◌≡◌, IsOkUnless, None};
+ghost use Rattle.std.specs.Prelude.{◌≡◌, ◌≤◌, ◌⊎◌, IfOk, IfErr, IsOkUnless, None};
 ghost use Rattle.std.specs.Arc.{arc_value};
+ghost use Rattle.album_stamps.specs.declared.limits.TheConstants.{MOST_PARTS};
+ghost use Rattle.album_audit.specs.Totals.{none};
+ghost use Rattle.album_passes.specs.Changes.{IsUnheard};
 
+use crate::caller::Caller;
 use crate::gate::Gate;
 use crate::mailbox::Mail;
 use crate::naming::Naming;
 use crate::opened::Opened;
+use crate::session::Session;
 use crate::starting::start_all;
 use album_audit::{AuditBook, Totals};
 use album_eval::Policy;
@@ -25,6 +30,19 @@ struct Seed<J: Naming> {
     of: PhantomData<J>,
     ghost table_is: { pass.table ≡ J.table },
     ghost unnumbered: { pass.number ≡ None },
+    ghost parts_are: { pass.cut.parts ≡ J.terms.parts },
+}
+
+impl<J: Naming> Seed<J> {
+    /// A pass with an equal cut.
+    fn split(&mut self, desk: &Desk) -> Pass
+        requires { desk.now.table ≡ J.table }
+        ensures of { result.table ≡ J.table }
+        ensures unnumbered { result.number ≡ None }
+        ensures parts { result.cut.parts ≡ J.terms.parts }
+    {
+        self.pass.split(desk)
+    }
 }
 
 /// A running service, of the desk, the policy and the audit book that `J` names. It has threads, and
@@ -33,13 +51,19 @@ pub struct Service<J: Naming> {
     desk: Arc<Desk, Global>,
     policy: Policy,
     seed: Mutex<Seed<J>>,
-    book: Mutex<AuditBook<J>>,
+    book: Arc<Mutex<AuditBook<J>>, Global>,
+    alloc: Global,
+    /// How many partitions there are.
+    parts: u16,
     /// Of the partitions, in order.
     mailboxes: Vec<Sender<Mail<J>>>,
     threads: Vec<JoinHandle<()>>,
     ghost table_is: { (arc_value desk).table ≡ J.table },
     ghost terms_are: { (arc_value desk).terms ≡ J.terms },
     ghost policy_is: { policy ≡ J.policy },
+    ghost parts_are: { J.terms.parts ≡ parts },
+    ghost some: { 1 ≤ parts },
+    ghost few: { parts ≤ MOST_PARTS },
 }
 
 impl<J: Naming + Send + 'static> Service<J> {
@@ -68,6 +92,7 @@ impl<J: Naming + Send + 'static> Service<J> {
     {
         let Opened {
             desk,
+            parts,
             owners,
             partitions,
             pass,
@@ -76,7 +101,7 @@ impl<J: Naming + Send + 'static> Service<J> {
         } = opened;
         let desk = Arc::new(alloc, desk)?;
         let gate = Arc::new(alloc, gate)?;
-        let book = Mutex::new(AuditBook::new(alloc, blanks));
+        let book = Arc::new(alloc, Mutex::new(AuditBook::new(alloc, blanks)))?;
         let seed = Mutex::new(Seed {
             pass,
             of: PhantomData,
@@ -103,6 +128,8 @@ impl<J: Naming + Send + 'static> Service<J> {
             policy,
             seed,
             book,
+            alloc,
+            parts,
             mailboxes,
             threads,
         })
@@ -116,6 +143,8 @@ impl<J: Naming + Send + 'static> Service<J> {
             policy: _,
             seed: _,
             book,
+            alloc: _,
+            parts: _,
             mailboxes,
             threads,
         } = self;
@@ -125,10 +154,67 @@ impl<J: Naming + Send + 'static> Service<J> {
 }
 
 impl<J: Naming> Service<J> {
+    /// A new session, with a number of its own, from 1 on, of which nothing is announced yet, and a share of the audit
+    /// book in which nothing counts.
+    ///
+    /// # Errors
+    ///
+    /// `SessionsSpent` where all numbers are drawn; else `OutOfMemory`, which may leave a number spent.
+    pub fn session<R: Wait>(&self, rt: &R) -> Result<Session<J>, Refusal>
+        ensures unheard { IfOk result (λ session. IsUnheard session.client session.cut) }
+        ensures most { IfOk result (λ session. session.client ≤ J.terms.sessions) }
+        ensures parts { IfOk result (λ session. session.cut.parts ≡ J.terms.parts) }
+        ensures share { IfOk result (λ session. session.share ≡ none) }
+        ensures refused { IfErr result (λ e. (e ≡ Refusal.OutOfMemory) ⊎ (e ≡ Refusal.SessionsSpent)) }
+    {
+        let book = Arc::try_clone(&self.book)?;
+        let caller = self.caller(rt)?;
+        let share = self.book.lock(rt).share();
+        match share {
+            Ok(share) => Ok(Session::new(self.alloc, caller, self.policy, book, share)),
+            Err(refusal) => {
+                caller.leave(rt);
+                Err(refusal)
+            }
+        }
+    }
+
+    /// Who asks for a new session. Each partition knows of it.
+    fn caller<R: Wait>(&self, rt: &R) -> Result<Caller<J>, Refusal>
+        ensures unheard { IfOk result (λ caller. IsUnheard caller.client caller.cut) }
+        ensures most { IfOk result (λ caller. caller.client ≤ J.terms.sessions) }
+        ensures parts { IfOk result (λ caller. caller.cut.parts ≡ J.terms.parts) }
+        ensures refused { IfErr result (λ e. (e ≡ Refusal.OutOfMemory) ⊎ (e ≡ Refusal.SessionsSpent)) }
+    {
+        let desk = Arc::try_clone(&self.desk)?;
+        let to = copies_of(self.alloc, &self.mailboxes)?;
+        let (end, from) = unbounded(self.alloc)?;
+        let mut pass = self.seed.lock(rt).split(&desk);
+        let client = desk.draw(rt, &mut pass)?;
+        let caller = Caller::new(desk, pass, client, self.parts, to, from);
+        if caller.register(rt, end).is_err() {
+            caller.leave(rt);
+            return Err(Refusal::OutOfMemory);
+        }
+        Ok(caller)
+    }
+
     /// The totals of the audit book so far.
     pub fn totals<R: Wait>(&self, rt: &R) -> Totals {
         self.book.lock(rt).totals()
     }
+}
+
+/// The same mailboxes once more.
+fn copies_of<J: Naming>(
+    alloc: Global,
+    mailboxes: &[Sender<Mail<J>>],
+) -> Result<Vec<Sender<Mail<J>>>, AllocError> {
+    let mut copies = Vec::new(alloc);
+    for mailbox in mailboxes {
+        copies.push(mailbox.clone()?)?;
+    }
+    Ok(copies)
 }
 
 /// So many mailboxes, and where what is sent to them comes.

@@ -92,7 +92,7 @@ pub fn what_is_told_is_in_the_past()
     ensures answers { (terms : Terms) (world : World) (event : Happening) (client : ℕ) (answer : Answered)
         → Contains (tells terms world event) (Told.Answered client answer)
         → Contains (happens terms world event).past.told
-            (told_to (happens terms world event).past.reads client answer) }
+        (told_to (happens terms world event).past.reads client answer) }
     ensures notes { (terms : Terms) (world : World) (event : Happening) (client : ℕ) (note : Note)
         → Contains (tells terms world event) (Told.Noted client note)
         → IsNoteKept (happens terms world event) client note }

@@ -9,7 +9,7 @@ ghost use Rattle.album_world.specs.Turns.{read_begins, read_turn, views_by};
 
 use crate::askings::Asking;
 use crate::clients::Doing;
-use crate::moves::{Moved, Actor};
+use crate::moves::{Actor, Moved};
 use crate::outs::Answer;
 use album_calls::Message;
 use album_eval::Principal;

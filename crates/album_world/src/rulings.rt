@@ -7,7 +7,7 @@ ghost use Rattle.album_world.specs.Grants.{served_for};
 ghost use Rattle.album_world.specs.Moves.{client_of, IsMoved};
 ghost use Rattle.album_world.specs.Turns.{clock_after_rows, grants, rules, rules_by};
 
-use crate::moves::{Moved, Actor};
+use crate::moves::{Actor, Moved};
 use crate::outs::Answer;
 use album_eval::Principal;
 use album_permits::{Permit, Ruled, Ruling, rule_on};

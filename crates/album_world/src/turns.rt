@@ -6,7 +6,7 @@ ghost use Rattle.album_world.specs.Moves.{IsChangedBy};
 ghost use Rattle.album_world.specs.Registers.{asks_of};
 
 use crate::clients::{Client, Doing};
-use crate::moves::{Moved, Actor};
+use crate::moves::{Actor, Moved};
 use crate::outs::Out;
 use crate::telling::{outs_of, tell};
 use crate::terms::Terms;

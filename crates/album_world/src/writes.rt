@@ -10,7 +10,7 @@ ghost use Rattle.album_writer.specs.Rounds.{commit_stepped, prepare_stepped};
 ghost use Rattle.album_writer.specs.Writing.{places_in};
 
 use crate::clients::Doing;
-use crate::moves::{Moved, Actor};
+use crate::moves::{Actor, Moved};
 use crate::outs::Answer;
 use album_calls::Message;
 use album_permits::Permit;

@@ -59,4 +59,3 @@ returns-in_err-results-clause-busy_has_its_cause c = λ opening events behind. b
 
 pub returns-clause-busy_has_its_cause : goal.returns-clause-busy_has_its_cause
 returns-clause-busy_has_its_cause c = λ opening events behind. busy_has_its_cause opening events behind.passes
-

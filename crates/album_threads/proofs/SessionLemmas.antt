@@ -1,0 +1,101 @@
+-- What a session has seen more. `Caller` cites `tells_joined` and the lemmas on `IsLater`, `Session` `ahead_later` and
+-- `floor_above`.
+use Rattle.std.proofs.Common.{◌≡◌, ◌≢◌, ℕ, ◌<◌, ◌≤◌, true, List, [], ◌∷◌, ◌++◌, length, length-append, append-nil, Result, Ok, Err, Option, Some, None, refl, sym, ap, ◌∙◌, subst, ⊎_elim, arith}
+use Rattle.album_stamps.specs.declared.refusals.Refusal.{Refusal}
+use Rattle.album_stamps.specs.Stamps.{client_number, counter_of}
+use Rattle.album_terminate.specs.declared.deciding.StampState.TheVariants as state
+use Rattle.album_items.specs.ItemIds.{place_of}
+use Rattle.album_partition.specs.Marks.{ArePending, state_of, is_full, is_legal, latest, floor}
+use Rattle.album_partition.specs.declared.marks.Mark.{Mark}
+use Rattle.album_partition.proofs.GrowthLemmas.{latest_rises}
+use Rattle.album_passes.specs.Changes.{longer, merged, KeepsOwn, IsUnheard}
+use Rattle.album_passes.specs.Cuts.{Cut, prefix_at, announced_for, IsPrefix, IsSound, Extends}
+use Rattle.album_passes.specs.Pass.{PassState}
+use Rattle.album_passes.proofs.CutLemmas.{extends_self, extends_trans, longer_at}
+use Rattle.album_passes.proofs.PrefixLemmas.{longer_cases}
+use Rattle.album_threads.specs.Inquiries.{IsUntrimmed, Tells}
+use Rattle.album_threads.specs.Inquiries.IsUntrimmed.{Elsewhere, NoRoom}
+use Rattle.album_threads.specs.Sessions.{CallerState, IsLater, IsAhead}
+use Rattle.album_threads.specs.declared.inquiries.Inquiry.{Inquiry}
+use Rattle.album_threads.specs.declared.inquiries.Inquiry.TheVariants.{Pending, Sweep, Trim}
+
+-- ---- what is told, once its pass is joined
+
+-- a prefix that is no shorter is the whole
+whole_prefix : (ms ns : List Mark) → IsPrefix ms ns → length ns ≤ length ms → ns ≡ ms
+whole_prefix ms ns (later, e) l = sym e ∙ nothing later (let long = ap length (sym e) ∙ length-append ms later in omega arith)
+  where
+    nothing : (os : List Mark) → length os ≤ 0 → ms ++ os ≡ ms
+    nothing [] k = append-nil ms
+    nothing (o ∷ os) k = absurd (omega arith)
+
+joined_prefix : (c d : Cut) (p : ℕ) → Extends d (merged c d) → length (prefix_at c p) ≤ length (prefix_at d p)
+    → prefix_at (merged c d) p ≡ prefix_at d p
+joined_prefix c d p x l = ⊎_elim
+    (λ y. longer_at c.prefixes d.prefixes p ∙ y.1)
+    (λ y. whole_prefix (prefix_at d p) (prefix_at (merged c d) p) (x.prefixes p)
+    (subst (λ (ms : List Mark). length ms ≤ length (prefix_at d p)) (sym (longer_at c.prefixes d.prefixes p ∙ y.1)) l))
+    (longer_cases (prefix_at c p) (prefix_at d p))
+
+untrimmed_at : (limit : ℕ) (c d : Cut) (p i : ℕ) → prefix_at d p ≡ prefix_at c p → d.parts ≡ c.parts → (why : Refusal)
+    → IsUntrimmed limit c p i why → IsUntrimmed limit d p i why
+untrimmed_at limit c d p i same parts _ (Elsewhere other) = Elsewhere (subst (λ (n : ℕ). place_of n i ≢ p) (sym parts) other)
+untrimmed_at limit c d p i same parts _ (NoRoom full) = NoRoom (subst (λ (ms : List Mark). is_full limit ms ≡ true) (sym same) full)
+
+tells_at : (limit : ℕ) (c d : Cut) (p : ℕ) → prefix_at d p ≡ prefix_at c p → d.parts ≡ c.parts → (q : Inquiry) (told : Result (List ℕ) Refusal)
+    → Tells limit c p q told → Tells limit d p q told
+tells_at limit c d p same parts Pending (Ok stamps) h = subst (λ (ms : List Mark). ArePending ms stamps) (sym same) h
+tells_at limit c d p same parts Pending (Err why) h = h
+tells_at limit c d p same parts (Sweep t) (Ok stamps) h = subst (λ (ms : List Mark). state_of ms t ≡ state.Pending) (sym same) h
+tells_at limit c d p same parts (Sweep t) (Err why) h = λ n. ((h n).0, subst (λ (ms : List Mark). state_of ms t ≢ state.Pending) (sym same) (h n).1)
+tells_at limit c d p same parts (Trim i) (Ok stamps) h = subst (λ (ms : List Mark). floor ms i ≡ latest ms i) (sym same) h
+tells_at limit c d p same parts (Trim i) (Err why) h = λ n. untrimmed_at limit c d p i same parts why (h n)
+
+pub tells_joined : (limit : ℕ) (b c d : Cut) (p : ℕ) → d ≡ merged b c → Extends c d → length (prefix_at b p) ≤ length (prefix_at c p)
+    → (q : Inquiry) (told : Result (List ℕ) Refusal) → Tells limit c p q told → Tells limit d p q told
+tells_joined limit b c d p is x l q told h =
+    tells_at limit c d p
+    (ap (λ (e : Cut). prefix_at e p) is ∙ joined_prefix b c p (subst (λ (e : Cut). Extends c e) is x) l)
+    x.parts q told h
+
+-- ---- what was seen later
+
+pub later_self : (a : CallerState) → IsLater a a
+later_self a = record { client = refl; grown = extends_self a.cut; own = λ n t is own. refl }
+
+pub later_same : (a b : CallerState) → b ≡ a → IsLater a b
+later_same a b e = subst (λ (c : CallerState). IsLater a c) (sym e) (later_self a)
+
+pub later_trans : (a b c : CallerState) → IsLater a b → IsLater b c → IsLater a c
+later_trans a b c x y = record {
+  client = y.client ∙ x.client;
+  grown = extends_trans a.cut b.cut c.cut x.grown y.grown;
+  own = λ n t is own. y.own n t (ap Some x.client ∙ is) own ∙ x.own n t is own;
+}
+
+-- who has this client and this pass has seen more with another pass, which goes on from it
+pub later_joined : (a : CallerState) (n : ℕ) (p q : PassState) → record { client = n; cut = p.cut } ≡ a → p.number ≡ Some n
+    → Extends p.cut q.cut → KeepsOwn p.number p.cut q.cut → IsLater a (record { client = n; cut = q.cut })
+later_joined a n p q view is x own =
+    subst (λ (b : CallerState). IsLater b (record { client = n; cut = q.cut })) view
+    (record { client = refl; grown = x; own = λ m t f g. own m t (is ∙ f) g })
+
+-- ---- a clock ahead of what is announced
+
+pub ahead_new : (n : ℕ) (c : Cut) → IsUnheard n c → IsAhead n 0 c
+ahead_new n c h = λ t own above. h t own
+
+pub ahead_later : (a b : CallerState) (counter : ℕ) → IsLater a b → IsAhead a.client counter a.cut → IsAhead b.client counter b.cut
+ahead_later a b counter x h = λ t own above. x.own a.client t refl (own ∙ x.client) ∙ h t (own ∙ x.client) above
+
+-- ---- a trim
+
+-- the floor of an item that is trimmed is at its latest stamp, and so no lower than its latest stamp was before
+pub floor_above : (c d : Cut) (p i : ℕ) → Extends c d → IsSound d → floor (prefix_at d p) i ≡ latest (prefix_at d p) i
+    → latest (prefix_at c p) i ≤ floor (prefix_at d p) i
+floor_above c d p i x sound e =
+    let q = x.prefixes p in
+    let legal = subst (λ (ms : List Mark). is_legal ms ≡ true) (sym q.1) (sound.legal p) in
+    subst (λ (n : ℕ). latest (prefix_at c p) i ≤ n) (sym e)
+    (subst (λ (ms : List Mark). latest (prefix_at c p) i ≤ latest ms i) q.1
+    (latest_rises (prefix_at c p) q.0 i legal))

@@ -1,0 +1,57 @@
+-- What a session keeps, and what it is for it to have seen more.
+use Rattle.std.specs.Prelude.{◌≡◌, ℕ, ◌<◌, ◌≤◌, ◌⊎◌, Some, None}
+use Rattle.atomic_table.specs.Seated.{TableId}
+use Rattle.album_stamps.specs.Clocks.{ClockState}
+use Rattle.album_stamps.specs.Stamps.{client_number, counter_of}
+use Rattle.album_stamps.specs.declared.limits.TheConstants.{MOST_PARTS}
+use Rattle.album_stamps.specs.declared.refusals.Refusal.{Refusal}
+use Rattle.album_stamps.specs.declared.refusals.Refusal.TheVariants.{OutOfMemory, Closed}
+use Rattle.album_audit.specs.declared.totals.Totals.{Totals}
+use Rattle.album_eval.specs.declared.policies.Policy.{Policy}
+use Rattle.album_passes.specs.Changes.{KeepsOwn}
+use Rattle.album_passes.specs.Cuts.{Cut, announced_for, Extends}
+use Rattle.album_passes.specs.Pass.{PassState}
+
+-- ---- who asks the partitions
+
+-- the client, and what was seen
+pub record CallerState : Type 0 where
+  pub client : ℕ
+  pub cut : Cut
+
+-- the pass is of this table and has the client's number, and there are so many partitions
+pub record IsCaller (table : TableId) (client parts : ℕ) (pass : PassState) : Type 0 where
+  pub of : pass.table ≡ table
+  pub number : pass.number ≡ Some client
+  pub parts_are : pass.cut.parts ≡ parts
+  pub some : 1 ≤ parts
+  pub few : parts ≤ MOST_PARTS
+
+-- the same client has seen more, and just that is announced of its stamps which was before
+pub record IsLater (old new : CallerState) : Type 0 where
+  pub client : new.client ≡ old.client
+  pub grown : Extends old.cut new.cut
+  pub own : KeepsOwn (Some old.client) old.cut new.cut
+
+-- no word comes: there is no memory for one, or the service is closed
+abbrev pub IsNoWord : Refusal → Type 0
+IsNoWord why = (why ≡ OutOfMemory) ⊎ (why ≡ Closed)
+
+-- ---- a session
+
+-- the client, what was seen, and the session's share of the audit book
+pub record SessionState : Type 0 where
+  pub client : ℕ
+  pub cut : Cut
+  pub share : Totals
+
+-- no stamp of the client's is announced whose counter is above this one
+abbrev pub IsAhead : ℕ → ℕ → Cut → Type 0
+IsAhead client counter cut = (stamp : ℕ) → client_number stamp ≡ client → counter < counter_of stamp
+    → announced_for cut stamp ≡ None
+
+-- the policy is this one, and the clock is the client's, and ahead of what is announced of it
+pub record IsSession (named policy : Policy) (clock : ClockState) (caller : CallerState) : Type 0 where
+  pub policy_is : policy ≡ named
+  pub own : clock.client ≡ caller.client
+  pub ahead : IsAhead caller.client clock.counter caller.cut

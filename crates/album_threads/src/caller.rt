@@ -1,0 +1,274 @@
+// Who asks the partitions: what a session has of what travels.
+ghost use Rattle.std.specs.Prelude.{◌≡◌, ◌≢◌, ◌+◌, ◌<◌, ◌≤◌, ◌^◌, IfOk, IfErr, OnOk, OnErr, IfSome, IfNone, None, IsOkUnless};
+ghost use Rattle.album_passes.specs.Changes.{merged};
+ghost use Rattle.album_passes.specs.Cuts.{IsSound, Extends};
+ghost use Rattle.std.specs.Arc.{arc_value};
+ghost use Rattle.album_stamps.specs.declared.limits.TheConstants.{MOST_PARTS};
+ghost use Rattle.album_threads.specs.Inquiries.{Tells};
+ghost use Rattle.album_threads.specs.Sessions.{IsCaller, IsLater, IsNoWord};
+
+use crate::inquiries::{Inquiry, Notice, Question};
+use crate::mailbox::{Mail, Word, next};
+use crate::naming::Naming;
+use album_calls::Stamps;
+use album_passes::{Desk, Pass, meet};
+use album_stamps::{ClientNo, Refusal};
+use crossbeam_channel::{Receiver, SendError, Sender};
+use std::alloc::{AllocError, Global};
+use std::marker::Model;
+use std::sync::{Arc, Wait};
+
+/// Who asks the partitions. Contracts see the client, and the cut of its pass.
+#[derive(Drop)]
+pub(crate) struct Caller<J: Naming> {
+    desk: Arc<Desk, Global>,
+    pass: Pass,
+    client: ClientNo,
+    /// How many partitions there are.
+    parts: u16,
+    /// The last tag that went out.
+    tag: u64,
+    /// Whether a mailbox was found gone.
+    closed: bool,
+    /// The mailboxes of the partitions, in order.
+    to: Vec<Sender<Mail<J>>>,
+    from: Receiver<Word<J>>,
+}
+
+impl<J: Naming> Model for Caller<J> {
+    ghost use Rattle.std.specs.Prelude.{◌≡◌};
+    ghost use Rattle.std.specs.Arc.{arc_value};
+    ghost use Rattle.album_threads.specs.Sessions.{CallerState, IsCaller};
+
+    ghost Value = { CallerState };
+
+    ghost view = { λ c. record { client = c.client; cut = c.pass.cut } };
+
+    ghost invariant = { λ c. ((arc_value c.desk).table ≡ J.table) × IsCaller J.table c.client c.parts c.pass };
+}
+
+impl<J: Naming> Caller<J> {
+    /// This client with this pass.
+    pub(crate) fn new(
+        desk: Arc<Desk, Global>,
+        pass: Pass,
+        client: ClientNo,
+        parts: u16,
+        to: Vec<Sender<Mail<J>>>,
+        from: Receiver<Word<J>>,
+    ) -> Caller<J>
+        requires table { (arc_value desk).table ≡ J.table }
+        requires is { IsCaller J.table client parts pass }
+        ensures { result ≡ record { client = client; cut = pass.cut } }
+    {
+        Caller {
+            desk,
+            pass,
+            client,
+            parts,
+            tag: 0,
+            closed: false,
+            to,
+            from,
+        }
+    }
+
+    /// The client.
+    pub(crate) fn client(&self) -> ClientNo
+        ensures { result ≡ self.now.client }
+    {
+        self.client
+    }
+
+    /// How many partitions there are.
+    pub(crate) fn parts(&self) -> u16
+        ensures parts { result ≡ self.now.cut.parts }
+        ensures few { result ≤ MOST_PARTS }
+    {
+        self.parts
+    }
+
+    /// Tells each partition where the session takes what it is told.
+    pub(crate) fn register<R: Wait>(&self, rt: &R, end: Sender<Word<J>>) -> Result<(), AllocError> {
+        for mailbox in &self.to {
+            let mail = Mail::Register(self.client.number(), end.clone()?);
+            if let Err(SendError::OutOfMemory(_)) = mailbox.send(rt, mail) {
+                return Err(AllocError);
+            }
+        }
+        Ok(())
+    }
+
+    /// Tells each partition that the session is over.
+    pub(crate) fn leave<R: Wait>(self, rt: &R) {
+        for mailbox in &self.to {
+            let _ = mailbox.send(rt, Mail::Forget(self.client.number()));
+        }
+    }
+
+    /// A tag that did not go out yet, and the next one neither.
+    ///
+    /// # Errors
+    ///
+    /// `Closed`.
+    fn next_tag(&mut self) -> Result<u64, Refusal>
+        ensures low { IfOk result (λ tag. 1 ≤ tag) }
+        ensures high { IfOk result (λ tag. tag + 1 < 2 ^ 64) }
+        ensures closed { IsOkUnless result Refusal.Closed }
+        ensures same { self.new ≡ self.old }
+    {
+        if self.closed || self.tag > u64::MAX - 2 {
+            self.closed = true;
+            return Err(Refusal::Closed);
+        }
+        self.tag += 2;
+        Ok(self.tag - 1)
+    }
+
+    /// Sends to the partition.
+    fn send<R: Wait>(&mut self, rt: &R, part: u16, mail: Mail<J>) -> Result<(), Refusal>
+        ensures refused { IfErr result IsNoWord }
+        ensures same { self.new ≡ self.old }
+    {
+        let Some(mailbox) = self.to.get(usize::from(part)) else {
+            return Err(Refusal::Closed);
+        };
+        match mailbox.send(rt, mail) {
+            Ok(()) => Ok(()),
+            Err(SendError::OutOfMemory(_)) => Err(Refusal::OutOfMemory),
+            Err(SendError::Disconnected(_)) => {
+                self.closed = true;
+                Err(Refusal::Closed)
+            }
+        }
+    }
+
+    /// What comes next. `Closed` where all who could send are gone.
+    fn next<R: Wait>(&mut self, rt: &R) -> Result<Word<J>, Refusal>
+        ensures closed { IsOkUnless result Refusal.Closed }
+        ensures same { self.new ≡ self.old }
+    {
+        match next(rt, &self.from) {
+            Some(word) => Ok(word),
+            None => {
+                self.closed = true;
+                Err(Refusal::Closed)
+            }
+        }
+    }
+
+    /// A pass with an equal cut, to go with what is sent.
+    fn split(&mut self) -> Pass
+        ensures cut { result.cut ≡ self.old.cut }
+        ensures of { result.table ≡ J.table }
+        ensures unnumbered { result.number ≡ None }
+        ensures sound { IsSound self.old.cut }
+        ensures same { self.new ≡ self.old }
+    {
+        self.pass.split(&self.desk)
+    }
+
+    /// Takes in all that the pass has seen.
+    fn join(&mut self, pass: Pass)
+        requires of { pass.table ≡ J.table }
+        requires unnumbered { pass.number ≡ None }
+        ensures cut { self.new.cut ≡ merged self.old.cut pass.cut }
+        ensures heard { Extends pass.cut self.new.cut }
+        ensures sound { IsSound self.new.cut }
+        ensures later { IsLater self.old self.new }
+    {
+        self.pass.join(&self.desk, pass);
+    }
+
+    /// Both take in all that the other has seen, and then have one cut.
+    pub(crate) fn meet(&mut self, other: &mut Caller<J>)
+        ensures one { IsLater self.old self.new }
+        ensures other { IsLater other.old other.new }
+        ensures same { self.new.cut ≡ other.new.cut }
+        ensures apart { self.old.client ≢ other.old.client }
+    {
+        meet(&self.desk, &mut self.pass, &mut other.pass);
+    }
+}
+
+impl<J: Naming> Caller<J> {
+    /// Asks the partition, and waits for what it tells.
+    ///
+    /// # Errors
+    ///
+    /// `Closed` or `OutOfMemory`.
+    #[tactic(auto, using(crate::proofs::SessionLemmas::later_same))]
+    pub(crate) fn inquire<R: Wait>(
+        &mut self,
+        rt: &R,
+        part: u16,
+        inquiry: &Inquiry,
+    ) -> Result<Result<Stamps, Refusal>, Refusal>
+        requires part { part < MOST_PARTS }
+        ensures told { IfOk result (Tells J.terms.limit self.new.cut part inquiry.now) }
+        ensures sound { OnOk result (IsSound self.new.cut) }
+        ensures refused { IfErr result IsNoWord }
+        ensures later { IsLater self.old self.new }
+    {
+        let tag = self.next_tag()?;
+        let pass = self.split();
+        let question = Question::new(self.client, tag, *inquiry, pass);
+        self.send(rt, part, Mail::Question(question))?;
+        for _ in rt.forever() {
+            if let Some(told) = self.hear_notice(rt, part, tag, inquiry)? {
+                return Ok(told);
+            }
+        }
+        unreachable!()
+    }
+
+    /// Takes the next word, and gives what it tells, where that is told to this inquiry.
+    #[tactic(auto, using(crate::proofs::SessionLemmas::later_same))]
+    fn hear_notice<R: Wait>(
+        &mut self,
+        rt: &R,
+        part: u16,
+        tag: u64,
+        inquiry: &Inquiry,
+    ) -> Result<Option<Result<Stamps, Refusal>>, Refusal>
+        requires part { part < MOST_PARTS }
+        ensures told { IfOk result (λ told. IfSome told (Tells J.terms.limit self.new.cut part inquiry.now)) }
+        ensures sound { IfOk result (λ told. IfSome told (λ _. IsSound self.new.cut)) }
+        ensures unchanged { OnErr result (self.new ≡ self.old) }
+        ensures other { IfOk result (λ told. IfNone told (self.new ≡ self.old)) }
+        ensures refused { IfErr result IsNoWord }
+        ensures later { IsLater self.old self.new }
+    {
+        match self.next(rt)? {
+            Word::Response(_) => Ok(None),
+            Word::Notice(notice) => Ok(self.take_notice(part, tag, inquiry, notice)),
+        }
+    }
+
+    /// Takes in the notice, where it is told to this inquiry, and the partition had then made at least
+    /// the marks that were seen of it.
+    #[tactic(auto, using(crate::proofs::SessionLemmas::later_same, crate::proofs::SessionLemmas::tells_joined))]
+    fn take_notice(
+        &mut self,
+        part: u16,
+        tag: u64,
+        inquiry: &Inquiry,
+        notice: Notice<J>,
+    ) -> Option<Result<Stamps, Refusal>>
+        requires part { part < MOST_PARTS }
+        ensures told { IfSome result (Tells J.terms.limit self.new.cut part inquiry.now) }
+        ensures sound { IfSome result (λ _. IsSound self.new.cut) }
+        ensures other { IfNone result (self.new ≡ self.old) }
+        ensures later { IsLater self.old self.new }
+    {
+        if !notice.is_of(part, tag, *inquiry) {
+            return None;
+        }
+        let (told, pass) = notice.open();
+        if pass.length(part) < self.pass.length(part) {
+            return None;
+        }
+        self.join(pass);
+        Some(told)
+    }
+}

@@ -1,0 +1,183 @@
+// A session: a client that asks the partitions.
+ghost use Rattle.std.specs.Prelude.{◌≡◌, ◌≢◌, ◌<◌, ◌≤◌, Err, IfOk, IfErr, OnOk};
+ghost use Rattle.album_stamps.specs.declared.refusals.Refusal.TheVariants.{OutOfMemory, Closed, NoSuchPart, NotPrepared, Clash, Full};
+ghost use Rattle.album_partition.specs.Marks.{ArePending, state_of, latest, floor};
+ghost use Rattle.album_passes.specs.Changes.{IsUnheard};
+ghost use Rattle.album_passes.specs.Cuts.{Extends, IsSound, prefix_at};
+ghost use Rattle.album_terminate.specs.declared.deciding.StampState.TheVariants as StampState;
+ghost use Rattle.album_threads.specs.Inquiries.{Tells, IsUntrimmed};
+ghost use Rattle.album_threads.specs.Sessions.{IsNoWord};
+
+use crate::caller::Caller;
+use crate::inquiries::Inquiry;
+use crate::naming::Naming;
+use album_audit::{AuditBook, Share};
+use album_calls::Stamps;
+use album_eval::Policy;
+use album_items::ItemId;
+use album_stamps::{ClientNo, Clock, Refusal, Stamp};
+use std::alloc::Global;
+use std::marker::Model;
+use std::sync::{Arc, Mutex, Wait};
+
+/// A session, which asks the partitions of the service that `J` names. It has a share of the audit book, and ends by
+/// `end`. Contracts see its client, what it has seen of the partitions, and its share.
+pub struct Session<J: Naming> {
+    alloc: Global,
+    caller: Caller<J>,
+    clock: Clock,
+    policy: Policy,
+    book: Arc<Mutex<AuditBook<J>>, Global>,
+    share: Share<J>,
+}
+
+impl<J: Naming> Model for Session<J> {
+    ghost use Rattle.album_threads.specs.Sessions.{SessionState, IsSession};
+
+    ghost Value = { SessionState };
+
+    ghost view = { λ s. record { client = s.caller.client; cut = s.caller.cut; share = s.share } };
+
+    ghost invariant = { λ s. IsSession J.policy s.policy s.clock s.caller };
+}
+
+impl<J: Naming> Session<J> {
+    /// The session of who asks so, of whom nothing is announced yet.
+    #[tactic(auto, using(crate::proofs::SessionLemmas::ahead_new))]
+    pub(crate) fn new(
+        alloc: Global,
+        caller: Caller<J>,
+        policy: Policy,
+        book: Arc<Mutex<AuditBook<J>>, Global>,
+        share: Share<J>,
+    ) -> Session<J>
+        requires policy { policy ≡ J.policy }
+        requires unheard { IsUnheard caller.client caller.cut }
+        ensures { result ≡ record { client = caller.client; cut = caller.cut; share = share } }
+    {
+        let clock = Clock::new(caller.client());
+        Session {
+            alloc,
+            caller,
+            clock,
+            policy,
+            book,
+            share,
+        }
+    }
+
+    /// The session's number, which no other session of the service has.
+    pub fn client(&self) -> ClientNo
+        ensures { result ≡ self.now.client }
+    {
+        self.caller.client()
+    }
+
+    /// The stamps that are pending at the partition, rising.
+    ///
+    /// # Errors
+    ///
+    /// `NoSuchPart` where there is none of this number; else `Closed` or `OutOfMemory`.
+    pub fn pending<R: Wait>(&mut self, rt: &R, part: u16) -> Result<Stamps, Refusal>
+        ensures pending { IfOk result (ArePending (prefix_at self.new.cut part)) }
+        ensures nowhere { self.old.cut.parts ≤ part → result ≡ Err NoSuchPart }
+        ensures refused { IfErr result (λ e. part < self.old.cut.parts → IsNoWord e) }
+        ensures grown { Extends self.old.cut self.new.cut }
+        ensures client { self.new.client ≡ self.old.client }
+        ensures share { self.new.share ≡ self.old.share }
+    {
+        self.inquire(rt, part, &Inquiry::Pending)?
+    }
+
+    /// Has the partition ask the others of the stamp's items how it stands at their side.
+    ///
+    /// # Errors
+    ///
+    /// `NoSuchPart` where there is none of this number; `NotPrepared` only where the stamp isn't pending there; else
+    /// `Closed` or `OutOfMemory`.
+    pub fn sweep<R: Wait>(&mut self, rt: &R, part: u16, stamp: Stamp) -> Result<(), Refusal>
+        ensures swept { OnOk result (state_of (prefix_at self.new.cut part) stamp ≡ StampState.Pending) }
+        ensures unprepared { IfErr result (λ e. e ≡ NotPrepared
+            → state_of (prefix_at self.new.cut part) stamp ≢ StampState.Pending) }
+        ensures nowhere { self.old.cut.parts ≤ part → result ≡ Err NoSuchPart }
+        ensures refused { IfErr result (λ e. part < self.old.cut.parts → e ≢ NotPrepared → IsNoWord e) }
+        ensures grown { Extends self.old.cut self.new.cut }
+        ensures client { self.new.client ≡ self.old.client }
+        ensures share { self.new.share ≡ self.old.share }
+    {
+        self.inquire(rt, part, &Inquiry::Sweep(stamp))??;
+        Ok(())
+    }
+
+    /// Lets the versions of the item go that are below its latest stamp.
+    ///
+    /// # Errors
+    ///
+    /// `NoSuchPart` where there is none of this number; `Clash` only where the item is placed elsewhere, and `Full`
+    /// only where there is no room for the mark; else `Closed` or `OutOfMemory`.
+    #[tactic(auto, using(crate::proofs::SessionLemmas::floor_above))]
+    pub fn trim<R: Wait>(&mut self, rt: &R, part: u16, item: ItemId) -> Result<(), Refusal>
+        ensures trimmed { OnOk result (floor (prefix_at self.new.cut part) item ≡ latest (prefix_at self.new.cut part) item) }
+        ensures floor { OnOk result (latest (prefix_at self.old.cut part) item ≤ floor (prefix_at self.new.cut part) item) }
+        ensures untrimmed { IfErr result (λ e. part < self.old.cut.parts → (IsNoWord e → ⊥)
+            → IsUntrimmed J.terms.limit self.new.cut part item e) }
+        ensures nowhere { self.old.cut.parts ≤ part → result ≡ Err NoSuchPart }
+        ensures grown { Extends self.old.cut self.new.cut }
+        ensures client { self.new.client ≡ self.old.client }
+        ensures share { self.new.share ≡ self.old.share }
+    {
+        self.inquire(rt, part, &Inquiry::Trim(item))??;
+        Ok(())
+    }
+
+    /// What the partition tells to the inquiry.
+    #[tactic(auto, using(crate::proofs::SessionLemmas::ahead_later))]
+    fn inquire<R: Wait>(
+        &mut self,
+        rt: &R,
+        part: u16,
+        inquiry: &Inquiry,
+    ) -> Result<Result<Stamps, Refusal>, Refusal>
+        ensures told { IfOk result (Tells J.terms.limit self.new.cut part inquiry.now) }
+        ensures sound { OnOk result (IsSound self.new.cut) }
+        ensures nowhere { self.old.cut.parts ≤ part → result ≡ Err NoSuchPart }
+        ensures refused { IfErr result (λ e. part < self.old.cut.parts → IsNoWord e) }
+        ensures grown { Extends self.old.cut self.new.cut }
+        ensures client { self.new.client ≡ self.old.client }
+        ensures share { self.new.share ≡ self.old.share }
+    {
+        if part >= self.caller.parts() {
+            return Err(Refusal::NoSuchPart);
+        }
+        self.caller.inquire(rt, part, inquiry)
+    }
+
+    /// Both sessions take in all that the other has seen, and then have one cut.
+    #[tactic(auto, using(crate::proofs::SessionLemmas::ahead_later))]
+    pub fn meet(&mut self, other: &mut Session<J>)
+        ensures same { self.new.cut ≡ other.new.cut }
+        ensures one_grown { Extends self.old.cut self.new.cut }
+        ensures other_grown { Extends other.old.cut other.new.cut }
+        ensures apart { self.old.client ≢ other.old.client }
+        ensures one_client { self.new.client ≡ self.old.client }
+        ensures other_client { other.new.client ≡ other.old.client }
+        ensures one_share { self.new.share ≡ self.old.share }
+        ensures other_share { other.new.share ≡ other.old.share }
+    {
+        self.caller.meet(&mut other.caller);
+    }
+
+    /// Ends the session: its share goes back to the audit book, and the partitions forget it.
+    pub fn end<R: Wait>(self, rt: &R) {
+        let Session {
+            alloc: _,
+            caller,
+            clock: _,
+            policy: _,
+            book,
+            share,
+        } = self;
+        caller.leave(rt);
+        book.lock(rt).gather(share);
+    }
+}
