@@ -117,8 +117,10 @@ impl<J: Naming> Session<J> {
     /// only where there is no room for the mark; else `Closed` or `OutOfMemory`.
     #[tactic(auto, using(crate::proofs::SessionLemmas::floor_above))]
     pub fn trim<R: Wait>(&mut self, rt: &R, part: u16, item: ItemId) -> Result<(), Refusal>
-        ensures trimmed { OnOk result (floor (prefix_at self.new.cut part) item ≡ latest (prefix_at self.new.cut part) item) }
-        ensures floor { OnOk result (latest (prefix_at self.old.cut part) item ≤ floor (prefix_at self.new.cut part) item) }
+        ensures trimmed { OnOk result
+            (floor (prefix_at self.new.cut part) item ≡ latest (prefix_at self.new.cut part) item) }
+        ensures floor { OnOk result
+            (latest (prefix_at self.old.cut part) item ≤ floor (prefix_at self.new.cut part) item) }
         ensures untrimmed { IfErr result (λ e. part < self.old.cut.parts → (IsNoWord e → ⊥)
             → IsUntrimmed J.terms.limit self.new.cut part item e) }
         ensures nowhere { self.old.cut.parts ≤ part → result ≡ Err NoSuchPart }

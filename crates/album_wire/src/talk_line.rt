@@ -42,7 +42,8 @@ pub fn read_talk(alloc: Global, scratch: &mut Scratch, bytes: &[u8]) -> Result<T
 
 /// A law: lines of connections that were worked out by hand.
 pub fn worked_talks()
-    ensures hello { talk_line_of (codes "{\"who\":\"amy@users\"}") ≡ Ok (TalkLine.Hello (Principal.User (codes "amy"))) }
+    ensures hello { talk_line_of (codes "{\"who\":\"amy@users\"}")
+        ≡ Ok (TalkLine.Hello (Principal.User (codes "amy"))) }
     ensures anonymous { talk_line_of (codes "{\"who\":\"ANONYMOUS@\"}") ≡ Ok (TalkLine.Hello Principal.Anonymous) }
     ensures nobody { talk_line_of (codes "{\"who\":\"amy\"}") ≡ Err Refusal.BadWho }
     ensures asked { talk_line_of (codes "{\"ask\":{\"do\":\"read\",\"object\":\"picture/0\"}}")
