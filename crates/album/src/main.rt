@@ -1,7 +1,11 @@
-//! The program `album`. `album judge` answers each line of standard input by one line.
+//! The program `album`. `album judge` answers each line of standard input by one line, and `album replay` tells what the
+//! events that its lines spell bring about in a store.
 #![tactic(auto)]
 
-use album_server::{Fault, judge};
+mod texts;
+
+use crate::texts::{ABOUT, JUDGE_ABOUT, JUDGE_HELP, NO_TEXT, REPLAY_ABOUT, REPLAY_HELP};
+use album_server::{Fault, judge, replay};
 use clap::error::ErrorKind;
 use clap::{ArgMatches, Command, Error};
 use std::alloc::{AllocError, Global};
@@ -11,41 +15,6 @@ use std::{env, io};
 
 /// How many reads a run may make.
 const TURNS: u64 = 4_294_967_296;
-
-const ABOUT: &str = "Judges requests by NFSv4 access lists, with every promise proved";
-
-const JUDGE_ABOUT: &str =
-    "Answers each line of standard input, a question about an access list, by one line";
-
-const JUDGE_HELP: &str =
-    r#"A line is a JSON object. This one asks whether amy may read (mask 1) an object of bo's that carries a
-list of one entry:
-
-  {"entries":[["allow","amy@users",1,0]],"group":0,"mask":1,"owner":"bo@users","who":"amy@users"}
-
-  entries  the list: [type, who, mask, flags] each, in order. A type is allow, deny, audit or alarm.
-           A who is name@users, number@groups (with flag 64), OWNER@, GROUP@, EVERYONE@, ANONYMOUS@
-           or AUTHENTICATED@
-  group    the number of the group that GROUP@ means
-  mask     the bits that are asked, added up: 1 read, 2 write, 4 append, .. (docs/FORMATS.md has all)
-  owner    who owns the object: name@users
-  who      who asks: name@users or ANONYMOUS@
-  kind     may be left out: picture, album or group, the object that carries the list
-  groups   may be left out: [number, members] each, a member being name@users or number@groups
-  policy   may be left out: 1, or 2, by which an owner may always read and change the list of what he owns
-
-It is answered by one of these lines, `at` being the index of the entry that denies, from 0:
-
-  {"answer":"granted"}
-  {"answer":"denied","at":0}
-  {"answer":"denied","at":"end"}
-  {"name":"BadMask","refused":5}"#;
-
-const NO_TEXT: &str = r#"error: invalid UTF-8 was detected in one or more arguments
-
-Usage: album <COMMAND>
-
-For more information, try '--help'."#;
 
 fn main(rt: HostRuntime) -> ExitCode {
     let args = match env::args(&rt) {
@@ -64,6 +33,10 @@ fn main(rt: HostRuntime) -> ExitCode {
             &rt,
             judge_lines(rt.alloc(), &mut rt.stdin(), &mut rt.stdout()),
         ),
+        Some("replay") => status(
+            &rt,
+            replay_lines(rt.alloc(), &mut rt.stdin(), &mut rt.stdout()),
+        ),
         // No other command line has matched.
         _ => ExitCode::from(2),
     }
@@ -78,10 +51,14 @@ fn command<'a>(alloc: Global) -> Result<Command<'a>, AllocError> {
     let judge = Command::new(alloc, "judge")
         .about(JUDGE_ABOUT)
         .after_help(JUDGE_HELP);
+    let replay = Command::new(alloc, "replay")
+        .about(REPLAY_ABOUT)
+        .after_help(REPLAY_HELP);
     Command::new(alloc, "album")
         .about(ABOUT)
         .subcommand_required(true)
-        .subcommand(judge)
+        .subcommand(judge)?
+        .subcommand(replay)
 }
 
 /// Answers the lines of the reader, to its end.
@@ -91,6 +68,16 @@ fn judge_lines<R: Read, W: Write>(
     writer: &mut W,
 ) -> Result<(), Fault> {
     judge(alloc, reader, writer, TURNS)?;
+    writer.flush().map_err(|_| Fault::Writing)
+}
+
+/// Replays the lines of the reader, to its end or to the refusal of their opening.
+fn replay_lines<R: Read, W: Write>(
+    alloc: Global,
+    reader: &mut R,
+    writer: &mut W,
+) -> Result<(), Fault> {
+    replay(alloc, reader, writer, TURNS)?;
     writer.flush().map_err(|_| Fault::Writing)
 }
 

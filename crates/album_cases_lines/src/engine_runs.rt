@@ -1,77 +1,68 @@
-// The engine over readers and writers that give and take little, or fail: what it has written at each read
-// and at each fault (docs/FORMATS.md, "Programs").
-use album_server::{Fault, judge};
+// The engines over readers and writers that give and take little, or fail: what is written at each read and at each
+// fault (docs/FORMATS.md, "Programs").
+use crate::streams::{Pieces, Taking};
+use album_server::{Fault, judge, replay};
 use std::alloc::Global;
-use std::io;
-use std::io::{Read, Write};
 
-/// A reader that gives a few bytes a read, and fails at one.
-#[derive(Drop)]
-struct Pieces<'a> {
-    left: &'a [u8],
-    most: usize,
-    reads: u64,
-    fails_at: u64,
+#[derive(Clone, Copy)]
+enum Engine {
+    Judge,
+    Replay,
 }
 
-impl Read for Pieces<'_> {
-    fn read(&mut self, buf: &mut [u8]) -> io::Result<usize> {
-        if self.reads == self.fails_at {
-            return Err(io::Error::other("failed"));
-        }
-        self.reads = self.reads.wrapping_add(1);
-        let len = self.most.min(self.left.len()).min(buf.len());
-        let (front, left) = self.left.split_at(len);
-        buf[..len].copy_from_slice(front);
-        self.left = left;
-        Ok(len)
-    }
-}
-
-/// A writer that takes a few bytes a write, and at one write fails or takes none.
-#[derive(Drop)]
-struct Taking {
-    taken: Vec<u8>,
-    most: usize,
-    writes: u64,
-    stops_at: u64,
-    fails: bool,
-}
-
-impl Write for Taking {
-    fn write(&mut self, buf: &[u8]) -> io::Result<usize> {
-        if self.writes == self.stops_at {
-            if self.fails {
-                return Err(io::Error::other("failed"));
-            }
-            return Ok(0);
-        }
-        self.writes = self.writes.wrapping_add(1);
-        let len = self.most.min(buf.len());
-        self.taken.extend_from_slice(&buf[..len])?;
-        Ok(len)
-    }
-
-    fn flush(&mut self) -> io::Result<()> {
-        Ok(())
-    }
+/// What an engine reads, and what it has to write.
+#[derive(Clone, Copy)]
+struct Script {
+    engine: Engine,
+    input: &'static str,
+    output: &'static str,
+    /// Where each line of which something is written ends in the input, and how much is written by then. What is
+    /// written of the last line comes with the end of the input alone.
+    ends: &'static [(usize, usize)],
+    /// The lengths of what is written at once.
+    writes: &'static [usize],
 }
 
 /// A question, two blank lines, another question, and the beginning of a third.
-const INPUT: &str = "{\"entries\":[[\"allow\",\"amy@users\",1,0]],\"group\":0,\"mask\":1,\
-    \"owner\":\"bo@users\",\"who\":\"amy@users\"}\r\n \t\r\n\n\
-    {\"entries\":[],\"group\":0,\"mask\":512,\"owner\":\"bo@users\",\"who\":\"amy@users\"}\n\
-    {\"deliver\":";
+const QUESTIONS: Script = Script {
+    engine: Engine::Judge,
+    input: "{\"entries\":[[\"allow\",\"amy@users\",1,0]],\"group\":0,\"mask\":1,\
+        \"owner\":\"bo@users\",\"who\":\"amy@users\"}\r\n \t\r\n\n\
+        {\"entries\":[],\"group\":0,\"mask\":512,\"owner\":\"bo@users\",\"who\":\"amy@users\"}\n\
+        {\"deliver\":",
+    output: "{\"answer\":\"granted\"}\n{\"name\":\"BadMask\",\"refused\":5}\n{\"name\":\"BadLine\",\"refused\":2}\n",
+    ends: &[(97, 21), (175, 52)],
+    writes: &[21, 31, 31],
+};
 
-const OUTPUT: &str =
-    "{\"answer\":\"granted\"}\n{\"name\":\"BadMask\",\"refused\":5}\n{\"name\":\"BadLine\",\"refused\":2}\n";
+/// A world in a trace: an ask that sends two messages, deliveries of none, a client that is stopped twice, and the
+/// beginning of a line.
+const EVENTS: Script = Script {
+    engine: Engine::Replay,
+    input: "{\"open\":{\"parts\":1,\"trace\":true}}\n{\"begin\":true}\n \r\n\
+        {\"ask\":{\"do\":\"set_lists\",\"lists\":[[\"picture/0\",[]],[\"picture/1\",[]]]},\"client\":1,\
+        \"who\":\"amy@users\"}\n\
+        {\"deliver\":[3,9]}\n{\"deliver\":3}\n{\"stop\":1}\n{\"stop\":1}\n\
+        {\"deliver\":",
+    output: "{\"from\":\"c1\",\"item\":\"picture/0\",\"k\":1,\"say\":\"get\",\"stamps\":[],\"tag\":1,\"to\":\"p0\"}\n\
+        {\"from\":\"c1\",\"item\":\"picture/1\",\"k\":2,\"say\":\"get\",\"stamps\":[],\"tag\":1,\"to\":\"p0\"}\n\
+        {\"name\":\"NoSuchMessage\",\"refused\":14}\n{\"name\":\"Stopped\",\"refused\":16}\n\
+        {\"name\":\"BadLine\",\"refused\":2}\n",
+    ends: &[(152, 162), (184, 200), (206, 232)],
+    writes: &[81, 81, 38, 32, 31],
+};
 
-/// Where each line that has an answer ends in the input, and its answer in the output. The last ends with the
-/// input alone.
-const ENDS: [(usize, usize); 2] = [(97, 21), (175, 52)];
+/// An opening that is refused by its first line; the end of the second is in another piece.
+const REFUSED: Script = Script {
+    engine: Engine::Replay,
+    input: "{\"begin\":true}\n{\"begin\":true}\n",
+    output: "{\"name\":\"BadRequest\",\"refused\":3}\n",
+    ends: &[(15, 34)],
+    writes: &[34],
+};
 
-/// The lengths of the answers.
-const ANSWERS: [usize; 3] = [21, 31, 31];
+/// The scripts that are read to their end.
+const SCRIPTS: &[Script] = &[QUESTIONS, EVENTS];
 
 /// How a run is disturbed: at which read, at which write and how, and after how many turns.
 #[derive(Clone, Copy)]
@@ -98,9 +89,9 @@ struct Ended {
 }
 
 /// A run over pieces of at most so many bytes.
-fn run_of(alloc: Global, most: usize, trouble: Trouble) -> Ended {
+fn run_of(alloc: Global, script: &Script, most: usize, trouble: Trouble) -> Ended {
     let mut reader = Pieces {
-        left: INPUT.as_bytes(),
+        left: script.input.as_bytes(),
         most,
         reads: 0,
         fails_at: trouble.read,
@@ -112,42 +103,45 @@ fn run_of(alloc: Global, most: usize, trouble: Trouble) -> Ended {
         stops_at: trouble.write,
         fails: trouble.fails,
     };
-    let fault = judge(alloc, &mut reader, &mut writer, trouble.turns).err();
+    let done = match script.engine {
+        Engine::Judge => judge(alloc, &mut reader, &mut writer, trouble.turns),
+        Engine::Replay => replay(alloc, &mut reader, &mut writer, trouble.turns),
+    };
     let Taking { taken, writes, .. } = writer;
     Ended {
         taken,
-        fault,
+        fault: done.err(),
         reads: reader.reads,
         writes,
     }
 }
 
 /// Whether the run ended with this fault, and wrote just so many bytes of the output.
-fn has_ended(end: &Ended, fault: Option<Fault>, len: usize) -> bool {
-    end.fault == fault && end.taken.len() == len && OUTPUT.as_bytes().starts_with(&end.taken)
+fn has_ended(end: &Ended, script: &Script, fault: Option<Fault>, len: usize) -> bool {
+    end.fault == fault && end.taken.len() == len && script.output.as_bytes().starts_with(&end.taken)
 }
 
-/// How long the answers to the lines are that have ended once so many bytes were read.
-fn answered(read: u64) -> usize {
+/// How much is written for the lines that have ended once so many bytes were read.
+fn told(script: &Script, read: u64) -> usize {
     let mut len = 0;
-    for (input, output) in ENDS {
-        if input as u64 <= read {
-            len = output;
+    for (input, output) in script.ends {
+        if *input as u64 <= read {
+            len = *output;
         }
     }
     len
 }
 
 /// How many bytes are written once a writer of seven bytes a write has taken so many writes.
-fn written(writes: u64) -> usize {
+fn written(script: &Script, writes: u64) -> usize {
     let mut len: usize = 0;
     let mut left = writes;
-    for answer in ANSWERS {
-        let whole = (answer as u64).div_ceil(7);
+    for text in script.writes {
+        let whole = (*text as u64).div_ceil(7);
         len = len.wrapping_add(if left < whole {
             left as usize * 7
         } else {
-            answer
+            *text
         });
         left = left.saturating_sub(whole);
         if left == 0 {
@@ -159,60 +153,78 @@ fn written(writes: u64) -> usize {
 
 #[test]
 fn any_pieces(rt: HostRuntime) {
-    for most in [1, 2, 7, 4096] {
-        let end = run_of(rt.alloc(), most, NONE);
-        assert!(rt; has_ended(&end, None, OUTPUT.len()), "pieces of {most}");
+    for script in SCRIPTS {
+        for most in [1, 2, 7, 4096] {
+            let end = run_of(rt.alloc(), script, most, NONE);
+            assert!(rt; has_ended(&end, script, None, script.output.len()), "pieces of {most}");
+        }
     }
 }
 
-/// Before each read, each line that has ended is answered.
+/// Before each read, what is to be written of each line that has ended is there.
 #[test]
 fn each_read_fails(rt: HostRuntime) {
-    let reads = run_of(rt.alloc(), 7, NONE).reads;
-    for at in 0..reads {
-        let end = run_of(rt.alloc(), 7, Trouble { read: at, ..NONE });
-        let len = answered(at.wrapping_mul(7));
-        assert!(rt; has_ended(&end, Some(Fault::Reading), len), "read {at}");
+    for script in SCRIPTS {
+        let reads = run_of(rt.alloc(), script, 7, NONE).reads;
+        for at in 0..reads {
+            let end = run_of(rt.alloc(), script, 7, Trouble { read: at, ..NONE });
+            let len = told(script, at.wrapping_mul(7));
+            assert!(rt; has_ended(&end, script, Some(Fault::Reading), len), "read {at}");
+        }
     }
+}
+
+/// Whether each write in turn, where it fails so, ends the run with just what was written before.
+fn stops_at_each_write(alloc: Global, script: &Script, fails: bool) -> bool {
+    let writes = run_of(alloc, script, 7, NONE).writes;
+    for at in 0..writes {
+        let trouble = Trouble {
+            write: at,
+            fails,
+            ..NONE
+        };
+        let end = run_of(alloc, script, 7, trouble);
+        if !has_ended(&end, script, Some(Fault::Writing), written(script, at)) {
+            return false;
+        }
+    }
+    true
 }
 
 #[test]
 fn each_write_fails(rt: HostRuntime) {
-    let writes = run_of(rt.alloc(), 7, NONE).writes;
-    for fails in [true, false] {
-        for at in 0..writes {
-            let trouble = Trouble {
-                write: at,
-                fails,
-                ..NONE
-            };
-            let end = run_of(rt.alloc(), 7, trouble);
-            assert!(rt;
-                has_ended(&end, Some(Fault::Writing), written(at)),
-                "write {at}"
-            );
+    for script in SCRIPTS {
+        for fails in [true, false] {
+            assert!(rt; stops_at_each_write(rt.alloc(), script, fails), "fails: {fails}");
         }
     }
 }
 
 #[test]
 fn turns_run_out(rt: HostRuntime) {
-    let reads = run_of(rt.alloc(), 7, NONE).reads;
-    for turns in 0..reads {
-        let end = run_of(rt.alloc(), 7, Trouble { turns, ..NONE });
-        let len = answered(turns.wrapping_mul(7));
-        assert!(rt;
-            has_ended(&end, Some(Fault::Reading), len) && end.reads == turns,
-            "{turns} turns"
-        );
-    }
-    let end = run_of(
-        rt.alloc(),
-        7,
-        Trouble {
+    for script in SCRIPTS {
+        let reads = run_of(rt.alloc(), script, 7, NONE).reads;
+        for turns in 0..reads {
+            let end = run_of(rt.alloc(), script, 7, Trouble { turns, ..NONE });
+            let len = told(script, turns.wrapping_mul(7));
+            assert!(rt;
+                has_ended(&end, script, Some(Fault::Reading), len) && end.reads == turns,
+                "{turns} turns"
+            );
+        }
+        let all = Trouble {
             turns: reads,
             ..NONE
-        },
-    );
-    assert!(rt; has_ended(&end, None, OUTPUT.len()));
+        };
+        let end = run_of(rt.alloc(), script, 7, all);
+        assert!(rt; has_ended(&end, script, None, script.output.len()));
+    }
+}
+
+/// Once an opening is refused, nothing more is read: its first line ends in the third piece of seven bytes.
+#[test]
+fn refused_opening_ends_it(rt: HostRuntime) {
+    let end = run_of(rt.alloc(), &REFUSED, 7, NONE);
+    assert!(rt; has_ended(&end, &REFUSED, None, REFUSED.output.len()) && end.reads == 3);
+    assert!(rt; stops_at_each_write(rt.alloc(), &REFUSED, true));
 }

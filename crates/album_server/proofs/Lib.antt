@@ -1,7 +1,13 @@
 pub mod Parts
 pub mod Texts
 pub mod Exchanging
+pub mod Pieces
 pub mod Turns
 pub mod Judging
 pub mod Replaying
 pub mod OnLiterals
+pub mod Leaving
+pub mod Telling
+pub mod Happening
+pub mod Standing
+pub mod ReplayTurns

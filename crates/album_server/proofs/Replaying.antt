@@ -13,9 +13,9 @@ use Rattle.album_wire.specs.declared.event_shape.Spelled.{Spelled}
 use Rattle.album_wire.specs.declared.event_shape.Spelled.TheVariants as spelled
 use Rattle.album_server.specs.Replay.{Stage, Unopened, BeingOpened, Running, Over, silently, Delivers, Runs, IsStep, Takes, Replays, IsReplay, event_line_read, delivered, line_run, taken, step_of, replayed, end_text, replay_text}
 use Rattle.album_server.specs.Writes.{IsPrefixOf}
-use Rattle.album_server.proofs.Turns.{lines_split}
+use Rattle.album_server.proofs.Pieces.{lines_split}
 
-delivers : (terms : Terms) (trace : Bool) (world : World) (events : List Event)
+pub delivers : (terms : Terms) (trace : Bool) (world : World) (events : List Event)
     → Delivers terms trace world events (delivered terms trace world events).0 (delivered terms trace world events).1
 delivers terms trace world [] = (refl, refl)
 delivers terms trace world (event ∷ events) = (
@@ -43,7 +43,7 @@ takes (Running terms trace world) line = record {
 }
 takes Over line = refl
 
-steps : (stage : Stage) (line : Line) → IsStep stage line (step_of stage line)
+pub steps : (stage : Stage) (line : Line) → IsStep stage line (step_of stage line)
 steps stage line = go (is_blank line)
   where
     go : (b : Bool) → MatchBool b (cond b (silently stage) (taken stage line) ≡ silently stage)

@@ -94,14 +94,14 @@ writes_both P Q R both a b c g h = (g.0 ++ h.0, both g.0 h.0 g.1 h.1, Appends-tr
 -- ---- the loop over lines
 
 -- the lines before an index, and that line
-up_to_next : {X : Type 0} (f : X → Line) (xs : List X) (i : ℕ) (x : X)
+pub up_to_next : {X : Type 0} (f : X → Line) (xs : List X) (i : ℕ) (x : X)
     → i < length xs → x ≡ get_or xs i x
     → map f (take (i + 1) xs) ≡ map f (take i xs) ++ f x ∷ []
 up_to_next f xs i x h e =
     ap (map f) (take_more xs i x h ∙ ap (λ y. take i xs ++ y ∷ []) (sym e)) ∙ map-append f (take i xs) (x ∷ [])
 
 -- and those behind it
-with_others : {X : Type 0} (f : X → Line) (xs : List X) (i : ℕ) → map f xs ≡ map f (take i xs) ++ map f (drop i xs)
+pub with_others : {X : Type 0} (f : X → Line) (xs : List X) (i : ℕ) → map f xs ≡ map f (take i xs) ++ map f (drop i xs)
 with_others f xs i = ap (map f) (sym (take-append-drop i xs)) ∙ map-append f (take i xs) (drop i xs)
 
 -- the next line is answered too

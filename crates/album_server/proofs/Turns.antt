@@ -1,16 +1,15 @@
 -- The engine's loop: what was read so far, and what was written for it. For `judge`; `IsSoFar` is its invariant,
 -- and the lemmas below it are the ways out of a turn.
-use Rattle.std.proofs.Common.{◌≡◌, ◌≢◌, ◌≤◌, ◌<◌, ◌+◌, ◌*◌, ℕ, List, [], ◌∷◌, ◌++◌, length, Bool, true, false, cond, nat_eq, nat_lt, Option, Some, None, IfSome, refl, sym, ap, ◌∙◌, subst, append_assoc, append-nil, length-append, arith}
+use Rattle.std.proofs.Common.{◌≡◌, ◌≢◌, ◌≤◌, ◌<◌, ◌+◌, ◌*◌, ℕ, List, [], ◌++◌, length, Option, Some, IfSome, refl, sym, ap, ◌∙◌, subst, append-nil, length-append, arith}
 use Rattle.std.specs.Io.KnownBytes.{Consumes, IsAtEnd, Keeps}
 use Rattle.std.proofs.KnownBytes.{Consumes-trans, Consumes-nil, Appends-nil}
-use Rattle.album_stamps.specs.declared.limits.TheConstants.{MOST_LINE}
-use Rattle.album_wire.specs.Lines.{Line, longer, cut, continued, last, ended, begun, lines_of}
-use Rattle.album_wire.proofs.Cuts.{cut_append}
+use Rattle.album_wire.specs.Lines.{Line, cut, last, ended, begun, lines_of}
 use Rattle.album_server.specs.declared.engine.TheConstants.{PIECE}
 use Rattle.album_server.specs.declared.fault.Fault.{Fault}
 use Rattle.album_server.specs.declared.fault.Fault.TheVariants.{Reading, Writing, Memory}
 use Rattle.album_server.specs.Answers.{Answers}
 use Rattle.album_server.specs.Writes.{HasRead, Writes, Exchanges, IsPrefixOf, IsLeftBy, IsEndedBy}
+use Rattle.album_server.proofs.Pieces.{lines_split, both_cut, both_lines, some_lines}
 use Rattle.album_server.proofs.Texts.{answers_append, prefix_after, left_after, left_is_prefix, writes_none}
 use Rattle.album_server.proofs.Exchanging.{exchanges_weaker, exchanges_kept, exchanges_more, exchanges_last, by_input, by_whole_input}
 
@@ -42,11 +41,6 @@ has_read_more turns k line piece a b e c d h more short within =
 
 -- ---- the lines of what was read
 
-pub lines_split : (given later : List ℕ)
-    → lines_of (given ++ later) ≡ ended given ++ ((cut (begun given) later).0 ++ last (cut (begun given) later).1)
-lines_split given later =
-    ap (λ c. c.0 ++ last c.1) (cut_append (Some []) given later) ∙ append_assoc (ended given) (cut (begun given) later).0 _
-
 -- a prefix of the answers to lines that have ended is one of all the answers
 prefix_of_all : (given later text : List ℕ)
     → IsPrefixOf (Answers (ended given)) text
@@ -62,34 +56,6 @@ ended_by : (fault : Fault) (given text : List ℕ)
 ended_by Reading given text h = absurd h
 ended_by Writing given text h = h
 ended_by Memory given text h = h
-
--- a line with a byte more is one
-longer_last : (line : Line) (x : ℕ) → last (longer line x) ≢ []
-longer_last None x = λ none. cc
-longer_last (Some bytes) x = by_length (nat_lt MOST_LINE (length (bytes ++ x ∷ []))) bytes
-  where
-    by_length : (e : Bool) (begin : List ℕ) → last (cond e None (Some (begin ++ x ∷ []))) ≢ []
-    by_length true begin none = cc
-    by_length false [] none = cc
-    by_length false (b ∷ begin) none = cc
-
--- a byte ends the line, or the line goes on
-by_byte : (e : Bool) (line next : Line) (later : List Line) (unended : Line) (others : List Line)
-    → others ++ last unended ≢ []
-    → (cond {A = List Line × Line} e (line ∷ later, next) (others, unended)).0
-    ++ last (cond {A = List Line × Line} e (line ∷ later, next) (others, unended)).1
-    ≢ []
-by_byte true line next later unended others some = λ none. cc
-by_byte false line next later unended others some = some
-
--- bytes end a line, or begin one
-some_line : (line : Line) (piece : List ℕ) → piece ≢ [] → (cut line piece).0 ++ last (cut line piece).1 ≢ []
-some_line line [] some = absurd (some refl)
-some_line line (x ∷ []) some = by_byte (nat_eq x 10) line (Some []) [] (longer line x) [] (longer_last line x)
-some_line line (x ∷ y ∷ piece) some =
-    let others = cut (longer line x) (y ∷ piece) in
-    let after = cut (Some []) (y ∷ piece) in
-    by_byte (nat_eq x 10) line after.1 after.0 others.1 others.0 (some_line (longer line x) (y ∷ piece) (λ none. cc))
 
 -- ---- the ways out of a turn
 
@@ -115,14 +81,12 @@ module _ (turns : ℕ) (line : Line) (piece : List ℕ) (ends : List Line) (next
   two_pieces : (given text : List ℕ)
       → IsSoFar turns line given text
       → cut (Some []) (given ++ piece) ≡ (ended given ++ ends, next)
-  two_pieces given text is =
-      cut_append (Some []) given piece ∙ ap (continued (ended given)) (ap (λ l. cut l piece) (sym is.line) ∙ cuts)
+  two_pieces given text is = both_cut line piece ends next cuts given is.line
 
   lines_now : (given text : List ℕ)
       → IsSoFar turns line given text
       → lines_of (given ++ piece) ≡ ended given ++ (ends ++ last next)
-  lines_now given text is =
-      ap (λ c. c.0 ++ last c.1) (two_pieces given text is) ∙ append_assoc (ended given) ends (last next)
+  lines_now given text is = both_lines line piece ends next cuts given is.line
 
   -- the lines are answered
   answered : length piece ≤ PIECE
@@ -148,8 +112,7 @@ module _ (turns : ℕ) (line : Line) (piece : List ℕ) (ends : List Line) (next
   uncut : piece ≢ [] → (given x y : List ℕ) → IsSoFar turns line given x → y ≡ []
       → IsEndedBy Memory Answers (given ++ piece) (x ++ y)
   uncut some given x y is none =
-      let later : ends ++ last next ≢ [] =
-      subst (λ (c : List Line × Line). c.0 ++ last c.1 ≢ []) cuts (some_line line piece some) in
+      let later : ends ++ last next ≢ [] = some_lines line piece ends next cuts some in
       let text : x ≡ x ++ y = sym (append-nil x) ∙ ap (λ t. x ++ t) (sym none) in
       (ended given, ends ++ last next, later, lines_now given x is, subst (Answers (ended given)) text is.answers)
 

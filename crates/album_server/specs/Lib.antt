@@ -2,3 +2,4 @@ pub mod Answers
 pub mod Writes
 pub mod Replay
 pub mod WorkedOpening
+pub mod Stages

@@ -1,5 +1,5 @@
 -- The text of a replay: what is printed of the lines of an opening, and of the events that the lines behind it spell.
-use Rattle.std.specs.Prelude.{◌≡◌, ◌⊎◌, List, [], ◌∷◌, ◌++◌, ℕ, Bool, if◌then◌else◌, MatchBool, Option, Some, None, Result, Ok, Err}
+use Rattle.std.specs.Prelude.{◌≡◌, ◌≢◌, ◌⊎◌, List, [], ◌∷◌, ◌++◌, ℕ, Bool, if◌then◌else◌, MatchBool, Option, Some, None, Result, Ok, Err}
 use Rattle.std.specs.List.{flat_map}
 use Rattle.album_stamps.specs.declared.refusals.Refusal.{Refusal}
 use Rattle.album_stamps.specs.declared.refusals.Refusal.TheVariants.{OutOfMemory, BadLine, BadRequest, BadOpening}
@@ -14,7 +14,7 @@ use Rattle.album_world.specs.Runs.{now_after, outs_of, happens, start}
 use Rattle.album_world.specs.declared.events.Event.{Event}
 use Rattle.album_world.specs.declared.outs.Out.{Out}
 use Rattle.album_world.specs.declared.outs.Out.TheVariants as out
-use Rattle.album_wire.specs.Lines.{Line, is_blank, lines_of}
+use Rattle.album_wire.specs.Lines.{Line, is_blank, ended, lines_of}
 use Rattle.album_wire.specs.OpeningLine.{opening_line_of}
 use Rattle.album_wire.specs.EventLine.{event_line_of, deliveries}
 use Rattle.album_wire.specs.Output.{refusal_line}
@@ -24,6 +24,9 @@ use Rattle.album_wire.specs.declared.event_shape.Spelled.TheVariants as spelled
 use Rattle.album_wire.specs.declared.opening_line.OpeningLine.{OpeningLine}
 use Rattle.album_wire.specs.declared.opening_line.OpeningLine.TheVariants as line
 use Rattle.album_wire.specs.declared.opening_shape.Header.{Header}
+use Rattle.album_server.specs.declared.fault.Fault.{Fault}
+use Rattle.album_server.specs.declared.fault.Fault.TheVariants.{Reading, Writing, Memory}
+use Rattle.album_server.specs.Writes.{IsPrefixOf, IsCutShort}
 
 -- Where a replay stands between two lines: nothing is opened yet; it is being opened, with these items so far; the
 -- world runs, in a trace or not; or the opening was refused, and nothing more is printed.
@@ -137,12 +140,17 @@ event_line_read (Some bytes) = event_line_of bytes
 abbrev pub IsOpened : Step → Step → Type 0
 IsOpened says step = (step ≡ says) ⊎ (step ≡ refused OutOfMemory)
 
+-- the line's events run, unless memory runs out on the line
+abbrev pub IsTold : Terms → Bool → Line → World → World → List ℕ → Type 0
+IsTold terms trace line world next text =
+    Runs terms trace world (event_line_read line) next text
+    ⊎ ((next ≡ world) × (text ≡ refusal_line OutOfMemory))
+
 -- a step of the run
 pub record IsRun (terms : Terms) (trace : Bool) (world : World) (line : Line) (step : Step) : Type 0 where
   pub world_then : World
   pub runs : step.next ≡ Running terms trace world_then
-  pub told : Runs terms trace world (event_line_read line) world_then step.text
-      ⊎ ((world_then ≡ world) × (step.text ≡ refusal_line OutOfMemory))
+  pub told : IsTold terms trace line world world_then step.text
 
 -- what comes of a line that isn't blank
 abbrev pub Takes : Stage → Line → Step → Type 0
@@ -177,6 +185,46 @@ pub record IsReplay (input text : List ℕ) : Type 0 where
   pub front : List ℕ
   pub lines : Replays Unopened (lines_of input) last front
   pub whole : text ≡ front ++ end_text last
+
+-- ---- a text that ends early
+
+-- what may be printed of a line
+abbrev pub Prints : Stage → Line → List ℕ → Type 0
+Prints stage line text = (next : Stage) × IsStep stage line (record { next = next; text = text })
+
+-- lines before one of these are taken, and of the text of that one only a part is there
+pub record StopsAmid (stage : Stage) (lines : List Line) (text : List ℕ) : Type 0 where
+  pub done : List Line
+  pub line : Line
+  pub later : List Line
+  pub between : Stage
+  pub front : List ℕ
+  pub part : List ℕ
+  pub split : lines ≡ done ++ line ∷ later
+  pub taken : Replays stage done between front
+  pub amid : IsPrefixOf (Prints between line) part
+  pub whole : text ≡ front ++ part
+
+-- the lines are taken, and of the text of the end, which there is, only a part is there
+pub record EndsAmid (stage : Stage) (lines : List Line) (text : List ℕ) : Type 0 where
+  pub last : Stage
+  pub front : List ℕ
+  pub part : List ℕ
+  pub taken : Replays stage lines last front
+  pub due : end_text last ≢ []
+  pub amid : IsPrefixOf (λ end. end ≡ end_text last) part
+  pub whole : text ≡ front ++ part
+
+-- What a fault leaves of the text of what was read. Reading: each line that has ended is taken, and nothing else.
+-- Writing: the text is cut short. Memory: a line, or the end, is not there wholly.
+abbrev pub IsLeftOf : Fault → List ℕ → List ℕ → Type 0
+IsLeftOf Reading given text = (stage : Stage) × Replays Unopened (ended given) stage text
+IsLeftOf Writing given text = IsCutShort (IsReplay given) text
+IsLeftOf Memory given text = StopsAmid Unopened (lines_of given) text ⊎ EndsAmid Unopened (lines_of given) text
+
+-- an opening was refused, by a line that has ended
+abbrev pub IsOverBy : List ℕ → List ℕ → Type 0
+IsOverBy given text = Replays Unopened (ended given) Over text
 
 -- ---- the same, where memory never runs out
 

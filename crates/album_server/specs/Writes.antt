@@ -32,6 +32,13 @@ IsPrefixOf P text = (rest : List ℕ) × P (text ++ rest)
 abbrev pub IsCutShort : (List ℕ → Type 0) → List ℕ → Type 0
 IsCutShort P text = (rest : List ℕ) × (rest ≢ []) × P (text ++ rest)
 
+-- What a fault leaves of a text of which this holds. Writing: it is cut short. Memory: it ends early, if it doesn't end
+-- where it should. No fault of reading comes of writing.
+abbrev pub LeavesOf : Fault → (List ℕ → Type 0) → List ℕ → Type 0
+LeavesOf Reading P text = ⊥
+LeavesOf Writing P text = IsCutShort P text
+LeavesOf Memory P text = IsPrefixOf P text
+
 -- ---- an engine writes what answers its lines: `answers` says which texts answer a list of lines
 
 -- whole answers to the first of these lines, but not to all

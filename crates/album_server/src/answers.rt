@@ -65,19 +65,26 @@ fn add_answer(
 fn answer(alloc: Global, scratch: &mut Scratch, line: &LineIn) -> Result<Vec<u8>, Refusal>
     ensures { IfOk result (λ text. IsAnswer (said line.now) text.items) }
 {
+    if is_blank(line) {
+        return Ok(Vec::new(alloc));
+    }
     match line {
         LineIn::TooLong => write_refusal(alloc, Refusal::BadLine),
-        LineIn::Text(bytes) => {
-            if is_blank(bytes) {
-                return Ok(Vec::new(alloc));
-            }
-            reply(alloc, scratch, bytes)
-        }
+        LineIn::Text(bytes) => reply(alloc, scratch, bytes),
     }
 }
 
 /// Whether the line is skipped: it has nothing but spaces, tabs and carriage returns.
-fn is_blank(bytes: &[u8]) -> bool
+pub(crate) fn is_blank(line: &LineIn) -> bool
+    ensures { result ≡ is_blank (said line.now) }
+{
+    match line {
+        LineIn::TooLong => false,
+        LineIn::Text(bytes) => are_blank(bytes),
+    }
+}
+
+fn are_blank(bytes: &[u8]) -> bool
     ensures { result ≡ is_blank (Some bytes.now) }
 {
     bytes

@@ -13,7 +13,7 @@ use std::alloc::Global;
 use std::io::{Read, Write};
 
 /// How many bytes a read may give.
-const PIECE: usize = 4096;
+pub(crate) const PIECE: usize = 4096;
 
 /// Answers each line that is read by one line, in order; a line of spaces, tabs and carriage returns
 /// alone is skipped. Where `turns` reads did not come to the end, that is the fault `Reading`.

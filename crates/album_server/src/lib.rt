@@ -2,17 +2,21 @@
 //!
 //! A reader and a writer come in, whatever they are, and what was written goes with what was read. Read
 //! `engine` first; `answers` makes the text of one line, by `judged`, and `writing` writes it. What a replay prints is
-//! defined in specs/Replay.antt, and `replays` has laws of it; its engine is not written yet.
+//! defined in specs/Replay.antt; `scripts` is its engine, and `replays` has laws of it.
 #![tactic(auto)]
 
 mod answers;
 mod engine;
+mod events;
 mod fault;
 mod judged;
 mod replays;
+mod scripts;
+mod stages;
 mod writing;
 
 pub use engine::judge;
 pub use fault::Fault;
 pub use judged::one_judgement;
 pub use replays::{replays_are_computed, replays_go_on, worked_replays};
+pub use scripts::replay;

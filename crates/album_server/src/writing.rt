@@ -1,9 +1,13 @@
 // A text, written by a loop over `write`.
 ghost use Rattle.std.specs.Prelude.{◌≡◌, ◌++◌, List, ℕ, OnOk, OnErr, IfErr};
 ghost use Rattle.std.specs.Io.KnownBytes.{Appends};
-ghost use Rattle.album_server.specs.Writes.{Writes, IsCutShort};
+ghost use Rattle.album_wire.specs.Output.{refusal_line};
+ghost use Rattle.album_server.specs.Writes.{Writes, IsCutShort, LeavesOf};
 
 use crate::fault::Fault;
+use album_stamps::Refusal;
+use album_wire::write_refusal;
+use std::alloc::Global;
 use std::io::Write;
 
 /// Writes the text. A write that fails, or that takes no byte, is the fault `Writing`, and no other comes.
@@ -22,4 +26,18 @@ pub(crate) fn write_text<W: Write>(writer: &mut W, text: &[u8]) -> Result<(), Fa
         }
     }
     Ok(())
+}
+
+/// Writes the line of the refusal.
+pub(crate) fn write_refused<W: Write>(
+    alloc: Global,
+    refusal: Refusal,
+    writer: &mut W,
+) -> Result<(), Fault>
+    ensures ok { OnOk result (Appends (W.contents writer.old) (W.contents writer.new) (refusal_line refusal)) }
+    ensures fault { IfErr result (λ fault. Writes (LeavesOf fault (λ whole. whole ≡ refusal_line refusal))
+        (W.contents writer.old) (W.contents writer.new)) }
+{
+    let text = write_refusal(alloc, refusal)?;
+    write_text(writer, &text)
 }

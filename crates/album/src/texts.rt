@@ -1,0 +1,76 @@
+// What the program says of itself, and of its lines.
+
+pub(crate) const ABOUT: &str = "A photo album store that judges by NFSv4 access lists, with every promise proved";
+
+pub(crate) const JUDGE_ABOUT: &str =
+    "Answers each line of standard input, a question about an access list, by one line";
+
+pub(crate) const JUDGE_HELP: &str =
+    r#"A line is a JSON object. This one asks whether amy may read (mask 1) an object of bo's that carries a
+list of one entry:
+
+  {"entries":[["allow","amy@users",1,0]],"group":0,"mask":1,"owner":"bo@users","who":"amy@users"}
+
+  entries  the list: [type, who, mask, flags] each, in order. A type is allow, deny, audit or alarm.
+           A who is name@users, number@groups (with flag 64), OWNER@, GROUP@, EVERYONE@, ANONYMOUS@
+           or AUTHENTICATED@
+  group    the number of the group that GROUP@ means
+  mask     the bits that are asked, added up: 1 read, 2 write, 4 append, .. (docs/FORMATS.md has all)
+  owner    who owns the object: name@users
+  who      who asks: name@users or ANONYMOUS@
+  kind     may be left out: picture, album or group, the object that carries the list
+  groups   may be left out: [number, members] each, a member being name@users or number@groups
+  policy   may be left out: 1, or 2, by which an owner may always read and change the list of what he owns
+
+It is answered by one of these lines, `at` being the index of the entry that denies, from 0:
+
+  {"answer":"granted"}
+  {"answer":"denied","at":0}
+  {"answer":"denied","at":"end"}
+  {"name":"BadMask","refused":5}"#;
+
+pub(crate) const REPLAY_ABOUT: &str =
+    "Opens a store by the first lines of standard input, and tells what the events of the others bring about";
+
+pub(crate) const REPLAY_HELP: &str =
+    r#"Lines are JSON objects. The opening comes first: how the store is opened, each item with its value, and
+that these are all. Two partitions, and a picture of amy's with a list by which everyone may read it:
+
+  {"open":{"parts":2}}
+  {"item":"picture/0","value":{"content":"736561","group":0,"home":0,"list":0,"owner":"amy@users","title":"Sea"}}
+  {"item":"list/0","value":{"entries":[["allow","EVERYONE@",1,0]]}}
+  {"begin":true}
+
+  open     parts, how many partitions there are, from 1 to 16. These may be left out: limit, the marks for
+           which a partition has room (100000); policy, 1 or 2 (1); trace, whether each message that is
+           sent is told (false)
+  value    of a picture: content, group, home, list, owner and title; of an album: children, group, home,
+           list, owner and title; of a list: entries; of a group: group, list, members and owner
+
+Every line behind it is an event, or a range of deliveries. Here bo asks to read the picture, and the
+messages are given to whom they are sent:
+
+  {"ask":{"do":"read","object":"picture/0"},"client":1,"who":"bo@users"}
+  {"deliver":[1,4]}
+
+  ask      who is name@users or ANONYMOUS@, client a number from 1 to 65535, and do one of read, list,
+           get_list, add_picture, add_album, retitle, replace, delete, move, set_lists, set_owner and
+           set_members, each with fields of its own (docs/FORMATS.md has all)
+  deliver  the number of a message, the first that is sent being 1; or [first, last], at most 10000 of them
+  sweep    part and stamp: the partition asks the others how a write stands that is pending there
+  stop     the number of a client, which stops for good
+  trim     item and part: the partition lets old versions of the item go
+
+Each thing that an event brings about is told by one line: notes, messages in a trace, answers. So is
+each refusal:
+
+  {"answer":"served","client":1,"content":"736561","object":"picture/0","stamp":0,"title":"Sea"}
+  {"name":"NoSuchMessage","refused":14}
+
+A refused event changes nothing, and a refused opening ends the run."#;
+
+pub(crate) const NO_TEXT: &str = r#"error: invalid UTF-8 was detected in one or more arguments
+
+Usage: album <COMMAND>
+
+For more information, try '--help'."#;

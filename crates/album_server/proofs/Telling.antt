@@ -1,0 +1,65 @@
+-- The texts of what was told, one behind the other. For `write_outs`.
+use Rattle.std.proofs.Common.{◌≡◌, ◌+◌, ◌<◌, ℕ, List, [], ◌∷◌, ◌++◌, length, take, drop, get_or, Bool, Option, refl, sym, ap, ◌∙◌, subst, append_assoc, append-nil, take-append-drop}
+use Rattle.std.proofs.lemmas.List.{take_more}
+use Rattle.std.specs.Io.KnownBytes.{Appends}
+use Rattle.std.proofs.KnownBytes.{Appends-trans, Appends-nil}
+use Rattle.album_world.specs.State.{Now}
+use Rattle.album_world.specs.declared.outs.Out.{Out}
+use Rattle.album_wire.specs.OutJson.{out_line}
+use Rattle.album_server.specs.declared.fault.Fault.{Fault}
+use Rattle.album_server.specs.Replay.{message_shown, told_text}
+use Rattle.album_server.specs.Writes.{Writes, LeavesOf}
+use Rattle.album_server.proofs.Leaving.{leaves_behind, leaves_before}
+
+told_append : (trace : Bool) (now : Now) (xs ys : List Out)
+    → told_text trace now (xs ++ ys) ≡ told_text trace now xs ++ told_text trace now ys
+told_append trace now [] ys = refl
+told_append trace now (x ∷ xs) ys =
+    let line = out_line x (message_shown trace now x) in
+    ap (λ t. line ++ t) (told_append trace now xs ys)
+    ∙ sym (append_assoc line (told_text trace now xs) (told_text trace now ys))
+
+pub nothing_told : (a : Option (List ℕ)) → Appends a a []
+nothing_told a = Appends-nil a
+
+-- the outs before an index, and the one that is there
+module _ (trace : Bool) (now : Now) (outs : List Out) (i : ℕ) (out : Out) (inside : i < length outs)
+    (is : out ≡ get_or outs i out) where
+  line : List ℕ
+  line = out_line out (message_shown trace now out)
+
+  told_more : told_text trace now (take (i + 1) outs) ≡ told_text trace now (take i outs) ++ line
+  unfolding line
+  told_more =
+      ap (told_text trace now) (take_more outs i out inside ∙ ap (λ x. take i outs ++ x ∷ []) (sym is))
+      ∙ told_append trace now (take i outs) (out ∷ [])
+      ∙ ap (λ t. told_text trace now (take i outs) ++ t) (append-nil line)
+
+  pub told_next : (a b c : Option (List ℕ))
+      → Appends a b (told_text trace now (take i outs))
+      → Appends b c (out_line out (message_shown trace now out))
+      → Appends a c (told_text trace now (take (i + 1) outs))
+  unfolding line
+  told_next a b c first next = subst (Appends a c) (sym told_more) (Appends-trans a b c _ _ first next)
+
+  told_whole : (told_text trace now (take i outs) ++ line) ++ told_text trace now (drop (i + 1) outs) ≡ told_text trace now outs
+  told_whole =
+      ap (λ t. t ++ told_text trace now (drop (i + 1) outs)) (sym told_more)
+      ∙ sym (told_append trace now (take (i + 1) outs) (drop (i + 1) outs))
+      ∙ ap (told_text trace now) (take-append-drop (i + 1) outs)
+
+  pub told_left : (fault : Fault) (a b c : Option (List ℕ))
+      → Appends a b (told_text trace now (take i outs))
+      → Writes (LeavesOf fault (λ whole. whole ≡ out_line out (message_shown trace now out))) b c
+      → Writes (LeavesOf fault (λ whole. whole ≡ told_text trace now outs)) a c
+  unfolding line
+  told_left fault a b c first next =
+      let front = told_text trace now (take i outs) in
+      let rest = told_text trace now (drop (i + 1) outs) in
+      let here : LeavesOf fault (λ whole. whole ≡ line ++ rest) next.0 =
+      leaves_before (λ whole. whole ≡ line) (λ whole. whole ≡ line ++ rest)
+      (λ text e. (rest, ap (λ t. t ++ rest) e)) fault next.0 next.1 in
+      let all : LeavesOf fault (λ whole. whole ≡ told_text trace now outs) (front ++ next.0) =
+      leaves_behind (λ whole. whole ≡ line ++ rest) (λ whole. whole ≡ told_text trace now outs) front
+      (λ text e. ap (λ t. front ++ t) e ∙ sym (append_assoc front line rest) ∙ told_whole) fault next.0 here in
+      (front ++ next.0, all, Appends-trans a b c front next.0 first next.2)
