@@ -1,6 +1,5 @@
 // Asks that a table spells.
-use crate::store::{Entry, groups, item_of, list_of};
-use album_access::AceType;
+use crate::store::{ALLOW, groups, item_of, list_of};
 use album_items::{Content, ItemId, Kind, Title};
 use album_lists::Name;
 use album_stamps::Refusal;
@@ -24,48 +23,29 @@ pub enum Verb {
     /// picture/7 moves to it.
     MoveTo,
     SetLists,
-    /// Other lists of the first sixteen items of its kind.
-    SetSixteen,
     SetOwner,
     SetMembers,
 }
 
-/// An entry that everyone may have, with these flags.
-const fn entry(flags: u32) -> Entry {
-    (AceType::Allowed, "EVERYONE@", 1, flags)
-}
-
-/// The object, and a list of one entry with these flags.
-fn new_list(alloc: Global, object: ItemId, flags: u32) -> Result<NewList, Refusal> {
-    let list = list_of(alloc, &[entry(flags)])?;
+/// The object, and a list by which everyone may read it.
+fn new_list(alloc: Global, object: ItemId) -> Result<NewList, Refusal> {
+    let list = list_of(alloc, &[(ALLOW, "EVERYONE@", 1, 0)])?;
     Ok(NewList { object, list })
 }
 
 /// Another list of the one object.
 fn one_list(alloc: Global, object: ItemId) -> Result<NewLists, Refusal> {
     let mut lists = Vec::new(alloc);
-    lists.push(new_list(alloc, object, 0)?)?;
+    lists.push(new_list(alloc, object)?)?;
     Ok(NewLists::of(lists))
 }
 
-/// Other lists of so many pictures, or albums, each with an entry of these flags.
-pub fn many_lists(
-    alloc: Global,
-    kind: Kind,
-    len: u64,
-    flags: u32,
-) -> Result<Vec<NewList>, Refusal> {
+/// Other lists of so many pictures.
+pub fn many_lists(alloc: Global, len: u64) -> Result<Vec<NewList>, Refusal> {
     let mut lists = Vec::new(alloc);
     for number in 0..len {
-        lists.push(new_list(alloc, ItemId::new(kind, number), flags)?)?;
+        lists.push(new_list(alloc, ItemId::new(Kind::Picture, number))?)?;
     }
-    Ok(lists)
-}
-
-/// The same of pictures without flags, and picture/0 once more.
-pub fn one_list_twice(alloc: Global, len: u64) -> Result<Vec<NewList>, Refusal> {
-    let mut lists = many_lists(alloc, Kind::Picture, len, 0)?;
-    lists.push(new_list(alloc, ItemId::new(Kind::Picture, 0), 0)?)?;
     Ok(lists)
 }
 
@@ -139,7 +119,6 @@ pub fn ask_of(alloc: Global, verb: Verb, text: &str) -> Result<Ask, Refusal> {
             let lists = one_list(alloc, item)?;
             Ok(Ask::SetLists { lists })
         }
-        Verb::SetSixteen => Ok(set_lists(many_lists(alloc, item.kind(), 16, 0)?)),
         Verb::SetOwner => set_owner(alloc, item),
         Verb::SetMembers => set_members(alloc, item, 2),
     }

@@ -1,5 +1,6 @@
-//! Tests of asks, of the reads that are made for them, of what is ruled on their views, served and written, of
-//! writes and of the audit book, over a store that a table spells.
+//! Tests of what no script of lines reaches, over a store that a table spells: asks and their copies, the names of a
+//! snapshot, a listing of what is missing, what writes keep, replies to a write, and the audit book. What asks are
+//! answered is told by the scripts in `rows/replay`.
 #![tactic(auto)]
 
 #[cfg(test)]
@@ -14,10 +15,6 @@ mod effects;
 mod listings;
 #[cfg(test)]
 mod ruling;
-#[cfg(test)]
-mod rulings;
-#[cfg(test)]
-mod serving;
 #[cfg(test)]
 mod store;
 #[cfg(test)]

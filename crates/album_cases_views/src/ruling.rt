@@ -35,12 +35,6 @@ pub fn seen_by(alloc: Global, asked: Asked) -> Result<(View, Principal), Refusal
     Ok((view, principal))
 }
 
-/// What is ruled on what is asked.
-pub fn ruled(alloc: Global, asked: Asked, policy: Policy) -> Result<Ruled, Refusal> {
-    let (view, principal) = seen_by(alloc, asked)?;
-    rule(alloc, view, &principal, policy)
-}
-
 /// The permit for the ask of the view, where it is granted.
 pub fn permit_on(
     alloc: Global,

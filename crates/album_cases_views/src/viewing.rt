@@ -7,11 +7,7 @@ use album_views::{Ask, View, ViewStep, Viewing};
 use std::alloc::Global;
 
 /// The first read for the ask of the principal.
-pub fn started(
-    alloc: Global,
-    ask: Ask,
-    principal: &Principal,
-) -> Result<(Viewing, Items), Refusal> {
+fn started(alloc: Global, ask: Ask, principal: &Principal) -> Result<(Viewing, Items), Refusal> {
     ask.check(principal)?;
     Ok(Viewing::start(alloc, ask)?)
 }
@@ -23,7 +19,7 @@ fn read(alloc: Global, store: Store, viewing: Viewing, items: &Items) -> Result<
 }
 
 /// One more read, where one is wanted.
-pub fn next(alloc: Global, store: Store, step: ViewStep) -> Result<ViewStep, Refusal> {
+fn next(alloc: Global, store: Store, step: ViewStep) -> Result<ViewStep, Refusal> {
     match step {
         ViewStep::Again(viewing, items) => read(alloc, store, viewing, &items),
         ViewStep::Closed(view) => Ok(ViewStep::Closed(view)),

@@ -1,4 +1,4 @@
-// Writes over three partitions (docs/PROTOCOL.md, "A write"): what is sent, and what comes of the replies. amy sets
+// Writes over three partitions (docs/PROTOCOL.md, "A write"): what comes of the replies, strays among them. amy sets
 // other lists of her two pictures, so list/0 and list/1 are written: at the partitions 2 and 0.
 ghost use Rattle.std.specs.Prelude.{◌≡◌, Some, IfOk, IsTrue};
 ghost use Rattle.album_stamps.specs.Stamps.{client_of};
@@ -6,11 +6,10 @@ ghost use Rattle.album_views.specs.Asks.{is_write};
 
 use crate::asks::{Verb, ask_of, many_lists, set_lists};
 use crate::ruling::permit_on;
-use crate::store::{ALLOW, AMY, AlbumRow, Is, PictureRow, SEA, Store, TRIP, item_of, list_of};
+use crate::store::{ALLOW, AMY, Is, Store, item_of};
 use crate::viewing::view_of;
-use album_calls::{Body, Message, Node, Reply, Request, Vote, same_items, same_values};
+use album_calls::{Body, Message, Node, Reply, Vote};
 use album_eval::{Policy, Principal};
-use album_items::{Kind, Value};
 use album_permits::Permit;
 use album_stamps::{ClientNo, Refusal, Refused, Stamp};
 use album_views::Ask;
@@ -24,16 +23,9 @@ const LATER: u64 = 131_073;
 
 /// Two pictures, and an album with all the children that it may have, to which everyone may add.
 const STORE: Store = &[
-    ("picture/0", Is::Picture(SEA)),
-    ("picture/1", Is::Picture(PictureRow { list: 1, ..SEA })),
-    (
-        "album/0",
-        Is::Album(AlbumRow {
-            list: 2,
-            pictures: 128,
-            ..TRIP
-        }),
-    ),
+    ("picture/0", Is::Picture(0)),
+    ("picture/1", Is::Picture(1)),
+    ("album/0", Is::Album(2)),
     ("list/0", Is::List(&[])),
     ("list/1", Is::List(&[])),
     ("list/2", Is::List(&[(ALLOW, "EVERYONE@", 2, 0)])),
@@ -64,7 +56,7 @@ struct Told {
 
 /// Other lists of the two pictures.
 fn lists(alloc: Global) -> Result<Ask, Refusal> {
-    Ok(set_lists(many_lists(alloc, Kind::Picture, 2, 0)?))
+    Ok(set_lists(many_lists(alloc, 2)?))
 }
 
 /// amy's permit for the ask.
@@ -111,52 +103,6 @@ fn begun(alloc: Global, ask: Ask) -> Result<(Preparing, Vec<Message>), Refusal> 
         return Err(Refusal::BadRequest);
     }
     begin(alloc, permit).map_err(refused)
-}
-
-/// Whether client 1 sends it to this partition, under this tag.
-fn is_sent(message: &Message, part: u16, tag: u64) -> bool {
-    match message.from() {
-        Node::Client(client) => {
-            client.number() == 1 && message.to().is_part(part) && message.tag() == tag
-        }
-        Node::Part(_) => false,
-    }
-}
-
-/// Whether it asks to prepare this list alone, of the two that are written.
-fn asks_prepare(alloc: Global, body: &Body, list: &str) -> Result<bool, Refusal> {
-    let entries = list_of(alloc, &[(ALLOW, "EVERYONE@", 1, 0)])?;
-    let rows = [(item_of(list)?, Value::List(entries))];
-    let all = [item_of("list/0")?, item_of("list/1")?];
-    match body {
-        Body::Request(Request::Prepare(stamp, writes, items)) => Ok(
-            stamp.value() == T
-                && same_values(writes.as_slice(), &rows)
-                && same_items(items.as_slice(), &all),
-        ),
-        Body::Request(Request::Commit(_) | Request::Get(_, _) | Request::Check(_)) => Ok(false),
-        Body::Reply(_) => Ok(false),
-    }
-}
-
-fn is_prepare(alloc: Global, message: &Message, part: u16, list: &str) -> Result<bool, Refusal> {
-    Ok(is_sent(message, part, 5) && asks_prepare(alloc, message.body(), list)?)
-}
-
-/// How many Prepares are sent, and whether the one at the index is this partition's, of this list.
-fn prepare_at(alloc: Global, at: usize, part: u16, list: &str) -> Result<(usize, bool), Refusal> {
-    let (_preparing, prepares) = begun(alloc, lists(alloc)?)?;
-    match prepares.get(at) {
-        Some(message) => Ok((prepares.len(), is_prepare(alloc, message, part, list)?)),
-        None => Err(Refusal::Clash),
-    }
-}
-
-/// One Prepare for each partition concerned, rising, each with its own write and with the items of both.
-#[test]
-fn each_partition_is_sent_its_writes(rt: HostRuntime) {
-    assert_eq!(rt; prepare_at(rt.alloc(), 0, 0, "list/1"), Ok((2, true)));
-    assert_eq!(rt; prepare_at(rt.alloc(), 1, 2, "list/0"), Ok((2, true)));
 }
 
 /// Whether a write to the full album is refused for that, and its permit handed back.
@@ -482,38 +428,4 @@ fn replies_carry_a_write_on(rt: HostRuntime) {
     for (replies, end) in ROWS {
         assert_eq!(rt; after(rt.alloc(), replies), Ok((*end, T)));
     }
-}
-
-/// How many Commits are sent once both have prepared, and whether they are those of `T`, rising, under the tag 6.
-fn commits(alloc: Global) -> Result<(usize, bool), Refusal> {
-    let (preparing, _prepares) = begun(alloc, lists(alloc)?)?;
-    match prepare_given_twice(preparing)? {
-        PrepareStep::Commit(_, messages) => Ok((messages.len(), are_commits(&messages))),
-        PrepareStep::Same(_) | PrepareStep::Ended(_) => Err(Refusal::Clash),
-    }
-}
-
-fn prepare_given_twice(preparing: Preparing) -> Result<PrepareStep, Refusal> {
-    match preparing.on_reply(&message_of(P2)?) {
-        PrepareStep::Same(preparing) => Ok(preparing.on_reply(&message_of(P0)?)),
-        PrepareStep::Commit(_, _) | PrepareStep::Ended(_) => Err(Refusal::Clash),
-    }
-}
-
-fn are_commits(messages: &[Message]) -> bool {
-    match messages {
-        [one, other] => is_commit(one, 0) && is_commit(other, 2),
-        _ => false,
-    }
-}
-
-fn is_commit(message: &Message, part: u16) -> bool {
-    is_sent(message, part, 6)
-        && matches!(message.body(), Body::Request(Request::Commit(stamp)) if stamp.value() == T)
-}
-
-/// Whoever prepared last.
-#[test]
-fn commits_go_to_the_same_partitions(rt: HostRuntime) {
-    assert_eq!(rt; commits(rt.alloc()), Ok((2, true)));
 }
