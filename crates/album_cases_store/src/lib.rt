@@ -1,4 +1,5 @@
-//! Tests of partitions, reads and passes, most of them driven by tables of messages that are spelled as short texts.
+//! Tests of partitions, reads and passes that no script of `rows/replay` reaches, most of them driven by tables of
+//! messages that are spelled as short texts.
 #![tactic(auto)]
 
 #[cfg(test)]

@@ -129,7 +129,7 @@ fn node_text(alloc: Global, node: Node) -> Result<String, Refusal> {
     }
 }
 
-pub fn value_word(value: &Value) -> &'static str {
+fn value_word(value: &Value) -> &'static str {
     match value {
         Value::Missing => "missing",
         Value::Picture(_) => "picture",
