@@ -18,7 +18,7 @@ fn numbers_of_members(rt: HostRuntime) {
 }
 
 /// What is asked of one item.
-const VERBS: [Verb; 13] = [
+const VERBS: &[Verb] = &[
     Verb::Read,
     Verb::List,
     Verb::GetList,
@@ -50,6 +50,6 @@ fn copies(alloc: Global, verb: Verb, text: &str) -> Result<bool, Refusal> {
 #[test]
 fn copies_of_asks(rt: HostRuntime) {
     for verb in VERBS {
-        assert_eq!(rt; copies(rt.alloc(), verb, "album/3"), Ok(true));
+        assert_eq!(rt; copies(rt.alloc(), *verb, "album/3"), Ok(true));
     }
 }

@@ -112,14 +112,22 @@ fn value_of(alloc: Global, is: Is) -> Result<Value, Refusal> {
     }
 }
 
-/// The item's value in the store.
-fn found(alloc: Global, store: Store, item: ItemId) -> Result<Value, Refusal> {
+/// What the item is in the store, if it is there.
+fn is_at(store: Store, item: ItemId) -> Option<Is> {
     for (text, is) in store {
         if read_item(text) == Some(item) {
-            return value_of(alloc, *is);
+            return Some(*is);
         }
     }
-    Ok(Value::Missing)
+    None
+}
+
+/// The item's value in the store.
+fn found(alloc: Global, store: Store, item: ItemId) -> Result<Value, Refusal> {
+    match is_at(store, item) {
+        Some(is) => value_of(alloc, is),
+        None => Ok(Value::Missing),
+    }
 }
 
 /// What the one partition answers client 1 of the item.
