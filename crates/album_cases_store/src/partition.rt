@@ -1,5 +1,5 @@
-// What a partition answers, how it settles what was left pending, and how it opens (docs/PROTOCOL.md, "What a
-// partition answers" and "How a pending write is settled").
+// What a partition answers, to messages too that no client sends, what it keeps, and how it opens (docs/PROTOCOL.md,
+// "What a partition answers").
 use crate::messages::{
     Is, Rows, Step, all_told, client, item_of, rows_of, same, sent, stamp_of, told,
 };
@@ -10,10 +10,10 @@ use std::alloc::Global;
 use std::process::Abort;
 use std::test::Fail;
 
-/// A partition of three that opens with no item.
-fn opened(alloc: Global, number: u16, limit: u64) -> Result<Partition, Refusal> {
+/// Partition 0 of three, which opens with no item and room for so many marks.
+fn opened(alloc: Global, limit: u64) -> Result<Partition, Refusal> {
     let items = rows_of(alloc, &[])?;
-    Ok(Partition::new(alloc, number, 3, items, limit)?)
+    Ok(Partition::new(alloc, 0, 3, items, limit)?)
 }
 
 /// What the partition replies to the message.
@@ -60,7 +60,7 @@ fn check(
 /// Partition 0 of three, with room for so many marks, replies to each message so. Gives how many marks it
 /// has then.
 fn replies_so(rt: &impl Abort, alloc: Global, limit: u64, cases: Cases) -> Result<usize, Fail> {
-    let mut partition = opened(alloc, 0, limit)?;
+    let mut partition = opened(alloc, limit)?;
     check(rt, alloc, &mut partition, &Node::Part(0), cases)?;
     Ok(partition.history().len())
 }
@@ -186,28 +186,28 @@ fn silent(rt: &impl Abort, alloc: Global, partition: &mut Partition) -> Result<(
 /// A message to another node does nothing.
 #[test]
 fn messages_to_others(rt: HostRuntime) -> Result<(), Fail> {
-    let mut partition = opened(rt.alloc(), 0, 10)?;
+    let mut partition = opened(rt.alloc(), 10)?;
     silent(&rt, rt.alloc(), &mut partition)?;
     assert_eq!(rt; partition.history().len(), 0);
     Ok(())
 }
 
-/// The partition of this number takes the message, whatever it replies.
-fn taken(alloc: Global, partition: &mut Partition, number: u16, step: Step) -> Result<(), Refusal> {
-    let _reply = answer(alloc, partition, Node::Part(number), 7, step)?;
+/// The partition takes the message, whatever it replies.
+fn taken(alloc: Global, partition: &mut Partition, step: Step) -> Result<(), Refusal> {
+    let _reply = answer(alloc, partition, Node::Part(0), 7, step)?;
     Ok(())
 }
 
 /// The stamp of the counter is prepared and committed.
 fn written(alloc: Global, partition: &mut Partition, counter: u64) -> Result<(), Refusal> {
     let stamp = counter.wrapping_mul(65536).wrapping_add(1);
-    taken(alloc, partition, 0, Step::Prepare(stamp, FIRST, PICTURE))?;
-    taken(alloc, partition, 0, Step::Commit(stamp))
+    taken(alloc, partition, Step::Prepare(stamp, FIRST, PICTURE))?;
+    taken(alloc, partition, Step::Commit(stamp))
 }
 
 /// A partition to which so many stamps were written.
 fn filled(alloc: Global, counters: u64) -> Result<Partition, Refusal> {
-    let mut partition = opened(alloc, 0, 1000)?;
+    let mut partition = opened(alloc, 1000)?;
     for counter in 1..=counters {
         written(alloc, &mut partition, counter)?;
     }
@@ -237,16 +237,10 @@ const AFTER_A_THOUSAND: Cases = &[
     ),
 ];
 
-/// The partition, once it has its Prepare of 65537.
-fn prepared(
-    alloc: Global,
-    number: u16,
-    writes: Rows,
-    items: &'static [&'static str],
-) -> Result<Partition, Refusal> {
-    let mut partition = opened(alloc, number, 10)?;
-    let step = Step::Prepare(65537, writes, items);
-    taken(alloc, &mut partition, number, step)?;
+/// The partition, once it has its Prepare of the two lists at 65537.
+fn prepared(alloc: Global) -> Result<Partition, Refusal> {
+    let mut partition = opened(alloc, 10)?;
+    taken(alloc, &mut partition, Step::Prepare(65537, LIST_1, LISTS))?;
     Ok(partition)
 }
 
@@ -265,17 +259,6 @@ fn kept(alloc: Global, partition: &Partition, item: &str) -> Result<String, Refu
     Ok(format!(in alloc; "{} [{}] {latest}", standing.as_str(), pending.as_str())?)
 }
 
-/// The partition keeps this of 65537.
-fn keeps(
-    rt: &impl Abort,
-    alloc: Global,
-    partition: &Partition,
-    item: &str,
-    expected: &str,
-) -> Result<(), Fail> {
-    same(rt, kept(alloc, partition, item), expected)
-}
-
 fn pending_text(alloc: Global, partition: &Partition) -> Result<String, Refusal> {
     let mut text = String::new(alloc);
     for stamp in partition.pending()? {
@@ -285,74 +268,12 @@ fn pending_text(alloc: Global, partition: &Partition) -> Result<String, Refusal>
     Ok(text)
 }
 
-fn copies(alloc: Global, messages: &[Message]) -> Result<Vec<Message>, Refusal> {
-    let mut copies = Vec::new(alloc);
-    for message in messages {
-        copies.push(message.copy()?)?;
-    }
-    Ok(copies)
-}
-
-/// What the partition sends to settle 65537.
-fn swept(partition: &Partition) -> Result<Vec<Message>, Refusal> {
-    partition.sweep(stamp_of(65537)?)
-}
-
-/// The texts of the copies of these messages.
-fn copied_text(alloc: Global, messages: &[Message]) -> Result<String, Refusal> {
-    let copies = copies(alloc, messages)?;
-    all_told(alloc, &copies)
-}
-
-/// The texts of these messages, and then of their copies.
-fn with_copies(alloc: Global, messages: &[Message]) -> Result<String, Refusal> {
-    let text = all_told(alloc, messages)?;
-    let copied = copied_text(alloc, messages)?;
-    Ok(format!(in alloc; "{}{}", text.as_str(), copied.as_str())?)
-}
-
-/// The texts of what the partition sends to settle 65537, and then of the copies.
-fn swept_text(alloc: Global, partition: &Partition) -> Result<String, Refusal> {
-    let messages = swept(partition)?;
-    with_copies(alloc, &messages)
-}
-
-/// The partition sends this to settle 65537, and the copies say the same.
-fn sweeps(
-    rt: &impl Abort,
-    alloc: Global,
-    partition: &Partition,
-    expected: &str,
-) -> Result<(), Fail> {
-    same(rt, swept_text(alloc, partition), expected)
-}
-
-/// What the partition replies to each message.
-fn replies(
-    alloc: Global,
-    partition: &mut Partition,
-    messages: &[Message],
-) -> Result<Vec<Message>, Refusal> {
-    let mut replies = Vec::new(alloc);
-    for message in messages {
-        if let Some(reply) = partition.receive(message)? {
-            replies.push(reply)?;
-        }
-    }
-    Ok(replies)
-}
-
+/// A stamp that is prepared is pending, and no item's latest.
 #[test]
-fn sweep_asks(rt: HostRuntime) -> Result<(), Fail> {
-    let alloc = rt.alloc();
-    let partition = prepared(alloc, 0, LIST_1, LISTS)?;
-    keeps(&rt, alloc, &partition, "list/1", "Pending 1 [65537] 0")?;
-    sweeps(
-        &rt,
-        alloc,
-        &partition,
-        "p0 p2 0 check 65537; p0 p2 0 check 65537; ",
-    )
+fn what_is_kept(rt: HostRuntime) -> Result<(), Fail> {
+    let partition = prepared(rt.alloc())?;
+    let text = kept(rt.alloc(), &partition, "list/1");
+    same(&rt, text, "Pending 1 [65537] 0")
 }
 
 /// Why a partition of this number, of so many, does not open.
@@ -401,6 +322,35 @@ fn refused_openings(rt: HostRuntime) -> Result<(), Fail> {
         assert_eq!(rt; refusal, *expected, "{number} of {parts}, {limit} marks");
     }
     Ok(())
+}
+
+fn copies(alloc: Global, messages: &[Message]) -> Result<Vec<Message>, Refusal> {
+    let mut copies = Vec::new(alloc);
+    for message in messages {
+        copies.push(message.copy()?)?;
+    }
+    Ok(copies)
+}
+
+/// The texts of the copies of these messages.
+fn copied_text(alloc: Global, messages: &[Message]) -> Result<String, Refusal> {
+    let copies = copies(alloc, messages)?;
+    all_told(alloc, &copies)
+}
+
+/// What the partition replies to each message.
+fn replies(
+    alloc: Global,
+    partition: &mut Partition,
+    messages: &[Message],
+) -> Result<Vec<Message>, Refusal> {
+    let mut replies = Vec::new(alloc);
+    for message in messages {
+        if let Some(reply) = partition.receive(message)? {
+            replies.push(reply)?;
+        }
+    }
+    Ok(replies)
 }
 
 /// The message of the step to partition 0, alone.
@@ -454,7 +404,7 @@ const COPIED: Cases = &[
 #[test]
 fn each_message_copied(rt: HostRuntime) -> Result<(), Fail> {
     let alloc = rt.alloc();
-    let mut partition = opened(alloc, 0, 3)?;
+    let mut partition = opened(alloc, 3)?;
     for (step, expected) in COPIED {
         same(&rt, copied(alloc, &mut partition, *step), expected)?;
     }
