@@ -1,6 +1,7 @@
 // What the program says of itself, and of its lines.
 
-pub(crate) const ABOUT: &str = "A photo album store that judges by NFSv4 access lists, with every promise proved";
+pub(crate) const ABOUT: &str =
+    "A photo album store that judges by NFSv4 access lists, with every promise proved";
 
 pub(crate) const JUDGE_ABOUT: &str =
     "Answers each line of standard input, a question about an access list, by one line";

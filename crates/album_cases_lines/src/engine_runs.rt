@@ -156,7 +156,10 @@ fn any_pieces(rt: HostRuntime) {
     for script in SCRIPTS {
         for most in [1, 2, 7, 4096] {
             let end = run_of(rt.alloc(), script, most, NONE);
-            assert!(rt; has_ended(&end, script, None, script.output.len()), "pieces of {most}");
+            assert!(rt;
+                has_ended(&end, script, None, script.output.len()),
+                "pieces of {most}"
+            );
         }
     }
 }
@@ -169,7 +172,10 @@ fn each_read_fails(rt: HostRuntime) {
         for at in 0..reads {
             let end = run_of(rt.alloc(), script, 7, Trouble { read: at, ..NONE });
             let len = told(script, at.wrapping_mul(7));
-            assert!(rt; has_ended(&end, script, Some(Fault::Reading), len), "read {at}");
+            assert!(rt;
+                has_ended(&end, script, Some(Fault::Reading), len),
+                "read {at}"
+            );
         }
     }
 }
@@ -195,7 +201,10 @@ fn stops_at_each_write(alloc: Global, script: &Script, fails: bool) -> bool {
 fn each_write_fails(rt: HostRuntime) {
     for script in SCRIPTS {
         for fails in [true, false] {
-            assert!(rt; stops_at_each_write(rt.alloc(), script, fails), "fails: {fails}");
+            assert!(rt;
+                stops_at_each_write(rt.alloc(), script, fails),
+                "fails: {fails}"
+            );
         }
     }
 }
