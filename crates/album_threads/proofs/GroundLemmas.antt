@@ -21,7 +21,7 @@ seen_more b c d rows s r x y h = record {
 }
 
 -- what a history has, a longer one has
-has_more : (ms ns : List Mark) (m : Mark) → IsPrefix ms ns → Contains ms m → Contains ns m
+pub has_more : (ms ns : List Mark) (m : Mark) → IsPrefix ms ns → Contains ms m → Contains ns m
 has_more ms ns m p h =
     let l : h.0 < length (ms ++ p.0) = (let long = length-append ms p.0 in let k = h.1 in omega arith) in
     subst (λ (os : List Mark). Contains os m) p.1 (h.0, l, get_or_append_left ms p.0 m h.0 h.1 ∙ h.2)

@@ -25,7 +25,7 @@ use Rattle.album_passes.proofs.PrefixLemmas.{any_more}
 use Rattle.album_items.specs.Places.{lies_at}
 use Rattle.album_threads.specs.Letters.{is_mark_for, ShowsVote, ShowsCheck, ShowsRequest, ShowsReply, ShowsBody, Shows, IsAnswered}
 
-discarded_tells : (a b c : Bool) → state_by a b c ≡ state.Discarded → b ≡ true
+pub discarded_tells : (a b c : Bool) → state_by a b c ≡ state.Discarded → b ≡ true
 discarded_tells true b c e = absurd (cc (e))
 discarded_tells false true c e = refl
 discarded_tells false false true e = absurd (cc (e))

@@ -5,3 +5,10 @@ pub mod OpenedLemmas
 pub mod GroundLemmas
 pub mod StartLemmas
 pub mod SessionLemmas
+pub mod RoundLemmas
+pub mod TrimLemmas
+pub mod EndLemmas
+pub mod WriteLemmas
+pub mod AskLemmas
+pub mod RestLemmas
+pub mod LookLemmas

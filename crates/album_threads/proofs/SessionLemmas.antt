@@ -1,15 +1,14 @@
 -- What a session has seen more. `Caller` cites `tells_joined` and the lemmas on `IsLater`, `Session` `ahead_later` and
 -- `floor_above`.
-use Rattle.std.proofs.Common.{◌≡◌, ◌≢◌, ℕ, ◌<◌, ◌≤◌, true, List, [], ◌∷◌, ◌++◌, length, length-append, append-nil, Result, Ok, Err, Option, Some, None, refl, sym, ap, ◌∙◌, subst, ⊎_elim, arith}
+use Rattle.std.proofs.Common.{◌≡◌, ◌≢◌, ℕ, ◌≤◌, true, List, [], ◌∷◌, ◌++◌, length, length-append, append-nil, Result, Ok, Err, Some, refl, sym, ap, ◌∙◌, subst, ⊎_elim, arith}
 use Rattle.album_stamps.specs.declared.refusals.Refusal.{Refusal}
-use Rattle.album_stamps.specs.Stamps.{client_number, counter_of}
 use Rattle.album_terminate.specs.declared.deciding.StampState.TheVariants as state
 use Rattle.album_items.specs.ItemIds.{place_of}
 use Rattle.album_partition.specs.Marks.{ArePending, state_of, is_full, is_legal, latest, floor}
 use Rattle.album_partition.specs.declared.marks.Mark.{Mark}
 use Rattle.album_partition.proofs.GrowthLemmas.{latest_rises}
-use Rattle.album_passes.specs.Changes.{longer, merged, KeepsOwn, IsUnheard}
-use Rattle.album_passes.specs.Cuts.{Cut, prefix_at, announced_for, IsPrefix, IsSound, Extends}
+use Rattle.album_passes.specs.Changes.{merged, KeepsOwn, IsUnheard}
+use Rattle.album_passes.specs.Cuts.{Cut, prefix_at, IsPrefix, IsSound, Extends}
 use Rattle.album_passes.specs.Pass.{PassState}
 use Rattle.album_passes.proofs.CutLemmas.{extends_self, extends_trans, longer_at}
 use Rattle.album_passes.proofs.PrefixLemmas.{longer_cases}

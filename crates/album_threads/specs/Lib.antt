@@ -5,3 +5,7 @@ pub mod Keepers
 pub mod Opened
 pub mod Grounds
 pub mod Sessions
+pub mod Replies
+pub mod Resting
+pub mod Writes
+pub mod Asks

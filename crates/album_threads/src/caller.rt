@@ -1,7 +1,8 @@
 // Who asks the partitions: what a session has of what travels.
-ghost use Rattle.std.specs.Prelude.{◌≡◌, ◌≢◌, ◌+◌, ◌<◌, ◌≤◌, ◌^◌, IfOk, IfErr, OnOk, OnErr, IfSome, IfNone, None, IsOkUnless};
-ghost use Rattle.album_passes.specs.Changes.{merged};
-ghost use Rattle.album_passes.specs.Cuts.{IsSound, Extends};
+ghost use Rattle.std.specs.Prelude.{◌≡◌, ◌≢◌, ◌+◌, ◌<◌, ◌≤◌, ◌^◌, IfOk, IfErr, OnOk, OnErr, IfSome, IfNone, Some, None, IsOkUnless};
+ghost use Rattle.album_stamps.specs.Stamps.{client_number};
+ghost use Rattle.album_passes.specs.Changes.{merged, announced_cut};
+ghost use Rattle.album_passes.specs.Cuts.{IsSound, Extends, announced_for};
 ghost use Rattle.std.specs.Arc.{arc_value};
 ghost use Rattle.album_stamps.specs.declared.limits.TheConstants.{MOST_PARTS};
 ghost use Rattle.album_threads.specs.Inquiries.{Tells};
@@ -11,8 +12,9 @@ use crate::inquiries::{Inquiry, Notice, Question};
 use crate::mailbox::{Mail, Word, next};
 use crate::naming::Naming;
 use album_calls::Stamps;
+use album_items::ItemId;
 use album_passes::{Desk, Pass, meet};
-use album_stamps::{ClientNo, Refusal};
+use album_stamps::{ClientNo, Refusal, Stamp};
 use crossbeam_channel::{Receiver, SendError, Sender};
 use std::alloc::{AllocError, Global};
 use std::marker::Model;
@@ -83,9 +85,17 @@ impl<J: Naming> Caller<J> {
     /// How many partitions there are.
     pub(crate) fn parts(&self) -> u16
         ensures parts { result ≡ self.now.cut.parts }
+        ensures some { 1 ≤ result }
         ensures few { result ≤ MOST_PARTS }
     {
         self.parts
+    }
+
+    /// Says what is so of each caller: what it has seen is sound.
+    pub(crate) fn is_sound(&self)
+        ensures { IsSound self.now.cut }
+    {
+        let _ = self.pass.length(0);
     }
 
     /// Tells each partition where the session takes what it is told.
@@ -111,7 +121,7 @@ impl<J: Naming> Caller<J> {
     /// # Errors
     ///
     /// `Closed`.
-    fn next_tag(&mut self) -> Result<u64, Refusal>
+    pub(crate) fn next_tag(&mut self) -> Result<u64, Refusal>
         ensures low { IfOk result (λ tag. 1 ≤ tag) }
         ensures high { IfOk result (λ tag. tag + 1 < 2 ^ 64) }
         ensures closed { IsOkUnless result Refusal.Closed }
@@ -126,7 +136,7 @@ impl<J: Naming> Caller<J> {
     }
 
     /// Sends to the partition.
-    fn send<R: Wait>(&mut self, rt: &R, part: u16, mail: Mail<J>) -> Result<(), Refusal>
+    pub(crate) fn send<R: Wait>(&mut self, rt: &R, part: u16, mail: Mail<J>) -> Result<(), Refusal>
         ensures refused { IfErr result IsNoWord }
         ensures same { self.new ≡ self.old }
     {
@@ -144,7 +154,7 @@ impl<J: Naming> Caller<J> {
     }
 
     /// What comes next. `Closed` where all who could send are gone.
-    fn next<R: Wait>(&mut self, rt: &R) -> Result<Word<J>, Refusal>
+    pub(crate) fn next<R: Wait>(&mut self, rt: &R) -> Result<Word<J>, Refusal>
         ensures closed { IsOkUnless result Refusal.Closed }
         ensures same { self.new ≡ self.old }
     {
@@ -158,7 +168,7 @@ impl<J: Naming> Caller<J> {
     }
 
     /// A pass with an equal cut, to go with what is sent.
-    fn split(&mut self) -> Pass
+    pub(crate) fn split(&mut self) -> Pass
         ensures cut { result.cut ≡ self.old.cut }
         ensures of { result.table ≡ J.table }
         ensures unnumbered { result.number ≡ None }
@@ -169,7 +179,7 @@ impl<J: Naming> Caller<J> {
     }
 
     /// Takes in all that the pass has seen.
-    fn join(&mut self, pass: Pass)
+    pub(crate) fn join(&mut self, pass: Pass)
         requires of { pass.table ≡ J.table }
         requires unnumbered { pass.number ≡ None }
         ensures cut { self.new.cut ≡ merged self.old.cut pass.cut }
@@ -178,6 +188,18 @@ impl<J: Naming> Caller<J> {
         ensures later { IsLater self.old self.new }
     {
         self.pass.join(&self.desk, pass);
+    }
+
+    /// Announces the items for the client's stamp.
+    pub(crate) fn announce_items(&mut self, stamp: Stamp, items: &[ItemId])
+        requires own { client_number stamp ≡ self.old.client }
+        requires fresh { announced_for self.old.cut stamp ≡ None }
+        ensures announced { announced_for self.new.cut stamp ≡ Some items.now }
+        ensures cut { self.new.cut ≡ announced_cut self.old.cut stamp items.now }
+        ensures grown { Extends self.old.cut self.new.cut }
+        ensures client { self.new.client ≡ self.old.client }
+    {
+        self.pass.announce(&self.desk, stamp, items);
     }
 
     /// Both take in all that the other has seen, and then have one cut.

@@ -1,6 +1,9 @@
 //! The store, running: each partition on a thread of its own, and sessions that ask it.
 #![tactic(auto)]
 
+mod answers;
+mod asked;
+mod asks;
 mod attend;
 mod caller;
 mod gate;
@@ -11,10 +14,14 @@ mod letters;
 mod mailbox;
 mod naming;
 mod opened;
+mod reads;
+mod rounds;
 mod service;
 mod session;
 mod starting;
+mod writes;
 
+pub use answers::Answer;
 pub use gate::{Gate, Open};
 pub use inquiries::{Inquiry, Notice, Question};
 pub use laws::grounds_stay;

@@ -23,12 +23,12 @@ use std::sync::{Arc, Mutex, Wait};
 /// A session, which asks the partitions of the service that `J` names. It has a share of the audit book, and ends by
 /// `end`. Contracts see its client, what it has seen of the partitions, and its share.
 pub struct Session<J: Naming> {
-    alloc: Global,
-    caller: Caller<J>,
-    clock: Clock,
-    policy: Policy,
-    book: Arc<Mutex<AuditBook<J>>, Global>,
-    share: Share<J>,
+    pub(crate) alloc: Global,
+    pub(crate) caller: Caller<J>,
+    pub(crate) clock: Clock,
+    pub(crate) policy: Policy,
+    pub(crate) book: Arc<Mutex<AuditBook<J>>, Global>,
+    pub(crate) share: Share<J>,
 }
 
 impl<J: Naming> Model for Session<J> {

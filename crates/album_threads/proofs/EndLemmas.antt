@@ -1,0 +1,125 @@
+-- How a read of two rounds ends. `Caller::read` cites `result_so`, which is by `read_so` and `overtaken`.
+use Rattle.std.proofs.Common.{◌≡◌, ℕ, zero, suc, ◌<◌, true, List, [], ◌∷◌, get_or, map, All, Contains, Option, Result, Ok, Err, refl, sym, ap, ◌∙◌, subst, arith}
+use Rattle.std.specs.Prelude.{IfOk, OnOk}
+use Rattle.std.specs.Option.{unwrap_or}
+use Rattle.std.specs.List.{count_by}
+use Rattle.std.proofs.lemmas.List.Elements.{All-contains, Contains-get_or}
+use Rattle.album_items.specs.ItemIds.{place_of}
+use Rattle.album_stamps.specs.declared.refusals.Refusal.{Refusal}
+use Rattle.album_calls.specs.declared.messages.Message.{Message}
+use Rattle.album_partition.specs.Laws.{IsLatest}
+use Rattle.album_partition.specs.Marks.{is_legal}
+use Rattle.album_partition.specs.declared.marks.Mark.{Mark}
+use Rattle.album_partition.proofs.LegalLemmas.{legal_parts}
+use Rattle.album_passes.specs.Cuts.{Cut, prefix_at, prefix_for, IsSound, IsPrefix, Extends}
+use Rattle.album_passes.specs.Reads.{IsAnsweredBetween, IsReadInTwoRounds}
+use Rattle.album_passes.proofs.CutLemmas.{extends_trans}
+use Rattle.album_passes.proofs.PrefixLemmas.{prefix_trans}
+use Rattle.album_passes.proofs.ReadLemmas.{read_whole, read_written, read_fresh}
+use Rattle.album_reader.specs.Answers.{Answer}
+use Rattle.album_reader.specs.Rounds.{RoundState, asked_stamps}
+use Rattle.album_reader.specs.Snapshots.{items_read}
+use Rattle.album_reader.specs.StampSets.{stamps_of}
+use Rattle.album_reader.proofs.StampSets.{stamps_of-Contains}
+use Rattle.album_threads.specs.Grounds.{is_trim}
+use Rattle.album_threads.specs.Replies.{AreOf, IsFirstOver, IsGoneFrom, IsReadOf, IsOvertaken, EndsWith, Reads}
+use Rattle.album_threads.specs.declared.reads.Read.{Read}
+use Rattle.album_threads.specs.declared.reads.Read.TheVariants as read
+use Rattle.album_threads.proofs.TrimLemmas.{prefix_trims, trimmed_since, trims_rise}
+
+-- ---- what a list of answers has
+
+mapped_there : (f : Answer → ℕ) (xs : List Answer) (x : Answer) → Contains xs x → Contains (map f xs) (f x)
+mapped_there f [] x n = absurd (omega (arith, n.1))
+mapped_there f (y ∷ xs) x (zero, l, e) = (0, omega arith, ap f e)
+mapped_there f (y ∷ xs) x (suc k, l, e) = let r = mapped_there f xs x (k, omega arith, e) in (suc r.0, omega (arith, r.1), r.2)
+
+mapped_from : (f : Answer → ℕ) (xs : List Answer) (n : ℕ) → Contains (map f xs) n → (x : Answer) × Contains xs x × (f x ≡ n)
+mapped_from f [] n h = absurd (omega (arith, h.1))
+mapped_from f (y ∷ xs) n (zero, l, e) = (y, (0, omega arith, refl), e)
+mapped_from f (y ∷ xs) n (suc k, l, e) = let r = mapped_from f xs n (k, omega arith, e) in (r.0, (suc r.1.0, omega (arith, r.1.1), r.1.2), r.2)
+
+-- ---- both rounds
+
+module _ (b m c : Cut) (begun next : RoundState) (gets : List Message) (F : IsFirstOver b m begun next gets) where
+  -- the second round asks for the items of the first, with the stamps of its answers
+  items_again : next.items ≡ items_read F.answers
+  items_again = ap (λ (r : RoundState). r.items) F.next_is ∙ sym F.are.items
+
+  stamps_given : asked_stamps next ≡ stamps_of F.answers
+  stamps_given = ap asked_stamps F.next_is
+
+  first_round : All (IsAnsweredBetween b m []) F.answers
+  first_round = subst (λ (o : Option (List ℕ)). All (IsAnsweredBetween b m (unwrap_or o [])) F.answers) F.first F.are.between
+
+  -- each item of the second round was answered in the first
+  answered : (i : ℕ) → Contains next.items i → (x : Answer) × Contains F.answers x × (x.item ≡ i)
+  answered i n = mapped_from (λ (x : Answer). x.item) F.answers i (subst (λ (is : List ℕ). Contains is i) items_again n)
+
+  in_two_rounds : (rows : List Answer) → IsSound b → IsSound m → IsSound c → Extends b m → Extends m c → AreOf m c next rows
+      → IsReadInTwoRounds b m c F.answers (stamps_of F.answers) rows
+  in_two_rounds rows s r t x y a = record {
+    begun_sound = s;
+    middle_sound = r;
+    ended_sound = t;
+    first_on = x;
+    second_on = y;
+    first_round = first_round;
+    collected = stamps_of-Contains F.answers;
+    second_round = subst (λ (ts : List ℕ). All (IsAnsweredBetween m c ts) rows) stamps_given a.between;
+    asked_before = λ k d l. answered (get_or rows k d).item
+        (subst (λ (is : List ℕ). Contains is (get_or rows k d).item) a.items
+        (mapped_there (λ (z : Answer). z.item) rows (get_or rows k d) (Contains-get_or rows k d l)));
+  }
+
+  -- what the second round has read is read atomic and fresh
+  read_so : (rows : List Answer) → IsSound b → IsSound m → IsSound c → Extends b m → Extends m c → AreOf m c next rows
+      → IsReadOf b c begun.items rows
+  read_so rows s r t x y a =
+      let R = in_two_rounds rows s r t x y a in
+      record {
+        items_are = a.items ∙ ap (λ (z : RoundState). z.items) F.next_is;
+        seen = record {
+          atomic = record {
+            whole = read_whole b m c F.answers (stamps_of F.answers) rows R;
+            written = λ k d l. read_written b m c F.answers (stamps_of F.answers) rows R (get_or rows k d) (Contains-get_or rows k d l);
+          };
+          fresh = λ k d l. read_fresh b m c F.answers (stamps_of F.answers) rows R (get_or rows k d) (Contains-get_or rows k d l);
+        };
+      }
+
+  -- where the second round finds an item gone, a trim has overtaken the read
+  overtaken : (all : List ℕ) → IsSound b → IsSound m → IsSound c → Extends b m → Extends m c → IsGoneFrom m c next all
+      → IsOvertaken b c begun.items all
+  overtaken all s r t x y g =
+      let gone = g.gone in
+      let i = gone.item in
+      let first = answered i gone.asked in
+      let Was : ℕ → Type 0 = λ j. (old : List Mark) × (IsPrefix (prefix_for b j) old) × (IsPrefix old (prefix_for m j)) × IsLatest old j first.0.stamp in
+      let told = All-contains (IsAnsweredBetween b m []) F.answers first.0 first_round first.1 in
+      let was : Was i = subst Was first.2 (told.marks, told.from, told.to, told.read) in
+      let since : IsPrefix was.0 gone.marks = prefix_trans was.0 (prefix_for m i) gone.marks was.2 gone.from in
+      let legal : is_legal gone.marks ≡ true =
+      (legal_parts gone.marks gone.to.0 (subst (λ (ms : List Mark). is_legal ms ≡ true) (sym gone.to.1) (t.legal (place_of c.parts i)))).0 in
+      let given : Contains (asked_stamps next) first.0.stamp =
+      subst (λ (ts : List ℕ). Contains ts first.0.stamp) (sym stamps_given)
+      ((stamps_of-Contains F.answers first.0.stamp).1 (mapped_there (λ (z : Answer). z.stamp) F.answers first.0 first.1)) in
+      let more = trimmed_since was.0 gone.marks i first.0.stamp (asked_stamps next) since legal was.3 given gone.trimmed gone.unkept in
+      let before = prefix_trims (prefix_for b i) was.0 was.1 in
+      let now = prefix_trims gone.marks (prefix_for c i) gone.to in
+      let along : Extends b c = extends_trans b m c x y in
+      let there : count_by is_trim (prefix_for b i) < count_by is_trim (prefix_at c (place_of b.parts i)) =
+      subst (λ (n : ℕ). count_by is_trim (prefix_for b i) < count_by is_trim (prefix_at c (place_of n i))) along.parts (omega arith) in
+      record {
+        items_are = g.items_are ∙ ap (λ (z : RoundState). z.items) F.next_is;
+        trimmed = trims_rise b c (place_of b.parts i) s t along there;
+      }
+
+  ends_so : (r : Read) → IsSound b → IsSound m → IsSound c → Extends b m → Extends m c → EndsWith m c next r → Reads b c begun.items r
+  ends_so (read.Done rows) s r t x y h = read_so rows s r t x y h
+  ends_so (read.Gone all) s r t x y h = overtaken all s r t x y h
+
+  pub result_so : (r : Result Read Refusal) → IsSound b → OnOk r (IsSound m) → OnOk r (IsSound c) → Extends b m → Extends m c
+      → IfOk r (EndsWith m c next) → IfOk r (Reads b c begun.items)
+  result_so (Ok found) s r t x y h = ends_so found s r t x y h
+  result_so (Err why) s r t x y h = tt

@@ -1,0 +1,224 @@
+-- What comes of one read more for an ask. `Session::look_once` cites `done_result` and `gone_so`, and `Session::look`
+-- `looking_first`, `looking_next`, `looks_seen`, `looks_busy` and `on_trans`.
+use Rattle.std.proofs.Common.{◌≡◌, inl, inr, ℕ, ◌+◌, ◌<◌, ◌≤◌, Bool, true, false, None, List, [], ◌∷◌, ◌++◌, length, length-append, nat_le, nat_lt, if◌then◌else◌, Result, Ok, Err, IfOk, refl, sym, ◌∙◌, subst, arith}
+use Rattle.std.proofs.lemmas.Bool.{ltb-true, ltb-false, leb-true}
+use Rattle.album_stamps.specs.declared.limits.TheConstants.{MOST_READ_ITEMS, MOST_READS}
+use Rattle.album_stamps.specs.declared.refusals.Refusal.{Refusal}
+use Rattle.album_reader.specs.Answers.{Answer as Row}
+use Rattle.album_reader.specs.Snapshots.{items_read}
+use Rattle.album_passes.specs.Cuts.{Cut, IsSound, Extends}
+use Rattle.album_passes.proofs.CutLemmas.{extends_self, extends_trans}
+use Rattle.album_passes.proofs.ReadLemmas.{fresh_more}
+use Rattle.album_views.specs.Asks.{objects_of}
+use Rattle.album_views.specs.Checks.{flaw_of}
+use Rattle.album_views.specs.Naming.{names_of}
+use Rattle.album_views.specs.Steps.{again, stepped, AreReadable, AsksReadable}
+use Rattle.album_views.specs.Views.{ViewState, ViewingState, IsClosed, is_closed}
+use Rattle.album_views.specs.declared.asks.Ask.{Ask}
+use Rattle.album_views.specs.declared.viewing.ViewStep.{ViewStep}
+use Rattle.album_views.specs.declared.viewing.ViewStep.TheVariants.{Again, Closed, Busy}
+use Rattle.album_views.specs.declared.viewing.Why.{Why}
+use Rattle.album_views.specs.declared.viewing.Why.TheVariants.{Rounds, Wide}
+use Rattle.album_views.proofs.Closing.{closed-is, not-closed}
+use Rattle.album_threads.specs.Asks.{IsOn, IsViewOf, IsVain, LooksOnce, IsLooking, Looks, items_next}
+use Rattle.album_threads.specs.Grounds.{IsSeen, AreInVain, IsOutOfReads, trims_in}
+use Rattle.album_threads.specs.Grounds.AreInVain.{NoRead, OneMore}
+use Rattle.album_threads.specs.Replies.{IsReadOf}
+use Rattle.album_threads.specs.Sessions.{SessionState}
+use Rattle.album_threads.specs.declared.asks.Looked.TheVariants as looked
+use Rattle.album_threads.proofs.GroundLemmas.{seen_more}
+use Rattle.album_threads.proofs.TrimLemmas.{trims_stay}
+
+-- ---- what comes of a read
+
+module _ (b c : Cut) (viewing : ViewingState) (items : List ℕ) where
+  abbrev next : ViewingState
+  next = record { ask = viewing.ask; reads = viewing.reads + 1 }
+
+  -- the step, by whether what was read is closed, its names are too many, and the read was the last one
+  abbrev chosen : List Row → Bool → Bool → Bool → ViewStep
+  chosen rows closed wide last =
+      if closed then Closed (record { ask = viewing.ask; rows = rows })
+      else if wide then Busy Wide
+      else if last then Busy Rounds
+      else Again next (names_of rows viewing.ask)
+
+  -- it is done, and closed, names too many items, is the last one, or is read anew
+  done_so : (rows : List Row) (step : ViewStep) → IsSound c → flaw_of viewing.ask ≡ None → IsReadOf b c items rows
+      → step ≡ stepped viewing rows → AsksReadable step → LooksOnce b c viewing items step
+  done_so rows step s flawless read is readable =
+      go (is_closed viewing.ask rows) (nat_lt MOST_READ_ITEMS (length names)) (nat_le MOST_READS (viewing.reads + 1)) refl refl refl is
+    where
+      names : List ℕ
+      names = names_of rows viewing.ask
+
+      vain : is_closed viewing.ask rows ≡ false → nat_lt MOST_READ_ITEMS (length names) ≡ false → IsVain b c viewing.ask items rows
+      vain e f = record {
+        of = read.items_are;
+        seen = read.seen;
+        lacking = not-closed rows viewing.ask e;
+        few = ltb-false _ _ f;
+      }
+
+      go : (x y z : Bool) → is_closed viewing.ask rows ≡ x → nat_lt MOST_READ_ITEMS (length names) ≡ y
+          → nat_le MOST_READS (viewing.reads + 1) ≡ z → step ≡ chosen rows x y z → LooksOnce b c viewing items step
+      go true y z e f g h =
+          subst (LooksOnce b c viewing items) (sym h) (record {
+            of = refl;
+            is = record { sound = flawless; closed = closed-is rows viewing.ask e };
+            seen = read.seen;
+            sound = s;
+          })
+      go false true z e f g h =
+          subst (LooksOnce b c viewing items) (sym h) (record {
+            rows = rows;
+            seen = read.seen;
+            lacking = not-closed rows viewing.ask e;
+            wide = ltb-true _ _ f;
+          })
+      go false false true e f g h = subst (LooksOnce b c viewing items) (sym h) (leb-true _ _ g, inl (rows, vain e f))
+      go false false false e f g h =
+          subst (LooksOnce b c viewing items) (sym h) (refl, subst AsksReadable h readable, inl (rows, vain e f, refl))
+
+  pub done_result : (rows : List Row) (result : Result ViewStep Refusal) → IsSound c → flaw_of viewing.ask ≡ None
+      → IsReadOf b c items rows → IfOk result (λ step. step ≡ stepped viewing rows) → IfOk result AsksReadable
+      → IfOk result (LooksOnce b c viewing items)
+  done_result rows (Ok step) s flawless read is readable = done_so rows step s flawless read is readable
+  done_result rows (Err why) s flawless read is readable = tt
+
+  -- a trim has overtaken it
+  pub gone_so : (step : ViewStep) → trims_in b < trims_in c → AreReadable items → step ≡ again viewing items
+      → LooksOnce b c viewing items step
+  gone_so step more readable is = go (nat_le MOST_READS (viewing.reads + 1)) refl is
+    where
+      go : (z : Bool) → nat_le MOST_READS (viewing.reads + 1) ≡ z → step ≡ (if z then Busy Rounds else Again next items)
+          → LooksOnce b c viewing items step
+      go true g h = subst (LooksOnce b c viewing items) (sym h) (leb-true _ _ g, inr more)
+      go false g h = subst (LooksOnce b c viewing items) (sym h) (refl, readable, inr (more, refl))
+
+-- ---- reads in vain
+
+-- what was seen since a later cut was seen since an earlier one
+seen_from : (a b c : Cut) (rows : List Row) → IsSound c → Extends a b → Extends b c → IsSeen b c rows → IsSeen a c rows
+seen_from a b c rows s x y h = record {
+  atomic = h.atomic;
+  fresh = fresh_more a b c c s s x y (extends_self c) rows h.fresh;
+}
+
+in_vain_more : (a b c : Cut) (ask : Ask) (items : List ℕ) (reads : List (List Row)) → IsSound b → IsSound c
+    → Extends a b → Extends b c → AreInVain a b ask items reads → AreInVain a c ask items reads
+in_vain_more a b c ask _ _ s r x y (NoRead items) = NoRead items
+in_vain_more a b c ask _ _ s r x y (OneMore items rows later of seen lacking few rest) =
+    OneMore items rows later of (seen_more a b c rows s r x y seen) lacking few
+    (in_vain_more a b c ask (names_of rows ask) later s r x y rest)
+
+in_vain_push : (a c : Cut) (ask : Ask) (items : List ℕ) (reads : List (List Row)) (rows : List Row)
+    → AreInVain a c ask items reads → items_read rows ≡ items_next ask items reads → IsSeen a c rows
+    → (IsClosed ask rows → ⊥) → length (names_of rows ask) ≤ MOST_READ_ITEMS
+    → AreInVain a c ask items (reads ++ rows ∷ [])
+in_vain_push a c ask _ _ rows (NoRead items) of seen lacking few =
+    OneMore items rows [] of seen lacking few (NoRead (names_of rows ask))
+in_vain_push a c ask _ _ rows (OneMore items first later of_first seen_first lacking_first few_first rest) of seen lacking few =
+    OneMore items first (later ++ rows ∷ []) of_first seen_first lacking_first few_first
+    (in_vain_push a c ask (names_of first ask) later rows rest of seen lacking few)
+
+next_push : (ask : Ask) (items : List ℕ) (reads : List (List Row)) (rows : List Row)
+    → items_next ask items (reads ++ rows ∷ []) ≡ names_of rows ask
+next_push ask items [] rows = refl
+next_push ask items (first ∷ later) rows = next_push ask (names_of first ask) later rows
+
+-- ---- so far
+
+pub on_self : (a : SessionState) → IsOn a a
+on_self a = record { client = refl; grown = extends_self a.cut }
+
+pub on_trans : (a b c : SessionState) → IsOn a b → IsOn b c → IsOn a c
+on_trans a b c x y = record { client = y.client ∙ x.client; grown = extends_trans a.cut b.cut c.cut x.grown y.grown }
+
+pub looking_first : (c : Cut) (viewing : ViewingState) (items : List ℕ) (ask : Ask) → viewing ≡ record { ask = ask; reads = 0 }
+    → items ≡ objects_of ask → AreReadable items → flaw_of ask ≡ None → IsSound c → IsLooking c c viewing items
+looking_first c viewing items ask is of readable flawless s =
+    subst (λ (v : ViewingState). IsLooking c c v items) (sym is) (record {
+      flawless = flawless;
+      reads = [];
+      in_vain = NoRead (objects_of ask);
+      next = of;
+      all = omega arith;
+      readable = readable;
+      sound = s;
+    })
+
+module _ (a b c : Cut) (viewing : ViewingState) (items : List ℕ) (h : IsLooking a b viewing items) (x : Extends a b) (y : Extends b c)
+    (s : IsSound c) where
+  abbrev one_more : ViewingState
+  one_more = record { ask = viewing.ask; reads = viewing.reads + 1 }
+
+  pushed : (rows : List Row) → IsVain b c viewing.ask items rows
+      → AreInVain a c viewing.ask (objects_of viewing.ask) (h.reads ++ rows ∷ [])
+  pushed rows vain =
+      in_vain_push a c viewing.ask (objects_of viewing.ask) h.reads rows
+      (in_vain_more a b c viewing.ask (objects_of viewing.ask) h.reads h.sound s x y h.in_vain)
+      (vain.of ∙ h.next) (seen_from a b c rows s x y vain.seen) vain.lacking vain.few
+
+  counted : (n : ℕ) (rows : List Row) → n ≤ viewing.reads + 1 → n + trims_in a ≤ length (h.reads ++ rows ∷ []) + trims_in c
+  counted n rows few =
+      let stay = trims_stay b c h.sound s y in
+      let long = length-append h.reads (rows ∷ []) in
+      let all = h.all in
+      omega arith
+
+  pub looking_next : (other : ViewingState) (names : List ℕ) → LooksOnce b c viewing items (Again other names) → IsLooking a c other names
+  looking_next other names (is, readable, inl (rows, vain, named)) =
+      subst (λ (v : ViewingState). IsLooking a c v names) (sym is) (record {
+        flawless = h.flawless;
+        reads = h.reads ++ rows ∷ [];
+        in_vain = pushed rows vain;
+        next = named ∙ sym (next_push viewing.ask (objects_of viewing.ask) h.reads rows);
+        all = counted (viewing.reads + 1) rows (omega arith);
+        readable = readable;
+        sound = s;
+      })
+  looking_next other names (is, readable, inr (more, same)) =
+      subst (λ (v : ViewingState). IsLooking a c v names) (sym is) (record {
+        flawless = h.flawless;
+        reads = h.reads;
+        in_vain = in_vain_more a b c viewing.ask (objects_of viewing.ask) h.reads h.sound s x y h.in_vain;
+        next = same ∙ h.next;
+        all = omega (arith, h.all, more);
+        readable = readable;
+        sound = s;
+      })
+
+  out_of_reads : LooksOnce b c viewing items (Busy Rounds) → IsOutOfReads a c viewing.ask
+  out_of_reads (last, inl (rows, vain)) = record {
+    reads = h.reads ++ rows ∷ [];
+    in_vain = pushed rows vain;
+    all = counted MOST_READS rows last;
+  }
+  out_of_reads (last, inr more) = record {
+    reads = h.reads;
+    in_vain = in_vain_more a b c viewing.ask (objects_of viewing.ask) h.reads h.sound s x y h.in_vain;
+    all = omega (arith, h.all, more, last);
+  }
+
+  pub looks_seen : (ask : Ask) (view : ViewState) → viewing.ask ≡ ask → LooksOnce b c viewing items (Closed view)
+      → IsViewOf a c ask view
+  looks_seen ask view of is =
+      subst (λ (k : Ask). IsViewOf a c k view) of (record {
+        of = is.of;
+        is = is.is;
+        seen = seen_from a b c view.rows s x y is.seen;
+        sound = s;
+      })
+
+  busy_so : (why : Why) → LooksOnce b c viewing items (Busy why) → Looks a c viewing.ask (looked.Busy why)
+  busy_so Wide is = record {
+    rows = is.rows;
+    seen = seen_from a b c is.rows s x y is.seen;
+    lacking = is.lacking;
+    wide = is.wide;
+  }
+  busy_so Rounds is = out_of_reads is
+
+  pub looks_busy : (ask : Ask) (why : Why) → viewing.ask ≡ ask → LooksOnce b c viewing items (Busy why) → Looks a c ask (looked.Busy why)
+  looks_busy ask why of is = subst (λ (k : Ask). Looks a c k (looked.Busy why)) of (busy_so why is)

@@ -1,0 +1,44 @@
+use Rattle.std.proofs.Common.{rules, ◌≡◌, None, Some, Ok, ap, ◌∙◌, subst, if◌then◌else◌}
+use Rattle.album_stamps.specs.Clocks.{next_of, clock_after_next}
+use Rattle.album_stamps.specs.Stamps.{client_number, client_of, counter_of}
+use Rattle.album_stamps.specs.declared.refusals.Refusal.TheVariants.{OutOfMemory, AlbumFull}
+use Rattle.album_passes.specs.Cuts.{Cut, announced_for}
+use Rattle.album_permits.specs.Effects.{is_full_for}
+use Rattle.album_permits.specs.Permits.{PermitState}
+use Rattle.album_threads.specs.Asks.{Grants}
+use Rattle.album_threads.specs.Sessions.{SessionState}
+use Rattle.album_threads.proofs.AskLemmas.{next_fresh, own_client, drawn_own, drawn_fresh, grants_write, refused_grants, refused_else}
+use Rattle.album_threads.proofs.session.Session.begin.Goals as goal
+
+pub returns-in-Ok-begin-clause-grants : goal.returns-in-Ok-begin-clause-grants
+returns-in-Ok-begin-clause-grants g c =
+    let w = c.in-Ok-begin.preparing in
+    let new : SessionState = record { client = c.write.new.self.client; cut = c.write.new.self.cut; share = c.self.inside.share } in
+    let permit : w.permit ≡ c.args.permit = search rules in
+    let stamp : w.stamp ≡ c.in-Ok-next.stamp = search rules in
+    let drawn : Ok c.in-Ok-next.stamp ≡ next_of c.self.inside.clock = search rules in
+    let is : c.next.new.self ≡ clock_after_next c.self.inside.clock = search rules in
+    let of : client_of c.in-Ok-next.stamp ≡ Some c.next.new.self.client = search rules in
+    let counted : counter_of c.in-Ok-next.stamp ≡ c.next.new.self.counter = search rules in
+    let client : c.self.inside.caller.client ≡ c.args.self.now.client = search rules in
+    let cut : c.args.self.now.cut ≡ c.self.inside.caller.cut = search rules in
+    let mine = drawn_own c.self.inside.clock c.next.new.self c.self.inside.caller.client c.in-Ok-next.stamp is of c.self.invariant.own in
+    let unused = drawn_fresh c.self.inside.clock c.next.new.self c.self.inside.caller c.in-Ok-next.stamp drawn is of counted c.self.invariant.own c.self.invariant.ahead in
+    let own : client_number w.stamp ≡ c.args.self.now.client = ap client_number stamp ∙ mine ∙ client in
+    let fresh : announced_for c.args.self.now.cut w.stamp ≡ None =
+    ap (announced_for c.args.self.now.cut) stamp ∙ ap (λ (d : Cut). announced_for d c.in-Ok-next.stamp) cut ∙ unused in
+    subst (λ (p : PermitState). Grants g.J.Naming.terms.limit c.args.self.now new p c.write.result) permit
+    (grants_write g.J.Naming.terms.limit c.args.self.now new w own fresh c.write.ensures.announced c.write.result c.write.ensures.ends)
+
+pub returns-in-Err-begin-clause-grants : goal.returns-in-Err-begin-clause-grants
+returns-in-Err-begin-clause-grants g c =
+    let new : SessionState = record { client = c.next_tag.new.self.client; cut = c.next_tag.new.self.cut; share = c.self.inside.share } in
+    let why : c.in-Err-begin.field-0.refusal ≡ (if is_full_for c.args.permit c.in-Ok-next.stamp then AlbumFull else OutOfMemory) = search rules in
+    let own : client_number c.in-Ok-next.stamp ≡ new.client = search (rules, own_client) in
+    let fresh : announced_for new.cut c.in-Ok-next.stamp ≡ None = search (rules, own_client, next_fresh) in
+    refused_grants g.J.Naming.terms.limit c.args.self.now new c.args.permit c.in-Ok-next.stamp c.in-Err-begin.field-0.refusal why own fresh c.refused.result c.refused.ensures.full
+
+pub returns-in-Err-begin-clause-refused : goal.returns-in-Err-begin-clause-refused
+returns-in-Err-begin-clause-refused g c =
+    let why : c.in-Err-begin.field-0.refusal ≡ (if is_full_for c.args.permit c.in-Ok-next.stamp then AlbumFull else OutOfMemory) = search rules in
+    refused_else (is_full_for c.args.permit c.in-Ok-next.stamp) c.in-Err-begin.field-0.refusal why c.refused.result c.refused.ensures.other

@@ -1,0 +1,117 @@
+-- What a session hears of the partitions that it asks, and what it reads of it.
+use Rattle.std.specs.Prelude.{◌≡◌, ℕ, ◌≤◌, ◌<◌, List, length, is_some, true, None, All, Contains}
+use Rattle.album_calls.specs.declared.messages.Message.{Message}
+use Rattle.album_calls.specs.declared.nodes.Node.TheVariants.{Part}
+use Rattle.album_partition.specs.Marks.{floor, kept_version}
+use Rattle.album_partition.specs.declared.marks.Mark.{Mark}
+use Rattle.album_passes.specs.Cuts.{Cut, prefix_at, prefix_for, IsPrefix, Extends}
+use Rattle.album_passes.specs.Reads.{IsAnsweredBetween}
+use Rattle.album_reader.specs.Answers.{Answer, answers_there}
+use Rattle.album_reader.specs.Rounds.{RoundState, Step, IsOpen, next_asker, second_round, asked_stamps, gets_of, stepped}
+use Rattle.album_reader.specs.Rounds.Step.{Same, Next, Done, Gone}
+use Rattle.album_reader.specs.Snapshots.{items_read}
+use Rattle.album_reader.specs.StampSets.{stamps_of}
+use Rattle.album_threads.specs.Grounds.{IsSeen, trims_in}
+use Rattle.album_threads.specs.Letters.{IsAnswered}
+use Rattle.album_threads.specs.declared.reads.Read.{Read}
+use Rattle.album_threads.specs.declared.reads.Read.TheVariants as read
+
+-- ---- a reply
+
+-- the partition that replies had then made at least the marks that the old cut has of it
+abbrev pub IsLate : Cut → Cut → Message → Type 0
+IsLate old heard reply = (part : ℕ) → reply.from ≡ Part part
+    → length (prefix_at old part) ≤ length (prefix_at heard part)
+
+-- A partition has replied so to one of the messages that were sent, at a point of its history at or past the old cut,
+-- and the new cut has seen that point.
+pub record IsReplied (limit : ℕ) (old new : Cut) (sent : List Message) (reply : Message) : Type 0 where
+  pub request : Message
+  pub own : Contains sent request
+  pub heard : Cut
+  pub seen : Extends heard new
+  pub answered : IsAnswered limit heard request reply
+  pub late : IsLate old heard reply
+
+-- ---- a round of a read
+
+-- such a reply has led to the step
+pub record IsStepped
+    (limit : ℕ) (old new : Cut) (sent : List Message) (round : RoundState) (step : Step) : Type 0 where
+  pub reply : Message
+  pub replied : IsReplied limit old new sent reply
+  pub is : step ≡ stepped round reply
+
+-- The round asks the same as it did when it began, and each answer that it has was given between the two cuts.
+pub record IsUnder (old new : Cut) (begun round : RoundState) : Type 0 where
+  pub asker : round.asker ≡ begun.asker
+  pub items : round.items ≡ begun.items
+  pub stamps : round.stamps ≡ begun.stamps
+  pub still_open : IsOpen round
+  pub between : All (IsAnsweredBetween old new (asked_stamps begun)) (answers_there round.answers)
+
+-- these are the answers of all its items
+pub record AreOf (old new : Cut) (begun : RoundState) (answers : List Answer) : Type 0 where
+  pub items : items_read answers ≡ begun.items
+  pub between : All (IsAnsweredBetween old new (asked_stamps begun)) answers
+
+-- the first round is over, and the second asks with just the stamps of its answers
+pub record IsFirstOver (old new : Cut) (begun next : RoundState) (gets : List Message) : Type 0 where
+  pub first : begun.stamps ≡ None
+  pub answers : List Answer
+  pub are : AreOf old new begun answers
+  pub still_open : IsOpen next
+  pub next_is : next ≡ second_round begun (stamps_of answers)
+  pub gets_are : gets ≡ gets_of (next_asker begun.asker) (stamps_of answers) begun.items
+
+-- One of the items was gone at a history that the old cut's prefix begins, and that begins the new cut's: it was
+-- trimmed there, and at none of these stamps a version of it was kept.
+pub record IsGoneBetween (old new : Cut) (stamps items : List ℕ) : Type 0 where
+  pub item : ℕ
+  pub asked : Contains items item
+  pub marks : List Mark
+  pub from : IsPrefix (prefix_for old item) marks
+  pub to : IsPrefix marks (prefix_for new item)
+  pub trimmed : 0 < floor marks item
+  pub unkept : All (λ stamp. kept_version marks item stamp ≡ None) stamps
+
+-- The second round is over, since one of its items is gone: these are its items.
+pub record IsGoneFrom (old new : Cut) (begun : RoundState) (items : List ℕ) : Type 0 where
+  pub items_are : items ≡ begun.items
+  pub gone : IsGoneBetween old new (asked_stamps begun) begun.items
+
+-- what a step of a round tells
+abbrev pub Leads : Cut → Cut → RoundState → Step → Type 0
+Leads old new begun (Same round) = IsUnder old new begun round
+Leads old new begun (Next next gets) = IsFirstOver old new begun next gets
+Leads old new begun (Done answers) = (is_some begun.stamps ≡ true) × AreOf old new begun answers
+Leads old new begun (Gone items) = (is_some begun.stamps ≡ true) × IsGoneFrom old new begun items
+
+-- the step is not one that waits
+abbrev pub IsEnd : Step → Type 0
+IsEnd (Same round) = ⊥
+IsEnd (Next next gets) = Unit {0}
+IsEnd (Done answers) = Unit {0}
+IsEnd (Gone items) = Unit {0}
+
+-- ---- a read
+
+-- what was read is of these items, read atomic and fresh
+pub record IsReadOf (begun now : Cut) (items : List ℕ) (rows : List Answer) : Type 0 where
+  pub items_are : items_read rows ≡ items
+  pub seen : IsSeen begun now rows
+
+-- how a second round ends: with the answers of all its items, or with the items again, since one of them is gone
+abbrev pub EndsWith : Cut → Cut → RoundState → Read → Type 0
+EndsWith old new begun (read.Done rows) = AreOf old new begun rows
+EndsWith old new begun (read.Gone items) = IsGoneFrom old new begun items
+
+-- A trim has overtaken the read of these items, which are handed back: the cut has gained it.
+pub record IsOvertaken (begun now : Cut) (items all : List ℕ) : Type 0 where
+  pub items_are : all ≡ items
+  pub trimmed : trims_in begun < trims_in now
+
+-- how a read ends: with what was read, or with its items again, since one of them is gone
+abbrev pub Reads : Cut → Cut → List ℕ → Read → Type 0
+Reads begun now items (read.Done rows) = IsReadOf begun now items rows
+Reads begun now items (read.Gone all) = IsOvertaken begun now items all

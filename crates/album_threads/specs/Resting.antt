@@ -1,0 +1,78 @@
+-- On what each answer of a session rests.
+use Rattle.std.specs.Prelude.{◌≡◌, ◌⊎◌, ℕ, true, List, map, None}
+use Rattle.album_stamps.specs.Stamps.{client_number}
+use Rattle.album_stamps.specs.declared.refusals.Refusal.{Refusal}
+use Rattle.album_stamps.specs.declared.refusals.Refusal.TheVariants.{OutOfMemory, AlbumFull, StampsSpent, Full, Closed}
+use Rattle.album_audit.specs.Totals.{totals_of, plus}
+use Rattle.album_audit.specs.declared.totals.Totals.{Totals}
+use Rattle.album_eval.specs.declared.facts.Principal.{Principal}
+use Rattle.album_eval.specs.declared.policies.Policy.{Policy}
+use Rattle.album_passes.specs.Cuts.{IsPromisedSomewhere, announced_for}
+use Rattle.album_permits.specs.Effects.{is_full_for}
+use Rattle.album_permits.specs.Permits.{PermitState}
+use Rattle.album_permits.specs.Serving.{IsServed}
+use Rattle.album_permits.specs.declared.findings.Finding.{Finding}
+use Rattle.album_permits.specs.declared.findings.Finding.TheVariants as finding
+use Rattle.album_permits.specs.declared.notes.Note.{Note}
+use Rattle.album_threads.specs.Grounds.{IsOnView, Finds, Notes, IsAnnounced, IsKept, IsWithoutRoom, IsWide, IsOutOfReads}
+use Rattle.album_threads.specs.Sessions.{SessionState}
+use Rattle.album_threads.specs.declared.answers.Answer.{Answer}
+use Rattle.album_threads.specs.declared.answers.Answer.TheVariants as answer
+use Rattle.album_views.specs.declared.asks.Ask.{Ask}
+use Rattle.album_views.specs.declared.viewing.Why.TheVariants.{Rounds, Wide}
+
+-- what is noted of the ruling was added to the share, note by note
+pub record IsShared (client : ℕ) (old new : Totals) (case : PermitState) : Type 0 where
+  pub notes : List Note
+  pub noted : Notes case notes
+  pub added : new ≡ plus old (totals_of (map (λ note. record { client = client; note = note }) notes))
+
+-- the ask has a view, the written policy finds this on it, what is noted of it is in the share, and this holds
+abbrev pub IsFoundOnView :
+    Policy → Principal → Ask → SessionState → SessionState → Finding → (PermitState → Type 0) → Type 0
+IsFoundOnView policy principal ask old new found Holds =
+    IsOnView old.cut new.cut policy principal ask
+    (λ case. Finds case found × IsShared old.client old.share new.share case × Holds case)
+
+-- it is granted, and was begun at this stamp, which was announced in this ask with just the items that are written;
+-- and this holds of it
+abbrev pub IsBegun : Policy → Principal → Ask → SessionState → SessionState → ℕ → (PermitState → Type 0) → Type 0
+IsBegun policy principal ask old new stamp Holds =
+    IsFoundOnView policy principal ask old new finding.Granted
+    (λ permit. IsAnnounced old.cut new.cut old.client permit stamp × Holds permit)
+
+-- why a write that was begun isn't settled: a partition concerned had no room for it; or there was no memory, or the
+-- service is closed, of which nothing is said
+abbrev pub IsUnsettledBy : ℕ → SessionState → ℕ → Refusal → PermitState → Type 0
+IsUnsettledBy limit new stamp why permit =
+    ((why ≡ Full) × IsWithoutRoom limit new.cut permit stamp) ⊎ ((why ≡ OutOfMemory) ⊎ (why ≡ Closed))
+
+-- the album that gets a child is full at a stamp of the client's for which nothing is announced
+pub record IsAlbumFull (new : SessionState) (permit : PermitState) : Type 0 where
+  pub stamp : ℕ
+  pub own : client_number stamp ≡ new.client
+  pub unused : announced_for new.cut stamp ≡ None
+  pub full : is_full_for permit stamp ≡ true
+
+-- why what is granted can't be written: the album is full, or the client's stamps are spent
+abbrev pub IsRefusedBy : SessionState → Refusal → PermitState → Type 0
+IsRefusedBy new why permit = ((why ≡ AlbumFull) × IsAlbumFull new permit) ⊎ (why ≡ StampsSpent)
+
+-- on what the answer rests, of a session that was so before the ask and is so after it
+abbrev pub RestsOn : ℕ → Policy → Principal → Ask → SessionState → SessionState → Answer → Type 0
+RestsOn limit policy principal ask old new (answer.Served served) =
+    IsFoundOnView policy principal ask old new finding.Granted (λ permit. IsServed permit served)
+RestsOn limit policy principal ask old new (answer.Denied denial) =
+    IsFoundOnView policy principal ask old new (finding.Denied denial) (λ case. Unit {0})
+RestsOn limit policy principal ask old new (answer.Missing object) =
+    IsFoundOnView policy principal ask old new (finding.Missing object) (λ case. Unit {0})
+RestsOn limit policy principal ask old new (answer.Busy Wide) = IsWide old.cut new.cut ask
+RestsOn limit policy principal ask old new (answer.Busy Rounds) = IsOutOfReads old.cut new.cut ask
+RestsOn limit policy principal ask old new (answer.Committed stamp) =
+    IsBegun policy principal ask old new stamp (λ permit. IsKept new.cut permit stamp)
+RestsOn limit policy principal ask old new (answer.Aborted stamp) =
+    IsBegun policy principal ask old new stamp (λ permit. IsPromisedSomewhere new.cut stamp)
+RestsOn limit policy principal ask old new (answer.Unsettled stamp why) =
+    IsBegun policy principal ask old new stamp (IsUnsettledBy limit new stamp why)
+RestsOn limit policy principal ask old new (answer.Refused why) =
+    IsFoundOnView policy principal ask old new finding.Granted (IsRefusedBy new why)

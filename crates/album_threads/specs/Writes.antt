@@ -1,0 +1,118 @@
+-- What a session hears as it carries a write out.
+use Rattle.std.specs.Prelude.{◌≡◌, ◌≢◌, ℕ, ◌≤◌, ◌⊎◌, true, List, [], Contains}
+use Rattle.std.specs.List.{list_any}
+use Rattle.album_stamps.specs.Stamps.{client_number}
+use Rattle.album_stamps.specs.declared.refusals.Refusal.TheVariants.{Full}
+use Rattle.album_calls.specs.declared.messages.Message.{Message}
+use Rattle.album_items.specs.Places.{rows_placed_at}
+use Rattle.album_partition.specs.Marks.{commits}
+use Rattle.album_partition.specs.declared.marks.Mark.TheVariants.{Prepared}
+use Rattle.album_passes.specs.Cuts.{Cut, prefix_at, announced_for, Extends, IsPromisedSomewhere}
+use Rattle.album_threads.specs.Grounds.{IsKept, IsWithoutRoom}
+use Rattle.album_threads.specs.Sessions.{CallerState, IsNoWord}
+use Rattle.album_threads.specs.declared.answers.Answer.{Answer}
+use Rattle.album_threads.specs.declared.answers.Answer.TheVariants as answer
+use Rattle.album_writer.specs.Rounds.{WriteStep}
+use Rattle.album_writer.specs.Rounds.WriteStep.{Waits, Commits, Ends}
+use Rattle.album_writer.specs.Writing.{WritingState, writes_in, items_in, places_in, prepare_to, commit_round, commits_of}
+use Rattle.album_writer.specs.declared.outcomes.Outcome.{Outcome}
+use Rattle.album_writer.specs.declared.outcomes.Outcome.TheVariants as outcome
+
+-- ---- a round
+
+-- the partition has prepared just what is written there
+abbrev pub IsPreparedAt : Cut → WritingState → ℕ → Type 0
+IsPreparedAt cut writing place =
+    Contains (prefix_at cut place)
+    (Prepared writing.stamp (rows_placed_at place writing.parts (writes_in writing)) (items_in writing))
+
+-- the partition has committed it
+abbrev pub IsCommittedAt : Cut → WritingState → ℕ → Type 0
+IsCommittedAt cut writing place = list_any (commits writing.stamp) (prefix_at cut place) ≡ true
+
+-- The round is the one that began, and of each partition concerned the answer is awaited, or this holds.
+pub record IsFurther (begun : WritingState) (Holds : ℕ → Type 0) (writing : WritingState) : Type 0 where
+  pub same : writing ≡ record begun { awaited = writing.awaited }
+  pub done : (place : ℕ) → Contains (places_in begun) place → Contains writing.awaited place ⊎ Holds place
+
+-- It is to write in the cut's partitions, of which some is concerned, and each answer is awaited.
+pub record IsBegunOn (cut : Cut) (begun : WritingState) : Type 0 where
+  pub parts : begun.parts ≡ cut.parts
+  pub some_parts : 1 ≤ begun.parts
+  pub some : places_in begun ≢ []
+  pub all : begun.awaited ≡ places_in begun
+
+-- the message is one of the write's Prepares
+pub record IsPrepareOf (begun : WritingState) (message : Message) : Type 0 where
+  pub place : ℕ
+  pub is : message ≡ prepare_to begun place
+
+-- ---- how it ends
+
+-- the answer tells that a write at the stamp ended so
+abbrev pub TellsEnd : ℕ → Answer → Outcome → Type 0
+TellsEnd stamp told (outcome.Committed of) = told ≡ answer.Committed stamp
+TellsEnd stamp told (outcome.Aborted of) = told ≡ answer.Aborted stamp
+TellsEnd stamp told (outcome.Full of) = told ≡ answer.Unsettled stamp Full
+
+-- what the cut shows of a write that has ended so
+abbrev pub IsEndOf : ℕ → Cut → WritingState → Outcome → Type 0
+IsEndOf limit cut writing (outcome.Committed stamp) =
+    (stamp ≡ writing.stamp) × IsKept cut writing.permit writing.stamp
+IsEndOf limit cut writing (outcome.Aborted stamp) =
+    (stamp ≡ writing.stamp) × IsPromisedSomewhere cut writing.stamp
+IsEndOf limit cut writing (outcome.Full stamp) =
+    (stamp ≡ writing.stamp) × IsWithoutRoom limit cut writing.permit writing.stamp
+
+-- the answer tells the write's stamp and how it ended: where it isn't settled, for want of room, or since no word comes
+abbrev pub EndsSo : ℕ → Cut → WritingState → Answer → Type 0
+EndsSo limit cut writing (answer.Committed stamp) = IsEndOf limit cut writing (outcome.Committed stamp)
+EndsSo limit cut writing (answer.Aborted stamp) = IsEndOf limit cut writing (outcome.Aborted stamp)
+EndsSo limit cut writing (answer.Unsettled stamp why) =
+    ((why ≡ Full) × IsEndOf limit cut writing (outcome.Full stamp))
+    ⊎ ((stamp ≡ writing.stamp) × IsNoWord why)
+EndsSo limit cut writing (answer.Served served) = ⊥
+EndsSo limit cut writing (answer.Denied denial) = ⊥
+EndsSo limit cut writing (answer.Missing object) = ⊥
+EndsSo limit cut writing (answer.Busy why) = ⊥
+EndsSo limit cut writing (answer.Refused why) = ⊥
+
+-- each partition concerned has prepared what is written there, and these are the Commits
+pub record AreCommits (cut : Cut) (begun next : WritingState) (messages : List Message) : Type 0 where
+  pub next_is : next ≡ commit_round begun
+  pub messages_are : messages ≡ commits_of (commit_round begun)
+  pub prepared : (place : ℕ) → Contains (places_in begun) place → IsPreparedAt cut begun place
+
+-- what a step of a round of Prepares tells
+abbrev pub PrepareTells : ℕ → Cut → WritingState → WriteStep → Type 0
+PrepareTells limit cut begun (Waits writing) = IsFurther begun (IsPreparedAt cut begun) writing
+PrepareTells limit cut begun (Commits next messages) = AreCommits cut begun next messages
+PrepareTells limit cut begun (Ends outcome) = IsEndOf limit cut begun outcome
+
+-- each partition concerned has committed, where that is how it ends
+abbrev pub AreAllCommitted : Cut → WritingState → Outcome → Type 0
+AreAllCommitted cut begun (outcome.Committed stamp) =
+    (stamp ≡ begun.stamp) × ((place : ℕ) → Contains (places_in begun) place → IsCommittedAt cut begun place)
+AreAllCommitted cut begun (outcome.Aborted stamp) = ⊥
+AreAllCommitted cut begun (outcome.Full stamp) = ⊥
+
+-- what a step of a round of Commits tells
+abbrev pub CommitTells : Cut → WritingState → WriteStep → Type 0
+CommitTells cut begun (Waits writing) = IsFurther begun (IsCommittedAt cut begun) writing
+CommitTells cut begun (Commits next messages) = ⊥
+CommitTells cut begun (Ends outcome) = AreAllCommitted cut begun outcome
+
+-- the step is not one that waits
+abbrev pub IsOver : WriteStep → Type 0
+IsOver (Waits writing) = ⊥
+IsOver (Commits next messages) = Unit {0}
+IsOver (Ends outcome) = Unit {0}
+
+-- ---- what is announced
+
+-- the same client has seen more, and of its stamps just that is announced which was before, but for this stamp
+pub record IsWritten (stamp : ℕ) (old new : CallerState) : Type 0 where
+  pub client : new.client ≡ old.client
+  pub grown : Extends old.cut new.cut
+  pub others : (other : ℕ) → client_number other ≡ old.client → other ≢ stamp
+      → announced_for new.cut other ≡ announced_for old.cut other

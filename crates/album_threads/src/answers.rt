@@ -1,0 +1,27 @@
+// What a session answers.
+use album_items::ItemId;
+use album_permits::{Denial, Served};
+use album_stamps::{Refusal, Stamp};
+use album_views::Why;
+
+/// The answer to an ask.
+#[derive(Debug, Drop)]
+pub enum Answer {
+    /// It is granted, writes nothing, and is served this.
+    Served(Served),
+    /// It is denied, with what is said of each alternative.
+    Denied(Denial),
+    /// This object of it is missing.
+    Missing(ItemId),
+    /// It has no view.
+    Busy(Why),
+    /// It is written at this stamp, at each partition concerned.
+    Committed(Stamp),
+    /// It is never written: a partition concerned has promised against this stamp.
+    Aborted(Stamp),
+    /// It was begun at this stamp, and the session doesn't know how it ends: a partition had no room for it, there was
+    /// no memory, or the service is closed.
+    Unsettled(Stamp, Refusal),
+    /// It is granted, and can't be written: the album is full, or the client's stamps are spent.
+    Refused(Refusal),
+}

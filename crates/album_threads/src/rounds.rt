@@ -1,0 +1,107 @@
+// Rounds: messages that a session sends, and the replies to them.
+ghost use Rattle.std.specs.Prelude.{◌≡◌, All, IfOk, IfErr, OnOk, IfSome, IfNone, IsOkUnless};
+ghost use Rattle.album_passes.specs.Cuts.{IsSound};
+ghost use Rattle.album_threads.specs.Letters.{Shows};
+ghost use Rattle.album_threads.specs.Replies.{IsReplied};
+ghost use Rattle.album_threads.specs.Sessions.{IsLater, IsNoWord};
+
+use crate::asked::Asked;
+use crate::caller::Caller;
+use crate::letters::{Letter, Response};
+use crate::mailbox::{Mail, Word};
+use crate::naming::Naming;
+use album_calls::{Message, Node};
+use album_stamps::Refusal;
+use std::sync::Wait;
+
+impl<J: Naming> Caller<J> {
+    /// Sends the messages, all of them before an answer is awaited.
+    ///
+    /// # Errors
+    ///
+    /// `Closed` or `OutOfMemory`.
+    pub(crate) fn ask<R: Wait>(&mut self, rt: &R, messages: Vec<Message>) -> Result<Asked, Refusal>
+        requires shown { All (Shows self.old.cut) messages.items }
+        ensures sent { IfOk result (λ asked. asked.sent.items ≡ messages.items) }
+        ensures begun { IfOk result (λ asked. asked.begun.cut ≡ self.old.cut) }
+        ensures sound { IsSound self.old.cut }
+        ensures refused { IfErr result IsNoWord }
+        ensures same { self.new ≡ self.old }
+    {
+        let begun = self.split();
+        for message in &messages {
+            self.post(rt, message.copy()?)?;
+        }
+        Ok(Asked {
+            sent: messages,
+            begun,
+        })
+    }
+
+    /// Sends the message, with a pass.
+    fn post<R: Wait>(&mut self, rt: &R, message: Message) -> Result<(), Refusal>
+        requires shown { Shows self.old.cut message }
+        ensures refused { IfErr result IsNoWord }
+        ensures same { self.new ≡ self.old }
+    {
+        let Node::Part(part) = message.to() else {
+            return Err(Refusal::Closed);
+        };
+        let pass = self.split();
+        self.send(rt, part, Mail::Letter(Letter::new(message, pass)))
+    }
+
+    /// Waits for a reply to one of the messages that were asked.
+    ///
+    /// # Errors
+    ///
+    /// `Closed`.
+    #[tactic(auto, using(crate::proofs::SessionLemmas::later_same))]
+    pub(crate) fn hear<R: Wait>(&mut self, rt: &R, asked: &Asked) -> Result<Message, Refusal>
+        ensures replied { IfOk result (IsReplied J.terms.limit asked.now.begun.cut self.new.cut asked.now.sent.items) }
+        ensures sound { OnOk result (IsSound self.new.cut) }
+        ensures closed { IsOkUnless result Refusal.Closed }
+        ensures later { IsLater self.old self.new }
+    {
+        for _ in rt.forever() {
+            if let Some(reply) = self.hear_next(rt, asked)? {
+                return Ok(reply);
+            }
+        }
+        unreachable!()
+    }
+
+    /// Takes the next word, and gives the reply, where it is one to one of these messages.
+    #[tactic(auto, using(crate::proofs::SessionLemmas::later_same))]
+    fn hear_next<R: Wait>(&mut self, rt: &R, asked: &Asked) -> Result<Option<Message>, Refusal>
+        ensures replied { IfOk result (λ reply. IfSome reply
+            (IsReplied J.terms.limit asked.now.begun.cut self.new.cut asked.now.sent.items)) }
+        ensures sound { IfOk result (λ reply. IfSome reply (λ _. IsSound self.new.cut)) }
+        ensures other { IfOk result (λ reply. IfNone reply (self.new ≡ self.old)) }
+        ensures closed { IsOkUnless result Refusal.Closed }
+        ensures later { IsLater self.old self.new }
+    {
+        match self.next(rt)? {
+            Word::Notice(_) => Ok(None),
+            Word::Response(response) => Ok(self.take(asked, response)),
+        }
+    }
+
+    /// Takes in what is replied, where it answers one of these messages, at a point of the partition's history that is
+    /// no earlier than what was seen of it when they were sent.
+    #[tactic(auto, using(crate::proofs::SessionLemmas::later_same))]
+    fn take(&mut self, asked: &Asked, response: Response<J>) -> Option<Message>
+        ensures replied { IfSome result
+            (IsReplied J.terms.limit asked.now.begun.cut self.new.cut asked.now.sent.items) }
+        ensures sound { IfSome result (λ _. IsSound self.new.cut) }
+        ensures other { IfNone result (self.new ≡ self.old) }
+        ensures later { IsLater self.old self.new }
+    {
+        let (request, reply, pass) = response.open();
+        if !asked.has(&request) || !asked.is_before(&reply, &pass) {
+            return None;
+        }
+        self.join(pass);
+        Some(reply)
+    }
+}
