@@ -10,8 +10,8 @@ use Rattle.album_threads.specs.Asks.{IsOn, IsRuledSo}
 use Rattle.album_threads.specs.Grounds.{IsSeen, IsAnnounced}
 use Rattle.album_threads.specs.Resting.{IsShared, RestsOn}
 use Rattle.album_threads.specs.Sessions.{SessionState}
-use Rattle.album_threads.specs.declared.answers.Answer.{Answer}
-use Rattle.album_threads.specs.declared.answers.Answer.TheVariants as answer
+use Rattle.album_writer.specs.declared.answers.Answer.{Answer}
+use Rattle.album_writer.specs.declared.answers.Answer.TheVariants as answer
 use Rattle.album_threads.proofs.GroundLemmas.{seen_more}
 use Rattle.album_views.specs.Views.{ViewState, IsView}
 

@@ -46,8 +46,8 @@ use Rattle.album_threads.specs.Grounds.{items_of, IsKept, IsWithoutRoom}
 use Rattle.album_threads.specs.Letters.{Shows}
 use Rattle.album_threads.specs.Replies.{IsReplied}
 use Rattle.album_threads.specs.Sessions.{CallerState, IsLater, IsAhead, IsNoWord}
-use Rattle.album_threads.specs.declared.answers.Answer.{Answer}
-use Rattle.album_threads.specs.declared.answers.Answer.TheVariants as answer
+use Rattle.album_writer.specs.declared.answers.Answer.{Answer}
+use Rattle.album_writer.specs.declared.answers.Answer.TheVariants as answer
 use Rattle.album_threads.specs.Writes.{IsPreparedAt, IsCommittedAt, IsFurther, IsEndOf, TellsEnd, EndsSo, AreCommits, AreAllCommitted, PrepareTells, CommitTells, IsWritten}
 use Rattle.album_threads.proofs.GroundLemmas.{has_more}
 use Rattle.album_threads.proofs.LetterLemmas.{discarded_tells}

@@ -14,8 +14,8 @@ use Rattle.album_reader.specs.Snapshots.{items_read}
 use Rattle.album_threads.specs.Grounds.{Finds, IsAnnounced, IsKept, IsSeen, IsWide, AreInVain, IsOutOfReads, trims_in}
 use Rattle.album_threads.specs.Resting.{IsShared, IsUnsettledBy, IsRefusedBy}
 use Rattle.album_threads.specs.Sessions.{SessionState}
-use Rattle.album_threads.specs.declared.answers.Answer.{Answer}
-use Rattle.album_threads.specs.declared.answers.Answer.TheVariants as answer
+use Rattle.album_writer.specs.declared.answers.Answer.{Answer}
+use Rattle.album_writer.specs.declared.answers.Answer.TheVariants as answer
 use Rattle.album_threads.specs.declared.asks.Looked.{Looked}
 use Rattle.album_threads.specs.declared.asks.Looked.TheVariants as looked
 use Rattle.album_views.specs.Asks.{objects_of}

@@ -10,8 +10,8 @@ use Rattle.album_partition.specs.declared.marks.Mark.TheVariants.{Prepared}
 use Rattle.album_passes.specs.Cuts.{Cut, prefix_at, announced_for, Extends, IsPromisedSomewhere}
 use Rattle.album_threads.specs.Grounds.{IsKept, IsWithoutRoom}
 use Rattle.album_threads.specs.Sessions.{CallerState, IsNoWord}
-use Rattle.album_threads.specs.declared.answers.Answer.{Answer}
-use Rattle.album_threads.specs.declared.answers.Answer.TheVariants as answer
+use Rattle.album_writer.specs.declared.answers.Answer.{Answer}
+use Rattle.album_writer.specs.declared.answers.Answer.TheVariants as answer
 use Rattle.album_writer.specs.Rounds.{WriteStep}
 use Rattle.album_writer.specs.Rounds.WriteStep.{Waits, Commits, Ends}
 use Rattle.album_writer.specs.Writing.{WritingState, writes_in, items_in, places_in, prepare_to, commit_round, commits_of}

@@ -6,11 +6,10 @@ ghost use Rattle.album_views.specs.Asks.{is_write};
 ghost use Rattle.album_views.specs.Checks.{flaw_of, refusal_of};
 ghost use Rattle.album_views.specs.Steps.{AreReadable, AsksReadable, stepped};
 ghost use Rattle.album_threads.specs.Asks.{IsOn, Looks, LooksOnce, IsRuledSo, AreShared, Grants};
-ghost use Rattle.album_threads.specs.declared.answers.Answer.TheVariants as answer;
+ghost use Rattle.album_writer.specs.declared.answers.Answer.TheVariants as answer;
 ghost use Rattle.album_threads.specs.Resting.{RestsOn};
 ghost use Rattle.album_threads.specs.Sessions.{IsNoWord};
 
-use crate::answers::Answer;
 use crate::naming::Naming;
 use crate::reads::Read;
 use crate::session::Session;
@@ -21,7 +20,7 @@ use album_permits::{Note, Permit, Ruled, Ruling, rule_on};
 use album_reader::{Answer as Row, Snapshot};
 use album_stamps::{Clock, Refusal, Refused};
 use album_views::{Ask, View, ViewStep, Viewing, Why};
-use album_writer::Preparing;
+use album_writer::{Answer, Preparing};
 use std::alloc::Global;
 use std::sync::Wait;
 

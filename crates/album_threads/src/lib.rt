@@ -1,7 +1,6 @@
 //! The store, running: each partition on a thread of its own, and sessions that ask it.
 #![tactic(auto)]
 
-mod answers;
 mod asked;
 mod asks;
 mod attend;
@@ -21,7 +20,6 @@ mod session;
 mod starting;
 mod writes;
 
-pub use answers::Answer;
 pub use gate::{Gate, Open};
 pub use inquiries::{Inquiry, Notice, Question};
 pub use laws::grounds_stay;

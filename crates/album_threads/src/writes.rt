@@ -4,19 +4,18 @@ ghost use Rattle.album_stamps.specs.Stamps.{client_number};
 ghost use Rattle.album_passes.specs.Changes.{announced_cut};
 ghost use Rattle.album_passes.specs.Cuts.{IsSound, Extends, announced_for};
 ghost use Rattle.album_threads.specs.Sessions.{IsLater, IsNoWord};
-ghost use Rattle.album_threads.specs.declared.answers.Answer.TheVariants as answer;
+ghost use Rattle.album_writer.specs.declared.answers.Answer.TheVariants as answer;
 ghost use Rattle.album_threads.specs.Writes.{IsBegunOn, IsPrepareOf, IsEndOf, TellsEnd, EndsSo, PrepareTells, AreAllCommitted, IsOver, IsWritten};
 ghost use Rattle.album_writer.specs.Rounds.{prepare_stepped, commit_stepped};
 ghost use Rattle.album_writer.specs.Steps.{step_of_prepares, step_of_commits};
 ghost use Rattle.album_writer.specs.Writing.{items_in, places_in, prepares_of, commits_of};
 
-use crate::answers::Answer;
 use crate::asked::Asked;
 use crate::caller::Caller;
 use crate::naming::Naming;
 use album_calls::{Body, Message, Request};
 use album_stamps::{Refusal, Stamp};
-use album_writer::{CommitStep, Committing, Outcome, PrepareStep, Preparing};
+use album_writer::{Answer, CommitStep, Committing, Outcome, PrepareStep, Preparing};
 use std::sync::Wait;
 
 impl<J: Naming> Caller<J> {

@@ -18,7 +18,7 @@ use Rattle.album_wire.specs.AskShape.{read_shape_of, retitle_shape_of, replace_s
 use Rattle.album_wire.specs.EventShape.{part_named, asked_shape_of, range_of, deliver_shape_of, sweep_of, sweep_shape_of, stop_shape_of, trim_of, trim_shape_of}
 use Rattle.album_wire.specs.EventLine.{new_list_read, ask_read, event_read, event_line_of}
 use Rattle.album_wire.specs.TalkShape.{hello_shape_of, talk_ask_shape_of, pending_shape_of, talk_sweep_shape_of, talk_trim_shape_of}
-use Rattle.album_wire.specs.TalkLine.{talk_read, talk_line_of}
+use Rattle.album_wire.specs.TalkLine.{hello_line_of, talk_read, talk_line_of}
 use Rattle.album_wire.specs.OutJson.{out_line}
 use Rattle.album_wire.specs.TalkJson.{talk_text}
 
@@ -55,7 +55,7 @@ unfolding asks_on_literals parts_on_literals asked_shape_of ask_read event_read 
 events_on_literals = tt
 
 unfoldable pub talks_on_literals : ⊤
-unfolding read_shape_of hello_shape_of talk_ask_shape_of pending_shape_of talk_sweep_shape_of talk_trim_shape_of talk_read talk_line_of talk_text
+unfolding read_shape_of hello_shape_of talk_ask_shape_of pending_shape_of talk_sweep_shape_of talk_trim_shape_of hello_line_of talk_read talk_line_of talk_text
 talks_on_literals = tt
 
 unfoldable pub lines_on_literals : ⊤

@@ -1,4 +1,4 @@
--- The shape of a line of a connection: its fields, each of its form, or a bad request.
+-- The shapes of the lines of a connection: their fields, each of its form, or a bad request.
 use Rattle.std.specs.Prelude.{ℕ, List, [], ◌∷◌, codes, if◌then◌else◌, Result, Ok}
 use Rattle.serde_json.specs.Data.{Data}
 use Rattle.album_stamps.specs.declared.refusals.Refusal.{Refusal}
@@ -9,27 +9,24 @@ use Rattle.album_wire.specs.EventShape.{part_named, sweep_of, trim_of}
 use Rattle.album_wire.specs.declared.talk_shape.TalkShape.{TalkShape}
 use Rattle.album_wire.specs.declared.talk_shape.TalkShape.TheVariants as shape
 
--- the line of a connection as it is spelled
+-- a line behind the first, as it is spelled
 pub data SpelledTalk : Type 0 where
-  Hello : (who : List ℕ) → SpelledTalk
   Asked : SpelledAsk → SpelledTalk
   Pending : (part : ℕ) → SpelledTalk
   Swept : (part stamp : ℕ) → SpelledTalk
   Trimmed : (part item : ℕ) → SpelledTalk
 
 abbrev pub spelled_talk : TalkShape → SpelledTalk
-spelled_talk (shape.Hello who) = Hello who.now
 spelled_talk (shape.Ask ask) = Asked (spelled_ask ask)
 spelled_talk (shape.Pending part) = Pending part
 spelled_talk (shape.Sweep part stamp) = Swept part stamp
 spelled_talk (shape.Trim part item) = Trimmed part item
 
--- {"who": text}
-unfoldable pub hello_shape_of : Data → Result SpelledTalk Refusal
+-- the first: {"who": text}
+unfoldable pub hello_shape_of : Data → Result (List ℕ) Refusal
 hello_shape_of d = do
   _ ← only_of (codes "who" ∷ []) d
-  who ← field_of (codes "who") d >>= text_of
-  Ok (Hello who)
+  field_of (codes "who") d >>= text_of
 
 -- {"ask": {..}}
 unfoldable pub talk_ask_shape_of : Data → Result SpelledTalk Refusal
@@ -59,11 +56,10 @@ talk_trim_shape_of d = do
   trim ← field_of (codes "trim") d >>= trim_of
   Ok (Trimmed trim.0 trim.1)
 
--- which of them, its names tell
+-- which of those behind it a line is, its names tell
 abbrev pub talk_shape_of : Data → Result SpelledTalk Refusal
 talk_shape_of d =
-    if has (codes "who") d then hello_shape_of d
-    else if has (codes "ask") d then talk_ask_shape_of d
+    if has (codes "ask") d then talk_ask_shape_of d
     else if has (codes "pending") d then pending_shape_of d
     else if has (codes "sweep") d then talk_sweep_shape_of d
     else talk_trim_shape_of d

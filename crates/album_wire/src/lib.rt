@@ -40,4 +40,4 @@ pub use opening_shape::{DEFAULT_LIMIT, DEFAULT_POLICY, Header};
 pub use out_json::{worked_outs, write_out};
 pub use output::{refusal_texts, verdict_texts, write_refusal, write_verdict};
 pub use talk_json::{Counted, TalkOut, worked_talk_outs, write_talk};
-pub use talk_line::{TalkLine, read_talk, worked_talks};
+pub use talk_line::{TalkLine, read_hello, read_talk, worked_talks};

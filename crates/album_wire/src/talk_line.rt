@@ -1,12 +1,12 @@
-// Lines of connections: what has its shape, with the values of its fields.
+// Lines of connections, the first and those behind it: what has its shape, with the values of its fields.
 ghost use Rattle.std.specs.Prelude.{◌≡◌, Ok, Err, codes};
 ghost use Rattle.album_stamps.specs.Outcome.{Gives};
 ghost use Rattle.album_items.specs.ItemIds.{picture};
-ghost use Rattle.album_wire.specs.TalkLine.{talk_line_of, talk_read};
+ghost use Rattle.album_wire.specs.TalkLine.{hello_line_of, talk_line_of, talk_read};
 ghost use Rattle.album_wire.specs.TalkShape.{spelled_talk};
 
 use crate::event_line::ask_of;
-use crate::talk_shape::{TalkShape, talk_shape};
+use crate::talk_shape::{TalkShape, hello_shape, talk_shape};
 use crate::trees::data;
 use album_eval::Principal;
 use album_items::ItemId;
@@ -15,11 +15,9 @@ use album_views::Ask;
 use json::Scratch;
 use std::alloc::Global;
 
-/// What a line of a connection says.
+/// What a line of a connection says, once it is said who asks.
 #[derive(Debug, Drop)]
 pub enum TalkLine {
-    /// Who asks from now on.
-    Hello(Principal),
     Ask(Ask),
     /// Which stamps are pending at the partition is asked.
     Pending(u16),
@@ -29,7 +27,17 @@ pub enum TalkLine {
     Trim(u16, ItemId),
 }
 
-/// Reads a line of a connection: what it says, or the first test that it fails. The scratch is room that is kept from
+/// Reads the first line of a connection: who asks from now on, or the first test that it fails.
+#[tactic(auto, unfolding(crate::specs::TalkLine::hello_line_of))]
+pub fn read_hello(alloc: Global, scratch: &mut Scratch, bytes: &[u8]) -> Result<Principal, Refusal>
+    ensures { Gives (λ who. who) result (hello_line_of bytes.now) }
+{
+    let value = data(alloc, scratch, bytes)?;
+    let who = hello_shape(&value)?;
+    Principal::read(alloc, who)
+}
+
+/// Reads a later line of a connection: what it says, or the first test that it fails. The scratch is room that is kept from
 /// line to line, whatever stood in it.
 #[tactic(auto, unfolding(crate::specs::TalkLine::talk_line_of))]
 pub fn read_talk(alloc: Global, scratch: &mut Scratch, bytes: &[u8]) -> Result<TalkLine, Refusal>
@@ -42,14 +50,20 @@ pub fn read_talk(alloc: Global, scratch: &mut Scratch, bytes: &[u8]) -> Result<T
 
 /// A law: lines of connections that were worked out by hand.
 pub fn worked_talks()
-    ensures hello { talk_line_of (codes "{\"who\":\"amy@users\"}")
-        ≡ Ok (TalkLine.Hello (Principal.User (codes "amy"))) }
-    ensures anonymous { talk_line_of (codes "{\"who\":\"ANONYMOUS@\"}") ≡ Ok (TalkLine.Hello Principal.Anonymous) }
-    ensures nobody { talk_line_of (codes "{\"who\":\"amy\"}") ≡ Err Refusal.BadWho }
+    ensures hello { hello_line_of (codes "{\"who\":\"amy@users\"}") ≡ Ok (Principal.User (codes "amy")) }
+    ensures anonymous { hello_line_of (codes "{\"who\":\"ANONYMOUS@\"}") ≡ Ok Principal.Anonymous }
+    ensures nobody { hello_line_of (codes "{\"who\":\"amy\"}") ≡ Err Refusal.BadWho }
+    // Nothing is asked before it is said who asks.
+    ensures asked_first { hello_line_of (codes "{\"pending\":0}") ≡ Err Refusal.BadRequest }
+    ensures asked_at_once { hello_line_of
+        (codes "{\"ask\":{\"do\":\"read\",\"object\":\"picture/0\"},\"who\":\"amy@users\"}")
+        ≡ Err Refusal.BadRequest }
+    // That is said once.
+    ensures who_again { talk_line_of (codes "{\"who\":\"bo@users\"}") ≡ Err Refusal.BadRequest }
+    ensures nobody_again { talk_line_of (codes "{\"who\":\"bo\"}") ≡ Err Refusal.BadRequest }
     ensures asked { talk_line_of (codes "{\"ask\":{\"do\":\"read\",\"object\":\"picture/0\"}}")
         ≡ Ok (TalkLine.Ask (Ask.Read (picture 0))) }
-    // Who asks is said once, by the first line.
-    ensures who_again { talk_line_of
+    ensures asked_by { talk_line_of
         (codes "{\"ask\":{\"do\":\"read\",\"object\":\"picture/0\"},\"who\":\"amy@users\"}")
         ≡ Err Refusal.BadRequest }
     ensures pending { talk_line_of (codes "{\"pending\":65535}") ≡ Ok (TalkLine.Pending 65535) }
@@ -70,10 +84,6 @@ fn said(alloc: Global, shape: TalkShape) -> Result<TalkLine, Refusal>
     ensures { Gives (λ line. line) result (talk_read (spelled_talk shape.entry)) }
 {
     match shape {
-        TalkShape::Hello { who: text } => {
-            let who = Principal::read(alloc, text)?;
-            Ok(TalkLine::Hello(who))
-        }
         TalkShape::Ask { ask: shape } => {
             let ask = ask_of(alloc, shape)?;
             Ok(TalkLine::Ask(ask))

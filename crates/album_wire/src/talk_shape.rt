@@ -1,5 +1,5 @@
-// The shape of a line of a connection: {who}, {ask: {..}}, {pending = part}, {sweep: {part, stamp}} or
-// {trim: {item, part}}.
+// The shapes of the lines of a connection: {who} of the first; {ask: {..}}, {pending = part}, {sweep: {part, stamp}} or
+// {trim: {item, part}} of those behind it.
 ghost use Rattle.album_stamps.specs.Outcome.{Gives};
 ghost use Rattle.album_wire.specs.TalkShape.{spelled_talk, hello_shape_of, talk_ask_shape_of, pending_shape_of, talk_sweep_shape_of, talk_trim_shape_of, talk_shape_of};
 ghost use Rattle.album_wire.specs.Trees.{value_data};
@@ -12,23 +12,29 @@ use album_stamps::{Refusal, Stamp};
 use json::Value;
 use std::alloc::Global;
 
-/// The line of a connection as it is spelled.
+/// A later line of a connection as it is spelled.
 #[derive(Drop)]
 pub(crate) enum TalkShape<'a> {
-    Hello { who: &'a str },
     Ask { ask: AskShape<'a> },
     Pending { part: u16 },
     Sweep { part: u16, stamp: Stamp },
     Trim { part: u16, item: ItemId },
 }
 
-/// The fields of a connection's line, each of its shape, or `BadRequest`. Which line it is, its names tell.
+/// Who asks, as it is spelled, or `BadRequest`.
+#[tactic(auto, unfolding(crate::specs::TalkShape::hello_shape_of))]
+pub(crate) fn hello_shape<'a>(value: &Value<'a>) -> Result<&'a str, Refusal>
+    ensures { Gives (λ who. who.now) result (hello_shape_of (value_data value.now)) }
+{
+    only(value, &["who"])?;
+    text(field(value, "who")?)
+}
+
+/// The fields of a later line, each of its shape, or `BadRequest`. Which line it is, its names tell.
 pub(crate) fn talk_shape<'a>(alloc: Global, value: &Value<'a>) -> Result<TalkShape<'a>, Refusal>
     ensures { Gives spelled_talk result (talk_shape_of (value_data value.now)) }
 {
-    if has(value, "who") {
-        hello_shape(value)
-    } else if has(value, "ask") {
+    if has(value, "ask") {
         talk_ask_shape(alloc, value)
     } else if has(value, "pending") {
         pending_shape(value)
@@ -37,15 +43,6 @@ pub(crate) fn talk_shape<'a>(alloc: Global, value: &Value<'a>) -> Result<TalkSha
     } else {
         talk_trim_shape(value)
     }
-}
-
-#[tactic(auto, unfolding(crate::specs::TalkShape::hello_shape_of))]
-fn hello_shape<'a>(value: &Value<'a>) -> Result<TalkShape<'a>, Refusal>
-    ensures { Gives spelled_talk result (hello_shape_of (value_data value.now)) }
-{
-    only(value, &["who"])?;
-    let who = text(field(value, "who")?)?;
-    Ok(TalkShape::Hello { who })
 }
 
 #[tactic(auto, unfolding(crate::specs::TalkShape::talk_ask_shape_of))]

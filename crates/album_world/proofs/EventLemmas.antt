@@ -3,7 +3,7 @@ use Rattle.std.proofs.Common.{◌≡◌, ℕ, zero, suc, ◌+◌, Bool, true, Li
 use Rattle.album_stamps.specs.declared.refusals.Refusal.{Refusal}
 use Rattle.album_permits.specs.declared.notes.Note.{Note}
 use Rattle.album_world.specs.declared.events.Event.{Event}
-use Rattle.album_world.specs.declared.outs.Answer.{Answer}
+use Rattle.album_writer.specs.declared.answers.Answer.{Answer}
 use Rattle.album_world.specs.declared.outs.Out.TheVariants as out
 use Rattle.album_world.specs.Terms.{Terms}
 use Rattle.album_world.specs.Past.{World, Begun, last_begun}

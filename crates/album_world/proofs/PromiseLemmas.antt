@@ -27,8 +27,8 @@ use Rattle.album_permits.specs.Permits.{PermitState, IsPermit}
 use Rattle.album_permits.specs.declared.findings.Finding.{Finding}
 use Rattle.album_world.specs.declared.events.Event.{Event}
 use Rattle.album_world.specs.declared.events.Event.TheVariants as event
-use Rattle.album_world.specs.declared.outs.Answer.{Answer}
-use Rattle.album_world.specs.declared.outs.Answer.TheVariants as answer
+use Rattle.album_writer.specs.declared.answers.Answer.{Answer}
+use Rattle.album_writer.specs.declared.answers.Answer.TheVariants as answer
 use Rattle.album_world.specs.declared.clients.Doing.{Doing}
 use Rattle.album_world.specs.declared.clients.Doing.TheVariants as doing
 use Rattle.album_world.specs.Terms.{Terms, terms_of}

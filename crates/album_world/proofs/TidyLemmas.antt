@@ -36,7 +36,7 @@ use Rattle.album_world.specs.Askings.{Asking}
 use Rattle.album_world.specs.Clients.{Client}
 use Rattle.album_world.specs.declared.clients.Doing.{Doing}
 use Rattle.album_world.specs.declared.clients.Doing.TheVariants as doing
-use Rattle.album_world.specs.declared.outs.Answer.{Answer}
+use Rattle.album_writer.specs.declared.answers.Answer.{Answer}
 use Rattle.album_world.specs.Terms.{Terms}
 use Rattle.album_world.specs.State.{Now, client_at, message_of, is_stopped, with_number}
 use Rattle.album_world.specs.Past.{World}

@@ -9,7 +9,7 @@ use Rattle.album_partition.specs.Marks.{commits}
 use Rattle.album_reader.specs.Answers.{Answer as Found}
 use Rattle.album_reader.specs.Rounds.{RoundState}
 use Rattle.album_writer.specs.Writing.{WritingState}
-use Rattle.album_world.specs.declared.outs.Answer.{Answer}
+use Rattle.album_writer.specs.declared.answers.Answer.{Answer}
 use Rattle.album_world.specs.Clients.{Client}
 use Rattle.album_world.specs.declared.clients.Doing.{Doing}
 use Rattle.album_world.specs.declared.clients.Doing.TheVariants as doing

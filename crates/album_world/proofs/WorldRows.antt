@@ -28,8 +28,8 @@ use Rattle.album_eval.specs.declared.verdicts.Verdict.TheVariants.{DeniedAtEnd}
 use Rattle.album_permits.specs.declared.serving.Served.TheVariants as served
 use Rattle.album_world.specs.declared.events.Event.{Event}
 use Rattle.album_world.specs.declared.events.Event.TheVariants as event
-use Rattle.album_world.specs.declared.outs.Answer.{Answer}
-use Rattle.album_world.specs.declared.outs.Answer.TheVariants as answer
+use Rattle.album_writer.specs.declared.answers.Answer.{Answer}
+use Rattle.album_writer.specs.declared.answers.Answer.TheVariants as answer
 use Rattle.album_reader.specs.Rounds.Step.{Done, Gone}
 use Rattle.album_views.specs.declared.viewing.Why.TheVariants.{Rounds}
 use Rattle.album_world.specs.Askings.{Asking}

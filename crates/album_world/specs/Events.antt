@@ -2,7 +2,7 @@
 use Rattle.std.specs.Prelude.{◌≡◌, ℕ, Some, None, Contains}
 use Rattle.album_permits.specs.declared.notes.Note.{Note}
 use Rattle.album_world.specs.Clients.{Client}
-use Rattle.album_world.specs.declared.outs.Answer.{Answer}
+use Rattle.album_writer.specs.declared.answers.Answer.{Answer}
 use Rattle.album_world.specs.Past.{Transaction, Read, Told, Noted, World, last_read}
 use Rattle.album_world.specs.Turns.{Turn}
 

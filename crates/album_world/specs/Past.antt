@@ -8,7 +8,7 @@ use Rattle.album_permits.specs.Effects.{Write}
 use Rattle.album_permits.specs.Permits.{PermitState}
 use Rattle.album_permits.specs.declared.notes.Note.{Note}
 use Rattle.album_world.specs.State.{Now}
-use Rattle.album_world.specs.declared.outs.Answer.{Answer}
+use Rattle.album_writer.specs.declared.answers.Answer.{Answer}
 
 -- a write that a client began: who did, under which tag it sent its Prepares, at which stamp, by which permit, and all
 -- that it writes

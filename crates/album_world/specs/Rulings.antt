@@ -7,8 +7,8 @@ use Rattle.album_permits.specs.declared.serving.Served.{Served}
 use Rattle.album_world.specs.Terms.{Terms}
 use Rattle.album_world.specs.Past.{Transaction, Told, Noted, World}
 use Rattle.album_world.specs.Viewed.{IsOnView, IsToldOn, Finds, Notes}
-use Rattle.album_world.specs.declared.outs.Answer.{Answer}
-use Rattle.album_world.specs.declared.outs.Answer.TheVariants as answer
+use Rattle.album_writer.specs.declared.answers.Answer.{Answer}
+use Rattle.album_writer.specs.declared.answers.Answer.TheVariants as answer
 
 -- it is granted, and this is what the view has for it
 pub record IsServedBy (permit : PermitState) (served : Served) : Type 0 where

@@ -6,7 +6,7 @@ use Rattle.album_items.specs.Openings.{is_opening}
 use Rattle.album_items.specs.declared.openings.Opening.{Opening}
 use Rattle.album_permits.specs.declared.notes.Note.{Note}
 use Rattle.album_world.specs.declared.events.Event.{Event}
-use Rattle.album_world.specs.declared.outs.Answer.{Answer}
+use Rattle.album_writer.specs.declared.answers.Answer.{Answer}
 use Rattle.album_world.specs.declared.outs.Out.{Out}
 use Rattle.album_world.specs.declared.outs.Out.TheVariants as out
 use Rattle.album_world.specs.Terms.{Terms, terms_of}

@@ -35,8 +35,8 @@ use Rattle.album_world.specs.Clients.{Client}
 use Rattle.album_world.specs.declared.clients.Doing.TheVariants.{Idle, Reads, Prepares, Commits}
 use Rattle.album_world.specs.Past.{Transaction}
 use Rattle.album_world.specs.Grants.{served_for}
-use Rattle.album_world.specs.declared.outs.Answer.{Answer}
-use Rattle.album_world.specs.declared.outs.Answer.TheVariants as answer
+use Rattle.album_writer.specs.declared.answers.Answer.{Answer}
+use Rattle.album_writer.specs.declared.answers.Answer.TheVariants as answer
 
 -- how a read is over: for which ask and whom it was made, and what was read; or nothing, where an item was gone
 pub record Ended : Type 0 where

@@ -25,7 +25,7 @@ ghost use Rattle.album_world.specs.Turns.{Turn};
 ghost use Rattle.album_world.specs.Viewed.{Finds};
 ghost use Rattle.album_world.specs.declared.events.Event.{Event as Happening};
 ghost use Rattle.album_world.specs.declared.events.Event.TheVariants as Event;
-ghost use Rattle.album_world.specs.declared.outs.Answer.{Answer as Answered};
+ghost use Rattle.album_writer.specs.declared.answers.Answer.{Answer as Answered};
 ghost use Rattle.album_world.specs.declared.outs.Out.TheVariants as Told;
 
 /// A law: rulings hold. Each answer Served, Denied, Missing, Committed, Aborted, Unsettled or Refused, and each

@@ -50,5 +50,5 @@ pub use laws::{
     views_are_fresh, views_are_read_atomic, what_is_served_is_what_is_asked,
     what_is_told_is_in_the_past, writes_are_granted,
 };
-pub use outs::{Answer, Out};
+pub use outs::Out;
 pub use world::World;

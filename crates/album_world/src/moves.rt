@@ -3,11 +3,11 @@ ghost use Rattle.std.specs.Prelude.{◌≡◌, ◌≤◌, [], length};
 ghost use Rattle.album_stamps.specs.declared.limits.TheConstants.{MOST_READ_ITEMS};
 
 use crate::clients::{Client, Doing};
-use crate::outs::Answer;
 use crate::terms::Terms;
 use album_calls::Message;
 use album_permits::Note;
 use album_stamps::{ClientNo, Clock};
+use album_writer::Answer;
 use std::alloc::Global;
 
 /// What a client has become, and what it tells.

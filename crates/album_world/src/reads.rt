@@ -10,13 +10,13 @@ ghost use Rattle.album_world.specs.Turns.{read_begins, read_turn, views_by};
 use crate::askings::Asking;
 use crate::clients::Doing;
 use crate::moves::{Actor, Moved};
-use crate::outs::Answer;
 use album_calls::Message;
 use album_eval::Principal;
 use album_items::Items;
 use album_reader::{Reading, Step};
 use album_stamps::Refusal;
 use album_views::{Ask, ViewStep, Viewing};
+use album_writer::Answer;
 
 impl Actor {
     /// An ask that the principal may ask begins, with a read of its objects.

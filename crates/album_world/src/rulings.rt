@@ -8,12 +8,12 @@ ghost use Rattle.album_world.specs.Moves.{client_of, IsMoved};
 ghost use Rattle.album_world.specs.Turns.{clock_after_rows, grants, rules, rules_by};
 
 use crate::moves::{Actor, Moved};
-use crate::outs::Answer;
 use album_eval::Principal;
 use album_permits::{Permit, Ruled, Ruling, rule_on};
 use album_reader::Answer as Row;
 use album_stamps::{Clock, Refusal, Refused};
 use album_views::View;
+use album_writer::Answer;
 
 impl Actor {
     /// The ask of the view is ruled on, once the clock has seen the view's stamps.

@@ -3,7 +3,8 @@ ghost use Rattle.std.specs.Prelude.{◌≡◌, ◌+◌, ◌<◌, ◌≤◌, ◌^
 ghost use Rattle.album_stamps.specs.declared.limits.TheConstants.{MOST_READ_ITEMS};
 ghost use Rattle.album_world.specs.Runs.{numbers_after};
 
-use crate::outs::{Answer, Out};
+use crate::outs::Out;
+use album_writer::Answer;
 use crate::sending::tell_sent;
 use album_permits::Note;
 use album_stamps::ClientNo;

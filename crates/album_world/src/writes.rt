@@ -11,11 +11,10 @@ ghost use Rattle.album_writer.specs.Writing.{places_in};
 
 use crate::clients::Doing;
 use crate::moves::{Actor, Moved};
-use crate::outs::Answer;
 use album_calls::Message;
 use album_permits::Permit;
 use album_stamps::{Refusal, Refused, Stamp};
-use album_writer::{CommitStep, Committing, Outcome, PrepareStep, Preparing};
+use album_writer::{Answer, CommitStep, Committing, Outcome, PrepareStep, Preparing};
 
 impl Actor {
     /// A stamp is drawn for the write of the permit's ask.

@@ -14,13 +14,29 @@ pub returns-clause-nobody : goal.returns-clause-nobody
 unfolding lines_on_literals
 returns-clause-nobody c = refl
 
-pub returns-clause-asked : goal.returns-clause-asked
+pub returns-clause-asked_first : goal.returns-clause-asked_first
 unfolding lines_on_literals
-returns-clause-asked c = refl
+returns-clause-asked_first c = refl
+
+pub returns-clause-asked_at_once : goal.returns-clause-asked_at_once
+unfolding lines_on_literals
+returns-clause-asked_at_once c = refl
 
 pub returns-clause-who_again : goal.returns-clause-who_again
 unfolding lines_on_literals
 returns-clause-who_again c = refl
+
+pub returns-clause-nobody_again : goal.returns-clause-nobody_again
+unfolding lines_on_literals
+returns-clause-nobody_again c = refl
+
+pub returns-clause-asked : goal.returns-clause-asked
+unfolding lines_on_literals
+returns-clause-asked c = refl
+
+pub returns-clause-asked_by : goal.returns-clause-asked_by
+unfolding lines_on_literals
+returns-clause-asked_by c = refl
 
 pub returns-clause-pending : goal.returns-clause-pending
 unfolding lines_on_literals

@@ -1,4 +1,5 @@
-// What a session answers.
+// What comes of an ask.
+
 use album_items::ItemId;
 use album_permits::{Denial, Served};
 use album_stamps::{Refusal, Stamp};
@@ -19,8 +20,8 @@ pub enum Answer {
     Committed(Stamp),
     /// It is never written: a partition concerned has promised against this stamp.
     Aborted(Stamp),
-    /// It was begun at this stamp, and the session doesn't know how it ends: a partition had no room for it, there was
-    /// no memory, or the service is closed.
+    /// It was begun at this stamp and isn't settled, since a partition had no room for it. In a running service it may
+    /// also be that there was no memory, or that the service is closed; then nothing is known of how it ends.
     Unsettled(Stamp, Refusal),
     /// It is granted, and can't be written: the album is full, or the client's stamps are spent.
     Refused(Refusal),
