@@ -4,13 +4,18 @@
 
 mod texts;
 
-use crate::texts::{ABOUT, JUDGE_ABOUT, JUDGE_HELP, NO_TEXT, REPLAY_ABOUT, REPLAY_HELP};
-use album_server::{Fault, judge, replay};
+use crate::texts::{
+    ABOUT, JUDGE_ABOUT, JUDGE_HELP, NO_TEXT, REPLAY_ABOUT, REPLAY_HELP, SERVE_ABOUT, SERVE_HELP,
+};
+use album_server::{Fault, Served, judge, replay, serve};
 use clap::error::ErrorKind;
-use clap::{ArgMatches, Command, Error};
+use clap::{Arg, ArgMatches, Command, Error, value_parser};
 use std::alloc::{AllocError, Global};
 use std::io::{Read, Write};
+use std::net::{Net, TcpListener, TcpStream};
 use std::process::ExitCode;
+use std::sync::Wait;
+use std::thread::Threads;
 use std::{env, io};
 
 /// How many reads a run may make.
@@ -37,6 +42,10 @@ fn main(rt: HostRuntime) -> ExitCode {
             &rt,
             replay_lines(rt.alloc(), &mut rt.stdin(), &mut rt.stdout()),
         ),
+        Some("serve") => served(
+            &rt,
+            serve_port(rt, rt.alloc(), &mut rt.stdin(), &mut rt.stdout(), &matches),
+        ),
         // No other command line has matched.
         _ => ExitCode::from(2),
     }
@@ -54,11 +63,27 @@ fn command<'a>(alloc: Global) -> Result<Command<'a>, AllocError> {
     let replay = Command::new(alloc, "replay")
         .about(REPLAY_ABOUT)
         .after_help(REPLAY_HELP);
+    let port = Arg::new(alloc, "PORT")
+        .help("The port of 127.0.0.1")
+        .required(true)
+        .value_parser(value_parser!(u16).range(1..));
+    let conns = Arg::new(alloc, "conns")
+        .long("conns")
+        .value_name("N")
+        .help("How many connections are served")
+        .value_parser(value_parser!(u16).range(1..))
+        .default_value("65535");
+    let serve = Command::new(alloc, "serve")
+        .about(SERVE_ABOUT)
+        .after_help(SERVE_HELP)
+        .arg(port)?
+        .arg(conns)?;
     Command::new(alloc, "album")
         .about(ABOUT)
         .subcommand_required(true)
         .subcommand(judge)?
-        .subcommand(replay)
+        .subcommand(replay)?
+        .subcommand(serve)
 }
 
 /// Answers the lines of the reader, to its end.
@@ -79,6 +104,43 @@ fn replay_lines<R: Read, W: Write>(
 ) -> Result<(), Fault> {
     replay(alloc, reader, writer, TURNS)?;
     writer.flush().map_err(|_| Fault::Writing)
+}
+
+/// Serves the port that the command line names.
+fn serve_port<T, R: Read, W: Write>(
+    rt: T,
+    alloc: Global,
+    reader: &mut R,
+    writer: &mut W,
+    matches: &ArgMatches<'_>,
+) -> Result<Served, Fault>
+where
+    T: Net<Listener = TcpListener, Stream = TcpStream>
+        + Threads
+        + Wait
+        + Eprint
+        + Copy
+        + Send
+        + Sync
+        + 'static,
+{
+    let matches = matches.subcommand_matches("serve");
+    let port = matches.and_then(|m| m.get_one::<u16>("PORT")).unwrap_or(0);
+    let conns = matches.and_then(|m| m.get_one::<u16>("conns")).unwrap_or(u16::MAX);
+    serve(rt, alloc, reader, writer, port, conns, TURNS)
+}
+
+/// The status of a service that has ended.
+fn served(rt: &impl Eprint, outcome: Result<Served, Fault>) -> ExitCode {
+    match outcome {
+        Ok(Served::Done) => ExitCode::SUCCESS,
+        Ok(Served::Refused) => ExitCode::from(1),
+        Ok(Served::NoPort) => {
+            let _ = eprintln!(rt; "album: port refused");
+            ExitCode::from(1)
+        }
+        Err(fault) => status(rt, Err(fault)),
+    }
 }
 
 /// The status of a run, with its fault on standard error. Nothing can be done where that fails too.

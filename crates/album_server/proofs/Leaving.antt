@@ -5,7 +5,8 @@ use Rattle.std.specs.Io.KnownBytes.{Appends}
 use Rattle.album_server.specs.declared.fault.Fault.{Fault}
 use Rattle.album_server.specs.declared.fault.Fault.TheVariants.{Reading, Writing, Memory}
 use Rattle.album_server.specs.Writes.{Writes, IsPrefixOf, IsCutShort, LeavesOf}
-use Rattle.album_server.proofs.Texts.{goes_on, writes_weaker}
+use Rattle.album_server.proofs.Answering.{goes_on}
+use Rattle.album_server.proofs.Texts.{writes_weaker}
 
 -- nothing of a text is there
 pub leaves_nothing : (whole : List ℕ) (a : Option (List ℕ)) → Writes (LeavesOf Memory (λ text. text ≡ whole)) a a

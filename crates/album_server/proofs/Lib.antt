@@ -1,4 +1,5 @@
 pub mod Parts
+pub mod Answering
 pub mod Texts
 pub mod Exchanging
 pub mod Pieces
@@ -11,3 +12,4 @@ pub mod Telling
 pub mod Happening
 pub mod Standing
 pub mod ReplayTurns
+pub mod Talking

@@ -17,7 +17,8 @@ use Rattle.album_server.proofs.Exchanging.{exchanges_weaker, exchanges_kept, exc
 use Rattle.album_server.proofs.Pieces.{lines_split, both_cut, both_lines, some_lines}
 use Rattle.album_server.proofs.Replaying.{front_of_replay, nothing_printed, replays, replays_append, steps}
 use Rattle.album_server.proofs.Standing.{over}
-use Rattle.album_server.proofs.Texts.{goes_on, writes_none}
+use Rattle.album_server.proofs.Answering.{goes_on}
+use Rattle.album_server.proofs.Texts.{writes_none}
 
 -- so many turns have read these bytes, and of the lines that end in them the text is printed, up to this stage
 pub record IsReplayed (turns : ℕ) (unfinished : Line) (stage : Stage) (given text : List ℕ) : Type 0 where

@@ -24,7 +24,8 @@ use Rattle.album_server.specs.Writes.{Writes, IsPrefixOf, LeavesOf}
 use Rattle.album_server.proofs.Happening.{memory_or_not}
 use Rattle.album_server.proofs.Leaving.{writes_left}
 use Rattle.album_server.proofs.Replaying.{replays, replays_append}
-use Rattle.album_server.proofs.Texts.{goes_on, writes_weaker, up_to_next, with_others}
+use Rattle.album_server.proofs.Answering.{goes_on}
+use Rattle.album_server.proofs.Texts.{writes_weaker, up_to_next, with_others}
 
 -- ---- a line
 

@@ -1,5 +1,4 @@
--- The texts that answer lines. For `write_answers`, and for the engine's turns; `left_after` is what both rest on:
--- what a fault leaves of the answers to lines, behind whole answers and before lines that come later.
+-- The texts that answer judge lines. For `write_answers`, and for the turns of `judge`.
 use Rattle.std.proofs.Common.{◌≡◌, ◌≢◌, ◌⊎◌, ℕ, ◌+◌, ◌<◌, List, [], ◌∷◌, ◌++◌, length, take, drop, map, get_or, Bool, true, false, Option, Result, Ok, Err, OnOk, IfErr, MatchBool, inr, refl, sym, ap, ◌∙◌, subst, arith, append_assoc, append-nil, take-append-drop, length-drop}
 use Rattle.std.proofs.lemmas.List.{take_more, map-append, length-map}
 use Rattle.std.proofs.KnownBytes.{Appends-trans, Appends-nil}
@@ -10,6 +9,7 @@ use Rattle.album_server.specs.declared.fault.Fault.{Fault}
 use Rattle.album_server.specs.declared.fault.Fault.TheVariants.{Reading, Writing, Memory}
 use Rattle.album_server.specs.Answers.{Answers, IsAnswer, IsReply, read_of}
 use Rattle.album_server.specs.Writes.{Gains, Writes, IsPrefixOf, IsCutShort, IsLeftBy}
+use Rattle.album_server.proofs.Answering.{GoesOn, goes_on, left_is_prefix}
 
 -- ---- lists of lines
 
@@ -19,7 +19,7 @@ answer_by : (b : Bool) (line : Line)
 answer_by true line = ([], refl)
 answer_by false line = (refusal_line OutOfMemory, inr refl)
 
-pub answers_exist : (lines : List Line) → (text : List ℕ) × Answers lines text
+answers_exist : (lines : List Line) → (text : List ℕ) × Answers lines text
 answers_exist [] = ([], refl)
 answers_exist (line ∷ lines) =
     let first = answer_by (is_blank line) line in
@@ -34,48 +34,11 @@ answers_append (x ∷ xs) ys a b g h =
 pub one_answer : (line : Line) (text : List ℕ) → IsAnswer line text → Answers (line ∷ []) text
 one_answer line text h = (text, [], h, refl, sym (append-nil text))
 
--- a list that goes on is not empty
-pub goes_on : {X : Type 0} (xs ys : List X) → xs ≢ [] → xs ++ ys ≢ []
-goes_on [] ys some none = some refl
-goes_on (x ∷ xs) ys some none = cc
-
--- whole answers, and then a prefix of answers
-pub prefix_after : (xs ys zs : List Line) (a b : List ℕ)
-    → Answers xs a
-    → IsPrefixOf (Answers ys) b
-    → IsPrefixOf (Answers (xs ++ (ys ++ zs))) (a ++ b)
-prefix_after xs ys zs a b g h =
-    let later = answers_exist zs in
-    let all =
-    answers_append xs (ys ++ zs) a ((b ++ h.0) ++ later.0) g (answers_append ys zs (b ++ h.0) later.0 h.1 later.1) in
-    let text : a ++ ((b ++ h.0) ++ later.0) ≡ (a ++ b) ++ (h.0 ++ later.0) = simp append_assoc in
-    (h.0 ++ later.0, subst (Answers (xs ++ (ys ++ zs))) text all)
-
--- whole answers, and then what a fault leaves
-pub left_after : (fault : Fault) (xs ys zs : List Line) (a b : List ℕ)
-    → Answers xs a
-    → IsLeftBy fault Answers ys b
-    → IsLeftBy fault Answers (xs ++ (ys ++ zs)) (a ++ b)
-left_after Reading xs ys zs a b g h = absurd h
-left_after Writing xs ys zs a b g h =
-    let later = answers_exist zs in
-    let all =
-    answers_append xs (ys ++ zs) a ((b ++ h.0) ++ later.0) g (answers_append ys zs (b ++ h.0) later.0 h.2 later.1) in
-    let text : a ++ ((b ++ h.0) ++ later.0) ≡ (a ++ b) ++ (h.0 ++ later.0) = simp append_assoc in
-    (h.0 ++ later.0, goes_on h.0 later.0 h.1, subst (Answers (xs ++ (ys ++ zs))) text all)
-left_after Memory xs ys zs a b g h =
-    let lines : xs ++ (ys ++ zs) ≡ (xs ++ h.0) ++ (h.1 ++ zs) = rw h.3 (simp append_assoc) in
-    (xs ++ h.0, h.1 ++ zs, goes_on h.1 zs h.2, lines, answers_append xs h.0 a b g h.4)
-
--- what a fault leaves is a prefix
-pub left_is_prefix : (fault : Fault) (lines : List Line) (text : List ℕ)
-    → IsLeftBy fault Answers lines text
-    → IsPrefixOf (Answers lines) text
-left_is_prefix Reading lines text h = absurd h
-left_is_prefix Writing lines text h = (h.0, h.2)
-left_is_prefix Memory lines text h =
-    let later = answers_exist h.1 in
-    (later.0, subst (λ ls. Answers ls (text ++ later.0)) (sym h.3) (answers_append h.0 h.1 text later.0 h.4 later.1))
+-- answers go on, whatever lines come
+pub answers_go_on : GoesOn Answers
+answers_go_on lines later text h =
+    let more = answers_exist later in
+    (more.0, answers_append lines later text more.0 h more.1)
 
 -- ---- what a writer gains
 
@@ -133,7 +96,7 @@ prefix_there : (answered : Result Unit Fault) (lines : List Line) (text : List �
     → IfErr answered (λ fault. IsLeftBy fault Answers lines text)
     → IsPrefixOf (Answers lines) text
 prefix_there (Ok u) lines text all left = ([], subst (Answers lines) (sym (append-nil text)) all)
-prefix_there (Err fault) lines text all left = left_is_prefix fault lines text left
+prefix_there (Err fault) lines text all left = left_is_prefix Answers answers_go_on fault lines text left
 
 -- it is not all written
 pub not_all_written : (answered : Result Unit Fault) (lines : List Line) (text : List ℕ) (a b : Option (List ℕ))

@@ -3,3 +3,4 @@ pub mod Writes
 pub mod Replay
 pub mod WorkedOpening
 pub mod Stages
+pub mod Talk

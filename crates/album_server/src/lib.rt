@@ -12,7 +12,10 @@ mod fault;
 mod judged;
 mod replays;
 mod scripts;
+mod serving;
 mod stages;
+mod talk_answers;
+mod talks;
 mod writing;
 
 pub use engine::judge;
@@ -20,3 +23,5 @@ pub use fault::Fault;
 pub use judged::one_judgement;
 pub use replays::{replays_are_computed, replays_go_on, worked_replays};
 pub use scripts::replay;
+pub use serving::{Served, serve};
+pub use talks::converse;

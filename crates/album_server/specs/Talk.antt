@@ -1,0 +1,166 @@
+-- A talk: what the lines of a connection are answered, in a session.
+use Rattle.std.specs.Prelude.{◌≡◌, ◌≢◌, ◌⊎◌, ◌≤◌, ℕ, List, [], ◌∷◌, ◌++◌, codes, MatchBool, Option, Some, None, Result, Ok, Err}
+use Rattle.album_stamps.specs.declared.refusals.Refusal.{Refusal}
+use Rattle.album_stamps.specs.declared.refusals.Refusal.TheVariants.{OutOfMemory, BadLine, NoSuchPart, NotPrepared}
+use Rattle.album_terminate.specs.declared.deciding.StampState.TheVariants as state
+use Rattle.album_partition.specs.Marks.{ArePending, state_of, latest, floor}
+use Rattle.album_eval.specs.declared.facts.Principal.{Principal}
+use Rattle.album_eval.specs.declared.policies.Policy.{Policy}
+use Rattle.album_views.specs.Checks.{refusal_of}
+use Rattle.album_views.specs.declared.asks.Ask.{Ask}
+use Rattle.album_writer.specs.declared.answers.Answer.{Answer}
+use Rattle.album_passes.specs.Cuts.{prefix_at}
+use Rattle.album_threads.specs.Asks.{IsOn}
+use Rattle.album_threads.specs.Inquiries.{IsUntrimmed}
+use Rattle.album_threads.specs.Resting.{RestsOn}
+use Rattle.album_threads.specs.Sessions.{SessionState, IsNoWord}
+use Rattle.album_world.specs.declared.outs.Out.TheVariants as out
+use Rattle.album_wire.specs.Lines.{Line, is_blank}
+use Rattle.album_wire.specs.Output.{line_text, refusal_line}
+use Rattle.album_wire.specs.OutJson.{out_line}
+use Rattle.album_wire.specs.TalkJson.{hello_json, pending_json, done_json}
+use Rattle.album_wire.specs.TalkLine.{hello_line_of, talk_line_of}
+use Rattle.album_wire.specs.declared.talk_line.TalkLine.{TalkLine}
+use Rattle.album_wire.specs.declared.talk_line.TalkLine.TheVariants as line
+
+-- ---- what a session tells to a line
+
+-- of an ask: the answer, on what it rests; or it is refused by its check, or no word comes
+abbrev pub TellsAsk : ℕ → Policy → Principal → Ask → SessionState → SessionState → Result Answer Refusal → Type 0
+TellsAsk limit policy who ask old new (Ok answer) = RestsOn limit policy who ask old new answer
+TellsAsk limit policy who ask old new (Err why) = (refusal_of ask who ≡ Some why) ⊎ IsNoWord why
+
+-- there is no partition of this number
+pub record IsNowhere (session : SessionState) (part : ℕ) (why : Refusal) : Type 0 where
+  pub is : why ≡ NoSuchPart
+  pub past : session.cut.parts ≤ part
+
+-- the stamps that are pending at a partition
+abbrev pub TellsPending : ℕ → SessionState → SessionState → Result (List ℕ) Refusal → Type 0
+TellsPending part old new (Ok stamps) = ArePending (prefix_at new.cut part) stamps
+TellsPending part old new (Err why) = IsNowhere old part why ⊎ IsNoWord why
+
+-- the stamp is not pending there
+pub record IsUnprepared (session : SessionState) (part stamp : ℕ) (why : Refusal) : Type 0 where
+  pub is : why ≡ NotPrepared
+  pub other : state_of (prefix_at session.cut part) stamp ≢ state.Pending
+
+-- of a sweep: the stamp is pending at the partition, and the others are asked how it stands
+abbrev pub TellsSwept : ℕ → ℕ → SessionState → SessionState → Result Unit Refusal → Type 0
+TellsSwept part stamp old new (Ok done) = state_of (prefix_at new.cut part) stamp ≡ state.Pending
+TellsSwept part stamp old new (Err why) = IsNowhere old part why ⊎ (IsUnprepared new part stamp why ⊎ IsNoWord why)
+
+-- no version of the item is kept at the partition that is below its latest stamp, nor below that which the session knew
+pub record IsTrimmed (part item : ℕ) (old new : SessionState) : Type 0 where
+  pub latest_kept : floor (prefix_at new.cut part) item ≡ latest (prefix_at new.cut part) item
+  pub known : latest (prefix_at old.cut part) item ≤ floor (prefix_at new.cut part) item
+
+abbrev pub TellsTrimmed : ℕ → ℕ → ℕ → SessionState → SessionState → Result Unit Refusal → Type 0
+TellsTrimmed limit part item old new (Ok done) = IsTrimmed part item old new
+TellsTrimmed limit part item old new (Err why) =
+    IsNowhere old part why ⊎ (IsUntrimmed limit new.cut part item why ⊎ IsNoWord why)
+
+-- ---- the text of what is told, or of why nothing is
+
+abbrev pub asked_text : (client : ℕ) → Result Answer Refusal → List ℕ
+asked_text client (Ok answer) = out_line (out.Answered client answer) None
+asked_text client (Err why) = refusal_line why
+
+abbrev pub pending_text : Result (List ℕ) Refusal → List ℕ
+pending_text (Ok stamps) = line_text (pending_json stamps)
+pending_text (Err why) = refusal_line why
+
+abbrev pub done_text : (word : List ℕ) → Result Unit Refusal → List ℕ
+done_text word (Ok done) = line_text (done_json word)
+done_text word (Err why) = refusal_line why
+
+-- What the line is answered, by a session that is so before it and so after it. Of an ask alone something is noted.
+abbrev pub AnswersTalk : ℕ → Policy → Principal → TalkLine → SessionState → SessionState → List ℕ → Type 0
+AnswersTalk limit policy who (line.Ask ask) old new text =
+    (told : Result Answer Refusal)
+    × TellsAsk limit policy who ask old new told
+    × (text ≡ asked_text old.client told)
+AnswersTalk limit policy who (line.Pending part) old new text =
+    (told : Result (List ℕ) Refusal)
+    × TellsPending part old new told
+    × (text ≡ pending_text told)
+    × (new.share ≡ old.share)
+AnswersTalk limit policy who (line.Sweep part stamp) old new text =
+    (told : Result Unit Refusal)
+    × TellsSwept part stamp old new told
+    × (text ≡ done_text (codes "swept") told)
+    × (new.share ≡ old.share)
+AnswersTalk limit policy who (line.Trim part item) old new text =
+    (told : Result Unit Refusal)
+    × TellsTrimmed limit part item old new told
+    × (text ≡ done_text (codes "trimmed") told)
+    × (new.share ≡ old.share)
+
+-- ---- a line
+
+-- who talks, once that is said, and the session
+pub record Talker : Type 0 where
+  pub who : Option Principal
+  pub session : SessionState
+
+-- it isn't said yet who talks
+abbrev pub stranger : SessionState → Talker
+stranger session = record { who = None; session = session }
+
+-- the first line, and a later one; nothing is read of one that is too long
+abbrev pub hello_line_read : Line → Result Principal Refusal
+hello_line_read None = Err BadLine
+hello_line_read (Some bytes) = hello_line_of bytes
+
+abbrev pub talk_line_read : Line → Result TalkLine Refusal
+talk_line_read None = Err BadLine
+talk_line_read (Some bytes) = talk_line_of bytes
+
+-- the first line says who talks, and is told the client's number
+abbrev pub Greets : Talker → Result Principal Refusal → Talker → List ℕ → Type 0
+Greets old (Ok who) new text =
+    (new ≡ record { who = Some who; session = old.session })
+    × (text ≡ line_text (hello_json old.session.client))
+Greets old (Err why) new text = (new ≡ old) × (text ≡ refusal_line why)
+
+-- a later line is answered, and the session has seen more
+pub record IsAnswered (limit : ℕ) (policy : Policy) (who : Principal) (said : TalkLine) (old new : Talker) (text : List ℕ)
+    : Type 0 where
+  pub named : new.who ≡ Some who
+  pub on : IsOn old.session new.session
+  pub answers : AnswersTalk limit policy who said old.session new.session text
+
+abbrev pub Attends : ℕ → Policy → Principal → Talker → Result TalkLine Refusal → Talker → List ℕ → Type 0
+Attends limit policy who old (Ok said) new text = IsAnswered limit policy who said old new text
+Attends limit policy who old (Err why) new text = (new ≡ old) × (text ≡ refusal_line why)
+
+-- until it is said who talks, a line that doesn't say so is refused
+abbrev pub Hears : ℕ → Policy → Option Principal → Talker → Line → Talker → List ℕ → Type 0
+Hears limit policy None old line new text = Greets old (hello_line_read line) new text
+Hears limit policy (Some who) old line new text = Attends limit policy who old (talk_line_read line) new text
+
+-- A blank line is skipped. On another memory may run out; then that is told, and nothing has happened.
+abbrev pub TalksOnce : ℕ → Policy → Talker → Line → Talker → List ℕ → Type 0
+TalksOnce limit policy old line new text =
+    MatchBool (is_blank line) ((new ≡ old) × (text ≡ []))
+    (Hears limit policy old.who old line new text ⊎ ((new ≡ old) × (text ≡ refusal_line OutOfMemory)))
+
+-- ---- the whole talk
+
+-- the lines are told one after another, and this is written
+abbrev pub Talks : ℕ → Policy → Talker → List Line → Talker → List ℕ → Type 0
+Talks limit policy old [] new text = (new ≡ old) × (text ≡ [])
+Talks limit policy old (line ∷ lines) new text =
+    (between : Talker) × (first : List ℕ) × (others : List ℕ)
+    × TalksOnce limit policy old line between first
+    × Talks limit policy between lines new others
+    × (text ≡ first ++ others)
+
+-- what may be written of the lines, and of them from the start of a session
+abbrev pub MayTalk : ℕ → Policy → Talker → List Line → List ℕ → Type 0
+MayTalk limit policy old lines text = (new : Talker) × Talks limit policy old lines new text
+
+-- the talk of these lines, in a session that is so before it and so after it
+abbrev pub IsTalk : ℕ → Policy → SessionState → SessionState → List Line → List ℕ → Type 0
+IsTalk limit policy old new lines text =
+    (who : Option Principal) × Talks limit policy (stranger old) lines (record { who = who; session = new }) text

@@ -1,0 +1,237 @@
+// The service of a port: it is opened by the lines that are read, and each connection has a thread and a session.
+ghost use Rattle.std.specs.Prelude.{◌≡◌};
+
+use crate::answers::is_blank;
+use crate::engine::PIECE;
+use crate::fault::Fault;
+use crate::talks::converse;
+use crate::writing::{write_refused, write_text};
+use album_audit::Totals;
+use album_items::{ItemId, ItemValues, Opening, Value};
+use album_stamps::Refusal;
+use album_threads::{Naming, Open, Opened, Service, Session};
+use album_wire::{Counted, Header, LineIn, Lines, OpeningLine, TalkOut, read_opening_line, write_talk};
+use json::Scratch;
+use std::alloc::Global;
+use std::io::{Read, Write};
+use std::marker::Brand;
+use std::net::{IpAddr, Ipv4Addr, Net, SocketAddr, TcpListener, TcpStream};
+use std::sync::Wait;
+use std::thread;
+use std::thread::Threads;
+
+/// The lines of an opening so far.
+#[derive(Drop)]
+struct Begun {
+    header: Option<Header>,
+    rows: Vec<(ItemId, Value)>,
+}
+
+/// What a line makes of it.
+#[derive(Drop)]
+enum Next {
+    More,
+    Whole(Opening),
+}
+
+impl Begun {
+    fn take(&mut self, alloc: Global, scratch: &mut Scratch, line: &LineIn) -> Result<Next, Refusal> {
+        let said = match line {
+            LineIn::TooLong => return Err(Refusal::BadLine),
+            LineIn::Text(bytes) => read_opening_line(alloc, scratch, bytes)?,
+        };
+        match (said, self.header) {
+            (OpeningLine::Open(header), None) => {
+                self.header = Some(header);
+                Ok(Next::More)
+            }
+            (OpeningLine::Item(item, value), Some(_)) => {
+                self.rows.push((item, value))?;
+                Ok(Next::More)
+            }
+            (OpeningLine::Begin, Some(header)) => Ok(Next::Whole(Opening {
+                parts: header.parts,
+                limit: header.limit,
+                policy: header.policy,
+                items: ItemValues::of(std::mem::replace(&mut self.rows, Vec::new(alloc))),
+            })),
+            (_, _) => Err(Refusal::BadRequest),
+        }
+    }
+
+    /// Takes lines up to the one with which the opening is whole.
+    fn take_all(&mut self, alloc: Global, scratch: &mut Scratch, lines: &[LineIn]) -> Result<Next, Refusal> {
+        for line in lines {
+            if !is_blank(line) {
+                if let Next::Whole(opening) = self.take(alloc, scratch, line)? {
+                    return Ok(Next::Whole(opening));
+                }
+            }
+        }
+        Ok(Next::More)
+    }
+}
+
+/// The opening that is read.
+fn read_opening<R: Read>(alloc: Global, reader: &mut R, turns: u64) -> Result<Result<Opening, Refusal>, Fault> {
+    let mut lines = Lines::new(alloc);
+    let mut scratch = Scratch::new(alloc);
+    let mut begun = Begun { header: None, rows: Vec::new(alloc) };
+    let mut piece = [0u8; PIECE];
+    for _turn in 0..turns {
+        let Ok(len) = reader.read(&mut piece) else {
+            return Err(Fault::Reading);
+        };
+        if len == 0 {
+            return match lines.end() {
+                None => Ok(Err(Refusal::BadOpening)),
+                Some(line) => match begun.take_all(alloc, &mut scratch, &[line]) {
+                    Ok(Next::Whole(opening)) => Ok(Ok(opening)),
+                    Ok(Next::More) => Ok(Err(Refusal::BadOpening)),
+                    Err(refusal) => Ok(Err(refusal)),
+                },
+            };
+        }
+        let ended = lines.feed(&piece[..len])?;
+        match begun.take_all(alloc, &mut scratch, &ended) {
+            Ok(Next::Whole(opening)) => return Ok(Ok(opening)),
+            Ok(Next::More) => {}
+            Err(refusal) => return Ok(Err(refusal)),
+        }
+    }
+    Err(Fault::Reading)
+}
+
+/// How `serve` ends, where there was no fault.
+#[derive(Clone, Copy, Debug)]
+pub enum Served {
+    /// All connections were served, and the totals are written.
+    Done,
+    /// The opening was refused, and that is written.
+    Refused,
+    /// The port can't be had.
+    NoPort,
+}
+
+/// Opens a service by the lines that are read, listens at the port of 127.0.0.1, gives each of so many connections a
+/// thread and a session, and then writes the totals of the audit book.
+pub fn serve<T, R: Read, W: Write>(
+    rt: T,
+    alloc: Global,
+    reader: &mut R,
+    writer: &mut W,
+    port: u16,
+    conns: u16,
+    turns: u64,
+) -> Result<Served, Fault>
+where
+    T: Net<Listener = TcpListener, Stream = TcpStream> + Threads + Wait + Eprint + Copy + Send + Sync + 'static,
+{
+    let opening = match read_opening(alloc, reader, turns)? {
+        Ok(opening) => opening,
+        Err(refusal) => {
+            write_refused(alloc, refusal, writer)?;
+            return Ok(Served::Refused);
+        }
+    };
+    let opened = match Opened::new(alloc, &opening, conns) {
+        Ok(opened) => opened,
+        Err(refusal) => {
+            write_refused(alloc, refusal, writer)?;
+            return Ok(Served::Refused);
+        }
+    };
+    let address = SocketAddr::new(IpAddr::V4(Ipv4Addr::new(127, 0, 0, 1)), port);
+    let Ok(listener) = TcpListener::bind(&rt, address) else {
+        return Ok(Served::NoPort);
+    };
+    serve_at::<Brand, T, W>(rt, alloc, opened, &listener, writer, port, conns, turns)?;
+    Ok(Served::Done)
+}
+
+fn serve_at<J, T, W>(
+    rt: T,
+    alloc: Global,
+    opened: Opened,
+    listener: &TcpListener,
+    writer: &mut W,
+    port: u16,
+    conns: u16,
+    turns: u64,
+) -> Result<(), Fault>
+where
+    J: Naming + Send + Sync + 'static,
+    T: Threads + Wait + Eprint + Copy + Send + Sync + 'static,
+    W: Write,
+    requires table { opened.desk.table ≡ J.table }
+    requires terms { opened.desk.terms ≡ J.terms }
+{
+    let service = Service::<J>::open(rt, alloc, opened, Open)?;
+    let told = tell(alloc, &TalkOut::Serving(port), writer);
+    if told.is_ok() {
+        accept_all(rt, alloc, &service, listener, conns, turns);
+    }
+    let totals = service.close(&rt);
+    told?;
+    tell(alloc, &totals_out(totals), writer)
+}
+
+fn tell<W: Write>(alloc: Global, out: &TalkOut, writer: &mut W) -> Result<(), Fault> {
+    let text = write_talk(alloc, out)?;
+    write_text(writer, &text)?;
+    writer.flush().map_err(|_| Fault::Writing)
+}
+
+fn totals_out(totals: Totals) -> TalkOut {
+    TalkOut::Totals {
+        audits: Counted { succeeded: totals.audit_ok, failed: totals.audit_failed },
+        alarms: Counted { succeeded: totals.alarm_ok, failed: totals.alarm_failed },
+    }
+}
+
+/// A session of a connection, which ends where it is let go.
+struct Guest<J: Naming, T: Wait + Copy> {
+    rt: T,
+    session: Session<J>,
+}
+
+impl<J: Naming, T: Wait + Copy> Drop for Guest<J, T> {
+    fn drop(self) {
+        let Guest { rt, session } = self;
+        session.end(&rt);
+    }
+}
+
+/// Gives each of so many connections a session and a thread. One that fails to come counts.
+fn accept_all<J, T>(rt: T, alloc: Global, service: &Service<J>, listener: &TcpListener, conns: u16, turns: u64)
+where
+    J: Naming + Send + Sync + 'static,
+    T: Threads + Wait + Eprint + Copy + Send + Sync + 'static,
+{
+    thread::scope(thread::scope_env(), &rt, |scope| {
+        for _ in 0..conns {
+            let Ok((stream, _from)) = listener.accept() else {
+                continue;
+            };
+            let Ok(session) = service.session(&rt) else {
+                continue;
+            };
+            let guest = Guest { rt, session };
+            let _ = scope.spawn(move || connection(alloc, guest, stream, turns));
+        }
+    });
+}
+
+/// Answers the lines of a connection.
+fn connection<J, T>(alloc: Global, mut guest: Guest<J, T>, stream: TcpStream, turns: u64)
+where
+    J: Naming + Send + Sync + 'static,
+    T: Threads + Wait + Eprint + Copy + Send + Sync + 'static,
+{
+    let _ = stream.set_nodelay(true);
+    let (mut from, mut to) = (&stream, &stream);
+    let done = converse(&guest.rt, alloc, &mut from, &mut to, &mut guest.session, turns);
+    if let Err(fault) = done {
+        let _ = eprintln!(guest.rt; "album: {fault}");
+    }
+}
