@@ -6,6 +6,7 @@
 #![tactic(auto)]
 
 mod answers;
+mod connections;
 mod engine;
 mod events;
 mod fault;

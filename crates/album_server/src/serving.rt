@@ -2,14 +2,14 @@
 ghost use Rattle.std.specs.Prelude.{◌≡◌};
 
 use crate::answers::is_blank;
+use crate::connections::accept_all;
 use crate::engine::PIECE;
 use crate::fault::Fault;
-use crate::talks::converse;
 use crate::writing::{write_refused, write_text};
 use album_audit::Totals;
 use album_items::{ItemId, ItemValues, Opening, Value};
 use album_stamps::Refusal;
-use album_threads::{Naming, Open, Opened, Service, Session};
+use album_threads::{Naming, Open, Opened, Service};
 use album_wire::{Counted, Header, LineIn, Lines, OpeningLine, TalkOut, read_opening_line, write_talk};
 use json::Scratch;
 use std::alloc::Global;
@@ -17,7 +17,6 @@ use std::io::{Read, Write};
 use std::marker::Brand;
 use std::net::{IpAddr, Ipv4Addr, Net, SocketAddr, TcpListener, TcpStream};
 use std::sync::Wait;
-use std::thread;
 use std::thread::Threads;
 
 /// The lines of an opening so far.
@@ -134,7 +133,7 @@ where
             return Ok(Served::Refused);
         }
     };
-    let opened = match Opened::new(alloc, &opening, conns) {
+    let opened = match Opened::new(alloc, &opening, conns.max(1)) {
         Ok(opened) => opened,
         Err(refusal) => {
             write_refused(alloc, refusal, writer)?;
@@ -165,6 +164,13 @@ where
     W: Write,
     requires table { opened.desk.table ≡ J.table }
     requires terms { opened.desk.terms ≡ J.terms }
+    requires policy { opened.policy ≡ J.policy }
+    requires books { opened.books ≡ record {
+      audit_ok = J.audit_ok;
+      audit_failed = J.audit_failed;
+      alarm_ok = J.alarm_ok;
+      alarm_failed = J.alarm_failed;
+    } }
 {
     let service = Service::<J>::open(rt, alloc, opened, Open)?;
     let told = tell(alloc, &TalkOut::Serving(port), writer);
@@ -186,52 +192,5 @@ fn totals_out(totals: Totals) -> TalkOut {
     TalkOut::Totals {
         audits: Counted { succeeded: totals.audit_ok, failed: totals.audit_failed },
         alarms: Counted { succeeded: totals.alarm_ok, failed: totals.alarm_failed },
-    }
-}
-
-/// A session of a connection, which ends where it is let go.
-struct Guest<J: Naming, T: Wait + Copy> {
-    rt: T,
-    session: Session<J>,
-}
-
-impl<J: Naming, T: Wait + Copy> Drop for Guest<J, T> {
-    fn drop(self) {
-        let Guest { rt, session } = self;
-        session.end(&rt);
-    }
-}
-
-/// Gives each of so many connections a session and a thread. One that fails to come counts.
-fn accept_all<J, T>(rt: T, alloc: Global, service: &Service<J>, listener: &TcpListener, conns: u16, turns: u64)
-where
-    J: Naming + Send + Sync + 'static,
-    T: Threads + Wait + Eprint + Copy + Send + Sync + 'static,
-{
-    thread::scope(thread::scope_env(), &rt, |scope| {
-        for _ in 0..conns {
-            let Ok((stream, _from)) = listener.accept() else {
-                continue;
-            };
-            let Ok(session) = service.session(&rt) else {
-                continue;
-            };
-            let guest = Guest { rt, session };
-            let _ = scope.spawn(move || connection(alloc, guest, stream, turns));
-        }
-    });
-}
-
-/// Answers the lines of a connection.
-fn connection<J, T>(alloc: Global, mut guest: Guest<J, T>, stream: TcpStream, turns: u64)
-where
-    J: Naming + Send + Sync + 'static,
-    T: Threads + Wait + Eprint + Copy + Send + Sync + 'static,
-{
-    let _ = stream.set_nodelay(true);
-    let (mut from, mut to) = (&stream, &stream);
-    let done = converse(&guest.rt, alloc, &mut from, &mut to, &mut guest.session, turns);
-    if let Err(fault) = done {
-        let _ = eprintln!(guest.rt; "album: {fault}");
     }
 }

@@ -1,0 +1,22 @@
+use Rattle.std.proofs.Common.{arith}
+use Rattle.std.proofs.lemmas.List.{take_all}
+use Rattle.std.proofs.lemmas.Result.{err_from_is_err_and}
+use Rattle.album_threads.proofs.LookLemmas.{on_self, on_trans}
+use Rattle.album_wire.specs.Lines.{said}
+use Rattle.album_server.proofs.Talking.{lines_begin, lines_next, lines_cut, lines_unanswered}
+use Rattle.album_server.proofs.talks.answer_lines.Goals as goal
+
+pub loop-line-init : goal.loop-line-init
+loop-line-init g c = record {
+  told = lines_begin g.J.Naming.terms.limit g.J.Naming.policy _ (g.W.Write.contents c.args.writer.now);
+  on = on_self c.args.session.now;
+}
+
+pub loop-line-preserved : goal.loop-line-preserved
+loop-line-preserved g c = record {
+  told =
+      lines_next g.J.Naming.terms.limit g.J.Naming.policy said c.args.lines.now c.loop-line.line-index c.line-item.result
+      c.loop-line-test.true c.line-item.is _ _ _ _ _ _ _ c.loop-line.invariant.told c.in_ok-answer.ensures.told
+      c.in_ok-write_text.ensures.ok;
+  on = on_trans _ _ _ c.loop-line.invariant.on c.in_ok-answer.ensures.on;
+}
