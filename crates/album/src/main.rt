@@ -126,7 +126,9 @@ where
 {
     let matches = matches.subcommand_matches("serve");
     let port = matches.and_then(|m| m.get_one::<u16>("PORT")).unwrap_or(0);
-    let conns = matches.and_then(|m| m.get_one::<u16>("conns")).unwrap_or(u16::MAX);
+    let conns = matches
+        .and_then(|m| m.get_one::<u16>("conns"))
+        .unwrap_or(u16::MAX);
     serve(rt, alloc, reader, writer, port, conns, TURNS)
 }
 

@@ -13,3 +13,4 @@ pub mod Happening
 pub mod Standing
 pub mod ReplayTurns
 pub mod Talking
+pub mod TalkTurns

@@ -1,19 +1,18 @@
--- The texts of talks. For `converse` and its lines: any lines can be talked of, and a talk of more lines stands behind
--- that of the first.
+-- The texts of talks. For `answer_lines`, and for the turns of `converse`: any lines can be talked of, and a talk of more
+-- lines stands behind that of the first.
 use Rattle.std.proofs.Common.{◌≡◌, ◌≢◌, ◌⊎◌, ℕ, ◌+◌, ◌<◌, List, [], ◌∷◌, ◌++◌, length, take, drop, map, get_or, Bool, true, false, Option, MatchBool, inl, inr, refl, sym, ap, ◌∙◌, subst, arith, append_assoc, append-nil, length-drop}
 use Rattle.std.proofs.lemmas.List.{length-map}
 use Rattle.std.proofs.KnownBytes.{Appends-trans, Appends-nil}
 use Rattle.std.specs.Io.KnownBytes.{Appends}
 use Rattle.album_stamps.specs.declared.refusals.Refusal.TheVariants.{OutOfMemory}
 use Rattle.album_eval.specs.declared.policies.Policy.{Policy}
-use Rattle.album_threads.specs.Sessions.{SessionState}
 use Rattle.album_wire.specs.Lines.{Line, is_blank}
 use Rattle.album_wire.specs.Output.{refusal_line}
 use Rattle.album_server.specs.declared.fault.Fault.{Fault}
 use Rattle.album_server.specs.declared.fault.Fault.TheVariants.{Reading, Writing, Memory}
-use Rattle.album_server.specs.Talk.{Talker, stranger, Hears, TalksOnce, Talks, MayTalk, IsTalk}
+use Rattle.album_server.specs.Talk.{Talker, Hears, TalksOnce, Talks, MayTalk}
 use Rattle.album_server.specs.Writes.{Writes, IsCutShort, IsLeftBy}
-use Rattle.album_server.proofs.Answering.{Are, Joins, GoesOn, goes_on}
+use Rattle.album_server.proofs.Answering.{goes_on}
 use Rattle.album_server.proofs.Texts.{up_to_next, with_others, writes_weaker, writes_both}
 
 module _ (limit : ℕ) (policy : Policy) where
@@ -24,7 +23,7 @@ module _ (limit : ℕ) (policy : Policy) where
   by_memory true old line = ([], (refl, refl))
   by_memory false old line = (refusal_line OutOfMemory, inr (refl, refl))
 
-  some_talk : (old : Talker) (lines : List Line) → (text : List ℕ) × Talks limit policy old lines old text
+  pub some_talk : (old : Talker) (lines : List Line) → (text : List ℕ) × Talks limit policy old lines old text
   some_talk old [] = ([], (refl, refl))
   some_talk old (line ∷ lines) =
       let first = by_memory (is_blank line) old line in
@@ -38,44 +37,14 @@ module _ (limit : ℕ) (policy : Policy) where
   talks_append old between new [] more x y g h =
       subst (λ s. Talks limit policy s more new (x ++ y)) g.0
       (subst (Talks limit policy between more new) (ap (λ t. t ++ y) (sym g.1)) h)
-  talks_append old between new (line ∷ lines) more x y g h =
-      (
-        g.0,
-        g.1,
-        g.2 ++ y,
-        g.3,
-        talks_append g.0 between new lines more g.2 y g.4 h,
-        ap (λ t. t ++ y) g.5 ∙ append_assoc g.1 g.2 y,
-      )
-
-  -- ---- as the turns of an engine want it
-
-  pub joins : (old between new : Talker)
-      → Joins (λ lines text. Talks limit policy old lines between text)
-      (λ lines text. Talks limit policy between lines new text) (λ lines text. Talks limit policy old lines new text)
-  joins old between new lines more x y g h = talks_append old between new lines more x y g h
-
-  pub may_join : (old between : Talker)
-      → Joins (λ lines text. Talks limit policy old lines between text) (MayTalk limit policy between)
-      (MayTalk limit policy old)
-  may_join old between lines more x y g h = (h.0, talks_append old between h.0 lines more x y g h.1)
-
-  pub may : (old new : Talker) → Are (λ lines text. Talks limit policy old lines new text) (MayTalk limit policy old)
-  may old new lines x h = (new, h)
-
-  pub may_go_on : (old : Talker) → GoesOn (MayTalk limit policy old)
-  may_go_on old lines later x h =
-      let more = some_talk h.0 later in
-      (more.0, (h.0, talks_append old h.0 h.0 lines later x more.0 h.1 more.1))
-
-  -- from the start of a session
-  pub is_talk : (old new : SessionState) (between : Talker)
-      → (end : Talker) → new ≡ end.session
-      → Joins (λ lines text. Talks limit policy (stranger old) lines between text)
-      (λ lines text. Talks limit policy between lines end text) (IsTalk limit policy old new)
-  is_talk old new between end is lines more x y g h =
-      let all = talks_append (stranger old) between end lines more x y g h in
-      (end.who, subst (λ s. Talks limit policy (stranger old) (lines ++ more) (record { who = end.who; session = s }) (x ++ y)) (sym is) all)
+  talks_append old between new (line ∷ lines) more x y g h = (
+    g.0,
+    g.1,
+    g.2 ++ y,
+    g.3,
+    talks_append g.0 between new lines more g.2 y g.4 h,
+    ap (λ t. t ++ y) g.5 ∙ append_assoc g.1 g.2 y,
+  )
 
   -- ---- lines one after another
 
@@ -95,7 +64,7 @@ module _ (limit : ℕ) (policy : Policy) where
     pub lines_next : Appends b c text → Writes (Talks limit policy old (map f (take (i + 1) xs)) new) a c
     lines_next written =
         let both : (y z : List ℕ) → Talks limit policy old (map f (take i xs)) between y → z ≡ text
-            → Talks limit policy old (map f (take (i + 1) xs)) new (y ++ z) =
+        → Talks limit policy old (map f (take (i + 1) xs)) new (y ++ z) =
         λ y z g e.
         subst (λ ls. Talks limit policy old ls new (y ++ z)) (sym (up_to_next f xs i x inside is))
         (talks_append old between new _ _ y z g
@@ -107,8 +76,8 @@ module _ (limit : ℕ) (policy : Policy) where
         → Writes (IsLeftBy Writing (MayTalk limit policy old) (map f xs)) a c
     lines_cut cut =
         let both : (y z : List ℕ) → Talks limit policy old (map f (take i xs)) between y
-            → IsCutShort (λ whole. whole ≡ text) z
-            → IsCutShort (MayTalk limit policy old (map f xs)) (y ++ z) =
+        → IsCutShort (λ whole. whole ≡ text) z
+        → IsCutShort (MayTalk limit policy old (map f xs)) (y ++ z) =
         λ y z g s.
         let one = subst (Talks limit policy between (f x ∷ []) new) (sym s.2) (one_talk between new (f x) text told) in
         let first = talks_append old between new _ _ y (z ++ s.0) g one in
@@ -116,8 +85,7 @@ module _ (limit : ℕ) (policy : Policy) where
         let all = talks_append old new new _ _ (y ++ (z ++ s.0)) later.0 first later.1 in
         let lines : (map f (take i xs) ++ f x ∷ []) ++ map f (drop (i + 1) xs) ≡ map f xs =
         ap (λ ls. ls ++ map f (drop (i + 1) xs)) (sym (up_to_next f xs i x inside is)) ∙ sym (with_others f xs (i + 1)) in
-        let whole : (y ++ (z ++ s.0)) ++ later.0 ≡ (y ++ z) ++ (s.0 ++ later.0) = simp append_assoc in
-        (
+        let whole : (y ++ (z ++ s.0)) ++ later.0 ≡ (y ++ z) ++ (s.0 ++ later.0) = simp append_assoc in (
           s.0 ++ later.0,
           goes_on s.0 later.0 s.1,
           (new, subst (λ ls. Talks limit policy old ls new ((y ++ z) ++ (s.0 ++ later.0))) lines (subst (Talks limit policy old _ new) whole all)),

@@ -1,5 +1,5 @@
 -- A talk: what the lines of a connection are answered, in a session.
-use Rattle.std.specs.Prelude.{◌≡◌, ◌≢◌, ◌⊎◌, ◌≤◌, ℕ, List, [], ◌∷◌, ◌++◌, codes, MatchBool, Option, Some, None, Result, Ok, Err}
+use Rattle.std.specs.Prelude.{◌≡◌, ◌≢◌, ◌⊎◌, ◌≤◌, ℕ, List, [], ◌∷◌, ◌++◌, MatchBool, Option, Some, None, Result, Ok, Err}
 use Rattle.album_stamps.specs.declared.refusals.Refusal.{Refusal}
 use Rattle.album_stamps.specs.declared.refusals.Refusal.TheVariants.{OutOfMemory, BadLine, NoSuchPart, NotPrepared}
 use Rattle.album_terminate.specs.declared.deciding.StampState.TheVariants as state
@@ -18,7 +18,9 @@ use Rattle.album_world.specs.declared.outs.Out.TheVariants as out
 use Rattle.album_wire.specs.Lines.{Line, is_blank}
 use Rattle.album_wire.specs.Output.{line_text, refusal_line}
 use Rattle.album_wire.specs.OutJson.{out_line}
-use Rattle.album_wire.specs.TalkJson.{hello_json, pending_json, done_json}
+use Rattle.album_wire.specs.TalkJson.{pending_json, talk_text}
+use Rattle.album_wire.specs.declared.talk_json.TalkOut.{TalkOut}
+use Rattle.album_wire.specs.declared.talk_json.TalkOut.TheVariants as says
 use Rattle.album_wire.specs.TalkLine.{hello_line_of, talk_line_of}
 use Rattle.album_wire.specs.declared.talk_line.TalkLine.{TalkLine}
 use Rattle.album_wire.specs.declared.talk_line.TalkLine.TheVariants as line
@@ -70,31 +72,45 @@ abbrev pub pending_text : Result (List ℕ) Refusal → List ℕ
 pending_text (Ok stamps) = line_text (pending_json stamps)
 pending_text (Err why) = refusal_line why
 
-abbrev pub done_text : (word : List ℕ) → Result Unit Refusal → List ℕ
-done_text word (Ok done) = line_text (done_json word)
-done_text word (Err why) = refusal_line why
+abbrev pub done_text : TalkOut → Result Unit Refusal → List ℕ
+done_text said (Ok done) = talk_text said
+done_text said (Err why) = refusal_line why
 
--- What the line is answered, by a session that is so before it and so after it. Of an ask alone something is noted.
-abbrev pub AnswersTalk : ℕ → Policy → Principal → TalkLine → SessionState → SessionState → List ℕ → Type 0
-AnswersTalk limit policy who (line.Ask ask) old new text =
+-- ---- what a line is answered, by a session that is so before it and so after it
+
+abbrev pub IsAsked : ℕ → Policy → Principal → Ask → SessionState → SessionState → List ℕ → Type 0
+IsAsked limit policy who ask old new text =
     (told : Result Answer Refusal)
     × TellsAsk limit policy who ask old new told
     × (text ≡ asked_text old.client told)
-AnswersTalk limit policy who (line.Pending part) old new text =
+
+-- of an ask alone something is noted
+abbrev pub IsPendingTold : ℕ → SessionState → SessionState → List ℕ → Type 0
+IsPendingTold part old new text =
     (told : Result (List ℕ) Refusal)
     × TellsPending part old new told
     × (text ≡ pending_text told)
     × (new.share ≡ old.share)
-AnswersTalk limit policy who (line.Sweep part stamp) old new text =
+
+abbrev pub IsSweptFor : ℕ → ℕ → SessionState → SessionState → List ℕ → Type 0
+IsSweptFor part stamp old new text =
     (told : Result Unit Refusal)
     × TellsSwept part stamp old new told
-    × (text ≡ done_text (codes "swept") told)
+    × (text ≡ done_text says.Swept told)
     × (new.share ≡ old.share)
-AnswersTalk limit policy who (line.Trim part item) old new text =
+
+abbrev pub IsTrimmedFor : ℕ → ℕ → ℕ → SessionState → SessionState → List ℕ → Type 0
+IsTrimmedFor limit part item old new text =
     (told : Result Unit Refusal)
     × TellsTrimmed limit part item old new told
-    × (text ≡ done_text (codes "trimmed") told)
+    × (text ≡ done_text says.Trimmed told)
     × (new.share ≡ old.share)
+
+abbrev pub AnswersTalk : ℕ → Policy → Principal → TalkLine → SessionState → SessionState → List ℕ → Type 0
+AnswersTalk limit policy who (line.Ask ask) old new text = IsAsked limit policy who ask old new text
+AnswersTalk limit policy who (line.Pending part) old new text = IsPendingTold part old new text
+AnswersTalk limit policy who (line.Sweep part stamp) old new text = IsSweptFor part stamp old new text
+AnswersTalk limit policy who (line.Trim part item) old new text = IsTrimmedFor limit part item old new text
 
 -- ---- a line
 
@@ -120,7 +136,7 @@ talk_line_read (Some bytes) = talk_line_of bytes
 abbrev pub Greets : Talker → Result Principal Refusal → Talker → List ℕ → Type 0
 Greets old (Ok who) new text =
     (new ≡ record { who = Some who; session = old.session })
-    × (text ≡ line_text (hello_json old.session.client))
+    × (text ≡ talk_text (says.Hello old.session.client))
 Greets old (Err why) new text = (new ≡ old) × (text ≡ refusal_line why)
 
 -- a later line is answered, and the session has seen more

@@ -28,7 +28,8 @@ pub(crate) fn accept_all<J, T>(
     listener: &TcpListener,
     conns: u16,
     turns: u64,
-) where
+)
+where
     J: Naming + Send + Sync,
     T: Threads + Wait + Eprint + Copy + Send + Sync,
 {
@@ -54,7 +55,14 @@ where
 {
     let _ = stream.set_nodelay(true);
     let (mut from, mut to) = (&stream, &stream);
-    let done = converse(&guest.rt, alloc, &mut from, &mut to, &mut guest.session, turns);
+    let done = converse(
+        &guest.rt,
+        alloc,
+        &mut from,
+        &mut to,
+        &mut guest.session,
+        turns,
+    );
     if let Err(fault) = done {
         let _ = eprintln!(guest.rt; "album: {fault}");
     }

@@ -5,16 +5,18 @@ use crate::answers::is_blank;
 use crate::connections::accept_all;
 use crate::engine::PIECE;
 use crate::fault::Fault;
+use crate::stages::opening_line;
 use crate::writing::{write_refused, write_text};
 use album_audit::Totals;
 use album_items::{ItemId, ItemValues, Opening, Value};
 use album_stamps::Refusal;
 use album_threads::{Naming, Open, Opened, Service};
-use album_wire::{Counted, Header, LineIn, Lines, OpeningLine, TalkOut, read_opening_line, write_talk};
+use album_wire::{Counted, Header, LineIn, Lines, OpeningLine, TalkOut, write_talk};
 use json::Scratch;
 use std::alloc::Global;
 use std::io::{Read, Write};
 use std::marker::Brand;
+use std::mem;
 use std::net::{IpAddr, Ipv4Addr, Net, SocketAddr, TcpListener, TcpStream};
 use std::sync::Wait;
 use std::thread::Threads;
@@ -34,32 +36,55 @@ enum Next {
 }
 
 impl Begun {
-    fn take(&mut self, alloc: Global, scratch: &mut Scratch, line: &LineIn) -> Result<Next, Refusal> {
-        let said = match line {
-            LineIn::TooLong => return Err(Refusal::BadLine),
-            LineIn::Text(bytes) => read_opening_line(alloc, scratch, bytes)?,
-        };
-        match (said, self.header) {
-            (OpeningLine::Open(header), None) => {
-                self.header = Some(header);
-                Ok(Next::More)
-            }
-            (OpeningLine::Item(item, value), Some(_)) => {
-                self.rows.push((item, value))?;
-                Ok(Next::More)
-            }
-            (OpeningLine::Begin, Some(header)) => Ok(Next::Whole(Opening {
-                parts: header.parts,
-                limit: header.limit,
-                policy: header.policy,
-                items: ItemValues::of(std::mem::replace(&mut self.rows, Vec::new(alloc))),
-            })),
-            (_, _) => Err(Refusal::BadRequest),
+    fn take(
+        &mut self,
+        alloc: Global,
+        scratch: &mut Scratch,
+        line: &LineIn,
+    ) -> Result<Next, Refusal> {
+        match opening_line(alloc, scratch, line)? {
+            OpeningLine::Open(header) => self.open(header),
+            OpeningLine::Item(item, value) => self.add(item, value),
+            OpeningLine::Begin => self.begin(alloc),
         }
     }
 
+    /// The header comes first.
+    fn open(&mut self, header: Header) -> Result<Next, Refusal> {
+        if self.header.is_some() {
+            return Err(Refusal::BadRequest);
+        }
+        self.header = Some(header);
+        Ok(Next::More)
+    }
+
+    /// Behind it come the items.
+    fn add(&mut self, item: ItemId, value: Value) -> Result<Next, Refusal> {
+        if self.header.is_none() {
+            return Err(Refusal::BadRequest);
+        }
+        self.rows.push((item, value))?;
+        Ok(Next::More)
+    }
+
+    /// These are all.
+    fn begin(&mut self, alloc: Global) -> Result<Next, Refusal> {
+        let header = self.header.ok_or(Refusal::BadRequest)?;
+        Ok(Next::Whole(Opening {
+            parts: header.parts,
+            limit: header.limit,
+            policy: header.policy,
+            items: ItemValues::of(mem::replace(&mut self.rows, Vec::new(alloc))),
+        }))
+    }
+
     /// Takes lines up to the one with which the opening is whole.
-    fn take_all(&mut self, alloc: Global, scratch: &mut Scratch, lines: &[LineIn]) -> Result<Next, Refusal> {
+    fn take_all(
+        &mut self,
+        alloc: Global,
+        scratch: &mut Scratch,
+        lines: &[LineIn],
+    ) -> Result<Next, Refusal> {
         for line in lines {
             if !is_blank(line) {
                 if let Next::Whole(opening) = self.take(alloc, scratch, line)? {
@@ -72,10 +97,17 @@ impl Begun {
 }
 
 /// The opening that is read.
-fn read_opening<R: Read>(alloc: Global, reader: &mut R, turns: u64) -> Result<Result<Opening, Refusal>, Fault> {
+fn read_opening<R: Read>(
+    alloc: Global,
+    reader: &mut R,
+    turns: u64,
+) -> Result<Result<Opening, Refusal>, Fault> {
     let mut lines = Lines::new(alloc);
     let mut scratch = Scratch::new(alloc);
-    let mut begun = Begun { header: None, rows: Vec::new(alloc) };
+    let mut begun = Begun {
+        header: None,
+        rows: Vec::new(alloc),
+    };
     let mut piece = [0u8; PIECE];
     for _turn in 0..turns {
         let Ok(len) = reader.read(&mut piece) else {
@@ -124,7 +156,14 @@ pub fn serve<T, R: Read, W: Write>(
     turns: u64,
 ) -> Result<Served, Fault>
 where
-    T: Net<Listener = TcpListener, Stream = TcpStream> + Threads + Wait + Eprint + Copy + Send + Sync + 'static,
+    T: Net<Listener = TcpListener, Stream = TcpStream>
+        + Threads
+        + Wait
+        + Eprint
+        + Copy
+        + Send
+        + Sync
+        + 'static,
 {
     let opening = match read_opening(alloc, reader, turns)? {
         Ok(opening) => opening,
@@ -190,7 +229,13 @@ fn tell<W: Write>(alloc: Global, out: &TalkOut, writer: &mut W) -> Result<(), Fa
 
 fn totals_out(totals: Totals) -> TalkOut {
     TalkOut::Totals {
-        audits: Counted { succeeded: totals.audit_ok, failed: totals.audit_failed },
-        alarms: Counted { succeeded: totals.alarm_ok, failed: totals.alarm_failed },
+        audits: Counted {
+            succeeded: totals.audit_ok,
+            failed: totals.audit_failed,
+        },
+        alarms: Counted {
+            succeeded: totals.alarm_ok,
+            failed: totals.alarm_failed,
+        },
     }
 }

@@ -150,7 +150,11 @@ fn later_line(
 }
 
 /// What a line of the opening says. Of a line that is too long nothing is read.
-fn opening_line(alloc: Global, scratch: &mut Scratch, line: &LineIn) -> Result<OpeningLine, Refusal>
+pub(crate) fn opening_line(
+    alloc: Global,
+    scratch: &mut Scratch,
+    line: &LineIn,
+) -> Result<OpeningLine, Refusal>
     ensures { Gives (λ line. line) result (opening_line_read (said line.now)) }
 {
     match line {

@@ -1,12 +1,11 @@
 // The answer to a line of a connection: what the session is told, or why it is refused.
 ghost use Rattle.std.specs.Prelude.{◌≡◌, ◌⊎◌, IfOk, Some};
-ghost use Rattle.album_eval.specs.declared.facts.Principal.{Principal};
 ghost use Rattle.album_stamps.specs.declared.refusals.Refusal.TheVariants.{OutOfMemory};
 ghost use Rattle.album_stamps.specs.Outcome.{Gives};
 ghost use Rattle.album_threads.specs.Asks.{IsOn};
 ghost use Rattle.album_wire.specs.Lines.{said};
 ghost use Rattle.album_wire.specs.Output.{refusal_line};
-ghost use Rattle.album_server.specs.Talk.{AnswersTalk, Attends, Greets, TalksOnce, hello_line_read, talk_line_read};
+ghost use Rattle.album_server.specs.Talk.{AnswersTalk, Attends, Greets, IsAsked, IsPendingTold, IsSweptFor, IsTrimmedFor, TalksOnce, hello_line_read, talk_line_read};
 
 use crate::answers::is_blank;
 use album_eval::Principal;
@@ -14,7 +13,9 @@ use album_items::ItemId;
 use album_stamps::{Refusal, Stamp};
 use album_threads::{Naming, Session};
 use album_views::Ask;
-use album_wire::{LineIn, TalkLine, TalkOut, read_hello, read_talk, write_out, write_refusal, write_talk};
+use album_wire::{
+    LineIn, TalkLine, TalkOut, read_hello, read_talk, write_out, write_refusal, write_talk,
+};
 use album_world::Out;
 use json::Scratch;
 use std::alloc::Global;
@@ -136,7 +137,7 @@ fn carry_out_ask<J: Naming, T: Wait>(
     ask: Ask,
 ) -> Result<Vec<u8>, Refusal>
     ensures answers { IfOk result (λ text.
-        AnswersTalk J.terms.limit J.policy principal.now (TalkLine.Ask ask) session.old session.new text.items) }
+        IsAsked J.terms.limit J.policy principal.now ask session.old session.new text.items) }
     ensures on { IsOn session.old session.new }
 {
     match session.ask(rt, principal, ask) {
@@ -145,14 +146,14 @@ fn carry_out_ask<J: Naming, T: Wait>(
     }
 }
 
+#[tactic(auto, unfolding(album_wire::specs::TalkJson::talk_text))]
 fn tell_pending<J: Naming, T: Wait>(
     rt: &T,
     alloc: Global,
     session: &mut Session<J>,
     part: u16,
 ) -> Result<Vec<u8>, Refusal>
-    ensures answers { IfOk result (λ text. (who : Principal) →
-        AnswersTalk J.terms.limit J.policy who (TalkLine.Pending part) session.old session.new text.items) }
+    ensures answers { IfOk result (λ text. IsPendingTold part session.old session.new text.items) }
     ensures on { IsOn session.old session.new }
 {
     match session.pending(rt, part) {
@@ -172,8 +173,7 @@ fn sweep<J: Naming, T: Wait>(
     part: u16,
     stamp: Stamp,
 ) -> Result<Vec<u8>, Refusal>
-    ensures answers { IfOk result (λ text. (who : Principal) →
-        AnswersTalk J.terms.limit J.policy who (TalkLine.Sweep part stamp) session.old session.new text.items) }
+    ensures answers { IfOk result (λ text. IsSweptFor part stamp session.old session.new text.items) }
     ensures on { IsOn session.old session.new }
 {
     match session.sweep(rt, part, stamp) {
@@ -189,8 +189,8 @@ fn trim<J: Naming, T: Wait>(
     part: u16,
     item: ItemId,
 ) -> Result<Vec<u8>, Refusal>
-    ensures answers { IfOk result (λ text. (who : Principal) →
-        AnswersTalk J.terms.limit J.policy who (TalkLine.Trim part item) session.old session.new text.items) }
+    ensures answers { IfOk result (λ text.
+        IsTrimmedFor J.terms.limit part item session.old session.new text.items) }
     ensures on { IsOn session.old session.new }
 {
     match session.trim(rt, part, item) {

@@ -4,10 +4,10 @@ ghost use Rattle.album_stamps.specs.declared.limits.TheConstants.{MOST_READ_ITEM
 ghost use Rattle.album_world.specs.Runs.{numbers_after};
 
 use crate::outs::Out;
-use album_writer::Answer;
 use crate::sending::tell_sent;
 use album_permits::Note;
 use album_stamps::ClientNo;
+use album_writer::Answer;
 use std::alloc::{AllocError, Global};
 
 /// The outputs that tell the notes, then so many messages by their numbers, and then the answer.
