@@ -1,0 +1,174 @@
+"""Talks with a running service in which what is answered hangs on who comes first: what has to hold whoever does."""
+import concurrent.futures
+import contextlib
+import json
+import pathlib
+import socket
+import subprocess
+import threading
+
+from serving import SECONDS, Connection, Service, joined, want, wrong_of
+from talks import ONE_PIECE
+
+TRIP = (pathlib.Path(__file__).resolve().parent / "serve" / "trip.jsonl").read_text().splitlines()
+NOTHING_NOTED = b'{"alarms":[0,0],"audits":[0,0]}\n'
+OWNER = ["allow", "OWNER@", 2032127, 0]
+
+
+def ruled(list_0, list_1):
+    """An opening: amy's picture in her album, with these two lists."""
+    picture, album, *_ = (json.loads(line) for line in TRIP[1:])
+    lists = [{"item": f"list/{n}", "value": {"entries": entries}} for n, entries in enumerate((list_0, list_1))]
+    made = [json.loads(TRIP[0]), picture, album, *lists, {"begin": True}]
+    return joined(map(json.dumps, made))
+
+
+@contextlib.contextmanager
+def connected(service, whos):
+    """A connection for each of these, in this order, who have all said who they are, and who end well."""
+    with contextlib.ExitStack() as stack:
+        connections = []
+        for client, who in enumerate(whos, 1):
+            connections.append(Connection(service.port, ONE_PIECE))
+            stack.callback(connections[-1].close)
+            want({"answer": "hello", "client": client}, connections[-1].ask({"who": who}), "a hello")
+        yield connections
+        for connection in connections:
+            connection.finish()
+
+
+def at_once(*jobs):
+    """What the jobs give, each of which is a function and what it is given; they begin together."""
+    begin = threading.Barrier(len(jobs), timeout=SECONDS)
+
+    def run(job, *given):
+        begin.wait()
+        return job(*given)
+
+    with concurrent.futures.ThreadPoolExecutor(len(jobs)) as pool:
+        return [job.result() for job in [pool.submit(run, *job) for job in jobs]]
+
+
+def retitles(connection, client, count):
+    """Titles the picture so many times; what was written, by stamps, which have to rise."""
+    wrote = {}
+    for n in range(count):
+        title = f"{client}, {n}"
+        told = connection.ask({"ask": {"do": "retitle", "object": "picture/0", "title": title}})
+        want(("committed", client, client), (told["answer"], told["client"], told["stamp"] % 65536), "a write")
+        wrote[told["stamp"]] = title
+    want(sorted(wrote), list(wrote), "the order of the stamps")
+    want(count, len(wrote), "the number of stamps")
+    return wrote
+
+
+def reads(connection, client, count):
+    """Reads the picture so many times; what was read, by stamps, which must not sink."""
+    seen = [connection.ask({"ask": {"do": "read", "object": "picture/0"}}) for _ in range(count)]
+    want({("served", client)}, {(told["answer"], told["client"]) for told in seen}, "the reads")
+    stamps = [told["stamp"] for told in seen]
+    want(sorted(stamps), stamps, "the order of the stamps that are read")
+    return [(told["stamp"], told["title"]) for told in seen]
+
+
+def four_writers(program):
+    opening = ruled([["audit", "EVERYONE@", 256, 16], OWNER], [])
+    with Service(program, opening, 4) as service:
+        with connected(service, ["amy@users"] * 4) as amys:
+            wrote = at_once(*((retitles, amy, client, 25) for client, amy in enumerate(amys, 1)))
+            titles = {stamp: title for one in wrote for stamp, title in one.items()}
+            want(100, len(titles), "the number of stamps")
+            told = amys[0].ask({"ask": {"do": "read", "object": "picture/0"}})
+            want((max(titles), titles[max(titles)]), (told["stamp"], told["title"]), "what is read at last")
+        service.end(b'{"alarms":[0,0],"audits":[100,0]}\n', [b""])
+
+
+def readers_beside_writers(program):
+    noted = [["audit", "EVERYONE@", 1, 16], ["alarm", "amy@users", 256, 16]]
+    with Service(program, ruled(noted + [["allow", "EVERYONE@", 257, 0]], []), 4) as service:
+        with connected(service, ["amy@users", "amy@users", "bo@users", "cat@users"]) as (one, two, bo, cat):
+            *wrote, first, second = at_once((retitles, one, 1, 25), (retitles, two, 2, 25), (reads, bo, 3, 50),
+                                            (reads, cat, 4, 50))
+            titles = {0: "Sea", **wrote[0], **wrote[1]}
+            for stamp, title in first + second:
+                want(titles.get(stamp), title, f"the title read at {stamp}")
+        service.end(b'{"alarms":[50,0],"audits":[100,0]}\n', [b""])
+
+
+def change_of_two_lists(program):
+    """Bo sees the album with its picture, or nothing: never an album without its picture, which no write has left."""
+    see, look = ["allow", "EVERYONE@", 128, 0], ["allow", "EVERYONE@", 1, 0]
+    shown = {"answer": "listed", "object": "album/0", "rows": [["picture/0", "Sea"]], "stamp": 0}
+    hidden = {"answer": "denied", "reasons": [["album/0", 1, "end"]]}
+
+    def change(amy):
+        for n in range(40):
+            shows = n % 2 == 1
+            lists = [["picture/0", [OWNER] + [see] * shows], ["album/0", [OWNER] + [look] * shows]]
+            want("committed", amy.ask({"ask": {"do": "set_lists", "lists": lists}})["answer"], "a change of two lists")
+
+    def look_on(bo, client):
+        for _ in range(60):
+            told = bo.ask({"ask": {"album": "album/0", "do": "list"}})
+            want(client, told.pop("client"), "the client")
+            want(shown if told["answer"] == "listed" else hidden, told, "what is listed")
+
+    with Service(program, ruled([OWNER, see], [OWNER, look]), 3) as service:
+        with connected(service, ["amy@users", "bo@users", "bo@users"]) as (amy, *bos):
+            at_once((change, amy), (look_on, bos[0], 2), (look_on, bos[1], 3))
+            told = bos[0].ask({"ask": {"album": "album/0", "do": "list"}})
+            want("listed", told["answer"], "what is told at last")
+        service.end(NOTHING_NOTED, [b""])
+
+
+def hundred_connections(program):
+    """Each has the number of its turn, whoever speaks first."""
+    with Service(program, joined(TRIP), 100) as service:
+        connections = [Connection(service.port, ONE_PIECE) for _ in range(100)]
+        for client, connection in reversed(list(enumerate(connections, 1))):
+            want({"answer": "hello", "client": client}, connection.ask({"who": "bo@users"}), "a hello")
+        for connection in connections:
+            connection.finish()
+        service.end(NOTHING_NOTED, [b""])
+
+
+def broken_off_while_answered(program):
+    with Service(program, joined(TRIP), 2) as service:
+        bo = Connection(service.port, ONE_PIECE)
+        bo.send(b'{"who":"bo@users"}\n' + b'{"pending":0}\n' * 2000)
+        bo.breaks()
+        amy = Connection(service.port, ONE_PIECE)
+        want({"answer": "hello", "client": 2}, amy.ask({"who": "amy@users"}), "a hello")
+        want({"answer": "pending", "stamps": []}, amy.ask({"pending": 0}), "the answer to another")
+        amy.finish()
+        service.end(NOTHING_NOTED, [b"album: reading failed\n", b"album: writing failed\n"])
+
+
+def port_that_is_taken(program):
+    """It is asked for once the opening is taken."""
+    with socket.create_server(("127.0.0.1", 0)) as taken:
+        words = [program, "serve", str(taken.getsockname()[1])]
+        for opening, wanted in ((joined(TRIP), (1, b"", b"album: port refused\n")),
+                                (b"{}\n", (1, b'{"name":"BadRequest","refused":3}\n', b""))):
+            done = subprocess.run(words, input=opening, capture_output=True, timeout=SECONDS)
+            want(wanted, (done.returncode, done.stdout, done.stderr), "the run")
+
+
+FACTS = {
+    "four connections write one picture at once": four_writers,
+    "what is read beside writes never goes back": readers_beside_writers,
+    "a change of two lists is seen whole or not at all": change_of_two_lists,
+    "a hundred connections at once": hundred_connections,
+    "a connection that breaks off while it is answered": broken_off_while_answered,
+    "a port that somebody has": port_that_is_taken,
+}
+
+
+def held(program, hold):
+    return wrong_of(hold, program)
+
+
+def checks():
+    """Each row: its name, how it is run on a program, and what it is."""
+    for name, hold in FACTS.items():
+        yield f"serve: {name}", held, hold

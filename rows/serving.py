@@ -1,0 +1,119 @@
+"""A running service, `album serve`, and connections to it, for the rows."""
+import json
+import socket
+import struct
+import subprocess
+import tempfile
+import threading
+
+SECONDS = 60  # how long a service may run, and how long one wait may take
+RESET = struct.pack("ii", 1, 0)  # linger for no time: what is not sent is dropped, and the other side is told
+
+
+class Differs(Exception):
+    """The service did something else than it has to."""
+
+
+def want(wanted, got, what):
+    if wanted != got:
+        raise Differs(f"{what} is {got!r}, and {wanted!r} is wanted")
+
+
+def free_port():
+    """A port that nobody has."""
+    with socket.socket() as any_port:
+        any_port.bind(("127.0.0.1", 0))
+        return any_port.getsockname()[1]
+
+
+class Service:
+    """A running service, which is killed where it is left before its end."""
+
+    def __init__(self, program, opening, conns):
+        self.port = free_port()
+        self.errors = tempfile.TemporaryFile()
+        self.run = subprocess.Popen([program, "serve", str(self.port), "--conns", str(conns)], stdin=subprocess.PIPE,
+                                    stdout=subprocess.PIPE, stderr=self.errors)
+        self.clock = threading.Timer(SECONDS, self.run.kill)
+        self.clock.start()
+        self.opening = opening
+
+    def __enter__(self):
+        try:
+            self.run.stdin.write(self.opening)
+            self.run.stdin.close()
+            want(b'{"answer":"serving","port":%d}\n' % self.port, self.run.stdout.readline(), "the first line")
+        except (Differs, OSError):
+            self.__exit__()
+            raise
+        return self
+
+    def __exit__(self, *_):
+        self.clock.cancel()
+        self.run.kill()
+        self.run.wait()
+        self.run.stdout.close()
+        self.errors.close()
+
+    def end(self, printed, said):
+        """Waits for its end, with what it prints, and one of the texts that it may say."""
+        want(printed, self.run.stdout.read(), "the end")
+        want(0, self.run.wait(SECONDS), "the status")
+        self.errors.seek(0)
+        errors = self.errors.read()
+        want(errors if errors in said else said[0], errors, "standard error")
+
+
+class Connection:
+    """A connection to the service, which sends pieces of at most so many bytes."""
+
+    def __init__(self, port, size):
+        self.socket = socket.create_connection(("127.0.0.1", port), SECONDS)
+        self.socket.setsockopt(socket.IPPROTO_TCP, socket.TCP_NODELAY, 1)
+        self.lines = self.socket.makefile("rb")
+        self.size = size
+        self.is_open = True
+
+    def send(self, data):
+        for start in range(0, len(data), self.size):
+            self.socket.sendall(data[start:start + self.size])
+
+    def answer(self):
+        return self.lines.readline()
+
+    def ask(self, asked):
+        """What is answered to a line."""
+        self.send((json.dumps(asked) + "\n").encode())
+        return json.loads(self.answer())
+
+    def end(self):
+        if self.is_open:
+            self.socket.shutdown(socket.SHUT_WR)
+            self.is_open = False
+
+    def finish(self):
+        """Ends, and has to be closed with nothing more said."""
+        self.end()
+        want(b"", self.answer(), "what is said last")
+        self.close()
+
+    def breaks(self):
+        self.socket.setsockopt(socket.SOL_SOCKET, socket.SO_LINGER, RESET)
+        self.close()
+
+    def close(self):
+        self.lines.close()
+        self.socket.close()
+
+
+def joined(lines):
+    return "".join(f"{line}\n" for line in lines).encode()
+
+
+def wrong_of(hold, *given):
+    """What is wrong with a talk, if anything is."""
+    try:
+        hold(*given)
+    except (Differs, OSError, ValueError, KeyError, subprocess.SubprocessError, threading.BrokenBarrierError) as error:
+        return str(error) or repr(error)
+    return None
