@@ -1,6 +1,7 @@
-"""What the benches measure of a run of the program: its time, and its peak memory. ALBUM can name another program."""
+"""What the benches measure of a run of the program: its time, and its memory. ALBUM can name another program."""
 import fcntl
 import os
+import socket
 import struct
 import subprocess
 import sys
@@ -37,11 +38,23 @@ def peak_of(subcommand, path):
         child.stdin.flush()
         while unread(child.stdin) > 0 or not is_waiting(child.pid):
             time.sleep(0.001)
-        with open("/proc/%d/status" % child.pid) as status:
-            peak = next(int(row.split()[1]) for row in status if row.startswith("VmHWM:"))
+        peak = held_by(child.pid, "VmHWM")
         child.stdin.close()
         finish(child)
         return peak
+
+
+def held_by(process, what):
+    """The memory (KiB) that a process holds (VmRSS), or has held at most (VmHWM)."""
+    with open("/proc/%d/status" % process) as status:
+        return next(int(row.split()[1]) for row in status if row.startswith(what + ":"))
+
+
+def free_port():
+    """A port that nobody has."""
+    with socket.socket() as any_port:
+        any_port.bind(("127.0.0.1", 0))
+        return any_port.getsockname()[1]
 
 
 def unread(pipe):

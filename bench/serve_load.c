@@ -1,0 +1,164 @@
+/* Sends requests to 127.0.0.1 over connections, each on a thread of its own, and prints one line: how many were
+   answered, in how many seconds, and the microseconds that half of them and that 99 of 100 didn't pass.
+
+   usage: serve_load PORT SECONDS FILE..
+
+   A FILE is what one connection sends: for each request a line `BYTES PREFIX`, and then so many bytes. A request is
+   sent once the one before is answered. An answer is a line, and has to begin with the prefix. The first request of a
+   file comes before the clock starts. A connection ends with its file, or once the seconds are over. */
+#include <arpa/inet.h>
+#include <netinet/tcp.h>
+#include <pthread.h>
+#include <stdint.h>
+#include <stdio.h>
+#include <stdlib.h>
+#include <string.h>
+#include <sys/time.h>
+#include <time.h>
+#include <unistd.h>
+
+enum { LONGEST_PREFIX = 64, LONGEST_ANSWER = 1 << 17, PATIENCE = 30 /* seconds for one answer */ };
+
+struct request {
+    char prefix[LONGEST_PREFIX];
+    size_t size;
+    char *text;
+};
+
+struct talker {
+    int port;
+    uint64_t nanos;
+    struct request *requests;
+    size_t count, done;
+    uint64_t *took, began, ended;
+    pthread_t thread;
+};
+
+static pthread_barrier_t begin;
+
+static void give_up(const char *what) {
+    perror(what);
+    exit(1);
+}
+
+static uint64_t now(void) {
+    struct timespec time;
+    clock_gettime(CLOCK_MONOTONIC, &time);
+    return (uint64_t)time.tv_sec * 1000000000u + (uint64_t)time.tv_nsec;
+}
+
+static void *room(size_t count, size_t size) {
+    void *made = calloc(count ? count : 1, size);
+    if (!made) give_up("memory");
+    return made;
+}
+
+static void read_requests(struct talker *talker, const char *path) {
+    FILE *file = fopen(path, "rb");
+    if (!file) give_up(path);
+    struct request next;
+    size_t most = 0;
+    while (fscanf(file, "%zu %63s", &next.size, next.prefix) == 2) {
+        next.text = room(next.size, 1);
+        if (fgetc(file) != '\n' || fread(next.text, 1, next.size, file) != next.size) give_up(path);
+        if (talker->count == most) {
+            most = most ? 2 * most : 1024;
+            talker->requests = realloc(talker->requests, most * sizeof next);
+            if (!talker->requests) give_up("memory");
+        }
+        talker->requests[talker->count++] = next;
+    }
+    fclose(file);
+    talker->took = room(talker->count, sizeof *talker->took);
+}
+
+static int connected(int port) {
+    struct sockaddr_in to = { .sin_family = AF_INET, .sin_port = htons(port) };
+    to.sin_addr.s_addr = htonl(INADDR_LOOPBACK);
+    struct timeval patience = { .tv_sec = PATIENCE };
+    int yes = 1, on = socket(AF_INET, SOCK_STREAM, 0);
+    if (on < 0 || connect(on, (struct sockaddr *)&to, sizeof to)) give_up("connect");
+    setsockopt(on, IPPROTO_TCP, TCP_NODELAY, &yes, sizeof yes);
+    setsockopt(on, SOL_SOCKET, SO_RCVTIMEO, &patience, sizeof patience);
+    return on;
+}
+
+static void ask(int on, const struct request *request, char *answer) {
+    for (size_t sent = 0; sent < request->size;) {
+        ssize_t more = write(on, request->text + sent, request->size - sent);
+        if (more <= 0) give_up("write");
+        sent += (size_t)more;
+    }
+    size_t size = 0;
+    while (size == 0 || answer[size - 1] != '\n') {
+        ssize_t more = read(on, answer + size, LONGEST_ANSWER - size);
+        if (more <= 0) give_up("read");
+        size += (size_t)more;
+    }
+    if (size < strlen(request->prefix) || memcmp(answer, request->prefix, strlen(request->prefix))) {
+        fprintf(stderr, "%.*s is answered by %.*s", (int)request->size, request->text, (int)size, answer);
+        exit(1);
+    }
+}
+
+static void *talk(void *given) {
+    struct talker *talker = given;
+    char *answer = room(LONGEST_ANSWER, 1);
+    int on = connected(talker->port);
+    ask(on, &talker->requests[0], answer);
+    pthread_barrier_wait(&begin);
+    talker->began = talker->ended = now();
+    for (size_t n = 1; n < talker->count && talker->ended - talker->began < talker->nanos; n++) {
+        uint64_t before = now();
+        ask(on, &talker->requests[n], answer);
+        talker->ended = now();
+        talker->took[talker->done++] = talker->ended - before;
+    }
+    close(on);
+    free(answer);
+    return NULL;
+}
+
+static int by_size(const void *one, const void *other) {
+    uint64_t a = *(const uint64_t *)one, b = *(const uint64_t *)other;
+    return (a > b) - (a < b);
+}
+
+static void report(const struct talker *talkers, size_t count) {
+    uint64_t began = UINT64_MAX, ended = 0;
+    size_t done = 0, at = 0;
+    for (size_t n = 0; n < count; n++) {
+        done += talkers[n].done;
+        if (talkers[n].began < began) began = talkers[n].began;
+        if (talkers[n].ended > ended) ended = talkers[n].ended;
+    }
+    uint64_t *took = room(done, sizeof *took);
+    for (size_t n = 0; n < count; n++) {
+        memcpy(took + at, talkers[n].took, talkers[n].done * sizeof *took);
+        at += talkers[n].done;
+    }
+    qsort(took, done, sizeof *took, by_size);
+    printf("%zu %.6f %.1f %.1f\n", done, (double)(ended - began) / 1e9, done ? took[done / 2] / 1e3 : 0.0,
+           done ? took[done * 99 / 100] / 1e3 : 0.0);
+}
+
+int main(int count, char **words) {
+    if (count < 4) {
+        fprintf(stderr, "usage: serve_load PORT SECONDS FILE..\n");
+        return 2;
+    }
+    size_t files = (size_t)count - 3;
+    struct talker *talkers = room(files, sizeof *talkers);
+    pthread_barrier_init(&begin, NULL, (unsigned)files);
+    for (size_t n = 0; n < files; n++) {
+        talkers[n].port = atoi(words[1]);
+        talkers[n].nanos = (uint64_t)(atof(words[2]) * 1e9);
+        read_requests(&talkers[n], words[n + 3]);
+        if (talkers[n].count == 0) give_up(words[n + 3]);
+    }
+    for (size_t n = 0; n < files; n++)
+        if (pthread_create(&talkers[n].thread, NULL, talk, &talkers[n])) give_up("thread");
+    for (size_t n = 0; n < files; n++) pthread_join(talkers[n].thread, NULL);
+    report(talkers, files);
+    return 0;
+}
