@@ -6,6 +6,7 @@ import pathlib
 import socket
 import subprocess
 import threading
+import time
 
 from serving import SECONDS, Connection, Service, joined, want, wrong_of
 from talks import ONE_PIECE
@@ -132,6 +133,26 @@ def hundred_connections(program):
         service.end(NOTHING_NOTED, [b""])
 
 
+def answers_left_unread(program):
+    """Bo is owed more than a socket has room for, and takes nothing of it until amy has had her answers."""
+    content = "73" * 4096
+    with Service(program, joined(TRIP).replace(b"736561", content.encode()), 2) as service:
+        bo = Connection(service.port, ONE_PIECE, room=4096)
+        bo.send(b'{"who":"bo@users"}\n' + b'{"ask":{"do":"read","object":"picture/0"}}\n' * 700)
+        amy = Connection(service.port, ONE_PIECE)
+        want({"answer": "hello", "client": 2}, amy.ask({"who": "amy@users"}), "a hello")
+        time.sleep(1)  # by now bo's answers should be stuck; whether they are changes nothing
+        told = amy.ask({"ask": {"do": "retitle", "object": "picture/0", "title": "Sea"}})
+        want({"answer": "committed", "client": 2, "stamp": 65538}, told, "the answer to another")
+        amy.finish()
+        want(b'{"answer":"hello","client":1}\n', bo.answer(), "a hello")
+        for _ in range(700):
+            told = json.loads(bo.answer())
+            want(("served", content, "Sea"), (told["answer"], told["content"], told["title"]), "an answer taken late")
+        bo.finish()
+        service.end(NOTHING_NOTED, [b""])
+
+
 def broken_off_while_answered(program):
     with Service(program, joined(TRIP), 2) as service:
         bo = Connection(service.port, ONE_PIECE)
@@ -159,6 +180,7 @@ FACTS = {
     "what is read beside writes never goes back": readers_beside_writers,
     "a change of two lists is seen whole or not at all": change_of_two_lists,
     "a hundred connections at once": hundred_connections,
+    "a connection that leaves its answers unread holds up nobody": answers_left_unread,
     "a connection that breaks off while it is answered": broken_off_while_answered,
     "a port that somebody has": port_that_is_taken,
 }

@@ -65,10 +65,14 @@ class Service:
 
 
 class Connection:
-    """A connection to the service, which sends pieces of at most so many bytes."""
+    """A connection to the service, which sends pieces of at most so many bytes, and may have room for few."""
 
-    def __init__(self, port, size):
-        self.socket = socket.create_connection(("127.0.0.1", port), SECONDS)
+    def __init__(self, port, size, room=None):
+        self.socket = socket.socket()
+        self.socket.settimeout(SECONDS)
+        if room is not None:
+            self.socket.setsockopt(socket.SOL_SOCKET, socket.SO_RCVBUF, room)
+        self.socket.connect(("127.0.0.1", port))
         self.socket.setsockopt(socket.IPPROTO_TCP, socket.TCP_NODELAY, 1)
         self.lines = self.socket.makefile("rb")
         self.size = size
@@ -115,5 +119,5 @@ def wrong_of(hold, *given):
     try:
         hold(*given)
     except (Differs, OSError, ValueError, KeyError, subprocess.SubprocessError, threading.BrokenBarrierError) as error:
-        return str(error) or repr(error)
+        return str(error) if isinstance(error, Differs) else repr(error)
     return None
