@@ -21,6 +21,7 @@ import contextlib
 import pathlib
 import re
 
+from blocks import blocks
 from serving import Connection, Service, joined, want, wrong_of
 
 TALKS = pathlib.Path(__file__).resolve().parent / "serve"
@@ -109,8 +110,7 @@ def held(program, row):
 def checks():
     """Each row: its name, how it is run on a program, and what it is."""
     for path in sorted(TALKS.glob("*.txt")):
-        for block in path.read_text().split("\n\n")[1:]:
-            name, *lines = block.rstrip("\n").split("\n")
+        for name, lines in blocks(path):
             talk = Talk(lines, TALKS)
-            yield f"serve/{path.stem}: {name[2:]}", held, (talk, ONE_PIECE)
-            yield f"serve/{path.stem}: {name[2:]}, byte by byte", held, (talk, BYTE_BY_BYTE)
+            yield f"serve/{name}", held, (talk, ONE_PIECE)
+            yield f"serve/{name}, byte by byte", held, (talk, BYTE_BY_BYTE)
