@@ -32,18 +32,18 @@ class Service:
     def __init__(self, program, opening, conns):
         self.port = free_port()
         self.errors = tempfile.TemporaryFile()
-        self.run = subprocess.Popen([program, "serve", str(self.port), "--conns", str(conns)], stdin=subprocess.PIPE,
-                                    stdout=subprocess.PIPE, stderr=self.errors)
+        with tempfile.TemporaryFile() as lines:
+            lines.write(opening)
+            lines.seek(0)
+            self.run = subprocess.Popen([program, "serve", str(self.port), "--conns", str(conns)], stdin=lines,
+                                        stdout=subprocess.PIPE, stderr=self.errors)
         self.clock = threading.Timer(SECONDS, self.run.kill)
         self.clock.start()
-        self.opening = opening
 
     def __enter__(self):
         try:
-            self.run.stdin.write(self.opening)
-            self.run.stdin.close()
             want(b'{"answer":"serving","port":%d}\n' % self.port, self.run.stdout.readline(), "the first line")
-        except (Differs, OSError):
+        except Differs:
             self.__exit__()
             raise
         return self
