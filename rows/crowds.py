@@ -14,6 +14,8 @@ from talks import ONE_PIECE
 TRIP = (pathlib.Path(__file__).resolve().parent / "serve" / "trip.jsonl").read_text().splitlines()
 NOTHING_NOTED = b'{"alarms":[0,0],"audits":[0,0]}\n'
 OWNER = ["allow", "OWNER@", 2032127, 0]
+SWEPT = {"answer": "swept"}
+NOT_PREPARED = {"name": "NotPrepared", "refused": 17}
 
 
 def ruled(list_0, list_1):
@@ -122,6 +124,66 @@ def change_of_two_lists(program):
         service.end(NOTHING_NOTED, [b""])
 
 
+def sweep_all(connection):
+    """Has every stamp swept that is pending somewhere, and tells whether there was one."""
+    found = False
+    for part in range(3):
+        told = connection.ask({"pending": part})
+        want("pending", told["answer"], "what is told of a partition")
+        for stamp in told["stamps"]:
+            found = True
+            told = connection.ask({"sweep": {"part": part, "stamp": stamp}})
+            want(told if told in (SWEPT, NOT_PREPARED) else SWEPT, told, "the answer to a sweep")
+    return found
+
+
+def set_two_lists(amy, masks):
+    """Sets both lists, once for each mask; what was carried out, by stamps."""
+    wrote = {}
+    for mask in masks:
+        lists = [[item, [OWNER, ["allow", "bo@users", mask, 0]]] for item in ("picture/0", "album/0")]
+        told = amy.ask({"ask": {"do": "set_lists", "lists": lists}})
+        if told["answer"] == "committed":
+            wrote[told["stamp"]] = [mask]
+        else:
+            want("aborted", told["answer"], "a write that is swept")
+    return wrote
+
+
+def list_told(connection, item):
+    """The stamp of an item's list, and the masks behind its owner's."""
+    told = connection.ask({"ask": {"do": "get_list", "object": item}})
+    return told["stamp"], [mask for _, _, mask, _ in told["entries"][1:]]
+
+
+def swept_writes(program):
+    """Each write is carried out or not, as its answer says. A last one, that nobody sweeps, is."""
+    is_done = threading.Event()
+
+    def write(amy):
+        try:
+            return set_two_lists(amy, range(1, 61))
+        finally:
+            is_done.set()
+
+    def sweep(connection):
+        while not is_done.is_set():
+            sweep_all(connection)
+
+    with Service(program, ruled([OWNER], [OWNER]), 3) as service:
+        with connected(service, ["amy@users"] * 3) as (amy, one, two):
+            wrote, *_ = at_once((write, amy), (sweep, one), (sweep, two))
+            while sweep_all(one):
+                pass
+            wrote = {0: [], **wrote}
+            for masks in ([], [64]):
+                wrote.update(set_two_lists(amy, masks))
+                for item in ("picture/0", "album/0"):
+                    want((max(wrote), wrote[max(wrote)]), list_told(amy, item), f"the list of {item}")
+            want([64], wrote[max(wrote)], "what is written last")
+        service.end(NOTHING_NOTED, [b""])
+
+
 def hundred_connections(program):
     """Each has the number of its turn, whoever speaks first."""
     with Service(program, joined(TRIP), 100) as service:
@@ -179,6 +241,7 @@ FACTS = {
     "four connections write one picture at once": four_writers,
     "what is read beside writes never goes back": readers_beside_writers,
     "a change of two lists is seen whole or not at all": change_of_two_lists,
+    "writes that are swept while they are carried out": swept_writes,
     "a hundred connections at once": hundred_connections,
     "a connection that leaves its answers unread holds up nobody": answers_left_unread,
     "a connection that breaks off while it is answered": broken_off_while_answered,
