@@ -66,12 +66,13 @@ def retitles(connection, client, count):
 
 
 def reads(connection, client, count):
-    """Reads the picture so many times; what was read, by stamps, which must not sink."""
-    seen = [connection.ask({"ask": {"do": "read", "object": "picture/0"}}) for _ in range(count)]
-    want({("served", client)}, {(told["answer"], told["client"]) for told in seen}, "the reads")
-    stamps = [told["stamp"] for told in seen]
+    """Reads the picture so many times; what was read, by stamps, which must not sink. Trims may keep a read busy."""
+    answers = [connection.ask({"ask": {"do": "read", "object": "picture/0"}}) for _ in range(count)]
+    served = [told for told in answers if told != {"answer": "busy", "client": client, "why": "rounds"}]
+    want({("served", client)}, {(told["answer"], told["client"]) for told in served}, "the reads")
+    stamps = [told["stamp"] for told in served]
     want(sorted(stamps), stamps, "the order of the stamps that are read")
-    return [(told["stamp"], told["title"]) for told in seen]
+    return [(told["stamp"], told["title"]) for told in served]
 
 
 def four_writers(program):
@@ -96,6 +97,24 @@ def readers_beside_writers(program):
             for stamp, title in first + second:
                 want(titles.get(stamp), title, f"the title read at {stamp}")
         service.end(b'{"alarms":[50,0],"audits":[100,0]}\n', [b""])
+
+
+def trims(connection, count):
+    for _ in range(count):
+        want({"answer": "trimmed"}, connection.ask({"trim": {"item": "picture/0", "part": 0}}), "a trim")
+
+
+def readers_beside_trims(program):
+    """Old versions are let go while they are read."""
+    with Service(program, ruled([["allow", "EVERYONE@", 257, 0]], []), 4) as service:
+        with connected(service, ["amy@users", "amy@users", "bo@users", "cat@users"]) as (one, two, bo, cat):
+            wrote, _, first, second = at_once((retitles, one, 1, 50), (trims, two, 100), (reads, bo, 3, 50),
+                                              (reads, cat, 4, 50))
+            titles = {0: "Sea", **wrote}
+            for stamp, title in first + second:
+                want(titles.get(stamp), title, f"the title read at {stamp}")
+            want([(max(titles), titles[max(titles)])], reads(two, 2, 1), "what is read at last")
+        service.end(NOTHING_NOTED, [b""])
 
 
 def change_of_two_lists(program):
@@ -240,6 +259,7 @@ def port_that_is_taken(program):
 FACTS = {
     "four connections write one picture at once": four_writers,
     "what is read beside writes never goes back": readers_beside_writers,
+    "what is read beside writes and trims never goes back": readers_beside_trims,
     "a change of two lists is seen whole or not at all": change_of_two_lists,
     "writes that are swept while they are carried out": swept_writes,
     "a hundred connections at once": hundred_connections,
