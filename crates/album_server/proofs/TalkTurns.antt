@@ -1,6 +1,6 @@
 -- The loop of the engine of connections: what was read so far, and what was told for it. For `converse`; `HasTalked` is its
 -- invariant.
-use Rattle.std.proofs.Common.{◌≡◌, ◌≢◌, ◌≤◌, ◌<◌, ◌+◌, ℕ, List, [], ◌++◌, length, Option, Some, IfSome, refl, subst}
+use Rattle.std.proofs.Common.{◌≡◌, ◌≢◌, ◌≤◌, ◌<◌, ◌+◌, ℕ, List, [], length, Option, Some, IfSome, refl}
 use Rattle.std.specs.Io.KnownBytes.{Consumes, IsAtEnd, Keeps}
 use Rattle.album_eval.specs.declared.policies.Policy.{Policy}
 use Rattle.album_threads.specs.Sessions.{SessionState}

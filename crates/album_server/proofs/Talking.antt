@@ -1,15 +1,14 @@
 -- The texts of talks. For `answer_lines`, and for the turns of `converse`: any lines can be talked of, and a talk of more
 -- lines stands behind that of the first.
-use Rattle.std.proofs.Common.{◌≡◌, ◌≢◌, ◌⊎◌, ℕ, ◌+◌, ◌<◌, List, [], ◌∷◌, ◌++◌, length, take, drop, map, get_or, Bool, true, false, Option, MatchBool, inl, inr, refl, sym, ap, ◌∙◌, subst, arith, append_assoc, append-nil, length-drop}
+use Rattle.std.proofs.Common.{◌≡◌, ◌≢◌, ◌⊎◌, ℕ, ◌+◌, ◌<◌, List, [], ◌∷◌, ◌++◌, length, take, drop, map, get_or, Bool, true, false, Option, MatchBool, inr, refl, sym, ap, ◌∙◌, subst, arith, append_assoc, append-nil, length-drop}
 use Rattle.std.proofs.lemmas.List.{length-map}
-use Rattle.std.proofs.KnownBytes.{Appends-trans, Appends-nil}
+use Rattle.std.proofs.KnownBytes.{Appends-nil}
 use Rattle.std.specs.Io.KnownBytes.{Appends}
 use Rattle.album_stamps.specs.declared.refusals.Refusal.TheVariants.{OutOfMemory}
 use Rattle.album_eval.specs.declared.policies.Policy.{Policy}
 use Rattle.album_wire.specs.Lines.{Line, is_blank}
 use Rattle.album_wire.specs.Output.{refusal_line}
-use Rattle.album_server.specs.declared.fault.Fault.{Fault}
-use Rattle.album_server.specs.declared.fault.Fault.TheVariants.{Reading, Writing, Memory}
+use Rattle.album_server.specs.declared.fault.Fault.TheVariants.{Writing, Memory}
 use Rattle.album_server.specs.Talk.{Talker, Hears, TalksOnce, Talks, MayTalk}
 use Rattle.album_server.specs.Writes.{Writes, IsCutShort, IsLeftBy}
 use Rattle.album_server.proofs.Answering.{goes_on}

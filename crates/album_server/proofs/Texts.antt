@@ -6,7 +6,7 @@ use Rattle.album_stamps.specs.declared.refusals.Refusal.TheVariants.{OutOfMemory
 use Rattle.album_wire.specs.Lines.{Line, is_blank}
 use Rattle.album_wire.specs.Output.{refusal_line}
 use Rattle.album_server.specs.declared.fault.Fault.{Fault}
-use Rattle.album_server.specs.declared.fault.Fault.TheVariants.{Reading, Writing, Memory}
+use Rattle.album_server.specs.declared.fault.Fault.TheVariants.{Writing, Memory}
 use Rattle.album_server.specs.Answers.{Answers, IsAnswer, IsReply, read_of}
 use Rattle.album_server.specs.Writes.{Gains, Writes, IsPrefixOf, IsCutShort, IsLeftBy}
 use Rattle.album_server.proofs.Answering.{GoesOn, goes_on, left_is_prefix}

@@ -1,7 +1,7 @@
 -- An engine's loop: what was read so far, and what was written for it. For `judge` and `converse`; `IsSoFar` is its
 -- invariant, and the lemmas below it are the ways out of a turn. Which texts answer lines each engine says: `A` those so
 -- far, `N` the next ones, and `B` or `All` both.
-use Rattle.std.proofs.Common.{◌≡◌, ◌≢◌, ◌≤◌, ◌<◌, ◌+◌, ◌*◌, ℕ, List, [], ◌++◌, length, Option, Some, IfSome, refl, sym, ap, ◌∙◌, subst, append_assoc, append-nil, length-append, arith}
+use Rattle.std.proofs.Common.{◌≡◌, ◌≢◌, ◌≤◌, ◌<◌, ◌+◌, ◌*◌, ℕ, List, [], ◌++◌, length, Option, Some, IfSome, refl, sym, ap, ◌∙◌, subst, append-nil, length-append, arith}
 use Rattle.std.specs.Io.KnownBytes.{Consumes, IsAtEnd, Keeps}
 use Rattle.std.proofs.KnownBytes.{Consumes-trans, Consumes-nil, Appends-nil}
 use Rattle.album_wire.specs.Lines.{Line, cut, last, ended, begun, lines_of}

@@ -1,5 +1,3 @@
-use Rattle.std.proofs.Common.{arith}
-use Rattle.std.proofs.lemmas.List.{take_all}
 use Rattle.std.proofs.lemmas.Result.{err_from_is_err_and}
 use Rattle.album_threads.proofs.LookLemmas.{on_self, on_trans}
 use Rattle.album_wire.specs.Lines.{said}

@@ -1,5 +1,4 @@
 use Rattle.std.proofs.Common.{List, OnOk, IfErr, subst}
-use Rattle.album_threads.proofs.LookLemmas.{on_self}
 use Rattle.album_wire.specs.Lines.{Line}
 use Rattle.album_server.specs.Talk.{Talks, MayTalk}
 use Rattle.album_server.specs.Writes.{Writes, IsLeftBy}
