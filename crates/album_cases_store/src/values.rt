@@ -38,15 +38,30 @@ pub fn album(alloc: Global) -> Result<Value, Refusal> {
     }))
 }
 
+/// The type, the who, the mask and the flags of an entry.
+pub type Entry = (AceType, &'static str, u32, u32);
+
+fn entry_of(alloc: Global, (sort, who, mask, flags): Entry) -> Result<Ace, Refusal> {
+    let flags = AceFlags::of(flags)?;
+    Ok(Ace {
+        sort,
+        who: Who::read(alloc, who, flags)?,
+        mask: Mask::of(mask)?,
+        flags,
+    })
+}
+
+/// The list of these entries.
+pub fn list_of(alloc: Global, rows: &[Entry]) -> Result<AccessList, Refusal> {
+    let mut entries = Vec::new(alloc);
+    for row in rows {
+        entries.push(entry_of(alloc, *row)?)?;
+    }
+    Ok(AccessList::new(entries)?)
+}
+
 /// A list of one entry.
 pub fn list(alloc: Global) -> Result<Value, Refusal> {
-    let flags = AceFlags::of(0)?;
-    let mut entries = Vec::new(alloc);
-    entries.push(Ace {
-        sort: AceType::Denied,
-        who: Who::read(alloc, "amy@users", flags)?,
-        mask: Mask::of(4)?,
-        flags,
-    })?;
-    Ok(Value::List(AccessList::new(entries)?))
+    let list = list_of(alloc, &[(AceType::Denied, "amy@users", 4, 0)])?;
+    Ok(Value::List(list))
 }

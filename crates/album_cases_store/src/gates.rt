@@ -1,0 +1,116 @@
+// Gates for the tests of sessions: one that counts, and one that holds two partitions till both are in a message.
+use album_threads::Gate;
+use std::alloc::Global;
+use std::sync::Arc;
+use std::sync::atomic::{AtomicBool, AtomicU64, Ordering};
+use std::thread;
+
+/// How many messages partitions 0 and 2 of three took.
+#[derive(Drop)]
+pub struct Counts {
+    zero: AtomicU64,
+    two: AtomicU64,
+}
+
+impl Counts {
+    pub fn new() -> Counts {
+        Counts {
+            zero: AtomicU64::new(0),
+            two: AtomicU64::new(0),
+        }
+    }
+
+    /// How many messages partition 0 and partition 2 took so far.
+    pub fn so_far(&self) -> (u64, u64) {
+        let zero = self.zero.load(Ordering::SeqCst);
+        (zero, self.two.load(Ordering::SeqCst))
+    }
+
+    /// How many more they took since they had taken so many.
+    pub fn since(&self, before: (u64, u64)) -> (u64, u64) {
+        let now = self.so_far();
+        (now.0.wrapping_sub(before.0), now.1.wrapping_sub(before.1))
+    }
+}
+
+/// Counts the messages that are taken, where each has the number of those before it.
+#[derive(Drop)]
+pub struct Counting {
+    pub counts: Arc<Counts, Global>,
+}
+
+/// Counts one more message, if this is its number.
+fn count(counter: &AtomicU64, number: u64) {
+    if counter.load(Ordering::SeqCst) == number {
+        counter.fetch_add(1, Ordering::SeqCst);
+    }
+}
+
+impl Gate for Counting {
+    fn enter(&self, part: u16, number: u64) {
+        let counts: &Counts = &self.counts;
+        match part {
+            0 => count(&counts.zero, number),
+            2 => count(&counts.two, number),
+            _ => {}
+        }
+    }
+
+    fn leave(&self, _part: u16, _number: u64) {}
+}
+
+/// Whether partitions 0 and 1 took their first messages, and whether one of them gave up the other.
+#[derive(Drop)]
+pub struct Entered {
+    zero: AtomicBool,
+    one: AtomicBool,
+    gave_up: AtomicBool,
+}
+
+impl Entered {
+    pub fn new() -> Entered {
+        Entered {
+            zero: AtomicBool::new(false),
+            one: AtomicBool::new(false),
+            gave_up: AtomicBool::new(false),
+        }
+    }
+
+    /// Whether both took their first messages, and neither gave up the other.
+    pub fn at_once(&self) -> bool {
+        self.zero.load(Ordering::SeqCst)
+            && self.one.load(Ordering::SeqCst)
+            && !self.gave_up.load(Ordering::SeqCst)
+    }
+
+    /// Says that one of them is here, and waits for the other.
+    fn wait(&self, here: &AtomicBool, other: &AtomicBool) {
+        here.store(true, Ordering::SeqCst);
+        for _ in 0..1_000_000u32 {
+            if other.load(Ordering::SeqCst) {
+                return;
+            }
+            thread::yield_now();
+        }
+        self.gave_up.store(true, Ordering::SeqCst);
+    }
+}
+
+/// Lets partitions 0 and 1 go on from their first messages once both have taken theirs.
+#[derive(Drop)]
+pub struct Together {
+    pub entered: Arc<Entered, Global>,
+}
+
+impl Gate for Together {
+    fn enter(&self, part: u16, number: u64) {
+        let entered: &Entered = &self.entered;
+        match (part, number) {
+            (0, 0) => entered.wait(&entered.zero, &entered.one),
+            (1, 0) => entered.wait(&entered.one, &entered.zero),
+            _ => {}
+        }
+    }
+
+    fn leave(&self, _part: u16, _number: u64) {}
+}

@@ -1,0 +1,402 @@
+// Sessions of a running service: what they are told, how many messages a gate sees of it, and that sessions and
+// partitions go on side by side (docs/PROTOCOL.md, "A view" and "Cuts and passes").
+ghost use Rattle.std.specs.Prelude.{◌≡◌, ◌<◌};
+
+use crate::gates::{Counting, Counts, Entered, Together};
+use crate::messages::{item_of, same, stamp_of};
+use crate::values::{Entry, list_of, picture};
+use album_access::AceType;
+use album_eval::Principal;
+use album_items::{ItemValues, Opening, Title, Value};
+use album_permits::Served;
+use album_stamps::Refusal;
+use album_threads::{Naming, Open, Opened, Service, Session};
+use album_views::{Ask, NewList, NewLists};
+use album_writer::Answer;
+use std::alloc::Global;
+use std::marker::Brand;
+use std::process::Abort;
+use std::sync::{Arc, Wait};
+use std::test::Fail;
+use std::thread::Threads;
+
+/// The owner may do anything.
+const OWNED: &[Entry] = &[(AceType::Allowed, "OWNER@", 2_032_127, 0)];
+
+/// All others may read.
+const READABLE: &[Entry] = &[
+    (AceType::Allowed, "OWNER@", 2_032_127, 0),
+    (AceType::Allowed, "EVERYONE@", 1, 0),
+];
+
+fn list(alloc: Global, entries: &[Entry]) -> Result<Value, Refusal> {
+    Ok(Value::List(list_of(alloc, entries)?))
+}
+
+/// amy's pictures at partitions 0 and 1 of three. The list of the first is of these entries and stands at partition 2,
+/// and that of the second at partition 0. Group 0, which heads both, is missing and would stand there too.
+fn opening(alloc: Global, entries: &[Entry]) -> Result<Opening, Refusal> {
+    let mut items = Vec::new(alloc);
+    items.push((item_of("picture/0")?, picture(alloc, 0)?))?;
+    items.push((item_of("picture/1")?, picture(alloc, 1)?))?;
+    items.push((item_of("list/0")?, list(alloc, entries)?))?;
+    items.push((item_of("list/1")?, list(alloc, OWNED)?))?;
+    Ok(Opening {
+        parts: 3,
+        limit: 1000,
+        policy: 1,
+        items: ItemValues::of(items),
+    })
+}
+
+/// This opening, for so many sessions.
+fn opened(alloc: Global, entries: &[Entry], sessions: u16) -> Result<Opened, Refusal>
+    requires { 0 < sessions }
+{
+    Opened::new(alloc, &opening(alloc, entries)?, sessions)
+}
+
+/// A session, which ends where it is let go.
+struct Guest<J: Naming, R: Wait + Copy> {
+    rt: R,
+    session: Session<J>,
+}
+
+impl<J: Naming, R: Wait + Copy> Drop for Guest<J, R> {
+    fn drop(self) {
+        let Guest { rt, session } = self;
+        session.end(&rt);
+    }
+}
+
+/// A new session.
+fn new_guest<J: Naming, R: Wait + Copy>(
+    rt: &R,
+    service: &Service<J>,
+) -> Result<Guest<J, R>, Refusal> {
+    let session = service.session(rt)?;
+    Ok(Guest { rt: *rt, session })
+}
+
+fn read<J: Naming, R: Wait>(
+    rt: &R,
+    alloc: Global,
+    session: &mut Session<J>,
+    who: &str,
+) -> Result<Answer, Refusal> {
+    let principal = Principal::read(alloc, who)?;
+    let object = item_of("picture/0")?;
+    session.ask(rt, &principal, Ask::Read { object })
+}
+
+fn retitle<J: Naming, R: Wait>(
+    rt: &R,
+    alloc: Global,
+    session: &mut Session<J>,
+    title: &str,
+) -> Result<Answer, Refusal> {
+    let principal = Principal::read(alloc, "amy@users")?;
+    let object = item_of("picture/0")?;
+    let title = Title::of(alloc, title)?;
+    session.ask(rt, &principal, Ask::Retitle { object, title })
+}
+
+/// The stamp at which it is written.
+fn committed(answer: Answer) -> Result<u64, Refusal> {
+    match answer {
+        Answer::Committed(stamp) => Ok(stamp.value()),
+        _ => Err(Refusal::Clash),
+    }
+}
+
+/// What a session does.
+#[derive(Clone, Copy)]
+enum Step {
+    /// It reads picture/0, for whom this is.
+    Read(&'static str),
+    /// It gives picture/0 this title, for amy.
+    Retitle(&'static str),
+    Pending(u16),
+    Sweep(u16, u64),
+    /// It lets versions of picture/0 go.
+    Trim(u16),
+}
+
+/// What it is told. Numbers are of partitions 0 and 2: how many messages they took for it.
+type Row = (Step, &'static str, (u64, u64));
+
+fn read_text(alloc: Global, answer: &Answer) -> Result<String, Refusal> {
+    match answer {
+        Answer::Served(
+            Served::Picture {
+                object: _,
+                stamp,
+                title,
+                content: _,
+            },
+        ) => { Ok(format!(in alloc; "{} at {}", title.as_str(), stamp.value())?) }
+        _ => Err(Refusal::Clash),
+    }
+}
+
+fn committed_text(alloc: Global, answer: Answer) -> Result<String, Refusal> {
+    let stamp = committed(answer)?;
+    Ok(format!(in alloc; "committed at {stamp}")?)
+}
+
+fn pending_text<J: Naming, R: Wait>(
+    rt: &R,
+    alloc: Global,
+    session: &mut Session<J>,
+    part: u16,
+) -> Result<String, Refusal> {
+    let stamps = session.pending(rt, part)?;
+    Ok(format!(in alloc; "{} pending", stamps.as_slice().len())?)
+}
+
+fn text_of<J: Naming, R: Wait>(
+    rt: &R,
+    alloc: Global,
+    session: &mut Session<J>,
+    step: Step,
+) -> Result<String, Refusal> {
+    match step {
+        Step::Read(who) => read_text(alloc, &read(rt, alloc, session, who)?),
+        Step::Retitle(title) => committed_text(alloc, retitle(rt, alloc, session, title)?),
+        Step::Pending(part) => pending_text(rt, alloc, session, part),
+        Step::Sweep(part, stamp) => {
+            session.sweep(rt, part, stamp_of(stamp)?)?;
+            Ok(String::from_str(alloc, "swept")?)
+        }
+        Step::Trim(part) => {
+            session.trim(rt, part, item_of("picture/0")?)?;
+            Ok(String::from_str(alloc, "trimmed")?)
+        }
+    }
+}
+
+/// What the session is told, or the name of the refusal.
+fn told<J: Naming, R: Wait>(
+    rt: &R,
+    alloc: Global,
+    session: &mut Session<J>,
+    step: Step,
+) -> Result<String, Refusal> {
+    match text_of(rt, alloc, session, step) {
+        Ok(text) => Ok(text),
+        Err(refusal) => Ok(String::from_str(alloc, refusal.name())?),
+    }
+}
+
+/// The session is told so, and the partitions take so many messages for it.
+fn told_so<J: Naming, R: Wait + Abort>(
+    rt: &R,
+    alloc: Global,
+    session: &mut Session<J>,
+    counts: &Counts,
+    rows: &[Row],
+) -> Result<(), Fail> {
+    for (step, expected, messages) in rows {
+        let before = counts.so_far();
+        same(rt, told(rt, alloc, session, *step), expected)?;
+        assert_eq!(rt; counts.since(before), *messages, "messages at {expected}");
+    }
+    Ok(())
+}
+
+/// A read reads picture/0, and then with it list/0 and group/0, in two rounds each.
+const BEFORE: &[Row] = &[(Step::Read("bo@users"), "Sea at 0", (6, 2))];
+
+/// A retitle reads the same, and then prepares and commits picture/0.
+const MEANWHILE: &[Row] = &[
+    (Step::Retitle("Bay"), "committed at 65537", (8, 2)),
+    (Step::Read("amy@users"), "Bay at 65537", (6, 2)),
+];
+
+const AFTER: &[Row] = &[
+    (Step::Read("bo@users"), "Bay at 65537", (6, 2)),
+    (Step::Pending(0), "0 pending", (0, 0)),
+    (Step::Pending(3), "NoSuchPart", (0, 0)),
+    (Step::Sweep(0, 65537), "NotPrepared", (0, 0)),
+    (Step::Sweep(0, 131073), "NotPrepared", (0, 0)),
+    (Step::Sweep(3, 65537), "NoSuchPart", (0, 0)),
+    (Step::Trim(1), "Clash", (0, 0)),
+    (Step::Trim(3), "NoSuchPart", (0, 0)),
+    (Step::Trim(0), "trimmed", (0, 0)),
+    (Step::Read("bo@users"), "Bay at 65537", (6, 2)),
+];
+
+/// Two sessions are told so, before they meet and then.
+fn both_told_so<J: Naming, R: Wait + Abort>(
+    rt: &R,
+    alloc: Global,
+    counts: &Counts,
+    one: &mut Session<J>,
+    two: &mut Session<J>,
+) -> Result<(), Fail> {
+    told_so(rt, alloc, two, counts, BEFORE)?;
+    told_so(rt, alloc, one, counts, MEANWHILE)?;
+    one.meet(two);
+    told_so(rt, alloc, two, counts, AFTER)
+}
+
+/// The numbers of the sessions are 1 and 2, there is no third, and they are told so.
+fn two_told_so<J: Naming, R: Wait + Abort + Copy>(
+    rt: &R,
+    alloc: Global,
+    service: &Service<J>,
+    counts: &Counts,
+) -> Result<(), Fail> {
+    let mut one = new_guest(rt, service)?;
+    let mut two = new_guest(rt, service)?;
+    let numbers = (one.session.client().number(), two.session.client().number());
+    assert_eq!(rt; numbers, (1, 2));
+    assert_eq!(rt; new_guest(rt, service).err(), Some(Refusal::SessionsSpent));
+    both_told_so(rt, alloc, counts, &mut one.session, &mut two.session)
+}
+
+fn two_over<J: Naming + Send + 'static, R: Threads + Wait + Abort + Copy + Send + 'static>(
+    rt: R,
+    alloc: Global,
+    opened: Opened,
+) -> Result<(), Fail>
+    requires table { opened.desk.table ≡ J.table }
+    requires terms { opened.desk.terms ≡ J.terms }
+    requires policy { opened.policy ≡ J.policy }
+    requires books { opened.books ≡ record {
+      audit_ok = J.audit_ok;
+      audit_failed = J.audit_failed;
+      alarm_ok = J.alarm_ok;
+      alarm_failed = J.alarm_failed;
+    } }
+{
+    let counts = Arc::new(alloc, Counts::new())?;
+    let gate = Counting {
+        counts: Arc::try_clone(&counts)?,
+    };
+    let service = Service::<J>::open(rt, alloc, opened, gate)?;
+    let told = two_told_so(&rt, alloc, &service, &counts);
+    service.close(&rt);
+    told
+}
+
+/// What one session writes another reads, and each read and write takes just its messages.
+#[test]
+fn two_sessions(rt: HostRuntime) -> Result<(), Fail> {
+    let opened = opened(rt.alloc(), READABLE, 2)?;
+    two_over::<Brand, HostRuntime>(rt, rt.alloc(), opened)
+}
+
+/// Why two asks of the session are refused.
+fn refused_twice<J: Naming, R: Wait + Copy>(
+    rt: &R,
+    alloc: Global,
+    mut guest: Guest<J, R>,
+) -> Result<(Option<Refusal>, Option<Refusal>), Refusal> {
+    let first = read(rt, alloc, &mut guest.session, "bo@users").err();
+    let second = read(rt, alloc, &mut guest.session, "bo@users").err();
+    Ok((first, second))
+}
+
+/// Why two asks of a session are refused, once the service is closed.
+fn closed_on<J: Naming + Send + 'static, R: Threads + Wait + Copy + Send + 'static>(
+    rt: R,
+    alloc: Global,
+    opened: Opened,
+) -> Result<(Option<Refusal>, Option<Refusal>), Refusal>
+    requires table { opened.desk.table ≡ J.table }
+    requires terms { opened.desk.terms ≡ J.terms }
+    requires policy { opened.policy ≡ J.policy }
+    requires books { opened.books ≡ record {
+      audit_ok = J.audit_ok;
+      audit_failed = J.audit_failed;
+      alarm_ok = J.alarm_ok;
+      alarm_failed = J.alarm_failed;
+    } }
+{
+    let service = Service::<J>::open(rt, alloc, opened, Open)?;
+    let guest = new_guest(&rt, &service);
+    service.close(&rt);
+    refused_twice(&rt, alloc, guest?)
+}
+
+fn refused_once_closed<R: Threads + Wait + Copy + Send + 'static>(
+    rt: R,
+    alloc: Global,
+) -> Result<(Option<Refusal>, Option<Refusal>), Refusal> {
+    let opened = opened(alloc, READABLE, 1)?;
+    closed_on::<Brand, R>(rt, alloc, opened)
+}
+
+/// A session outlives its service, and is told that it is closed.
+#[test]
+fn a_closed_service(rt: HostRuntime) {
+    let closed = Some(Refusal::Closed);
+    assert_eq!(rt; refused_once_closed(rt, rt.alloc()), Ok((closed, closed)));
+}
+
+fn new_list(alloc: Global, text: &str) -> Result<NewList, Refusal> {
+    let object = item_of(text)?;
+    let list = list_of(alloc, READABLE)?;
+    Ok(NewList { object, list })
+}
+
+/// Other lists for both pictures.
+fn new_lists(alloc: Global) -> Result<NewLists, Refusal> {
+    let mut lists = Vec::new(alloc);
+    lists.push(new_list(alloc, "picture/0")?)?;
+    lists.push(new_list(alloc, "picture/1")?)?;
+    Ok(NewLists::of(lists))
+}
+
+/// amy sets both lists; the stamp at which they are written.
+fn set_lists<J: Naming, R: Wait + Copy>(
+    rt: &R,
+    alloc: Global,
+    service: &Service<J>,
+) -> Result<u64, Refusal> {
+    let principal = Principal::read(alloc, "amy@users")?;
+    let lists = new_lists(alloc)?;
+    let mut guest = new_guest(rt, service)?;
+    committed(guest.session.ask(rt, &principal, Ask::SetLists { lists })?)
+}
+
+/// The stamp at which both lists are written, and whether partitions 0 and 1 were in their first messages at once.
+fn set_at_once<J: Naming + Send + 'static, R: Threads + Wait + Copy + Send + 'static>(
+    rt: R,
+    alloc: Global,
+    opened: Opened,
+) -> Result<(u64, bool), Refusal>
+    requires table { opened.desk.table ≡ J.table }
+    requires terms { opened.desk.terms ≡ J.terms }
+    requires policy { opened.policy ≡ J.policy }
+    requires books { opened.books ≡ record {
+      audit_ok = J.audit_ok;
+      audit_failed = J.audit_failed;
+      alarm_ok = J.alarm_ok;
+      alarm_failed = J.alarm_failed;
+    } }
+{
+    let entered = Arc::new(alloc, Entered::new())?;
+    let gate = Together {
+        entered: Arc::try_clone(&entered)?,
+    };
+    let service = Service::<J>::open(rt, alloc, opened, gate)?;
+    let stamp = set_lists(&rt, alloc, &service);
+    service.close(&rt);
+    Ok((stamp?, entered.at_once()))
+}
+
+fn set_over_three<R: Threads + Wait + Copy + Send + 'static>(
+    rt: R,
+    alloc: Global,
+) -> Result<(u64, bool), Refusal> {
+    let opened = opened(alloc, OWNED, 1)?;
+    set_at_once::<Brand, R>(rt, alloc, opened)
+}
+
+/// A session sends to both partitions before it waits for either, and each works on a thread of its own.
+#[test]
+fn two_partitions_at_once(rt: HostRuntime) {
+    assert_eq!(rt; set_over_three(rt, rt.alloc()), Ok((65_537, true)));
+}
