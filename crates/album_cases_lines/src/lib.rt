@@ -1,9 +1,13 @@
-//! Tests of lines, and of the engines that answer and replay them over readers and writers in memory.
+//! Tests of lines, and of the engines that answer, replay and talk over readers and writers in memory.
 #![tactic(auto)]
 
 #[cfg(test)]
 mod engine_runs;
 #[cfg(test)]
+mod runs;
+#[cfg(test)]
 mod streams;
+#[cfg(test)]
+mod talk_runs;
 #[cfg(test)]
 mod wire;

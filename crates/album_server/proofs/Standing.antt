@@ -16,10 +16,11 @@ use Rattle.album_wire.specs.Lines.{Line, is_blank}
 use Rattle.album_wire.specs.Output.{refusal_line}
 use Rattle.album_server.specs.declared.fault.Fault.{Fault}
 use Rattle.album_server.specs.declared.fault.Fault.TheVariants.{Reading, Writing, Memory}
+use Rattle.album_server.specs.declared.openings.Begun.{Begun}
 use Rattle.album_server.specs.declared.stages.Stage.{Stage as Kept}
 use Rattle.album_server.specs.declared.stages.Stage.TheVariants as kept
 use Rattle.album_server.specs.Replay.{Stage, Running, Over, Step, IsStep, IsOpened, IsRun, IsTold, Takes, Prints, Replays, begun, opened_by, refused, silently, end_text, replayed}
-use Rattle.album_server.specs.Stages.{Opens, Steps, Replayed, Ends, IsLeftAmid, IsLeftAtEnd, Leads, MayLead, is_over, no_past, stage_of, step_by, with_past}
+use Rattle.album_server.specs.Stages.{GoesOn, Opens, Steps, Replayed, Ends, IsLeftAmid, IsLeftAtEnd, Leads, MayLead, is_over, no_past, stage_of, step_by, with_past}
 use Rattle.album_server.specs.Writes.{Writes, IsPrefixOf, LeavesOf}
 use Rattle.album_server.proofs.Happening.{memory_or_not}
 use Rattle.album_server.proofs.Leaving.{writes_left}
@@ -66,12 +67,12 @@ is_opened says (Err e) next text opens stage whole = go (memory_or_not e)
 
 -- its line can't be read, or is read
 module _ (taken : OpeningLine → Step) (read : Result OpeningLine Refusal) where
-  pub unread : (e : Refusal) → (e ≢ OutOfMemory → read ≡ Err e) → Opens (opened_by taken read) (Err e)
+  pub unread : (e : Refusal) → (e ≢ OutOfMemory → read ≡ Err e) → GoesOn (opened_by taken read) (Err e)
   unread e h why = ap (opened_by taken) (h why)
 
-  pub read_so : (said : OpeningLine) (result : Result Kept Refusal) → read ≡ Ok said → Opens (taken said) result
-      → Opens (opened_by taken read) result
-  read_so said result is opens = subst (λ r. Opens (opened_by taken r) result) (sym is) opens
+  pub read_so : (said : OpeningLine) (result : Result Begun Refusal) → read ≡ Ok said → GoesOn (taken said) result
+      → GoesOn (opened_by taken read) result
+  read_so said result is goes_on = subst (λ r. GoesOn (opened_by taken r) result) (sym is) goes_on
 
 -- the world opens, or doesn't
 module _ (o : Opening) (trace : Bool) where

@@ -11,6 +11,7 @@ mod engine;
 mod events;
 mod fault;
 mod judged;
+mod openings;
 mod replays;
 mod scripts;
 mod serving;

@@ -5,94 +5,56 @@ use crate::answers::is_blank;
 use crate::connections::accept_all;
 use crate::engine::PIECE;
 use crate::fault::Fault;
-use crate::stages::opening_line;
+use crate::openings::{Begun, first_line, later_line, opening_of};
 use crate::writing::{write_refused, write_text};
 use album_audit::Totals;
-use album_items::{ItemId, ItemValues, Opening, Value};
+use album_items::Opening;
 use album_stamps::Refusal;
 use album_threads::{Naming, Open, Opened, Service};
-use album_wire::{Counted, Header, LineIn, Lines, OpeningLine, TalkOut, write_talk};
+use album_wire::{Counted, LineIn, Lines, TalkOut, write_talk};
 use json::Scratch;
 use std::alloc::Global;
 use std::io::{Read, Write};
 use std::marker::Brand;
-use std::mem;
 use std::net::{IpAddr, Ipv4Addr, Net, SocketAddr, TcpListener, TcpStream};
 use std::sync::Wait;
 use std::thread::Threads;
 
-/// The lines of an opening so far.
-#[derive(Drop)]
-struct Begun {
-    header: Option<Header>,
-    rows: Vec<(ItemId, Value)>,
-}
-
-/// What a line makes of it.
-#[derive(Drop)]
-enum Next {
-    More,
-    Whole(Opening),
-}
-
-impl Begun {
-    fn take(
-        &mut self,
-        alloc: Global,
-        scratch: &mut Scratch,
-        line: &LineIn,
-    ) -> Result<Next, Refusal> {
-        match opening_line(alloc, scratch, line)? {
-            OpeningLine::Open(header) => self.open(header),
-            OpeningLine::Item(item, value) => self.add(item, value),
-            OpeningLine::Begin => self.begin(alloc),
-        }
-    }
-
-    /// The header comes first.
-    fn open(&mut self, header: Header) -> Result<Next, Refusal> {
-        if self.header.is_some() {
-            return Err(Refusal::BadRequest);
-        }
-        self.header = Some(header);
-        Ok(Next::More)
-    }
-
-    /// Behind it come the items.
-    fn add(&mut self, item: ItemId, value: Value) -> Result<Next, Refusal> {
-        if self.header.is_none() {
-            return Err(Refusal::BadRequest);
-        }
-        self.rows.push((item, value))?;
-        Ok(Next::More)
-    }
-
-    /// These are all.
-    fn begin(&mut self, alloc: Global) -> Result<Next, Refusal> {
-        let header = self.header.ok_or(Refusal::BadRequest)?;
-        Ok(Next::Whole(Opening {
-            parts: header.parts,
-            limit: header.limit,
-            policy: header.policy,
-            items: ItemValues::of(mem::replace(&mut self.rows, Vec::new(alloc))),
-        }))
-    }
-
-    /// Takes lines up to the one with which the opening is whole.
-    fn take_all(
-        &mut self,
-        alloc: Global,
-        scratch: &mut Scratch,
-        lines: &[LineIn],
-    ) -> Result<Next, Refusal> {
-        for line in lines {
-            if !is_blank(line) {
-                if let Next::Whole(opening) = self.take(alloc, scratch, line)? {
-                    return Ok(Next::Whole(opening));
+/// Takes lines up to the one with which the opening is whole.
+fn take_all(
+    alloc: Global,
+    scratch: &mut Scratch,
+    mut begun: Option<Begun>,
+    lines: &[LineIn],
+) -> Result<Option<Begun>, Refusal> {
+    for line in lines {
+        if !is_blank(line) {
+            begun = match begun {
+                None => Some(first_line(alloc, scratch, line)?),
+                Some(Begun::More(header, rows)) => {
+                    Some(later_line(alloc, scratch, header, rows, line)?)
                 }
-            }
+                Some(Begun::Whole(header, rows)) => Some(Begun::Whole(header, rows)),
+            };
         }
-        Ok(Next::More)
+    }
+    Ok(begun)
+}
+
+/// The opening, with what the input ends in.
+fn last_taken(
+    alloc: Global,
+    scratch: &mut Scratch,
+    begun: Option<Begun>,
+    lines: Lines,
+) -> Result<Opening, Refusal> {
+    let begun = match lines.end() {
+        None => begun,
+        Some(line) => take_all(alloc, scratch, begun, &[line])?,
+    };
+    match begun {
+        Some(Begun::Whole(header, rows)) => Ok(opening_of(header, rows)),
+        Some(Begun::More(..)) | None => Err(Refusal::BadOpening),
     }
 }
 
@@ -104,29 +66,19 @@ fn read_opening<R: Read>(
 ) -> Result<Result<Opening, Refusal>, Fault> {
     let mut lines = Lines::new(alloc);
     let mut scratch = Scratch::new(alloc);
-    let mut begun = Begun {
-        header: None,
-        rows: Vec::new(alloc),
-    };
+    let mut begun = None;
     let mut piece = [0u8; PIECE];
     for _turn in 0..turns {
         let Ok(len) = reader.read(&mut piece) else {
             return Err(Fault::Reading);
         };
         if len == 0 {
-            return match lines.end() {
-                None => Ok(Err(Refusal::BadOpening)),
-                Some(line) => match begun.take_all(alloc, &mut scratch, &[line]) {
-                    Ok(Next::Whole(opening)) => Ok(Ok(opening)),
-                    Ok(Next::More) => Ok(Err(Refusal::BadOpening)),
-                    Err(refusal) => Ok(Err(refusal)),
-                },
-            };
+            return Ok(last_taken(alloc, &mut scratch, begun, lines));
         }
         let ended = lines.feed(&piece[..len])?;
-        match begun.take_all(alloc, &mut scratch, &ended) {
-            Ok(Next::Whole(opening)) => return Ok(Ok(opening)),
-            Ok(Next::More) => {}
+        match take_all(alloc, &mut scratch, begun, &ended) {
+            Ok(Some(Begun::Whole(header, rows))) => return Ok(Ok(opening_of(header, rows))),
+            Ok(more) => begun = more,
             Err(refusal) => return Ok(Err(refusal)),
         }
     }

@@ -1,20 +1,20 @@
 // Where a replay stands between two lines, and what a line makes of that.
 ghost use Rattle.std.specs.Prelude.{◌≡◌, ◌≢◌, [], IfErr, OnErr, OnOk};
 ghost use Rattle.std.specs.Io.KnownBytes.{Appends};
-ghost use Rattle.album_stamps.specs.Outcome.{Gives};
 ghost use Rattle.album_wire.specs.Lines.{said};
 ghost use Rattle.album_world.specs.Past.{Past};
-ghost use Rattle.album_server.specs.Replay.{Prints, begun, end_text, first_line, later_line, opened_by, opening_line_read, opening_of};
-ghost use Rattle.album_server.specs.Stages.{Opens, Steps, stage_of, step_by, no_past, is_over};
+ghost use Rattle.album_server.specs.Replay.{Prints, Step, begun, end_text, opening_of};
+ghost use Rattle.album_server.specs.Stages.{GoesOn, Opens, Steps, stage_of, step_by, no_past, is_over};
 ghost use Rattle.album_server.specs.Writes.{Writes, LeavesOf};
 
 use crate::answers::is_blank;
 use crate::events::run;
 use crate::fault::Fault;
+use crate::openings::{Begun, first_line, later_line, opening_of};
 use crate::writing::write_refused;
-use album_items::{ItemId, ItemValues, Opening, Value};
+use album_items::{ItemId, Value};
 use album_stamps::Refusal;
-use album_wire::{Header, LineIn, OpeningLine, read_opening_line};
+use album_wire::{Header, LineIn};
 use album_world::World;
 use json::Scratch;
 use std::alloc::Global;
@@ -54,12 +54,12 @@ impl Stage {
         }
         match self {
             Stage::Unopened => {
-                let next = first_line(alloc, scratch, line);
+                let next = stage_after(alloc, first_line(alloc, scratch, line));
                 self.go_on(alloc, next, writer)
             }
             Stage::BeingOpened(header, rows) => {
                 let rows = mem::replace(rows, Vec::new(alloc));
-                let next = later_line(alloc, scratch, *header, rows, line);
+                let next = stage_after(alloc, later_line(alloc, scratch, *header, rows, line));
                 self.go_on(alloc, next, writer)
             }
             Stage::Running(trace, world) => run(alloc, scratch, *trace, world, line, writer),
@@ -117,49 +117,13 @@ impl Stage {
     }
 }
 
-/// The header comes first.
-#[tactic(auto, using(crate::proofs::Standing::unread, crate::proofs::Standing::read_so))]
-fn first_line(alloc: Global, scratch: &mut Scratch, line: &LineIn) -> Result<Stage, Refusal>
-    ensures { Opens (opened_by first_line (opening_line_read (said line.now))) result }
+/// Where a replay stands then: the world opens once the opening is whole.
+fn stage_after(alloc: Global, begun: Result<Begun, Refusal>) -> Result<Stage, Refusal>
+    ensures { (says : Step) → GoesOn says begun → Opens says result }
 {
-    match opening_line(alloc, scratch, line)? {
-        OpeningLine::Open(header) => Ok(Stage::BeingOpened(header, Vec::new(alloc))),
-        OpeningLine::Item(..) | OpeningLine::Begin => Err(Refusal::BadRequest),
-    }
-}
-
-/// Behind it come the items, and then that these are all.
-#[tactic(auto, using(crate::proofs::Standing::unread, crate::proofs::Standing::read_so))]
-fn later_line(
-    alloc: Global,
-    scratch: &mut Scratch,
-    header: Header,
-    mut rows: Vec<(ItemId, Value)>,
-    line: &LineIn,
-) -> Result<Stage, Refusal>
-    ensures { Opens (opened_by (later_line header rows.items) (opening_line_read (said line.now))) result }
-{
-    match opening_line(alloc, scratch, line)? {
-        OpeningLine::Open(_) => Err(Refusal::BadRequest),
-        OpeningLine::Item(item, value) => {
-            rows.push((item, value))?;
-            Ok(Stage::BeingOpened(header, rows))
-        }
-        OpeningLine::Begin => begin(alloc, header, rows),
-    }
-}
-
-/// What a line of the opening says. Of a line that is too long nothing is read.
-pub(crate) fn opening_line(
-    alloc: Global,
-    scratch: &mut Scratch,
-    line: &LineIn,
-) -> Result<OpeningLine, Refusal>
-    ensures { Gives (λ line. line) result (opening_line_read (said line.now)) }
-{
-    match line {
-        LineIn::TooLong => Err(Refusal::BadLine),
-        LineIn::Text(bytes) => read_opening_line(alloc, scratch, bytes),
+    match begun? {
+        Begun::More(header, rows) => Ok(Stage::BeingOpened(header, rows)),
+        Begun::Whole(header, rows) => begin(alloc, header, rows),
     }
 }
 
@@ -168,12 +132,6 @@ pub(crate) fn opening_line(
 fn begin(alloc: Global, header: Header, rows: Vec<(ItemId, Value)>) -> Result<Stage, Refusal>
     ensures { Opens (begun (opening_of header rows.items) header.trace) result }
 {
-    let opening = Opening {
-        parts: header.parts,
-        limit: header.limit,
-        policy: header.policy,
-        items: ItemValues::of(rows),
-    };
-    let world = World::open(alloc, &opening)?;
+    let world = World::open(alloc, &opening_of(header, rows))?;
     Ok(Stage::Running(header.trace, world))
 }

@@ -17,7 +17,7 @@ returns-in-Unopened-clause-ok g c =
     let is = sym c.is_blank.ensures ∙ c.if-is_blank.false in
     let says = opened_by first_line (opening_line_read line) in
     on_ok_weaker c.go_on.result
-    (λ w past. rw c.in-Unopened.is (opening_taken Unopened line says (λ step h. h) is c.first_line-next.result c.first_line-next.ensures
+    (λ w past. rw c.in-Unopened.is (opening_taken Unopened line says (λ step h. h) is c.stage_after-next.result (c.stage_after-next.ensures says c.first_line.ensures)
     c.go_on.new.self _ _ c.go_on.ensures.stage w))
     c.go_on.ensures.ok
 
@@ -27,7 +27,7 @@ returns-in-Unopened-clause-fault g c =
     let is = sym c.is_blank.ensures ∙ c.if-is_blank.false in
     let says = opened_by first_line (opening_line_read line) in
     IfErr-weaker c.go_on.result _ _
-    (λ fault w past. rw c.in-Unopened.is (opening_left Unopened line says (λ step h. h) is c.first_line-next.result c.first_line-next.ensures fault _ _ w))
+    (λ fault w past. rw c.in-Unopened.is (opening_left Unopened line says (λ step h. h) is c.stage_after-next.result (c.stage_after-next.ensures says c.first_line.ensures) fault _ _ w))
     c.go_on.ensures.fault
 
 -- a later line of it
@@ -36,10 +36,10 @@ returns-in-BeingOpened-clause-ok g c =
     let line = said c.args.line.now in
     let is = sym c.is_blank.ensures ∙ c.if-is_blank.false in
     let old = BeingOpened c.in-BeingOpened.header c.in-BeingOpened.rows.items in
-    let opens = rw c.replace-rows.ensures.value at c.later_line-next.ensures in
+    let goes_on = rw c.replace-rows.ensures.value at c.later_line.ensures in
     let says = opened_by (later_line c.in-BeingOpened.header c.in-BeingOpened.rows.items) (opening_line_read line) in
     on_ok_weaker c.go_on-in-BeingOpened.result
-    (λ w past. rw c.in-BeingOpened.is (opening_taken old line says (λ step h. h) is c.later_line-next.result opens
+    (λ w past. rw c.in-BeingOpened.is (opening_taken old line says (λ step h. h) is c.stage_after-next-in-BeingOpened.result (c.stage_after-next-in-BeingOpened.ensures says goes_on)
     c.go_on-in-BeingOpened.new.self _ _ c.go_on-in-BeingOpened.ensures.stage w))
     c.go_on-in-BeingOpened.ensures.ok
 
@@ -48,10 +48,10 @@ returns-in-BeingOpened-clause-fault g c =
     let line = said c.args.line.now in
     let is = sym c.is_blank.ensures ∙ c.if-is_blank.false in
     let old = BeingOpened c.in-BeingOpened.header c.in-BeingOpened.rows.items in
-    let opens = rw c.replace-rows.ensures.value at c.later_line-next.ensures in
+    let goes_on = rw c.replace-rows.ensures.value at c.later_line.ensures in
     let says = opened_by (later_line c.in-BeingOpened.header c.in-BeingOpened.rows.items) (opening_line_read line) in
     IfErr-weaker c.go_on-in-BeingOpened.result _ _
-    (λ fault w past. rw c.in-BeingOpened.is (opening_left old line says (λ step h. h) is c.later_line-next.result opens fault _ _ w))
+    (λ fault w past. rw c.in-BeingOpened.is (opening_left old line says (λ step h. h) is c.stage_after-next-in-BeingOpened.result (c.stage_after-next-in-BeingOpened.ensures says goes_on) fault _ _ w))
     c.go_on-in-BeingOpened.ensures.fault
 
 -- a line of events

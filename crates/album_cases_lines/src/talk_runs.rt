@@ -1,0 +1,101 @@
+// `converse` over readers and writers that give and take little, or fail: one session talks again and again.
+ghost use Rattle.std.specs.Prelude.{◌≡◌};
+
+use crate::runs::{Engine, Script, assert_kept};
+use crate::streams::{Pieces, Taking};
+use album_items::{ItemValues, Opening};
+use album_server::{Fault, converse};
+use album_stamps::Refusal;
+use album_threads::{Naming, Open, Opened, Service, Session};
+use std::alloc::Global;
+use std::marker::Brand;
+use std::process::Abort;
+use std::sync::Wait;
+use std::test::Fail;
+use std::thread::Threads;
+
+#[derive(Drop)]
+struct Talking<'a, J: Naming, R: Wait + Copy> {
+    rt: R,
+    session: &'a mut Session<J>,
+}
+
+impl<J: Naming, R: Wait + Copy> Engine for Talking<'_, J, R> {
+    fn run(
+        &mut self,
+        alloc: Global,
+        reader: &mut Pieces,
+        writer: &mut Taking,
+        turns: u64,
+    ) -> Result<(), Fault> {
+        converse(&self.rt, alloc, reader, writer, self.session, turns)
+    }
+}
+
+/// A hello, blank lines, an ask, what is pending, a partition that is not there, and the beginning of a line.
+const TALK: Script = Script {
+    input: "{\"who\":\"bo@users\"}\r\n \t\r\n\n\
+        {\"ask\":{\"do\":\"read\",\"object\":\"picture/0\"}}\n\
+        {\"pending\":0}\n{\"pending\":3}\n\
+        {\"ask\":",
+    output: "{\"answer\":\"hello\",\"client\":1}\n\
+        {\"answer\":\"missing\",\"client\":1,\"object\":\"picture/0\"}\n\
+        {\"answer\":\"pending\",\"stamps\":[]}\n{\"name\":\"NoSuchPart\",\"refused\":23}\n\
+        {\"name\":\"BadLine\",\"refused\":2}\n",
+    ends: &[(20, 30), (68, 83), (82, 116), (96, 151)],
+    writes: &[30, 53, 33, 35, 31],
+};
+
+/// A service of two partitions with nothing in them, for one session.
+fn opened(alloc: Global) -> Result<Opened, Refusal> {
+    let opening = Opening {
+        parts: 2,
+        limit: 1000,
+        policy: 1,
+        items: ItemValues::of(Vec::new(alloc)),
+    };
+    Opened::new(alloc, &opening, 1)
+}
+
+/// The session talks.
+fn assert_talks<J: Naming, R: Wait + Abort + Copy>(
+    rt: &R,
+    alloc: Global,
+    service: &Service<J>,
+) -> Result<(), Refusal> {
+    let mut session = service.session(rt)?;
+    let mut talking = Talking {
+        rt: *rt,
+        session: &mut session,
+    };
+    assert_kept(rt, &mut talking, alloc, &TALK);
+    session.end(rt);
+    Ok(())
+}
+
+fn talks_over<J: Naming + Send + 'static, R: Threads + Wait + Abort + Copy + Send + 'static>(
+    rt: R,
+    alloc: Global,
+    opened: Opened,
+) -> Result<(), Refusal>
+    requires table { opened.desk.table ≡ J.table }
+    requires terms { opened.desk.terms ≡ J.terms }
+    requires policy { opened.policy ≡ J.policy }
+    requires books { opened.books ≡ record {
+      audit_ok = J.audit_ok;
+      audit_failed = J.audit_failed;
+      alarm_ok = J.alarm_ok;
+      alarm_failed = J.alarm_failed;
+    } }
+{
+    let service = Service::<J>::open(rt, alloc, opened, Open)?;
+    let talked = assert_talks(&rt, alloc, &service);
+    service.close(&rt);
+    talked
+}
+
+#[test]
+fn talks(rt: HostRuntime) -> Result<(), Fail> {
+    talks_over::<Brand, HostRuntime>(rt, rt.alloc(), opened(rt.alloc())?)?;
+    Ok(())
+}
