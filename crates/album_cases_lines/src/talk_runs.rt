@@ -11,16 +11,14 @@ use std::alloc::Global;
 use std::marker::Brand;
 use std::process::Abort;
 use std::sync::Wait;
-use std::test::Fail;
 use std::thread::Threads;
 
-#[derive(Drop)]
-struct Talking<'a, J: Naming, R: Wait + Copy> {
+struct Talking<J: Naming, R: Wait + Copy> {
     rt: R,
-    session: &'a mut Session<J>,
+    session: Session<J>,
 }
 
-impl<J: Naming, R: Wait + Copy> Engine for Talking<'_, J, R> {
+impl<J: Naming, R: Wait + Copy> Engine for Talking<J, R> {
     fn run(
         &mut self,
         alloc: Global,
@@ -28,7 +26,7 @@ impl<J: Naming, R: Wait + Copy> Engine for Talking<'_, J, R> {
         writer: &mut Taking,
         turns: u64,
     ) -> Result<(), Fault> {
-        converse(&self.rt, alloc, reader, writer, self.session, turns)
+        converse(&self.rt, alloc, reader, writer, &mut self.session, turns)
     }
 }
 
@@ -63,12 +61,10 @@ fn assert_talks<J: Naming, R: Wait + Abort + Copy>(
     alloc: Global,
     service: &Service<J>,
 ) -> Result<(), Refusal> {
-    let mut session = service.session(rt)?;
-    let mut talking = Talking {
-        rt: *rt,
-        session: &mut session,
-    };
+    let session = service.session(rt)?;
+    let mut talking = Talking { rt: *rt, session };
     assert_kept(rt, &mut talking, alloc, &TALK);
+    let Talking { rt: _, session } = talking;
     session.end(rt);
     Ok(())
 }
@@ -94,8 +90,15 @@ fn talks_over<J: Naming + Send + 'static, R: Threads + Wait + Abort + Copy + Sen
     talked
 }
 
+fn talks_alone<R: Threads + Wait + Abort + Copy + Send + 'static>(
+    rt: R,
+    alloc: Global,
+) -> Result<(), Refusal> {
+    let opened = opened(alloc)?;
+    talks_over::<Brand, R>(rt, alloc, opened)
+}
+
 #[test]
-fn talks(rt: HostRuntime) -> Result<(), Fail> {
-    talks_over::<Brand, HostRuntime>(rt, rt.alloc(), opened(rt.alloc())?)?;
-    Ok(())
+fn talks(rt: HostRuntime) {
+    assert_eq!(rt; talks_alone(rt, rt.alloc()), Ok(()));
 }
