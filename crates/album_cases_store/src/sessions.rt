@@ -6,6 +6,7 @@ use crate::gates::{Counting, Counts, Entered, Together};
 use crate::messages::{item_of, same, stamp_of};
 use crate::values::{Entry, list_of, picture};
 use album_access::AceType;
+use album_audit::Totals;
 use album_eval::Principal;
 use album_items::{ItemValues, Opening, Title, Value};
 use album_permits::Served;
@@ -13,11 +14,12 @@ use album_stamps::Refusal;
 use album_threads::{Naming, Open, Opened, Service, Session};
 use album_views::{Ask, NewList, NewLists};
 use album_writer::Answer;
-use std::alloc::Global;
+use std::alloc::{AllocError, Global};
 use std::marker::Brand;
 use std::process::Abort;
 use std::sync::{Arc, Wait};
 use std::test::Fail;
+use std::thread;
 use std::thread::Threads;
 
 /// The owner may do anything.
@@ -399,4 +401,153 @@ fn set_over_three<R: Threads + Wait + Copy + Send + 'static>(
 #[test]
 fn two_partitions_at_once(rt: HostRuntime) {
     assert_eq!(rt; set_over_three(rt, rt.alloc()), Ok((65_537, true)));
+}
+
+/// What writes attributes and is granted is audited.
+const AUDITED: &[Entry] = &[
+    (AceType::Audit, "EVERYONE@", 256, 16),
+    (AceType::Allowed, "OWNER@", 2_032_127, 0),
+];
+
+/// The stamp of the picture that is served.
+fn stamp_served(answer: &Answer) -> Result<u64, Refusal> {
+    match answer {
+        Answer::Served(
+            Served::Picture {
+                object: _,
+                stamp,
+                title: _,
+                content: _,
+            },
+        ) => { Ok(stamp.value()) }
+        _ => Err(Refusal::Clash),
+    }
+}
+
+/// Retitles picture/0 so often; the greatest stamp of them.
+fn retitle_often<J: Naming, R: Wait>(
+    rt: &R,
+    alloc: Global,
+    session: &mut Session<J>,
+) -> Result<u64, Refusal> {
+    let mut greatest = 0;
+    for _ in 0..25u32 {
+        let stamp = committed(retitle(rt, alloc, session, "Bay")?)?;
+        greatest = stamp.max(greatest);
+    }
+    Ok(greatest)
+}
+
+/// A session that retitled, and the greatest stamp of it.
+#[derive(Drop)]
+struct Retitled<J: Naming, R: Wait + Copy> {
+    guest: Guest<J, R>,
+    greatest: Result<u64, Refusal>,
+}
+
+fn retitle_all<J: Naming, R: Wait + Copy>(alloc: Global, mut guest: Guest<J, R>) -> Retitled<J, R> {
+    let rt = guest.rt;
+    let greatest = retitle_often(&rt, alloc, &mut guest.session);
+    Retitled { guest, greatest }
+}
+
+/// The one session, once it met the other, and the greatest stamp of both.
+fn met<J: Naming, R: Wait + Copy>(
+    mut one: Retitled<J, R>,
+    mut other: Retitled<J, R>,
+) -> Retitled<J, R> {
+    one.guest.session.meet(&mut other.guest.session);
+    one.greatest = greater(one.greatest, other.greatest);
+    one
+}
+
+fn greater(one: Result<u64, Refusal>, other: Result<u64, Refusal>) -> Result<u64, Refusal> {
+    Ok(one?.max(other?))
+}
+
+/// Four sessions, each on a thread of its own, retitle picture/0 so often. The first, once it met the others, and the
+/// greatest stamp of all.
+fn retitled_at_once<J: Naming + Send, R: Threads + Wait + Copy + Send + Sync>(
+    rt: &R,
+    alloc: Global,
+    one: Guest<J, R>,
+    two: Guest<J, R>,
+    three: Guest<J, R>,
+    four: Guest<J, R>,
+) -> Result<Retitled<J, R>, AllocError> {
+    thread::scope(
+        thread::scope_env(),
+        rt,
+        |scope| -> Result<Retitled<J, R>, AllocError> {
+            let one = scope.spawn(move || retitle_all(alloc, one))?;
+            let two = scope.spawn(move || retitle_all(alloc, two))?;
+            let three = scope.spawn(move || retitle_all(alloc, three))?;
+            let four = scope.spawn(move || retitle_all(alloc, four))?;
+            let left = met(one.join(rt), two.join(rt));
+            Ok(met(met(left, three.join(rt)), four.join(rt)))
+        },
+    )
+}
+
+/// Whether the first of four sessions, once it met the others, reads picture/0 at the greatest stamp at which they
+/// retitled it, and what the audit book has then.
+fn four_retitled<J: Naming + Send, R: Threads + Wait + Copy + Send + Sync>(
+    rt: &R,
+    alloc: Global,
+    service: &Service<J>,
+) -> Result<(bool, Totals), Refusal> {
+    let (one, two) = (new_guest(rt, service)?, new_guest(rt, service)?);
+    let (three, four) = (new_guest(rt, service)?, new_guest(rt, service)?);
+    let Retitled {
+        mut guest,
+        greatest,
+    } = retitled_at_once(rt, alloc, one, two, three, four)?;
+    let stamp = stamp_served(&read(rt, alloc, &mut guest.session, "amy@users")?)?;
+    Ok((stamp == greatest?, service.totals(rt)))
+}
+
+/// What four sessions read and what the audit book has, before they end and as the service is closed.
+fn four_over<J: Naming + Send + 'static, R: Threads + Wait + Copy + Send + Sync + 'static>(
+    rt: R,
+    alloc: Global,
+    opened: Opened,
+) -> Result<(bool, Totals, Totals), Refusal>
+    requires table { opened.desk.table ≡ J.table }
+    requires terms { opened.desk.terms ≡ J.terms }
+    requires policy { opened.policy ≡ J.policy }
+    requires books { opened.books ≡ record {
+      audit_ok = J.audit_ok;
+      audit_failed = J.audit_failed;
+      alarm_ok = J.alarm_ok;
+      alarm_failed = J.alarm_failed;
+    } }
+{
+    let service = Service::<J>::open(rt, alloc, opened, Open)?;
+    let told = four_retitled(&rt, alloc, &service);
+    let closed = service.close(&rt);
+    let (is_greatest, totals) = told?;
+    Ok((is_greatest, totals, closed))
+}
+
+fn hundred_retitled<R: Threads + Wait + Copy + Send + Sync + 'static>(
+    rt: R,
+    alloc: Global,
+) -> Result<(bool, Totals, Totals), Refusal> {
+    let opened = opened(alloc, AUDITED, 4)?;
+    four_over::<Brand, R>(rt, alloc, opened)
+}
+
+/// Four sessions retitle a picture at once, each 25 times. Each retitle is committed, and audited once.
+#[test]
+fn four_sessions_at_once(rt: HostRuntime) {
+    let audited = Totals {
+        audit_ok: 100,
+        audit_failed: 0,
+        alarm_ok: 0,
+        alarm_failed: 0,
+    };
+    assert_eq!(rt;
+        hundred_retitled(rt, rt.alloc()),
+        Ok((true, audited, audited))
+    );
 }
