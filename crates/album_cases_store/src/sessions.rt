@@ -215,6 +215,7 @@ const MEANWHILE: &[Row] = &[
     (Step::Read("amy@users"), "Bay at 65537", (6, 2)),
 ];
 
+/// The other's write has a greater stamp than the one that it read.
 const AFTER: &[Row] = &[
     (Step::Read("bo@users"), "Bay at 65537", (6, 2)),
     (Step::Pending(0), "0 pending", (0, 0)),
@@ -226,6 +227,7 @@ const AFTER: &[Row] = &[
     (Step::Trim(3), "NoSuchPart", (0, 0)),
     (Step::Trim(0), "trimmed", (0, 0)),
     (Step::Read("bo@users"), "Bay at 65537", (6, 2)),
+    (Step::Retitle("Cove"), "committed at 131074", (8, 2)),
 ];
 
 /// Two sessions are told so, before they meet and then.
