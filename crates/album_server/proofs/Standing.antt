@@ -16,7 +16,7 @@ use Rattle.album_wire.specs.Lines.{Line, is_blank}
 use Rattle.album_wire.specs.Output.{refusal_line}
 use Rattle.album_server.specs.declared.fault.Fault.{Fault}
 use Rattle.album_server.specs.declared.fault.Fault.TheVariants.{Reading, Writing, Memory}
-use Rattle.album_server.specs.declared.openings.Begun.{Begun}
+use Rattle.album_server.specs.declared.openings.SoFar.{SoFar}
 use Rattle.album_server.specs.declared.stages.Stage.{Stage as Kept}
 use Rattle.album_server.specs.declared.stages.Stage.TheVariants as kept
 use Rattle.album_server.specs.Replay.{Stage, Running, Over, Step, IsStep, IsOpened, IsRun, IsTold, Takes, Prints, Replays, begun, opened_by, refused, silently, end_text, replayed}
@@ -70,7 +70,7 @@ module _ (taken : OpeningLine → Step) (read : Result OpeningLine Refusal) wher
   pub unread : (e : Refusal) → (e ≢ OutOfMemory → read ≡ Err e) → GoesOn (opened_by taken read) (Err e)
   unread e h why = ap (opened_by taken) (h why)
 
-  pub read_so : (said : OpeningLine) (result : Result Begun Refusal) → read ≡ Ok said → GoesOn (taken said) result
+  pub read_so : (said : OpeningLine) (result : Result SoFar Refusal) → read ≡ Ok said → GoesOn (taken said) result
       → GoesOn (opened_by taken read) result
   read_so said result is goes_on = subst (λ r. GoesOn (opened_by taken r) result) (sym is) goes_on
 

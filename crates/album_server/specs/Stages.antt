@@ -8,8 +8,8 @@ use Rattle.album_wire.specs.Lines.{Line}
 use Rattle.album_server.specs.Replay.{Stage, Unopened, BeingOpened, Running, Over, Step, IsStep, Replays, StopsAmid, EndsAmid, begun, opening_of, refused, silently, end_text}
 use Rattle.album_server.specs.declared.fault.Fault.{Fault}
 use Rattle.album_server.specs.declared.fault.Fault.TheVariants.{Reading, Writing, Memory}
-use Rattle.album_server.specs.declared.openings.Begun.{Begun}
-use Rattle.album_server.specs.declared.openings.Begun.TheVariants as so_far
+use Rattle.album_server.specs.declared.openings.SoFar.{SoFar}
+use Rattle.album_server.specs.declared.openings.SoFar.TheVariants as so_far
 use Rattle.album_server.specs.declared.stages.Stage.{Stage as Kept}
 use Rattle.album_server.specs.declared.stages.Stage.TheVariants as kept
 use Rattle.album_server.specs.Writes.{IsCutShort}
@@ -40,12 +40,12 @@ abbrev pub no_past : Past
 no_past = record { transactions = []; begun = []; reads = []; told = []; noted = [] }
 
 -- what the lines have said so far, as a step
-abbrev pub step_to : Begun → Step
+abbrev pub step_to : SoFar → Step
 step_to (so_far.More header rows) = silently (BeingOpened header rows.items)
 step_to (so_far.Whole header rows) = begun (opening_of header rows.items) header.trace
 
 -- A step of the opening: its lines go on, or it is refused for the reason that it says, or for memory.
-abbrev pub GoesOn : Step → Result Begun Refusal → Type 0
+abbrev pub GoesOn : Step → Result SoFar Refusal → Type 0
 GoesOn says (Ok so_far) = says ≡ step_to so_far
 GoesOn says (Err refusal) = refusal ≢ OutOfMemory → says ≡ refused refusal
 

@@ -13,7 +13,7 @@ use std::alloc::Global;
 
 /// What the lines of an opening have said so far.
 #[derive(Drop)]
-pub(crate) enum Begun {
+pub(crate) enum SoFar {
     /// This header, and behind it these items.
     More(Header, Vec<(ItemId, Value)>),
     /// The same, and that these are all.
@@ -26,11 +26,11 @@ pub(crate) fn first_line(
     alloc: Global,
     scratch: &mut Scratch,
     line: &LineIn,
-) -> Result<Begun, Refusal>
+) -> Result<SoFar, Refusal>
     ensures { GoesOn (opened_by first_line (opening_line_read (said line.now))) result }
 {
     match opening_line(alloc, scratch, line)? {
-        OpeningLine::Open(header) => Ok(Begun::More(header, Vec::new(alloc))),
+        OpeningLine::Open(header) => Ok(SoFar::More(header, Vec::new(alloc))),
         OpeningLine::Item(..) | OpeningLine::Begin => Err(Refusal::BadRequest),
     }
 }
@@ -43,16 +43,16 @@ pub(crate) fn later_line(
     header: Header,
     mut rows: Vec<(ItemId, Value)>,
     line: &LineIn,
-) -> Result<Begun, Refusal>
+) -> Result<SoFar, Refusal>
     ensures { GoesOn (opened_by (later_line header rows.items) (opening_line_read (said line.now))) result }
 {
     match opening_line(alloc, scratch, line)? {
         OpeningLine::Open(_) => Err(Refusal::BadRequest),
         OpeningLine::Item(item, value) => {
             rows.push((item, value))?;
-            Ok(Begun::More(header, rows))
+            Ok(SoFar::More(header, rows))
         }
-        OpeningLine::Begin => Ok(Begun::Whole(header, rows)),
+        OpeningLine::Begin => Ok(SoFar::Whole(header, rows)),
     }
 }
 

@@ -5,7 +5,7 @@ use crate::answers::is_blank;
 use crate::connections::accept_all;
 use crate::engine::PIECE;
 use crate::fault::Fault;
-use crate::openings::{Begun, first_line, later_line, opening_of};
+use crate::openings::{SoFar, first_line, later_line, opening_of};
 use crate::writing::{write_refused, write_text};
 use album_audit::Totals;
 use album_items::Opening;
@@ -24,37 +24,37 @@ use std::thread::Threads;
 fn take_all(
     alloc: Global,
     scratch: &mut Scratch,
-    mut begun: Option<Begun>,
+    mut so_far: Option<SoFar>,
     lines: &[LineIn],
-) -> Result<Option<Begun>, Refusal> {
+) -> Result<Option<SoFar>, Refusal> {
     for line in lines {
         if !is_blank(line) {
-            begun = match begun {
+            so_far = match so_far {
                 None => Some(first_line(alloc, scratch, line)?),
-                Some(Begun::More(header, rows)) => {
+                Some(SoFar::More(header, rows)) => {
                     Some(later_line(alloc, scratch, header, rows, line)?)
                 }
-                Some(Begun::Whole(header, rows)) => Some(Begun::Whole(header, rows)),
+                Some(SoFar::Whole(header, rows)) => Some(SoFar::Whole(header, rows)),
             };
         }
     }
-    Ok(begun)
+    Ok(so_far)
 }
 
 /// The opening, with what the input ends in.
 fn last_taken(
     alloc: Global,
     scratch: &mut Scratch,
-    begun: Option<Begun>,
+    so_far: Option<SoFar>,
     lines: Lines,
 ) -> Result<Opening, Refusal> {
-    let begun = match lines.end() {
-        None => begun,
-        Some(line) => take_all(alloc, scratch, begun, &[line])?,
+    let so_far = match lines.end() {
+        None => so_far,
+        Some(line) => take_all(alloc, scratch, so_far, &[line])?,
     };
-    match begun {
-        Some(Begun::Whole(header, rows)) => Ok(opening_of(header, rows)),
-        Some(Begun::More(..)) | None => Err(Refusal::BadOpening),
+    match so_far {
+        Some(SoFar::Whole(header, rows)) => Ok(opening_of(header, rows)),
+        Some(SoFar::More(..)) | None => Err(Refusal::BadOpening),
     }
 }
 
@@ -66,19 +66,19 @@ fn read_opening<R: Read>(
 ) -> Result<Result<Opening, Refusal>, Fault> {
     let mut lines = Lines::new(alloc);
     let mut scratch = Scratch::new(alloc);
-    let mut begun = None;
+    let mut so_far = None;
     let mut piece = [0u8; PIECE];
     for _turn in 0..turns {
         let Ok(len) = reader.read(&mut piece) else {
             return Err(Fault::Reading);
         };
         if len == 0 {
-            return Ok(last_taken(alloc, &mut scratch, begun, lines));
+            return Ok(last_taken(alloc, &mut scratch, so_far, lines));
         }
         let ended = lines.feed(&piece[..len])?;
-        match take_all(alloc, &mut scratch, begun, &ended) {
-            Ok(Some(Begun::Whole(header, rows))) => return Ok(Ok(opening_of(header, rows))),
-            Ok(more) => begun = more,
+        match take_all(alloc, &mut scratch, so_far, &ended) {
+            Ok(Some(SoFar::Whole(header, rows))) => return Ok(Ok(opening_of(header, rows))),
+            Ok(more) => so_far = more,
             Err(refusal) => return Ok(Err(refusal)),
         }
     }

@@ -10,7 +10,7 @@ ghost use Rattle.album_server.specs.Writes.{Writes, LeavesOf};
 use crate::answers::is_blank;
 use crate::events::run;
 use crate::fault::Fault;
-use crate::openings::{Begun, first_line, later_line, opening_of};
+use crate::openings::{SoFar, first_line, later_line, opening_of};
 use crate::writing::write_refused;
 use album_items::{ItemId, Value};
 use album_stamps::Refusal;
@@ -118,12 +118,12 @@ impl Stage {
 }
 
 /// Where a replay stands then: the world opens once the opening is whole.
-fn stage_after(alloc: Global, begun: Result<Begun, Refusal>) -> Result<Stage, Refusal>
-    ensures { (says : Step) → GoesOn says begun → Opens says result }
+fn stage_after(alloc: Global, so_far: Result<SoFar, Refusal>) -> Result<Stage, Refusal>
+    ensures { (says : Step) → GoesOn says so_far → Opens says result }
 {
-    match begun? {
-        Begun::More(header, rows) => Ok(Stage::BeingOpened(header, rows)),
-        Begun::Whole(header, rows) => begin(alloc, header, rows),
+    match so_far? {
+        SoFar::More(header, rows) => Ok(Stage::BeingOpened(header, rows)),
+        SoFar::Whole(header, rows) => begin(alloc, header, rows),
     }
 }
 

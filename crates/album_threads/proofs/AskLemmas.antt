@@ -1,7 +1,9 @@
 -- What an ask leaves of a session: its clock stays ahead (`session_risen`, `session_written`), what it was granted is
--- begun (`begun_on`, `grants_write`), and its notes are in its share (`shared_push`).
-use Rattle.std.proofs.Common.{◌≡◌, ◌≢◌, ℕ, ◌+◌, ◌<◌, ◌≤◌, Bool, true, false, ◌==◌, inl, inr, cond, List, [], ◌∷◌, ◌++◌, map, count_by, Some, None, Result, Ok, Err, IfOk, IfErr, nat_lt, if◌then◌else◌, refl, sym, ap, ◌∙◌, subst, arith}
-use Rattle.std.proofs.lemmas.List.{map-append}
+-- begun (`begun_on`, `grants_write`) above all that was read
+-- (`seen_push`, `above_all`), and its notes are in its share (`shared_push`).
+use Rattle.std.proofs.Common.{◌≡◌, ◌≢◌, ℕ, ◌+◌, ◌<◌, ◌≤◌, Bool, true, false, ◌==◌, inl, inr, cond, List, [], ◌∷◌, ◌++◌, length, take, get_or, All, map, count_by, Some, None, Result, Ok, Err, IfOk, IfErr, nat_lt, if◌then◌else◌, refl, sym, ap, ◌∙◌, subst, arith}
+use Rattle.std.proofs.lemmas.List.{map-append, take_more}
+use Rattle.std.proofs.lemmas.List.Elements.{All-push, All-weaker}
 use Rattle.std.proofs.lemmas.List.Sums.{sum_by-append}
 use Rattle.album_audit.specs.Totals.{is_audit_ok, is_audit_failed, is_alarm_ok, is_alarm_failed, totals_of, plus}
 use Rattle.album_audit.specs.declared.totals.Record.{Record}
@@ -25,8 +27,10 @@ use Rattle.album_permits.specs.declared.rulings.Ruled.{Ruled}
 use Rattle.album_permits.specs.declared.rulings.Ruling.{Ruling}
 use Rattle.album_permits.specs.declared.rulings.Ruling.TheVariants as ruling
 use Rattle.album_permits.specs.declared.notes.Note.{Note}
-use Rattle.album_threads.specs.Asks.{IsOn, Grants, found_in, Follows, IsRuledSo, AreShared}
-use Rattle.album_threads.specs.Grounds.{IsAnnounced, IsKept, IsWithoutRoom}
+use Rattle.album_reader.specs.Answers.{Answer as Row}
+use Rattle.album_threads.specs.Asks.{IsOn, AreSeenBy, Grants, found_in, Follows, IsRuledSo, AreShared}
+use Rattle.album_threads.specs.Grounds.{IsKept, IsWithoutRoom}
+use Rattle.album_threads.specs.Resting.{IsAnnounced}
 use Rattle.album_threads.specs.Sessions.{CallerState, SessionState, IsAhead, IsNoWord, IsSession}
 use Rattle.album_views.specs.Views.{ViewState}
 use Rattle.album_threads.specs.Writes.{IsBegunOn, EndsSo, IsWritten}
@@ -81,6 +85,20 @@ session_written named policy k l a b t s client counted higher x = record {
   ahead = subst (λ (n : ℕ). IsAhead b.client n b.cut) counted (ahead_written t k.counter a b x (omega (arith, higher)) s.ahead);
 }
 
+-- ---- what was read
+
+-- one row more was seen
+pub seen_push : (rows : List Row) (n k l : ℕ) (row : Row) → n < length rows → get_or rows n row ≡ row → k ≤ l → counter_of row.stamp ≤ l
+    → AreSeenBy k (take n rows) → AreSeenBy l (take (n + 1) rows)
+seen_push rows n k l row less at risen reached seen =
+    subst (AreSeenBy l) (sym (take_more rows n row less ∙ ap (λ (r : Row). take n rows ++ r ∷ []) at))
+    (All-push (λ (r : Row). counter_of r.stamp ≤ l) (take n rows) row
+    (All-weaker (λ (r : Row). counter_of r.stamp ≤ k) (λ (r : Row). counter_of r.stamp ≤ l) (λ r h. omega (arith, h, risen)) (take n rows) seen) reached)
+
+-- what is above each stamp that has no greater counter is above all that was seen
+pub above_all : (k s : ℕ) (rows : List Row) → ((t : ℕ) → counter_of t ≤ k → t < s) → AreSeenBy k rows → All (λ row. row.stamp < s) rows
+above_all k s rows above seen = λ n row less. above (get_or rows n row).stamp (seen n row less)
+
 -- ---- what is granted
 
 pub begun_on : (permit : PermitState) (stamp client tag parts : ℕ) (c : Cut) (w : WritingState) → w ≡ prepare_round permit stamp client tag parts
@@ -93,29 +111,29 @@ begun_on permit stamp client tag parts c w is same some items =
       all = refl;
     })
 
-pub grants_write : (limit : ℕ) (a b : SessionState) (w : WritingState) → client_number w.stamp ≡ a.client → announced_for a.cut w.stamp ≡ None
-    → announced_for b.cut w.stamp ≡ Some (items_in w) → (x : Answer) → EndsSo limit b.cut w x → Grants limit a b w.permit x
-grants_write limit a b w own new announced (answer.Committed t) (same, h) = (
-  subst (λ (u : ℕ). IsAnnounced a.cut b.cut a.client w.permit u) (sym same) (record { own = own; new = new; announced = announced }),
+pub grants_write : (limit : ℕ) (a b : SessionState) (w : WritingState) → IsAnnounced a b w.permit w.stamp
+    → (x : Answer) → EndsSo limit b.cut w x → Grants limit a b w.permit x
+grants_write limit a b w told (answer.Committed t) (same, h) = (
+  subst (λ (u : ℕ). IsAnnounced a b w.permit u) (sym same) told,
   subst (λ (u : ℕ). IsKept b.cut w.permit u) (sym same) h,
 )
-grants_write limit a b w own new announced (answer.Aborted t) (same, h) = (
-  subst (λ (u : ℕ). IsAnnounced a.cut b.cut a.client w.permit u) (sym same) (record { own = own; new = new; announced = announced }),
+grants_write limit a b w told (answer.Aborted t) (same, h) = (
+  subst (λ (u : ℕ). IsAnnounced a b w.permit u) (sym same) told,
   subst (λ (u : ℕ). IsPromisedSomewhere b.cut u) (sym same) h,
 )
-grants_write limit a b w own new announced (answer.Unsettled t why) (inl (full, (same, h))) = (
-  subst (λ (u : ℕ). IsAnnounced a.cut b.cut a.client w.permit u) (sym same) (record { own = own; new = new; announced = announced }),
+grants_write limit a b w told (answer.Unsettled t why) (inl (full, (same, h))) = (
+  subst (λ (u : ℕ). IsAnnounced a b w.permit u) (sym same) told,
   inl (full, subst (λ (u : ℕ). IsWithoutRoom limit b.cut w.permit u) (sym same) h),
 )
-grants_write limit a b w own new announced (answer.Unsettled t why) (inr (same, none)) = (
-  subst (λ (u : ℕ). IsAnnounced a.cut b.cut a.client w.permit u) (sym same) (record { own = own; new = new; announced = announced }),
+grants_write limit a b w told (answer.Unsettled t why) (inr (same, none)) = (
+  subst (λ (u : ℕ). IsAnnounced a b w.permit u) (sym same) told,
   inr none,
 )
-grants_write limit a b w own new announced (answer.Served served) h = absurd h
-grants_write limit a b w own new announced (answer.Denied denial) h = absurd h
-grants_write limit a b w own new announced (answer.Missing object) h = absurd h
-grants_write limit a b w own new announced (answer.Busy why) h = absurd h
-grants_write limit a b w own new announced (answer.Refused why) h = absurd h
+grants_write limit a b w told (answer.Served served) h = absurd h
+grants_write limit a b w told (answer.Denied denial) h = absurd h
+grants_write limit a b w told (answer.Missing object) h = absurd h
+grants_write limit a b w told (answer.Busy why) h = absurd h
+grants_write limit a b w told (answer.Refused why) h = absurd h
 
 -- ---- what is noted
 
@@ -177,14 +195,18 @@ refused_else false why by (Err e) h = inl (h.0 ∙ by)
 
 -- ---- a ruling
 
-pub on_same : (a b : SessionState) → b.client ≡ a.client → b.cut ≡ a.cut → IsOn a b
-on_same a b client cut = record { client = client; grown = subst (λ (c : Cut). Extends a.cut c) (sym cut) (extends_self a.cut) }
+pub on_same : (a b : SessionState) → b.client ≡ a.client → b.cut ≡ a.cut → a.counter ≤ b.counter → IsOn a b
+on_same a b client cut risen = record {
+  client = client;
+  grown = subst (λ (c : Cut). Extends a.cut c) (sym cut) (extends_self a.cut);
+  risen = risen;
+}
 
 pub ruled_granted : (limit : ℕ) (policy : Policy) (principal : Principal) (view : ViewState) (ruled : Ruled) (permit : PermitState) (a m b : SessionState)
     → IsRuled policy principal view ruled → ruled.ruling ≡ ruling.Granted permit
-    → AreShared a.client a.share m.share ruled.notes.items → m.client ≡ a.client → m.cut ≡ a.cut → b.share ≡ m.share
+    → AreShared a.client a.share m.share ruled.notes.items → m.client ≡ a.client → m.cut ≡ a.cut → a.counter ≤ m.counter → b.share ≡ m.share
     → (told : Answer) → Grants limit m b permit told → IsRuledSo limit a b (permit_on policy principal view.ask view.rows) told
-ruled_granted limit policy principal view ruled permit a m b r is shared client cut share told h = record {
+ruled_granted limit policy principal view ruled permit a m b r is shared client cut risen share told h = record {
   found = record { basis = r.basis; based = r.based; is = sym (subst (λ (x : Ruling). told_by x ≡ ruling_of r.basis view.ask) is r.told) ∙ found told h };
   shared = record {
     notes = ruled.notes.items;
@@ -207,8 +229,15 @@ ruled_granted limit policy principal view ruled permit a m b r is shared client 
     found (answer.Unsettled t why) k = refl
     found (answer.Refused why) k = refl
 
-    announced : (t : ℕ) → IsAnnounced m.cut b.cut m.client case t → IsAnnounced a.cut b.cut a.client case t
-    announced t k = record { own = k.own ∙ client; new = sym (ap (λ (c : Cut). announced_for c t) cut) ∙ k.new; announced = k.announced }
+    announced : (t : ℕ) → IsAnnounced m b case t → IsAnnounced a b case t
+    announced t k = record {
+      own = k.own ∙ client;
+      above = k.above;
+      risen = omega (arith, k.risen, risen);
+      last = k.last;
+      unused = sym (ap (λ (c : Cut). announced_for c t) cut) ∙ k.unused;
+      announced = k.announced;
+    }
 
     moved : (x : Answer) → Grants limit m b case x → Grants limit a b case x
     moved (answer.Served served) k = k

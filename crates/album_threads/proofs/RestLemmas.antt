@@ -1,5 +1,5 @@
 -- On what the answer to an ask rests, from what was read and what was ruled. `Session::ask` cites `rests_on`.
-use Rattle.std.proofs.Common.{◌≡◌, ℕ, List, map, Option, Some, None, refl, sym, ◌∙◌, subst}
+use Rattle.std.proofs.Common.{◌≡◌, ℕ, List, map, Option, Some, None, refl, sym, ◌∙◌, subst, arith}
 use Rattle.album_audit.specs.Totals.{totals_of, plus}
 use Rattle.album_audit.specs.declared.totals.Totals.{Totals}
 use Rattle.album_eval.specs.declared.facts.Principal.{Principal}
@@ -7,8 +7,8 @@ use Rattle.album_eval.specs.declared.policies.Policy.{Policy}
 use Rattle.album_passes.specs.Cuts.{Cut, announced_for, IsSound, Extends}
 use Rattle.album_permits.specs.Permits.{PermitState, permit_on}
 use Rattle.album_threads.specs.Asks.{IsOn, IsRuledSo}
-use Rattle.album_threads.specs.Grounds.{IsSeen, IsAnnounced}
-use Rattle.album_threads.specs.Resting.{IsShared, RestsOn}
+use Rattle.album_threads.specs.Grounds.{IsSeen}
+use Rattle.album_threads.specs.Resting.{IsShared, IsAnnounced, RestsOn}
 use Rattle.album_threads.specs.Sessions.{SessionState}
 use Rattle.album_writer.specs.declared.answers.Answer.{Answer}
 use Rattle.album_writer.specs.declared.answers.Answer.TheVariants as answer
@@ -34,8 +34,15 @@ module _ (limit : ℕ) (policy : Policy) (principal : Principal) (old mid new : 
     added = subst (λ (n : ℕ × Totals). new.share ≡ plus n.1 (totals_of (map (λ note. record { client = n.0; note = note }) s.notes))) (λ i. (x.client i, share i)) s.added;
   }
 
-  announced_before : (t : ℕ) → IsAnnounced mid.cut new.cut mid.client case t → IsAnnounced old.cut new.cut old.client case t
-  announced_before t a = record { own = a.own ∙ x.client; new = none_before old.cut mid.cut t x.grown a.new; announced = a.announced }
+  announced_before : (t : ℕ) → IsAnnounced mid new case t → IsAnnounced old new case t
+  announced_before t a = record {
+    own = a.own ∙ x.client;
+    above = a.above;
+    risen = omega (arith, a.risen, x.risen);
+    last = a.last;
+    unused = none_before old.cut mid.cut t x.grown a.unused;
+    announced = a.announced;
+  }
 
   rests : IsView view → IsSeen old.cut new.cut view.rows → (told : Answer) → IsRuledSo limit mid new case told
       → RestsOn limit policy principal view.ask old new told

@@ -1,5 +1,6 @@
 -- What each part of an ask leaves: what is read for it, what is ruled on it, and what comes of what is granted.
-use Rattle.std.specs.Prelude.{◌≡◌, ◌⊎◌, ◌+◌, ◌<◌, ◌≤◌, ℕ, List, [], ◌∷◌, length, map, None}
+use Rattle.std.specs.Prelude.{◌≡◌, ◌⊎◌, ◌+◌, ◌<◌, ◌≤◌, ℕ, List, [], ◌∷◌, All, length, map, None}
+use Rattle.album_stamps.specs.Stamps.{counter_of}
 use Rattle.album_stamps.specs.declared.limits.TheConstants.{MOST_READ_ITEMS, MOST_READS}
 use Rattle.album_audit.specs.Totals.{totals_of, plus}
 use Rattle.album_audit.specs.declared.totals.Totals.{Totals}
@@ -11,8 +12,8 @@ use Rattle.album_permits.specs.declared.findings.Finding.TheVariants as finding
 use Rattle.album_permits.specs.declared.notes.Note.{Note}
 use Rattle.album_reader.specs.Answers.{Answer as Row}
 use Rattle.album_reader.specs.Snapshots.{items_read}
-use Rattle.album_threads.specs.Grounds.{Finds, IsAnnounced, IsKept, IsSeen, IsWide, AreInVain, IsOutOfReads, trims_in}
-use Rattle.album_threads.specs.Resting.{IsShared, IsUnsettledBy, IsRefusedBy}
+use Rattle.album_threads.specs.Grounds.{Finds, IsKept, IsSeen, IsWide, AreInVain, IsOutOfReads, trims_in}
+use Rattle.album_threads.specs.Resting.{IsShared, IsAnnounced, IsUnsettledBy, IsRefusedBy}
 use Rattle.album_threads.specs.Sessions.{SessionState}
 use Rattle.album_writer.specs.declared.answers.Answer.{Answer}
 use Rattle.album_writer.specs.declared.answers.Answer.TheVariants as answer
@@ -28,10 +29,15 @@ use Rattle.album_views.specs.declared.viewing.ViewStep.{ViewStep}
 use Rattle.album_views.specs.declared.viewing.ViewStep.TheVariants.{Again, Closed, Busy}
 use Rattle.album_views.specs.declared.viewing.Why.TheVariants.{Rounds, Wide}
 
--- the same client has seen more
+-- the same client has seen more, and its clock went no way back
 pub record IsOn (old new : SessionState) : Type 0 where
   pub client : new.client ≡ old.client
   pub grown : Extends old.cut new.cut
+  pub risen : old.counter ≤ new.counter
+
+-- no stamp of what was read has a greater counter
+abbrev pub AreSeenBy : ℕ → List Row → Type 0
+AreSeenBy counter rows = All (λ row. counter_of row.stamp ≤ counter) rows
 
 -- what comes of what is granted: it is served, or was begun at a stamp of the client's, or can't be written
 abbrev pub Grants : ℕ → SessionState → SessionState → PermitState → Answer → Type 0
@@ -40,11 +46,11 @@ Grants limit old new permit (answer.Denied denial) = ⊥
 Grants limit old new permit (answer.Missing object) = ⊥
 Grants limit old new permit (answer.Busy why) = ⊥
 Grants limit old new permit (answer.Committed stamp) =
-    IsAnnounced old.cut new.cut old.client permit stamp × IsKept new.cut permit stamp
+    IsAnnounced old new permit stamp × IsKept new.cut permit stamp
 Grants limit old new permit (answer.Aborted stamp) =
-    IsAnnounced old.cut new.cut old.client permit stamp × IsPromisedSomewhere new.cut stamp
+    IsAnnounced old new permit stamp × IsPromisedSomewhere new.cut stamp
 Grants limit old new permit (answer.Unsettled stamp why) =
-    IsAnnounced old.cut new.cut old.client permit stamp × IsUnsettledBy limit new stamp why permit
+    IsAnnounced old new permit stamp × IsUnsettledBy limit new stamp why permit
 Grants limit old new permit (answer.Refused why) = IsRefusedBy new why permit
 
 -- what the answer tells was found

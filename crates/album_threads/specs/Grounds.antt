@@ -1,7 +1,6 @@
 -- On what an answer of a session rests: the cut that it began with, and the one that it has then.
-use Rattle.std.specs.Prelude.{◌≡◌, ℕ, ◌+◌, ◌<◌, ◌≤◌, Bool, true, false, List, [], ◌∷◌, length, sum_by, count_by, Contains, Some, None}
+use Rattle.std.specs.Prelude.{◌≡◌, ℕ, ◌+◌, ◌<◌, ◌≤◌, Bool, true, false, List, [], ◌∷◌, length, sum_by, count_by, Contains}
 use Rattle.std.specs.List.{list_any}
-use Rattle.album_stamps.specs.Stamps.{client_number}
 use Rattle.album_stamps.specs.declared.limits.TheConstants.{MOST_READ_ITEMS, MOST_READS}
 use Rattle.album_items.specs.Places.{places_of, rows_placed_at}
 use Rattle.album_items.specs.Transactions.{items_written}
@@ -24,7 +23,7 @@ use Rattle.album_permits.specs.Notes.{notes_of}
 use Rattle.album_permits.specs.Permits.{PermitState, permit_on}
 use Rattle.album_permits.specs.declared.findings.Finding.{Finding}
 use Rattle.album_permits.specs.declared.notes.Note.{Note}
-use Rattle.album_passes.specs.Cuts.{Cut, prefix_at, announced_for, IsPrefix}
+use Rattle.album_passes.specs.Cuts.{Cut, prefix_at, IsPrefix}
 use Rattle.album_passes.specs.Reads.{IsReadAtomic, IsFreshFrom}
 
 -- ---- a view
@@ -64,12 +63,6 @@ items_of permit stamp = items_written (effect_of permit stamp)
 
 abbrev pub places_in : Cut → PermitState → ℕ → List ℕ
 places_in cut permit stamp = places_of cut.parts (items_of permit stamp)
-
--- the stamp is the client's, and was announced after the ask had begun, with just the items that are written
-pub record IsAnnounced (begun now : Cut) (client : ℕ) (permit : PermitState) (stamp : ℕ) : Type 0 where
-  pub own : client_number stamp ≡ client
-  pub new : announced_for begun stamp ≡ None
-  pub announced : announced_for now stamp ≡ Some (items_of permit stamp)
 
 -- a partition has prepared just what is written there, and has committed it
 pub record IsKeptAt (now : Cut) (permit : PermitState) (stamp place : ℕ) : Type 0 where

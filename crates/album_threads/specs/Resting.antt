@@ -1,6 +1,7 @@
 -- On what each answer of a session rests.
-use Rattle.std.specs.Prelude.{◌≡◌, ◌⊎◌, ℕ, true, List, map, None}
-use Rattle.album_stamps.specs.Stamps.{client_number}
+use Rattle.std.specs.Prelude.{◌≡◌, ◌⊎◌, ◌<◌, ℕ, true, List, All, map, Some, None}
+use Rattle.album_stamps.specs.Stamps.{client_number, counter_of}
+use Rattle.album_stamps.specs.declared.limits.TheConstants.{GREATEST_COUNTER}
 use Rattle.album_stamps.specs.declared.refusals.Refusal.{Refusal}
 use Rattle.album_stamps.specs.declared.refusals.Refusal.TheVariants.{OutOfMemory, AlbumFull, StampsSpent, Full, Closed}
 use Rattle.album_audit.specs.Totals.{totals_of, plus}
@@ -14,7 +15,7 @@ use Rattle.album_permits.specs.Serving.{IsServed}
 use Rattle.album_permits.specs.declared.findings.Finding.{Finding}
 use Rattle.album_permits.specs.declared.findings.Finding.TheVariants as finding
 use Rattle.album_permits.specs.declared.notes.Note.{Note}
-use Rattle.album_threads.specs.Grounds.{IsOnView, Finds, Notes, IsAnnounced, IsKept, IsWithoutRoom, IsWide, IsOutOfReads}
+use Rattle.album_threads.specs.Grounds.{IsOnView, Finds, Notes, items_of, IsKept, IsWithoutRoom, IsWide, IsOutOfReads}
 use Rattle.album_threads.specs.Sessions.{SessionState}
 use Rattle.album_writer.specs.declared.answers.Answer.{Answer}
 use Rattle.album_writer.specs.declared.answers.Answer.TheVariants as answer
@@ -34,12 +35,21 @@ IsFoundOnView policy principal ask old new found Holds =
     IsOnView old.cut new.cut policy principal ask
     (λ case. Finds case found × IsShared old.client old.share new.share case × Holds case)
 
--- it is granted, and was begun at this stamp, which was announced in this ask with just the items that are written;
--- and this holds of it
+-- The stamp is the client's own, above all that was read, and the last that its clock drew in this ask. It was announced
+-- in this ask, with just the items that are written.
+pub record IsAnnounced (old new : SessionState) (permit : PermitState) (stamp : ℕ) : Type 0 where
+  pub own : client_number stamp ≡ old.client
+  pub above : All (λ row. row.stamp < stamp) permit.view.rows
+  pub risen : old.counter < counter_of stamp
+  pub last : counter_of stamp ≡ new.counter
+  pub unused : announced_for old.cut stamp ≡ None
+  pub announced : announced_for new.cut stamp ≡ Some (items_of permit stamp)
+
+-- it is granted, and was begun at this stamp; and this holds of it
 abbrev pub IsBegun : Policy → Principal → Ask → SessionState → SessionState → ℕ → (PermitState → Type 0) → Type 0
 IsBegun policy principal ask old new stamp Holds =
     IsFoundOnView policy principal ask old new finding.Granted
-    (λ permit. IsAnnounced old.cut new.cut old.client permit stamp × Holds permit)
+    (λ permit. IsAnnounced old new permit stamp × Holds permit)
 
 -- why a write that was begun isn't settled: a partition concerned had no room for it; or there was no memory, or the
 -- service is closed, of which nothing is said
@@ -54,9 +64,9 @@ pub record IsAlbumFull (new : SessionState) (permit : PermitState) : Type 0 wher
   pub unused : announced_for new.cut stamp ≡ None
   pub full : is_full_for permit stamp ≡ true
 
--- why what is granted can't be written: the album is full, or the client's stamps are spent
+-- why what is granted can't be written: the album is full, or the clock is spent
 abbrev pub IsRefusedBy : SessionState → Refusal → PermitState → Type 0
-IsRefusedBy new why permit = ((why ≡ AlbumFull) × IsAlbumFull new permit) ⊎ (why ≡ StampsSpent)
+IsRefusedBy new why permit = ((why ≡ AlbumFull) × IsAlbumFull new permit) ⊎ ((why ≡ StampsSpent) × (new.counter ≡ GREATEST_COUNTER))
 
 -- on what the answer rests, of a session that was so before the ask and is so after it
 abbrev pub RestsOn : ℕ → Policy → Principal → Ask → SessionState → SessionState → Answer → Type 0

@@ -39,9 +39,10 @@ IsNoWord why = (why ≡ OutOfMemory) ⊎ (why ≡ Closed)
 
 -- ---- a session
 
--- the client, what was seen, and the session's share of the audit book
+-- the client, the greatest counter that its clock drew or saw, what was seen, and the session's share of the audit book
 pub record SessionState : Type 0 where
   pub client : ℕ
+  pub counter : ℕ
   pub cut : Cut
   pub share : Totals
 

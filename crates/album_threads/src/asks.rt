@@ -5,7 +5,7 @@ ghost use Rattle.album_permits.specs.Permits.{IsPermit, permit_on};
 ghost use Rattle.album_views.specs.Asks.{is_write};
 ghost use Rattle.album_views.specs.Checks.{flaw_of, refusal_of};
 ghost use Rattle.album_views.specs.Steps.{AreReadable, AsksReadable, stepped};
-ghost use Rattle.album_threads.specs.Asks.{IsOn, Looks, LooksOnce, IsRuledSo, AreShared, Grants};
+ghost use Rattle.album_threads.specs.Asks.{IsOn, AreSeenBy, Looks, LooksOnce, IsRuledSo, AreShared, Grants};
 ghost use Rattle.album_writer.specs.declared.answers.Answer.TheVariants as answer;
 ghost use Rattle.album_threads.specs.Resting.{RestsOn};
 ghost use Rattle.album_threads.specs.Sessions.{IsNoWord};
@@ -47,6 +47,7 @@ impl<J: Naming> Session<J> {
         ensures refused { IfErr result (λ e. (refusal_of ask principal.now ≡ Some e) ⊎ IsNoWord e) }
         ensures grown { Extends self.old.cut self.new.cut }
         ensures client { self.new.client ≡ self.old.client }
+        ensures risen { self.old.counter ≤ self.new.counter }
     {
         ask.check(principal)?;
         match self.look(rt, ask)? {
@@ -152,6 +153,7 @@ impl<J: Naming> Session<J> {
         ensures shared { OnOk result (AreShared self.old.client self.old.share self.new.share notes.now) }
         ensures memory { IsOkUnless result Refusal.OutOfMemory }
         ensures client { self.new.client ≡ self.old.client }
+        ensures counter { self.new.counter ≡ self.old.counter }
         ensures cut { self.new.cut ≡ self.old.cut }
     {
         for note in notes {
@@ -169,6 +171,7 @@ impl<J: Naming> Session<J> {
         ensures shared { OnOk result (AreShared self.old.client self.old.share self.new.share (note ∷ [])) }
         ensures memory { IsOkUnless result Refusal.OutOfMemory }
         ensures client { self.new.client ≡ self.old.client }
+        ensures counter { self.new.counter ≡ self.old.counter }
         ensures cut { self.new.cut ≡ self.old.cut }
     {
         let client = self.caller.client();
@@ -181,6 +184,7 @@ impl<J: Naming> Session<J> {
     ///
     /// `Closed` or `OutOfMemory`.
     fn grant<R: Wait>(&mut self, rt: &R, permit: Permit) -> Result<Answer, Refusal>
+        requires seen { AreSeenBy self.old.counter permit.view.rows }
         ensures grants { IfOk result (Grants J.terms.limit self.old self.new permit) }
         ensures refused { IfErr result IsNoWord }
         ensures on { IsOn self.old self.new }
@@ -207,6 +211,7 @@ impl<J: Naming> Session<J> {
     fn begin<R: Wait>(&mut self, rt: &R, permit: Permit) -> Result<Answer, Refusal>
         requires permit { IsPermit permit }
         requires change { IsTrue (is_write permit.view.ask) }
+        requires seen { AreSeenBy self.old.counter permit.view.rows }
         ensures grants { IfOk result (Grants J.terms.limit self.old self.new permit) }
         ensures refused { IfErr result IsNoWord }
         ensures on { IsOn self.old self.new }
@@ -241,6 +246,7 @@ impl<J: Naming> Session<J> {
 fn see_all(clock: &mut Clock, rows: &[Row])
     ensures client { clock.new.client ≡ clock.old.client }
     ensures risen { clock.old.counter ≤ clock.new.counter }
+    ensures seen { AreSeenBy clock.new.counter rows.now }
 {
     for row in rows {
         clock.see(row.stamp);

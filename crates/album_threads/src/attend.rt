@@ -3,7 +3,7 @@ ghost use Rattle.std.specs.Prelude.{◌≡◌};
 ghost use Rattle.std.specs.Arc.{arc_value};
 
 use crate::gate::Gate;
-use crate::inquiries::Question;
+use crate::inquiries::{Notice, Question};
 use crate::keeper::Keeper;
 use crate::letters::{Letter, Response};
 use crate::mailbox::{Mail, Word, next};
@@ -19,6 +19,7 @@ use std::sync::{Arc, Wait};
 /// Where what is told goes.
 #[derive(Drop)]
 pub(crate) struct Ends<J: Naming> {
+    alloc: Global,
     /// Of the partitions, in the order of their numbers.
     parts: Vec<Sender<Mail<J>>>,
     /// Of the sessions that are not over, by their numbers.
@@ -29,6 +30,7 @@ impl<J: Naming> Ends<J> {
     /// These partitions, and no session.
     pub(crate) fn new(alloc: Global, parts: Vec<Sender<Mail<J>>>) -> Ends<J> {
         Ends {
+            alloc,
             parts,
             sessions: BTreeMap::new(alloc),
         }
@@ -56,15 +58,28 @@ impl<J: Naming> Ends<J> {
             return;
         };
         if let Some(end) = self.parts.get(usize::from(part)) {
-            let _ = end.send(rt, Mail::Letter(letter));
+            if let Ok(letter) = Box::new(self.alloc, letter) {
+                let _ = end.send(rt, Mail::Letter(letter));
+            }
         }
     }
 
-    /// The reply goes where it is sent to.
+    /// The reply goes where it is sent to. One for which there is no memory is lost.
     fn send<R: Wait>(&self, rt: &R, response: Response<J>) {
         match response.reply().to() {
-            Node::Client(client) => self.tell(rt, client, Word::Response(response)),
+            Node::Client(client) => {
+                if let Ok(response) = Box::new(self.alloc, response) {
+                    self.tell(rt, client, Word::Response(response));
+                }
+            }
             Node::Part(_) => self.post(rt, response.into_letter()),
+        }
+    }
+
+    /// The same of a notice to the client.
+    fn notify<R: Wait>(&self, rt: &R, client: ClientNo, notice: Notice<J>) {
+        if let Ok(notice) = Box::new(self.alloc, notice) {
+            self.tell(rt, client, Word::Notice(notice));
         }
     }
 }
@@ -129,8 +144,10 @@ impl<J: Naming> Post<J> {
             Mail::Leave => return false,
             Mail::Register(client, end) => self.ends.register(client, end),
             Mail::Forget(client) => self.ends.forget(client),
-            Mail::Question(question) => self.inquire(rt, alloc, desk, question),
-            Mail::Letter(letter) => self.receive(rt, desk, gate, letter),
+            Mail::Question(question) => {
+                self.inquire(rt, alloc, desk, Box::into_inner(question));
+            }
+            Mail::Letter(letter) => self.receive(rt, desk, gate, Box::into_inner(letter)),
         }
         true
     }
@@ -160,6 +177,6 @@ impl<J: Naming> Post<J> {
         for letter in letters {
             self.ends.post(rt, letter);
         }
-        self.ends.tell(rt, client, Word::Notice(notice));
+        self.ends.notify(rt, client, notice);
     }
 }

@@ -23,6 +23,7 @@ use std::sync::{Arc, Wait};
 /// Who asks the partitions. Contracts see the client, and the cut of its pass.
 #[derive(Drop)]
 pub(crate) struct Caller<J: Naming> {
+    pub(crate) alloc: Global,
     desk: Arc<Desk, Global>,
     pass: Pass,
     client: ClientNo,
@@ -52,6 +53,7 @@ impl<J: Naming> Model for Caller<J> {
 impl<J: Naming> Caller<J> {
     /// This client with this pass.
     pub(crate) fn new(
+        alloc: Global,
         desk: Arc<Desk, Global>,
         pass: Pass,
         client: ClientNo,
@@ -64,6 +66,7 @@ impl<J: Naming> Caller<J> {
         ensures { result ≡ record { client = client; cut = pass.cut } }
     {
         Caller {
+            alloc,
             desk,
             pass,
             client,
@@ -235,7 +238,7 @@ impl<J: Naming> Caller<J> {
         let tag = self.next_tag()?;
         let pass = self.split();
         let question = Question::new(self.client, tag, *inquiry, pass);
-        self.send(rt, part, Mail::Question(question))?;
+        self.send(rt, part, Mail::Question(Box::new(self.alloc, question)?))?;
         for _ in rt.forever() {
             if let Some(told) = self.hear_notice(rt, part, tag, inquiry)? {
                 return Ok(told);
@@ -263,7 +266,9 @@ impl<J: Naming> Caller<J> {
     {
         match self.next(rt)? {
             Word::Response(_) => Ok(None),
-            Word::Notice(notice) => Ok(self.take_notice(part, tag, inquiry, notice)),
+            Word::Notice(notice) => {
+                Ok(self.take_notice(part, tag, inquiry, Box::into_inner(notice)))
+            }
         }
     }
 

@@ -3,6 +3,7 @@ use crate::inquiries::{Notice, Question};
 use crate::letters::{Letter, Response};
 use crate::naming::Naming;
 use crossbeam_channel::{Receiver, Sender};
+use std::alloc::Global;
 use std::sync::Wait;
 use std::thread;
 
@@ -10,15 +11,15 @@ use std::thread;
 /// ten times what a message costs that comes meanwhile.
 const LOOKS: u32 = 4;
 
-/// What lies in a partition's mailbox.
+/// What lies in a partition's mailbox. What is large lies behind a pointer, since a mailbox moves what it takes.
 #[derive(Drop)]
 pub(crate) enum Mail<J: Naming> {
     /// A session of this number begins, and takes here what it is told.
     Register(u16, Sender<Word<J>>),
     /// A message, of a session or of another partition.
-    Letter(Letter<J>),
+    Letter(Box<Letter<J>, Global>),
     /// What a session asks beside messages.
-    Question(Question<J>),
+    Question(Box<Question<J>, Global>),
     /// The session of this number is over.
     Forget(u16),
     /// The service closes.
@@ -29,9 +30,9 @@ pub(crate) enum Mail<J: Naming> {
 #[derive(Drop)]
 pub(crate) enum Word<J: Naming> {
     /// A reply to a message.
-    Response(Response<J>),
+    Response(Box<Response<J>, Global>),
     /// What is told to a question.
-    Notice(Notice<J>),
+    Notice(Box<Notice<J>, Global>),
 }
 
 /// What comes next, or `None` where all who could send it are gone.

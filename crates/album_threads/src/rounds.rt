@@ -47,8 +47,8 @@ impl<J: Naming> Caller<J> {
         let Node::Part(part) = message.to() else {
             return Err(Refusal::Closed);
         };
-        let pass = self.split();
-        self.send(rt, part, Mail::Letter(Letter::new(message, pass)))
+        let letter = Letter::new(message, self.split());
+        self.send(rt, part, Mail::Letter(Box::new(self.alloc, letter)?))
     }
 
     /// Waits for a reply to one of the messages that were asked.
@@ -83,7 +83,7 @@ impl<J: Naming> Caller<J> {
     {
         match self.next(rt)? {
             Word::Notice(_) => Ok(None),
-            Word::Response(response) => Ok(self.take(asked, response)),
+            Word::Response(response) => Ok(self.take(asked, Box::into_inner(response))),
         }
     }
 

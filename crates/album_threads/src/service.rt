@@ -164,6 +164,7 @@ impl<J: Naming> Service<J> {
         ensures unheard { IfOk result (λ session. IsUnheard session.client session.cut) }
         ensures most { IfOk result (λ session. session.client ≤ J.terms.sessions) }
         ensures parts { IfOk result (λ session. session.cut.parts ≡ J.terms.parts) }
+        ensures counter { IfOk result (λ session. session.counter ≡ 0) }
         ensures share { IfOk result (λ session. session.share ≡ none) }
         ensures refused { IfErr result (λ e. (e ≡ Refusal.OutOfMemory) ⊎ (e ≡ Refusal.SessionsSpent)) }
     {
@@ -191,7 +192,7 @@ impl<J: Naming> Service<J> {
         let (end, from) = unbounded(self.alloc)?;
         let mut pass = self.seed.lock(rt).split(&desk);
         let client = desk.draw(rt, &mut pass)?;
-        let caller = Caller::new(desk, pass, client, self.parts, to, from);
+        let caller = Caller::new(self.alloc, desk, pass, client, self.parts, to, from);
         if caller.register(rt, end).is_err() {
             caller.leave(rt);
             return Err(Refusal::OutOfMemory);

@@ -21,7 +21,7 @@ use std::marker::Model;
 use std::sync::{Arc, Mutex, Wait};
 
 /// A session, which asks the partitions of the service that `J` names. It has a share of the audit book, and ends by
-/// `end`. Contracts see its client, what it has seen of the partitions, and its share.
+/// `end`. Contracts see its client, the counter of its clock, what it has seen of the partitions, and its share.
 pub struct Session<J: Naming> {
     pub(crate) alloc: Global,
     pub(crate) caller: Caller<J>,
@@ -36,7 +36,7 @@ impl<J: Naming> Model for Session<J> {
 
     ghost Value = { SessionState };
 
-    ghost view = { λ s. record { client = s.caller.client; cut = s.caller.cut; share = s.share } };
+    ghost view = { λ s. record { client = s.caller.client; counter = s.clock.counter; cut = s.caller.cut; share = s.share } };
 
     ghost invariant = { λ s. IsSession J.policy s.policy s.clock s.caller };
 }
@@ -53,7 +53,7 @@ impl<J: Naming> Session<J> {
     ) -> Session<J>
         requires policy { policy ≡ J.policy }
         requires unheard { IsUnheard caller.client caller.cut }
-        ensures { result ≡ record { client = caller.client; cut = caller.cut; share = share } }
+        ensures { result ≡ record { client = caller.client; counter = 0; cut = caller.cut; share = share } }
     {
         let clock = Clock::new(caller.client());
         Session {
@@ -84,6 +84,7 @@ impl<J: Naming> Session<J> {
         ensures refused { IfErr result (λ e. part < self.old.cut.parts → IsNoWord e) }
         ensures grown { Extends self.old.cut self.new.cut }
         ensures client { self.new.client ≡ self.old.client }
+        ensures counter { self.new.counter ≡ self.old.counter }
         ensures share { self.new.share ≡ self.old.share }
     {
         self.inquire(rt, part, &Inquiry::Pending)?
@@ -103,6 +104,7 @@ impl<J: Naming> Session<J> {
         ensures refused { IfErr result (λ e. part < self.old.cut.parts → e ≢ NotPrepared → IsNoWord e) }
         ensures grown { Extends self.old.cut self.new.cut }
         ensures client { self.new.client ≡ self.old.client }
+        ensures counter { self.new.counter ≡ self.old.counter }
         ensures share { self.new.share ≡ self.old.share }
     {
         self.inquire(rt, part, &Inquiry::Sweep(stamp))??;
@@ -126,6 +128,7 @@ impl<J: Naming> Session<J> {
         ensures nowhere { self.old.cut.parts ≤ part → result ≡ Err NoSuchPart }
         ensures grown { Extends self.old.cut self.new.cut }
         ensures client { self.new.client ≡ self.old.client }
+        ensures counter { self.new.counter ≡ self.old.counter }
         ensures share { self.new.share ≡ self.old.share }
     {
         self.inquire(rt, part, &Inquiry::Trim(item))??;
@@ -146,6 +149,7 @@ impl<J: Naming> Session<J> {
         ensures refused { IfErr result (λ e. part < self.old.cut.parts → IsNoWord e) }
         ensures grown { Extends self.old.cut self.new.cut }
         ensures client { self.new.client ≡ self.old.client }
+        ensures counter { self.new.counter ≡ self.old.counter }
         ensures share { self.new.share ≡ self.old.share }
     {
         if part >= self.caller.parts() {
@@ -163,6 +167,8 @@ impl<J: Naming> Session<J> {
         ensures apart { self.old.client ≢ other.old.client }
         ensures one_client { self.new.client ≡ self.old.client }
         ensures other_client { other.new.client ≡ other.old.client }
+        ensures one_counter { self.new.counter ≡ self.old.counter }
+        ensures other_counter { other.new.counter ≡ other.old.counter }
         ensures one_share { self.new.share ≡ self.old.share }
         ensures other_share { other.new.share ≡ other.old.share }
     {

@@ -1,19 +1,21 @@
-use Rattle.std.proofs.Common.{rules, ◌≡◌, None, Some, Ok, ap, ◌∙◌, subst, if◌then◌else◌}
-use Rattle.album_stamps.specs.Clocks.{next_of, clock_after_next}
+use Rattle.std.proofs.Common.{rules, ◌≡◌, ◌<◌, ◌≤◌, ℕ, All, None, Some, Ok, sym, ap, ◌∙◌, subst, arith, if◌then◌else◌}
+use Rattle.album_stamps.specs.Clocks.{ClockState, next_of, clock_after_next}
 use Rattle.album_stamps.specs.Stamps.{client_number, client_of, counter_of}
 use Rattle.album_stamps.specs.declared.refusals.Refusal.TheVariants.{OutOfMemory, AlbumFull}
 use Rattle.album_passes.specs.Cuts.{Cut, announced_for}
 use Rattle.album_permits.specs.Effects.{is_full_for}
 use Rattle.album_permits.specs.Permits.{PermitState}
 use Rattle.album_threads.specs.Asks.{Grants}
+use Rattle.album_threads.specs.Resting.{IsAnnounced}
 use Rattle.album_threads.specs.Sessions.{SessionState}
-use Rattle.album_threads.proofs.AskLemmas.{next_fresh, own_client, drawn_own, drawn_fresh, grants_write, refused_grants, refused_else}
+use Rattle.album_threads.proofs.AskLemmas.{next_fresh, own_client, drawn_own, drawn_fresh, above_all, grants_write, refused_grants, refused_else}
 use Rattle.album_threads.proofs.session.Session.begin.Goals as goal
 
 pub returns-in-Ok-begin-clause-grants : goal.returns-in-Ok-begin-clause-grants
 returns-in-Ok-begin-clause-grants g c =
     let w = c.in-Ok-begin.preparing in
-    let new : SessionState = record { client = c.write.new.self.client; cut = c.write.new.self.cut; share = c.self.inside.share } in
+    let new : SessionState =
+    record { client = c.write.new.self.client; counter = c.next.new.self.counter; cut = c.write.new.self.cut; share = c.self.inside.share } in
     let permit : w.permit ≡ c.args.permit = search rules in
     let stamp : w.stamp ≡ c.in-Ok-next.stamp = search rules in
     let drawn : Ok c.in-Ok-next.stamp ≡ next_of c.self.inside.clock = search rules in
@@ -27,12 +29,28 @@ returns-in-Ok-begin-clause-grants g c =
     let own : client_number w.stamp ≡ c.args.self.now.client = ap client_number stamp ∙ mine ∙ client in
     let fresh : announced_for c.args.self.now.cut w.stamp ≡ None =
     ap (announced_for c.args.self.now.cut) stamp ∙ ap (λ (d : Cut). announced_for d c.in-Ok-next.stamp) cut ∙ unused in
+    let counter : c.self.inside.clock.counter ≡ c.args.self.now.counter = search rules in
+    let greater : (t : ℕ) → counter_of t ≤ c.args.self.now.counter → t < c.in-Ok-next.stamp = search rules in
+    let higher = next_fresh c.self.inside.clock c.in-Ok-next.stamp drawn (counted ∙ ap (λ (x : ClockState). x.counter) is) in
+    let told : IsAnnounced c.args.self.now new w.permit w.stamp =
+    record {
+      own = own;
+      above =
+          subst (λ (p : PermitState). All (λ row. row.stamp < w.stamp) p.view.rows) (sym permit)
+          (subst (λ (t : ℕ). All (λ row. row.stamp < t) c.args.permit.view.rows) (sym stamp)
+          (above_all c.args.self.now.counter c.in-Ok-next.stamp c.args.permit.view.rows greater c.requires.seen));
+      risen = omega (arith, stamp, counter, higher);
+      last = ap counter_of stamp ∙ counted;
+      unused = fresh;
+      announced = c.write.ensures.announced;
+    } in
     subst (λ (p : PermitState). Grants g.J.Naming.terms.limit c.args.self.now new p c.write.result) permit
-    (grants_write g.J.Naming.terms.limit c.args.self.now new w own fresh c.write.ensures.announced c.write.result c.write.ensures.ends)
+    (grants_write g.J.Naming.terms.limit c.args.self.now new w told c.write.result c.write.ensures.ends)
 
 pub returns-in-Err-begin-clause-grants : goal.returns-in-Err-begin-clause-grants
 returns-in-Err-begin-clause-grants g c =
-    let new : SessionState = record { client = c.next_tag.new.self.client; cut = c.next_tag.new.self.cut; share = c.self.inside.share } in
+    let new : SessionState =
+    record { client = c.next_tag.new.self.client; counter = c.next.new.self.counter; cut = c.next_tag.new.self.cut; share = c.self.inside.share } in
     let why : c.in-Err-begin.field-0.refusal ≡ (if is_full_for c.args.permit c.in-Ok-next.stamp then AlbumFull else OutOfMemory) = search rules in
     let own : client_number c.in-Ok-next.stamp ≡ new.client = search (rules, own_client) in
     let fresh : announced_for new.cut c.in-Ok-next.stamp ≡ None = search (rules, own_client, next_fresh) in
