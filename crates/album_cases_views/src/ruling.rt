@@ -19,7 +19,10 @@ fn rule(
     principal: &Principal,
     policy: Policy,
 ) -> Result<Ruled, Refusal> {
-    view.ask().check(principal)?;
+    if let Err(refusal) = view.ask().check(principal) {
+        drop(view);
+        return Err(refusal);
+    }
     match rule_on(alloc, view, principal, policy) {
         Ok(ruled) => Ok(ruled),
         Err(refused) => Ok(rule_on(alloc, refused.given, principal, policy)?),
