@@ -159,7 +159,8 @@ fn started(alloc: Global, items: &Items) -> Result<Reading, Refusal> {
         return Err(Refusal::BadRequest);
     }
     let client = ClientNo::of(1).ok_or(Refusal::BadRequest)?;
-    let (reading, _messages) = Reading::start(alloc, items.copy()?, client, 1, 1)?;
+    let (reading, messages) = Reading::start(alloc, items.copy()?, client, 1, 1)?;
+    drop(messages);
     Ok(reading)
 }
 
