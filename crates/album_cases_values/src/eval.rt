@@ -2,7 +2,7 @@
 use crate::lists::{Rows, list_of};
 use album_access::{AceType, Mask};
 use album_eval::{Facts, Policy, Principal, Verdict, audits, evaluate, members};
-use album_lists::{Member, Name};
+use album_lists::{AccessList, Member, Name};
 use album_stamps::Refusal;
 use std::alloc::Global;
 use std::collections::{BTreeMap, BTreeSet};
@@ -10,45 +10,72 @@ use std::collections::{BTreeMap, BTreeSet};
 /// Groups, each with its one member.
 const GROUPS: &[(u64, &str)] = &[(7, "8@groups"), (8, "amy@users"), (9, "bo@users")];
 
-/// Whether each of these groups has the user in it.
-fn has_user(alloc: Global, user: &str, numbers: [u64; 3]) -> Result<[bool; 3], Refusal> {
+/// A list of one member.
+fn one(alloc: Global, member: Member) -> Result<Vec<Member>, Refusal> {
+    let mut members = Vec::new(alloc);
+    members.push(member)?;
+    Ok(members)
+}
+
+fn groups(alloc: Global) -> Result<BTreeMap<u64, Vec<Member>>, Refusal> {
     let mut groups = BTreeMap::new(alloc);
     for (number, member) in GROUPS {
-        let mut members = Vec::new(alloc);
-        members.push(Member::read(alloc, member)?)?;
-        groups.insert(*number, members)?;
+        groups.insert(*number, one(alloc, Member::read(alloc, member)?)?)?;
     }
-    let user = Principal::read(alloc, user)?.copy()?;
-    let found = members(alloc, &groups, &user)?;
-    Ok(numbers.map(|number| found.contains(&number)))
+    Ok(groups)
 }
+
+/// Whether the groups 7, 8 and 9 have the principal in them.
+fn have(alloc: Global, principal: &Principal) -> Result<(bool, bool, bool), Refusal> {
+    let groups = groups(alloc)?;
+    let found = members(alloc, &groups, principal)?;
+    Ok((found.contains(&7), found.contains(&8), found.contains(&9)))
+}
+
+/// Whether they have a copy of the user in them.
+fn have_user(alloc: Global, user: &str) -> Result<(bool, bool, bool), Refusal> {
+    let principal = Principal::read(alloc, user)?;
+    let copy = principal.copy()?;
+    let have = have(alloc, &copy);
+    drop(copy);
+    have
+}
+
+/// Each user, and which of the groups have the user in them.
+const USERS: &[(&str, (bool, bool, bool))] = &[
+    ("amy@users", (true, true, false)),
+    ("ANONYMOUS@", (false, false, false)),
+];
 
 #[test]
 fn groups_in_groups(rt: HostRuntime) {
-    assert_eq!(rt;
-        has_user(rt.alloc(), "amy@users", [7, 8, 9]),
-        Ok([true, true, false])
-    );
-    assert_eq!(rt;
-        has_user(rt.alloc(), "ANONYMOUS@", [7, 8, 9]),
-        Ok([false, false, false])
-    );
+    for (user, have) in USERS {
+        assert_eq!(rt; have_user(rt.alloc(), user), Ok(*have));
+    }
 }
 
-/// How many groups have amy in them, where each of so many lists the next, and the last lists amy and the first.
-fn found_in_a_circle(alloc: Global, len: u64) -> Result<usize, Refusal> {
+/// What the last group of a circle lists: amy and the first.
+fn last_members(alloc: Global) -> Result<Vec<Member>, Refusal> {
+    let mut members = one(alloc, Member::User(Name::of(alloc, "amy")?))?;
+    members.push(Member::Group(1))?;
+    Ok(members)
+}
+
+/// So many groups, of which each lists the next, and the last amy and the first.
+fn circle(alloc: Global, len: u64) -> Result<BTreeMap<u64, Vec<Member>>, Refusal> {
     let mut groups = BTreeMap::new(alloc);
     for number in 1..len {
-        let mut members = Vec::new(alloc);
-        members.push(Member::Group(number + 1))?;
-        groups.insert(number, members)?;
+        groups.insert(number, one(alloc, Member::Group(number + 1))?)?;
     }
-    let mut members_of_last = Vec::new(alloc);
-    members_of_last.push(Member::User(Name::of(alloc, "amy")?))?;
-    members_of_last.push(Member::Group(1))?;
-    groups.insert(len, members_of_last)?;
+    groups.insert(len, last_members(alloc)?)?;
+    Ok(groups)
+}
+
+/// How many groups of a circle have amy in them.
+fn found_in_a_circle(alloc: Global, len: u64) -> Result<usize, Refusal> {
     let amy = Principal::read(alloc, "amy@users")?;
-    Ok(members(alloc, &groups, &amy)?.len())
+    let found = members(alloc, &circle(alloc, len)?, &amy)?;
+    Ok(found.len())
 }
 
 #[test]
@@ -68,19 +95,44 @@ const OWN: &[(u64, Rows, u32, Verdict)] = &[
     (2, DENYING, 131_072, Verdict::Granted),
 ];
 
-/// The verdict on amy's request for her own object.
-fn own_verdict(alloc: Global, policy: Policy, rows: Rows, mask: u32) -> Result<Verdict, Refusal> {
-    let list = list_of(alloc, rows)?;
-    let who = Principal::read(alloc, "amy@users")?;
-    let owner = Name::of(alloc, "amy")?;
-    let facts = Facts {
+/// What is asked of an object of amy's.
+fn facts<'a>(
+    policy: Policy,
+    principal: &'a Principal,
+    owner: &'a Name,
+    groups: &'a BTreeSet<u64>,
+) -> Facts<'a> {
+    Facts {
         policy,
-        principal: &who,
-        owner: &owner,
+        principal,
+        owner,
         head_group: 0,
-        groups: &BTreeSet::new(alloc),
-    };
-    Ok(evaluate(&list, &facts, Mask::of(mask)?))
+        groups,
+    }
+}
+
+/// The verdict of the list on amy's request for her own object.
+fn verdict(
+    alloc: Global,
+    policy: Policy,
+    list: &AccessList,
+    mask: Mask,
+) -> Result<Verdict, Refusal> {
+    let owner = Name::of(alloc, "amy")?;
+    let who = Principal::read(alloc, "amy@users")?;
+    let groups = BTreeSet::new(alloc);
+    let verdict = evaluate(list, &facts(policy, &who, &owner, &groups), mask);
+    drop(who);
+    Ok(verdict)
+}
+
+/// The same, of the list of these entries.
+fn own_verdict(alloc: Global, policy: Policy, rows: Rows, mask: u32) -> Result<Verdict, Refusal> {
+    let mask = Mask::of(mask)?;
+    let list = list_of(alloc, rows)?;
+    let verdict = verdict(alloc, policy, &list, mask);
+    drop(list);
+    verdict
 }
 
 #[test]
@@ -89,8 +141,12 @@ fn owner_is_given_her_list(rt: HostRuntime) {
         let policy = Policy::of(*number).unwrap_or(Policy::One);
         assert_eq!(rt; own_verdict(rt.alloc(), policy, *rows, *mask), Ok(*verdict));
     }
-    assert_eq!(rt; Policy::of(0), None);
-    assert_eq!(rt; Policy::of(3), None);
+}
+
+#[test]
+fn two_policies(rt: HostRuntime) {
+    let others = (Policy::of(0), Policy::of(3));
+    assert_eq!(rt; others, (None, None));
 }
 
 const NOTING: Rows = &[
@@ -99,27 +155,65 @@ const NOTING: Rows = &[
     (AceType::Allowed, "EVERYONE@", 1, 0),
 ];
 
-/// The index of the one entry that takes note of bo's request.
-fn noted(alloc: Global, mask: Mask, success: bool) -> Result<Option<usize>, Refusal> {
-    let list = list_of(alloc, NOTING)?;
-    let bo = Principal::read(alloc, "bo@users")?;
-    let amy = Name::of(alloc, "amy")?;
-    let facts = Facts {
-        policy: Policy::One,
-        principal: &bo,
-        owner: &amy,
-        head_group: 0,
-        groups: &BTreeSet::new(alloc),
-    };
-    let indexes = audits(alloc, &list, &facts, mask, success)?;
-    match indexes.as_slice() {
-        [index] => Ok(Some(*index)),
-        _ => Ok(None),
+/// The index, where there is one alone.
+fn single(indexes: &[usize]) -> Option<usize> {
+    match indexes {
+        [index] => Some(*index),
+        _ => None,
     }
 }
 
+/// A request, and whether it was granted.
+#[derive(Clone, Copy)]
+struct Request {
+    mask: Mask,
+    success: bool,
+}
+
+/// The index of the one entry of the list that takes note of the request.
+fn noted_by(
+    alloc: Global,
+    list: &AccessList,
+    facts: &Facts,
+    request: Request,
+) -> Result<Option<usize>, Refusal> {
+    let indexes = audits(alloc, list, facts, request.mask, request.success)?;
+    Ok(single(&indexes))
+}
+
+/// The same, where bo asks for an object of amy's.
+fn noted_of_bo(
+    alloc: Global,
+    list: &AccessList,
+    request: Request,
+) -> Result<Option<usize>, Refusal> {
+    let amy = Name::of(alloc, "amy")?;
+    let bo = Principal::read(alloc, "bo@users")?;
+    let groups = BTreeSet::new(alloc);
+    let noted = noted_by(
+        alloc,
+        list,
+        &facts(Policy::One, &bo, &amy, &groups),
+        request,
+    );
+    drop(bo);
+    noted
+}
+
+/// The same, of the list that takes note.
+fn noted(alloc: Global, mask: Mask, success: bool) -> Result<Option<usize>, Refusal> {
+    let list = list_of(alloc, NOTING)?;
+    let noted = noted_of_bo(alloc, &list, Request { mask, success });
+    drop(list);
+    noted
+}
+
+/// What is asked, whether it was granted, and the index of the entry that takes note of it.
+const NOTED: &[(Mask, bool, usize)] = &[(Mask::READ_DATA, true, 1), (Mask::DELETE, false, 0)];
+
 #[test]
 fn alarm_and_audit(rt: HostRuntime) {
-    assert_eq!(rt; noted(rt.alloc(), Mask::READ_DATA, true), Ok(Some(1)));
-    assert_eq!(rt; noted(rt.alloc(), Mask::DELETE, false), Ok(Some(0)));
+    for (mask, success, index) in NOTED {
+        assert_eq!(rt; noted(rt.alloc(), *mask, *success), Ok(Some(*index)));
+    }
 }

@@ -32,11 +32,7 @@ fn items(rt: HostRuntime) {
 
 /// A title of so many letters.
 pub fn title(alloc: Global, len: usize) -> Result<Title, Refusal> {
-    let mut text = String::new(alloc);
-    for _ in 0..len {
-        text.push_str("x")?;
-    }
-    Title::of(alloc, text.as_str())
+    Title::of(alloc, "x".repeat(alloc, len)?.as_str())
 }
 
 /// The length of a copy of a title of so many letters.
@@ -55,28 +51,50 @@ fn bytes(alloc: Global, len: usize) -> Result<Bytes, Refusal> {
     Ok(Bytes::from_vec(vec![in alloc; 7u8; len]?)?)
 }
 
-/// The length of a copy of a content of so many bytes.
-fn content_len(alloc: Global, len: usize) -> Result<usize, Refusal> {
-    let content = Content::of(bytes(alloc, len)?)?;
+/// The length of a copy of the content.
+fn copy_len(content: &Content) -> Result<usize, Refusal> {
     let copy = content.copy()?;
     Ok(copy.as_slice().len())
 }
 
+/// The length of a copy of a content of so many bytes.
+fn content_len(alloc: Global, len: usize) -> Result<usize, Refusal> {
+    let content = Content::of(bytes(alloc, len)?)?;
+    copy_len(&content)
+}
+
+/// How long a text is, and how long what holds it is.
+type Length = (usize, Result<usize, Refusal>);
+
+const TITLES: &[Length] = &[(MOST_TITLE, Ok(200)), (201, Err(Refusal::BadText))];
+
+const TEXTS: &[(&str, Result<usize, Refusal>)] = &[
+    ("a\u{7f}", Err(Refusal::BadText)),
+    ("a\u{85}", Ok(3)),
+    ("", Ok(0)),
+];
+
+const CONTENTS: &[Length] = &[(MOST_CONTENT, Ok(4096)), (4097, Err(Refusal::BadText))];
+
 #[test]
 fn titles(rt: HostRuntime) {
-    let alloc = rt.alloc();
-    assert_eq!(rt; title_len(alloc, MOST_TITLE), Ok(200));
-    assert_eq!(rt; title_len(alloc, 201), Err(Refusal::BadText));
-    assert_eq!(rt; text_len(alloc, "a\u{7f}"), Err(Refusal::BadText));
-    assert_eq!(rt; text_len(alloc, "a\u{85}"), Ok(3));
-    assert_eq!(rt; text_len(alloc, ""), Ok(0));
+    for (len, expected) in TITLES {
+        assert_eq!(rt; title_len(rt.alloc(), *len), *expected);
+    }
+}
+
+#[test]
+fn texts_of_titles(rt: HostRuntime) {
+    for (text, expected) in TEXTS {
+        assert_eq!(rt; text_len(rt.alloc(), text), *expected);
+    }
 }
 
 #[test]
 fn contents(rt: HostRuntime) {
-    let alloc = rt.alloc();
-    assert_eq!(rt; content_len(alloc, MOST_CONTENT), Ok(4096));
-    assert_eq!(rt; content_len(alloc, 4097), Err(Refusal::BadText));
+    for (len, expected) in CONTENTS {
+        assert_eq!(rt; content_len(rt.alloc(), *len), *expected);
+    }
 }
 
 /// A head of amy's with the list of this number.
@@ -130,11 +148,10 @@ fn list(alloc: Global) -> Result<Value, Refusal> {
 fn first_number(value: &Value) -> Option<u64> {
     match value {
         Value::Picture(picture) => Some(picture.title.as_str().len() as u64),
-        Value::Album(album) => album
-            .children
-            .as_slice()
-            .first()
-            .map(|child| child.number()),
+        Value::Album(album) => match album.children.as_slice() {
+            [child, ..] => Some(child.number()),
+            [] => None,
+        },
         Value::Group(group) => match group.members.as_slice() {
             [Member::Group(number)] => Some(*number),
             _ => None,
@@ -144,27 +161,51 @@ fn first_number(value: &Value) -> Option<u64> {
     }
 }
 
-/// The first number of a copy of what was made.
-fn copied_number(made: Result<Value, Refusal>) -> Result<Option<u64>, Refusal> {
-    let copy = made?.copy()?;
-    Ok(first_number(&copy))
+/// A value of the kind.
+fn value_of(alloc: Global, kind: Kind) -> Result<Value, Refusal> {
+    match kind {
+        Kind::Picture => picture(alloc, 5),
+        Kind::Album => album(alloc),
+        Kind::List => list(alloc),
+        Kind::Group => group(alloc),
+    }
 }
+
+/// The first number of a copy of the value.
+fn copied_number(value: &Value) -> Result<Option<u64>, Refusal> {
+    let copy = value.copy()?;
+    let number = first_number(&copy);
+    drop(copy);
+    Ok(number)
+}
+
+/// The first number of a copy of a value of the kind.
+fn number_of(alloc: Global, kind: Kind) -> Result<Option<u64>, Refusal> {
+    let value = value_of(alloc, kind)?;
+    let number = copied_number(&value);
+    drop(value);
+    number
+}
+
+/// Each kind that has parts, and the first number of its value.
+const NUMBERS: &[(Kind, u64)] = &[(Kind::Group, 9), (Kind::Album, 4), (Kind::List, 1)];
 
 #[test]
 fn copies(rt: HostRuntime) {
-    let alloc = rt.alloc();
-    assert_eq!(rt; copied_number(group(alloc)), Ok(Some(9)));
-    assert_eq!(rt; copied_number(album(alloc)), Ok(Some(4)));
-    assert_eq!(rt; copied_number(list(alloc)), Ok(Some(1)));
+    for (kind, number) in NUMBERS {
+        assert_eq!(rt; number_of(rt.alloc(), *kind), Ok(Some(*number)));
+    }
 }
 
-/// A row of each kind of value.
+/// Each kind of value.
+const KINDS: &[Kind] = &[Kind::Picture, Kind::Album, Kind::List, Kind::Group];
+
+/// A row of each kind of value, and one of a group that is missing.
 fn each_kind(alloc: Global) -> Result<ItemValues, Refusal> {
     let mut rows = Vec::new(alloc);
-    rows.push((ItemId::new(Kind::Picture, 1), picture(alloc, 5)?))?;
-    rows.push((ItemId::new(Kind::Album, 1), album(alloc)?))?;
-    rows.push((ItemId::new(Kind::List, 1), list(alloc)?))?;
-    rows.push((ItemId::new(Kind::Group, 1), group(alloc)?))?;
+    for kind in KINDS {
+        rows.push((ItemId::new(*kind, 1), value_of(alloc, *kind)?))?;
+    }
     rows.push((ItemId::new(Kind::Group, 2), Value::Missing))?;
     Ok(ItemValues::of(rows))
 }
@@ -192,8 +233,7 @@ fn shared_digits(alloc: Global, times: usize) -> Result<(u64, u64), Refusal> {
 
 #[test]
 fn shared_values(rt: HostRuntime) {
-    let alloc = rt.alloc();
-    assert_eq!(rt; shared_digits(alloc, 0), Ok((34_190, 34_190)));
-    assert_eq!(rt; shared_digits(alloc, 1), Ok((34_190, 34_190)));
-    assert_eq!(rt; shared_digits(alloc, 2), Ok((34_190, 34_190)));
+    for times in 0..3 {
+        assert_eq!(rt; shared_digits(rt.alloc(), times), Ok((34_190, 34_190)));
+    }
 }

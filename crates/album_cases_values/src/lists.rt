@@ -7,9 +7,11 @@ use std::alloc::Global;
 
 #[test]
 fn bits(rt: HostRuntime) {
-    assert_eq!(rt; Mask::of(2_032_127), Ok(Mask::all()));
-    assert_eq!(rt; Mask::of(2_032_128), Err(Refusal::BadMask));
-    assert_eq!(rt; AceFlags::of(127), Ok(AceFlags::all()));
+    let masks = Mask::of(2_032_127) == Ok(Mask::all());
+    let other = Mask::of(2_032_128) == Err(Refusal::BadMask);
+    let flags = AceFlags::of(127) == Ok(AceFlags::all());
+
+    assert_eq!(rt; (masks, other, flags), (true, true, true));
 }
 
 /// The length of the name that the text is.
@@ -36,13 +38,20 @@ fn member_number(alloc: Global, text: &str) -> Result<Option<u64>, Refusal> {
     }
 }
 
+/// What is told of texts: the length of a name, the numbers of two whos, and that of a member.
+type Told = (usize, Option<u64>, Option<u64>, Option<u64>);
+
+fn told(alloc: Global) -> Result<Told, Refusal> {
+    let name = name_len(alloc, "amy-b_2.c")?;
+    let who = group_number(alloc, "0@groups", 64)?;
+    let head = group_number(alloc, "GROUP@", 0)?;
+    let member = member_number(alloc, "12@groups")?;
+    Ok((name, who, head, member))
+}
+
 #[test]
 fn texts(rt: HostRuntime) {
-    let alloc = rt.alloc();
-    assert_eq!(rt; name_len(alloc, "amy-b_2.c"), Ok(9));
-    assert_eq!(rt; group_number(alloc, "0@groups", 64), Ok(Some(0)));
-    assert_eq!(rt; group_number(alloc, "GROUP@", 0), Ok(None));
-    assert_eq!(rt; member_number(alloc, "12@groups"), Ok(Some(12)));
+    assert_eq!(rt; told(rt.alloc()), Ok((9, Some(0), None, Some(12))));
 }
 
 pub fn entry(
@@ -73,53 +82,79 @@ pub fn list_of(alloc: Global, rows: Rows) -> Result<AccessList, Refusal> {
     Ok(AccessList::new(entries)?)
 }
 
-/// How many entries the list of so many has; or its refusal, and how many are handed back.
-fn entries_taken(alloc: Global, len: usize) -> Result<(Option<Refusal>, usize), Refusal> {
+fn many_entries(alloc: Global, len: usize) -> Result<Vec<Ace>, Refusal> {
     let mut entries = Vec::new(alloc);
     for _ in 0..len {
         entries.push(entry(alloc, AceType::Allowed, "amy@users", 1, 0)?)?;
     }
-    match AccessList::new(entries) {
+    Ok(entries)
+}
+
+/// How many entries the list of so many has; or its refusal, and how many are handed back.
+fn entries_taken(alloc: Global, len: usize) -> Result<(Option<Refusal>, usize), Refusal> {
+    match AccessList::new(many_entries(alloc, len)?) {
         Ok(list) => Ok((None, list.entries().len())),
         Err(refused) => Ok((Some(refused.refusal), refused.given.len())),
     }
 }
 
+/// How many entries are given, and what comes of it.
+const LENGTHS: &[(usize, (Option<Refusal>, usize))] = &[
+    (MOST_ENTRIES, (None, 128)),
+    (129, (Some(Refusal::ListFull), 129)),
+];
+
 #[test]
 fn most_entries(rt: HostRuntime) {
-    let alloc = rt.alloc();
-    assert_eq!(rt; entries_taken(alloc, MOST_ENTRIES), Ok((None, 128)));
-    assert_eq!(rt;
-        entries_taken(alloc, 129),
-        Ok((Some(Refusal::ListFull), 129))
-    );
-}
-
-/// Adds the user of an entry, and its flags.
-fn show(alloc: Global, entry: &Ace, text: &mut String) -> Result<(), Refusal> {
-    if let Who::User(name) = &entry.who {
-        text.push_str(name.as_str())?;
+    for (len, taken) in LENGTHS {
+        assert_eq!(rt; entries_taken(rt.alloc(), *len), Ok(*taken));
     }
-    let flags = format!(in alloc; " {} ", entry.flags.bits())?;
-    text.push_str(flags.as_str())?;
-    Ok(())
 }
 
-/// The users whose entries a copy of a list has, each with the entry's flags.
-fn shown(alloc: Global, list: &AccessList) -> Result<String, Refusal> {
+/// A user, and the flags of the user's entry.
+type Flagged = (&'static str, u32);
+
+/// Whether the entry is the user's with these flags.
+fn is_entry(entry: &Ace, (user, flags): Flagged) -> bool {
+    match &entry.who {
+        Who::User(name) => name.as_str() == user && entry.flags.bits() == flags,
+        _ => false,
+    }
+}
+
+/// Whether these are the entries of the users in their order, each with its flags.
+fn are_entries(entries: &[Ace], expected: &[Flagged]) -> bool {
+    for (index, row) in expected.iter().enumerate() {
+        match entries.get(index) {
+            Some(entry) if is_entry(entry, *row) => {}
+            _ => return false,
+        }
+    }
+    entries.len() == expected.len()
+}
+
+/// Whether a copy of the list has these entries.
+fn has_entries(list: &AccessList, expected: &[Flagged]) -> Result<bool, Refusal> {
     let copy = list.copy()?;
-    let mut text = String::new(alloc);
-    for entry in copy.entries() {
-        show(alloc, entry, &mut text)?;
-    }
-    Ok(text)
+    let are = are_entries(copy.entries(), expected);
+    drop(copy);
+    Ok(are)
 }
 
-/// What an object of this kind inherits of the list, if that is this.
-fn inherits(alloc: Global, holder: Holder, expected: &str) -> Result<bool, Refusal> {
+/// What an object of this kind inherits.
+fn inherited(alloc: Global, holder: Holder) -> Result<AccessList, Refusal> {
     let list = list_of(alloc, INHERITED)?;
-    let text = shown(alloc, &list.inherit(alloc, holder)?)?;
-    Ok(text.as_str() == expected)
+    let inherited = list.inherit(alloc, holder);
+    drop(list);
+    inherited
+}
+
+/// Whether an object of this kind inherits these entries.
+fn inherits(alloc: Global, holder: Holder, expected: &[Flagged]) -> Result<bool, Refusal> {
+    let list = inherited(alloc, holder)?;
+    let has = has_entries(&list, expected);
+    drop(list);
+    has
 }
 
 const INHERITED: Rows = &[
@@ -129,17 +164,17 @@ const INHERITED: Rows = &[
     (AceType::Denied, "dan@users", 2, 5),
 ];
 
+/// What each kind of object inherits.
+const HEIRS: &[(Holder, &[Flagged])] = &[
+    (Holder::Plain, &[("amy", 0), ("bo", 0), ("dan", 0)]),
+    (Holder::Folder, &[("amy", 9), ("bo", 3), ("cat", 2)]),
+];
+
 #[test]
 fn inherited_entries(rt: HostRuntime) {
-    let alloc = rt.alloc();
-    assert_eq!(rt;
-        inherits(alloc, Holder::Plain, "amy 0 bo 0 dan 0 "),
-        Ok(true)
-    );
-    assert_eq!(rt;
-        inherits(alloc, Holder::Folder, "amy 9 bo 3 cat 2 "),
-        Ok(true)
-    );
+    for (holder, expected) in HEIRS {
+        assert_eq!(rt; inherits(rt.alloc(), *holder, expected), Ok(true));
+    }
 }
 
 /// The list of an entry of group 7 with these flags and of this mask's bits.
@@ -157,16 +192,16 @@ fn group_entry(alloc: Global, flags: AceFlags, mask: Mask) -> Result<usize, Refu
 /// An entry that no line can spell is in no list.
 #[test]
 fn entries_that_no_line_spells(rt: HostRuntime) {
-    let alloc = rt.alloc();
     let group = AceFlags::IDENTIFIER_GROUP;
-    let none = group.difference(group);
-    assert_eq!(rt; group_entry(alloc, group, Mask::READ_DATA), Ok(1));
-    assert_eq!(rt;
-        group_entry(alloc, none, Mask::READ_DATA),
-        Err(Refusal::BadFlags)
-    );
-    assert_eq!(rt;
-        group_entry(alloc, group, Mask::READ_DATA.difference(Mask::READ_DATA)),
-        Err(Refusal::BadFlags)
-    );
+    let no_flag = group.difference(group);
+    let no_bit = Mask::READ_DATA.difference(Mask::READ_DATA);
+    let rows = [
+        (group, Mask::READ_DATA, Ok(1)),
+        (no_flag, Mask::READ_DATA, Err(Refusal::BadFlags)),
+        (group, no_bit, Err(Refusal::BadFlags)),
+    ];
+
+    for (flags, mask, taken) in &rows {
+        assert_eq!(rt; group_entry(rt.alloc(), *flags, *mask), *taken);
+    }
 }

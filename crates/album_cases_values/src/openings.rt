@@ -9,12 +9,19 @@ fn picture_row(alloc: Global, number: u64, list: u64) -> Result<(ItemId, Value),
     Ok((ItemId::new(Kind::Picture, number), value))
 }
 
-/// What the check of an opening of copies of two pictures under lists of these numbers says.
-fn two_pictures(alloc: Global, first: u64, second: u64) -> Result<(), Refusal> {
+/// Two pictures under lists of these numbers.
+fn two_pictures(alloc: Global, lists: [u64; 2]) -> Result<ItemValues, Refusal> {
     let mut rows = Vec::new(alloc);
-    rows.push(picture_row(alloc, 0, first)?)?;
-    rows.push(picture_row(alloc, 1, second)?)?;
-    checked(ItemValues::of(rows).copy()?)
+    for (number, list) in lists.iter().enumerate() {
+        rows.push(picture_row(alloc, number as u64, *list)?)?;
+    }
+    Ok(ItemValues::of(rows))
+}
+
+/// What the check of an opening of copies of two pictures under lists of these numbers says.
+fn two_checked(alloc: Global, lists: [u64; 2]) -> Result<(), Refusal> {
+    let items = two_pictures(alloc, lists)?;
+    checked(items.copy()?)
 }
 
 fn checked(items: ItemValues) -> Result<(), Refusal> {
@@ -27,12 +34,18 @@ fn checked(items: ItemValues) -> Result<(), Refusal> {
     opening.check()
 }
 
+/// The lists of two pictures, and what the check says.
+const TWO: &[([u64; 2], Result<(), Refusal>)] = &[
+    ([7, 8], Ok(())),
+    ([7, 7], Err(Refusal::BadOpening)),
+    ([7, 65536], Err(Refusal::BadOpening)),
+];
+
 #[test]
 fn two_heads_with_one_list(rt: HostRuntime) {
-    let alloc = rt.alloc();
-    assert_eq!(rt; two_pictures(alloc, 7, 8), Ok(()));
-    assert_eq!(rt; two_pictures(alloc, 7, 7), Err(Refusal::BadOpening));
-    assert_eq!(rt; two_pictures(alloc, 7, 65536), Err(Refusal::BadOpening));
+    for (lists, said) in TWO {
+        assert_eq!(rt; two_checked(rt.alloc(), *lists), *said);
+    }
 }
 
 /// What the check of an opening with no item says, under a policy of this number.
@@ -46,24 +59,19 @@ fn under_policy(alloc: Global, policy: u64) -> Result<(), Refusal> {
     opening.check()
 }
 
-/// Each number, and whether there is a policy of it.
-const POLICIES: &[(u64, bool)] = &[(0, false), (1, true), (2, true), (3, false)];
-
-/// The first number of the table of which the check says otherwise.
-fn other_policy(alloc: Global) -> Option<u64> {
-    for (policy, taken) in POLICIES {
-        if under_policy(alloc, *policy).is_ok() != *taken {
-            return Some(*policy);
-        }
-    }
-    None
-}
+/// Each number, and what the check says of a policy of it.
+const POLICIES: &[(u64, Result<(), Refusal>)] = &[
+    (0, Err(Refusal::BadOpening)),
+    (1, Ok(())),
+    (2, Ok(())),
+    (3, Err(Refusal::BadOpening)),
+];
 
 #[test]
 fn policies(rt: HostRuntime) {
-    let alloc = rt.alloc();
-    assert_eq!(rt; other_policy(alloc), None);
-    assert_eq!(rt; under_policy(alloc, 3), Err(Refusal::BadOpening));
+    for (policy, said) in POLICIES {
+        assert_eq!(rt; under_policy(rt.alloc(), *policy), *said);
+    }
 }
 
 /// What the check of an opening of so many pictures says, each under its own list.
@@ -75,8 +83,15 @@ fn many_pictures(alloc: Global, len: usize) -> Result<(), Refusal> {
     checked(ItemValues::of(rows))
 }
 
+/// How many pictures, and what the check says.
+const LENGTHS: &[(usize, Result<(), Refusal>)] = &[
+    (MOST_OPENING_ITEMS, Ok(())),
+    (4097, Err(Refusal::BadOpening)),
+];
+
 #[test]
 fn most_items(rt: HostRuntime) {
-    assert_eq!(rt; many_pictures(rt.alloc(), MOST_OPENING_ITEMS), Ok(()));
-    assert_eq!(rt; many_pictures(rt.alloc(), 4097), Err(Refusal::BadOpening));
+    for (len, said) in LENGTHS {
+        assert_eq!(rt; many_pictures(rt.alloc(), *len), *said);
+    }
 }

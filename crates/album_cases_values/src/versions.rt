@@ -1,6 +1,6 @@
 // What a partition keeps of its items (docs/PROTOCOL.md, "What a partition keeps").
 use crate::items::picture;
-use album_items::{ItemId, Kind, Value};
+use album_items::{ItemId, Kind};
 use album_stamps::{ClientNo, Refusal, Stamp};
 use album_versions::Versions;
 use std::alloc::Global;
@@ -28,12 +28,18 @@ fn stamp(value: u64) -> Result<Stamp, Refusal> {
     Stamp::read(value).ok_or(Refusal::BadRequest)
 }
 
-/// Adds a version, where there is none.
-fn add(versions: &mut Versions, item: ItemId, stamp: Stamp, value: Value) -> Result<(), Refusal> {
+/// Adds a version, where there is none: a picture under the list of this number.
+fn add(
+    alloc: Global,
+    versions: &mut Versions,
+    item: ItemId,
+    stamp: Stamp,
+    list: u64,
+) -> Result<(), Refusal> {
     if versions.value(item, stamp).is_some() {
         return Err(Refusal::Clash);
     }
-    versions.add(item, stamp, value)?;
+    versions.add(item, stamp, picture(alloc, list)?)?;
     Ok(())
 }
 
@@ -48,7 +54,7 @@ fn commit(versions: &mut Versions, item: ItemId, stamp: Stamp) -> Result<(), Ref
 
 fn act(alloc: Global, versions: &mut Versions, item: ItemId, step: Step) -> Result<(), Refusal> {
     match step {
-        Step::Add(value) => add(versions, item, stamp(value)?, picture(alloc, value)?),
+        Step::Add(value) => add(alloc, versions, item, stamp(value)?, value),
         Step::Commit(value) => commit(versions, item, stamp(value)?),
         Step::Drop(value) => {
             versions.drop_stamp(stamp(value)?);
@@ -227,7 +233,7 @@ fn many(alloc: Global, item: ItemId) -> Result<Versions, Refusal> {
     for turn in 0..499u64 {
         let counter = 2 * (turn * 7 % 499) + 2;
         let stamp = counted(counter).ok_or(Refusal::BadRequest)?;
-        add(&mut versions, item, stamp, picture(alloc, counter)?)?;
+        add(alloc, &mut versions, item, stamp, counter)?;
     }
     Ok(versions)
 }

@@ -27,9 +27,10 @@ fn note_all<J: Books>(
     client: ClientNo,
     notes: &[Noted],
 ) -> Result<(), Refusal> {
+    let object = item_of("picture/0")?;
     for (alarm, success) in notes {
         let note = Note {
-            object: item_of("picture/0")?,
+            object,
             mask: Mask::READ_DATA,
             index: 1,
             alarm: *alarm,

@@ -8,7 +8,9 @@ use std::alloc::Global;
 
 fn members_checked(alloc: Global, len: u64) -> Result<(), Refusal> {
     let ask = set_members(alloc, ItemId::new(Kind::Group, 1), len)?;
-    ask.check(&Principal::Anonymous)
+    let checked = ask.check(&Principal::Anonymous);
+    drop(ask);
+    checked
 }
 
 /// A group has at most 128 members, which the line of an ask is refused for before the ask is.
@@ -39,17 +41,33 @@ fn told(alloc: Global, ask: &Ask) -> Result<String, Refusal> {
     Ok(format!(in alloc; "{ask:?}")?)
 }
 
+/// Whether the two tell the same.
+fn are_same(alloc: Global, ask: &Ask, other: &Ask) -> Result<bool, Refusal> {
+    let told_of_ask = told(alloc, ask)?;
+    let told_of_other = told(alloc, other)?;
+    Ok(told_of_ask == told_of_other)
+}
+
 /// Whether a copy of the ask tells what the ask does.
-fn copies(alloc: Global, verb: Verb, text: &str) -> Result<bool, Refusal> {
+fn copies(alloc: Global, ask: &Ask) -> Result<bool, Refusal> {
+    let copy = ask.copy()?;
+    let are_same = are_same(alloc, ask, &copy);
+    drop(copy);
+    are_same
+}
+
+/// The same, of the ask of this item.
+fn copies_of(alloc: Global, verb: Verb, text: &str) -> Result<bool, Refusal> {
     let ask = ask_of(alloc, verb, text)?;
-    let copy = told(alloc, &ask.copy()?)?;
-    Ok(copy == told(alloc, &ask)?)
+    let copies = copies(alloc, &ask);
+    drop(ask);
+    copies
 }
 
 /// A copy is the same ask.
 #[test]
 fn copies_of_asks(rt: HostRuntime) {
     for verb in VERBS {
-        assert_eq!(rt; copies(rt.alloc(), *verb, "album/3"), Ok(true));
+        assert_eq!(rt; copies_of(rt.alloc(), *verb, "album/3"), Ok(true));
     }
 }

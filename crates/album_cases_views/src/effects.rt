@@ -57,7 +57,9 @@ fn spent(alloc: Global, asked: Asked) -> Result<(u64, bool, usize), Refusal> {
     let permit = writes.back();
     let is_whose = permit.view().ask().is_write() && is_amy(permit.principal());
     let view = permit.give_back();
-    Ok((stamp, is_whose, view.items().len()))
+    let items = view.items().len();
+    drop(view);
+    Ok((stamp, is_whose, items))
 }
 
 /// Writes keep their stamp and their permit, and this its view.

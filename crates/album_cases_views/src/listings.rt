@@ -2,25 +2,31 @@
 use crate::asks::Verb;
 use crate::ruling::{Asked, seen_by};
 use crate::store::AMY;
+use album_eval::Principal;
 use album_listing::{Rows, list};
 use album_stamps::Refusal;
+use album_views::View;
 use std::alloc::Global;
 
-/// What is listed of album/0, which is missing; once more, where there was no memory.
-fn listed(alloc: Global) -> Result<Rows, Refusal> {
-    let asked: Asked = (&[], AMY, Verb::List, "album/0");
-    let (view, principal) = seen_by(alloc, asked)?;
+/// What is listed by the view; once more, where there was no memory.
+fn listed(alloc: Global, view: &View, principal: &Principal) -> Result<Rows, Refusal> {
     if !view.ask().is_list() {
         return Err(Refusal::Clash);
     }
-    match list(alloc, &view, &principal) {
+    match list(alloc, view, principal) {
         Ok(rows) => Ok(rows),
-        Err(_) => list(alloc, &view, &principal),
+        Err(_) => list(alloc, view, principal),
     }
 }
 
+/// How many rows the listing of album/0 has, which is missing.
 fn count(alloc: Global) -> Result<usize, Refusal> {
-    let rows = listed(alloc)?;
+    let asked: Asked = (&[], AMY, Verb::List, "album/0");
+    let (view, principal) = seen_by(alloc, asked)?;
+    let listed = listed(alloc, &view, &principal);
+    drop(view);
+    drop(principal);
+    let rows = listed?;
     Ok(rows.as_slice().len())
 }
 

@@ -19,7 +19,10 @@ fn rule(
     principal: &Principal,
     policy: Policy,
 ) -> Result<Ruled, Refusal> {
-    view.ask().check(principal)?;
+    if let Err(refusal) = view.ask().check(principal) {
+        drop(view);
+        return Err(refusal);
+    }
     match rule_on(alloc, view, principal, policy) {
         Ok(ruled) => Ok(ruled),
         Err(refused) => Ok(rule_on(alloc, refused.given, principal, policy)?),
@@ -35,6 +38,12 @@ pub fn seen_by(alloc: Global, asked: Asked) -> Result<(View, Principal), Refusal
     Ok((view, principal))
 }
 
+/// The refusal where no permit is given; the view is let go.
+fn clash(view: View) -> Refusal {
+    drop(view);
+    Refusal::Clash
+}
+
 /// The permit for the ask of the view, where it is granted.
 pub fn permit_on(
     alloc: Global,
@@ -45,7 +54,8 @@ pub fn permit_on(
     let Ruled { ruling, notes: _ } = rule(alloc, view, principal, policy)?;
     match ruling {
         Ruling::Granted(permit) => Ok(permit),
-        Ruling::Denied(_, _) | Ruling::Missing(_, _) => Err(Refusal::Clash),
+        Ruling::Denied(_, view) => Err(clash(view)),
+        Ruling::Missing(_, view) => Err(clash(view)),
     }
 }
 

@@ -74,10 +74,12 @@ fn album(alloc: Global, list: u64) -> Result<Value, Refusal> {
 
 fn entry_of(alloc: Global, (sort, who, mask, flags): Entry) -> Result<Ace, Refusal> {
     let flags = AceFlags::of(flags)?;
+    let mask = Mask::of(mask)?;
+    let who = Who::read(alloc, who, flags)?;
     Ok(Ace {
         sort,
-        who: Who::read(alloc, who, flags)?,
-        mask: Mask::of(mask)?,
+        who,
+        mask,
         flags,
     })
 }
@@ -157,33 +159,51 @@ fn started(alloc: Global, items: &Items) -> Result<Reading, Refusal> {
         return Err(Refusal::BadRequest);
     }
     let client = ClientNo::of(1).ok_or(Refusal::BadRequest)?;
-    let (reading, _messages) = Reading::start(alloc, items.copy()?, client, 1, 1)?;
+    let (reading, messages) = Reading::start(alloc, items.copy()?, client, 1, 1)?;
+    drop(messages);
     Ok(reading)
+}
+
+/// What comes of one more reply.
+fn given(step: Step, reply: &Message) -> Result<Step, Refusal> {
+    match step {
+        Step::Same(reading) => Ok(reading.on_reply(reply)?),
+        other @ (Step::Next(_, _) | Step::Done(_) | Step::Gone(_)) => {
+            drop(other);
+            Err(Refusal::Clash)
+        }
+    }
 }
 
 /// What comes of the reading as it is given one reply after the other.
 fn after(reading: Reading, replies: &[Message]) -> Result<Step, Refusal> {
     let mut step = Step::Same(reading);
     for reply in replies {
-        step = match step {
-            Step::Same(reading) => reading.on_reply(reply)?,
-            Step::Next(_, _) | Step::Done(_) | Step::Gone(_) => return Err(Refusal::Clash),
-        };
+        step = given(step, reply)?;
     }
     Ok(step)
 }
 
 fn second(step: Step) -> Result<Reading, Refusal> {
     match step {
-        Step::Next(reading, _messages) => Ok(reading),
-        Step::Same(_) | Step::Done(_) | Step::Gone(_) => Err(Refusal::Clash),
+        Step::Next(reading, messages) => {
+            drop(messages);
+            Ok(reading)
+        }
+        other @ (Step::Same(_) | Step::Done(_) | Step::Gone(_)) => {
+            drop(other);
+            Err(Refusal::Clash)
+        }
     }
 }
 
 fn done(step: Step) -> Result<Snapshot, Refusal> {
     match step {
         Step::Done(snapshot) => Ok(snapshot),
-        Step::Same(_) | Step::Next(_, _) | Step::Gone(_) => Err(Refusal::Clash),
+        other @ (Step::Same(_) | Step::Next(_, _) | Step::Gone(_)) => {
+            drop(other);
+            Err(Refusal::Clash)
+        }
     }
 }
 

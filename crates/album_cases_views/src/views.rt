@@ -2,8 +2,9 @@
 use crate::asks::{Verb, ask_of};
 use crate::store::{Is, Store, item_of, snapshot};
 use album_items::Items;
+use album_reader::Snapshot;
 use album_stamps::Refusal;
-use album_views::names;
+use album_views::{Ask, names};
 use std::alloc::Global;
 
 const STORE: Store = &[("picture/0", Is::Picture(0)), ("list/0", Is::List(&[]))];
@@ -14,17 +15,38 @@ fn one_item(alloc: Global, text: &str) -> Result<Items, Refusal> {
     Ok(Items::of(items))
 }
 
-/// How many items the ruling on a read of picture/0 looks at, by a snapshot of this item.
-fn names_when(alloc: Global, text: &str) -> Result<usize, Refusal> {
+/// A snapshot of this item.
+fn snapshot_of(alloc: Global, text: &str) -> Result<Snapshot, Refusal> {
     let items = one_item(alloc, text)?;
-    let ask = ask_of(alloc, Verb::Read, "picture/0")?;
-    let snapshot = snapshot(alloc, STORE, &items)?;
-    Ok(names(alloc, &snapshot, &ask)?.len())
+    let snapshot = snapshot(alloc, STORE, &items);
+    drop(items);
+    snapshot
 }
+
+/// How many items the ruling on the ask looks at, by a snapshot of this item.
+fn count(alloc: Global, ask: &Ask, text: &str) -> Result<usize, Refusal> {
+    let snapshot = snapshot_of(alloc, text)?;
+    let names = names(alloc, &snapshot, ask);
+    drop(snapshot);
+    let names = names?;
+    Ok(names.len())
+}
+
+/// The same, where the ask is a read of picture/0.
+fn names_when(alloc: Global, text: &str) -> Result<usize, Refusal> {
+    let ask = ask_of(alloc, Verb::Read, "picture/0")?;
+    let count = count(alloc, &ask, text);
+    drop(ask);
+    count
+}
+
+/// The item of the snapshot, and how many are looked at.
+const NAMED: &[(&str, usize)] = &[("picture/0", 3), ("list/0", 1)];
 
 /// Only what was read names something: the picture its list and its head group, and the list alone nothing.
 #[test]
 fn names_without_the_object(rt: HostRuntime) {
-    assert_eq!(rt; names_when(rt.alloc(), "picture/0"), Ok(3));
-    assert_eq!(rt; names_when(rt.alloc(), "list/0"), Ok(1));
+    for (text, named) in NAMED {
+        assert_eq!(rt; names_when(rt.alloc(), text), Ok(*named));
+    }
 }

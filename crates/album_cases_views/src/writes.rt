@@ -59,11 +59,25 @@ fn lists(alloc: Global) -> Result<Ask, Refusal> {
     Ok(set_lists(many_lists(alloc, 2)?))
 }
 
+/// The principal's permit for the ask.
+fn permit_by(alloc: Global, ask: Ask, principal: &Principal) -> Result<Permit, Refusal> {
+    let view = view_of(alloc, STORE, ask, principal)?;
+    permit_on(alloc, view, principal, Policy::Two)
+}
+
 /// amy's permit for the ask.
 fn permit_of(alloc: Global, ask: Ask) -> Result<Permit, Refusal> {
-    let amy = Principal::read(alloc, AMY)?;
-    let view = view_of(alloc, STORE, ask, &amy)?;
-    permit_on(alloc, view, &amy, Policy::Two)
+    match Principal::read(alloc, AMY) {
+        Ok(amy) => {
+            let permit = permit_by(alloc, ask, &amy);
+            drop(amy);
+            permit
+        }
+        Err(refusal) => {
+            drop(ask);
+            Err(refusal)
+        }
+    }
 }
 
 /// A stamp, and whose it is.
@@ -113,7 +127,10 @@ fn full_album(alloc: Global) -> Result<bool, Refusal> {
         return Err(Refusal::BadRequest);
     }
     match begin(alloc, permit) {
-        Ok((_preparing, _prepares)) => Ok(false),
+        Ok(begun) => {
+            drop(begun);
+            Ok(false)
+        }
         Err(refused) => Ok(is_handed_back(refused)),
     }
 }
@@ -121,7 +138,9 @@ fn full_album(alloc: Global) -> Result<bool, Refusal> {
 fn is_handed_back(refused: Refused<Permit>) -> bool {
     let Refused { refusal, given } = refused;
     let view = given.give_back();
-    refusal == Refusal::AlbumFull && matches!(view.ask(), Ask::AddPicture { .. })
+    let is_back = refusal == Refusal::AlbumFull && matches!(view.ask(), Ask::AddPicture { .. });
+    drop(view);
+    is_back
 }
 
 /// The album has 128 children beside the new one.
@@ -161,7 +180,10 @@ enum Phase {
 fn prepare_given(preparing: Preparing, message: &Message) -> Phase {
     match preparing.on_reply(message) {
         PrepareStep::Same(preparing) => Phase::Prepares(preparing),
-        PrepareStep::Commit(committing, _) => Phase::Commits(committing),
+        PrepareStep::Commit(committing, commits) => {
+            drop(commits);
+            Phase::Commits(committing)
+        }
         PrepareStep::Ended(outcome) => Phase::Over(outcome),
     }
 }
@@ -191,15 +213,38 @@ fn word(phase: &Phase) -> (&'static str, u64) {
     }
 }
 
-/// How far the write is after these replies, and at which stamp.
-fn after(alloc: Global, replies: &[Told]) -> Result<(&'static str, u64), Refusal> {
-    let (preparing, _prepares) = begun(alloc, lists(alloc)?)?;
+/// How far the write is after one more reply.
+fn next(phase: Phase, told: Told) -> Result<Phase, Refusal> {
+    match message_of(told) {
+        Ok(message) => {
+            let next = given(phase, &message);
+            drop(message);
+            Ok(next)
+        }
+        Err(refusal) => {
+            drop(phase);
+            Err(refusal)
+        }
+    }
+}
+
+/// How far the write is after these replies.
+fn phase_after(alloc: Global, replies: &[Told]) -> Result<Phase, Refusal> {
+    let (preparing, prepares) = begun(alloc, lists(alloc)?)?;
+    drop(prepares);
     let mut phase = Phase::Prepares(preparing);
     for told in replies {
-        let message = message_of(*told)?;
-        phase = given(phase, &message);
+        phase = next(phase, *told)?;
     }
-    Ok(word(&phase))
+    Ok(phase)
+}
+
+/// The word for it, and the stamp of the write.
+fn after(alloc: Global, replies: &[Told]) -> Result<(&'static str, u64), Refusal> {
+    let phase = phase_after(alloc, replies)?;
+    let word = word(&phase);
+    drop(phase);
+    Ok(word)
 }
 
 /// Replies, and how far the write is then.
