@@ -63,27 +63,36 @@ fn command<'a>(alloc: Global) -> Result<Command<'a>, AllocError> {
     let replay = Command::new(alloc, "replay")
         .about(REPLAY_ABOUT)
         .after_help(REPLAY_HELP);
-    let port = Arg::new(alloc, "PORT")
-        .help("The port of 127.0.0.1")
-        .required(true)
-        .value_parser(value_parser!(u16).range(1..));
-    let conns = Arg::new(alloc, "conns")
-        .long("conns")
-        .value_name("N")
-        .help("How many connections are served")
-        .value_parser(value_parser!(u16).range(1..))
-        .default_value("65535");
-    let serve = Command::new(alloc, "serve")
-        .about(SERVE_ABOUT)
-        .after_help(SERVE_HELP)
-        .arg(port)?
-        .arg(conns)?;
     Command::new(alloc, "album")
         .about(ABOUT)
         .subcommand_required(true)
         .subcommand(judge)?
         .subcommand(replay)?
-        .subcommand(serve)
+        .subcommand(serve_command(alloc)?)
+}
+
+fn serve_command<'a>(alloc: Global) -> Result<Command<'a>, AllocError> {
+    Command::new(alloc, "serve")
+        .about(SERVE_ABOUT)
+        .after_help(SERVE_HELP)
+        .arg(port_arg(alloc))?
+        .arg(conns_arg(alloc))
+}
+
+fn port_arg<'a>(alloc: Global) -> Arg<'a> {
+    Arg::new(alloc, "PORT")
+        .help("The port of 127.0.0.1")
+        .required(true)
+        .value_parser(value_parser!(u16).range(1..))
+}
+
+fn conns_arg<'a>(alloc: Global) -> Arg<'a> {
+    Arg::new(alloc, "conns")
+        .long("conns")
+        .value_name("N")
+        .help("How many connections are served")
+        .value_parser(value_parser!(u16).range(1..))
+        .default_value("65535")
 }
 
 /// Answers the lines of the reader, to its end.
