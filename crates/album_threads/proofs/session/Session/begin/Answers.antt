@@ -8,7 +8,7 @@ use Rattle.album_permits.specs.Permits.{PermitState}
 use Rattle.album_threads.specs.Asks.{Grants}
 use Rattle.album_threads.specs.Resting.{IsAnnounced}
 use Rattle.album_threads.specs.Sessions.{CallerState, SessionState}
-use Rattle.album_threads.proofs.AskLemmas.{next_fresh, own_client, drawn_own, drawn_fresh, above_all, grants_write, refused_grants, refused_else}
+use Rattle.album_threads.proofs.AskLemmas.{next_fresh, drawn_own, drawn_fresh, above_all, grants_write, refused_grants, refused_else}
 use Rattle.album_threads.proofs.session.Session.begin.Goals as goal
 
 -- the stamp is the client's, and new
@@ -68,8 +68,12 @@ returns-in-Err-begin-clause-grants g c =
     let new : SessionState =
     record { client = c.next_tag.new.self.client; counter = c.next.new.self.counter; cut = c.next_tag.new.self.cut; share = c.self.inside.share } in
     let why : c.in-Err-begin.field-0.refusal ≡ (if is_full_for c.args.permit c.in-Ok-next.stamp then AlbumFull else OutOfMemory) = search rules in
-    let own : client_number c.in-Ok-next.stamp ≡ new.client = search (rules, own_client) in
-    let fresh : announced_for new.cut c.in-Ok-next.stamp ≡ None = search (rules, own_client, next_fresh) in
+    let drawn : Ok c.in-Ok-next.stamp ≡ next_of c.self.inside.clock = sym c.in-Ok-next.is ∙ c.next.ensures.stamp in
+    let mine = drawn_own c.self.inside.clock c.next.new.self c.self.inside.caller.client c.in-Ok-next.stamp c.next.ensures.clock c.in-Ok-next.ensures.own c.self.invariant.own in
+    let unused = drawn_fresh c.self.inside.clock c.next.new.self c.self.inside.caller c.in-Ok-next.stamp drawn c.next.ensures.clock c.in-Ok-next.ensures.own c.in-Ok-next.ensures.counted c.self.invariant.own c.self.invariant.ahead in
+    let own : client_number c.in-Ok-next.stamp ≡ new.client = mine ∙ ap (λ (a : CallerState). a.client) (sym c.next_tag.ensures.same) in
+    let fresh : announced_for new.cut c.in-Ok-next.stamp ≡ None =
+    ap (λ (a : CallerState). announced_for a.cut c.in-Ok-next.stamp) c.next_tag.ensures.same ∙ unused in
     refused_grants g.J.Naming.terms.limit c.args.self.now new c.args.permit c.in-Ok-next.stamp c.in-Err-begin.field-0.refusal why own fresh c.refused.result c.refused.ensures.full
 
 pub returns-in-Err-begin-clause-refused : goal.returns-in-Err-begin-clause-refused
