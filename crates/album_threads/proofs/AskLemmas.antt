@@ -37,7 +37,7 @@ use Rattle.album_threads.specs.Writes.{IsBegunOn, EndsSo, IsWritten}
 use Rattle.album_writer.specs.declared.answers.Answer.{Answer}
 use Rattle.album_writer.specs.declared.answers.Answer.TheVariants as answer
 use Rattle.album_threads.proofs.WriteLemmas.{ahead_written}
-use Rattle.album_writer.specs.Writing.{WritingState, items_in, prepare_round}
+use Rattle.album_writer.specs.Writing.{WritingState, prepare_round}
 use Rattle.album_writer.proofs.Placing.{some-place}
 
 -- ---- the clock

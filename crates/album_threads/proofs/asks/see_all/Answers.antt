@@ -1,4 +1,4 @@
-use Rattle.std.proofs.Common.{rules, ◌≡◌, ◌≤◌, sym, subst, arith}
+use Rattle.std.proofs.Common.{rules, ◌≤◌, sym, subst, arith}
 use Rattle.std.proofs.lemmas.List.{take_all}
 use Rattle.album_stamps.specs.Stamps.{counter_of}
 use Rattle.album_reader.specs.Answers.{Answer}
