@@ -1,5 +1,5 @@
-//! The program `album`. `album judge` answers each line of standard input by one line, and `album replay` tells what the
-//! events that its lines spell bring about in a store.
+//! The program `album`. `album judge` answers each line of standard input by one line, `album replay` tells what
+//! the events that its lines spell bring about in a store, and `album serve` runs a store for who connects to a port.
 #![tactic(auto)]
 
 mod texts;

@@ -1,4 +1,5 @@
--- Where the engine of replays stands, as the definition of what is printed sees it: the past that this knows, no code keeps.
+-- Where the engine of replays stands, as the definition of what is printed sees it: the past that this knows, no code
+-- keeps.
 use Rattle.std.specs.Prelude.{◌≡◌, ◌≢◌, ◌⊎◌, ◌++◌, ℕ, List, [], Bool, true, false, Result, Ok, Err}
 use Rattle.album_stamps.specs.declared.refusals.Refusal.{Refusal}
 use Rattle.album_stamps.specs.declared.refusals.Refusal.TheVariants.{OutOfMemory}

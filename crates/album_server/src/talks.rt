@@ -1,4 +1,5 @@
-// The engine of a connection: read a piece, answer the lines that end in it, each at once, and at the end the last line.
+// The engine of a connection: read a piece, answer the lines that end in it, each at once, and at the end the last
+// line.
 ghost use Rattle.std.specs.Prelude.{◌≡◌, map, Err, OnOk, OnErr, IfErr, IfSome};
 ghost use Rattle.std.specs.Io.KnownBytes.{IsAtEnd};
 ghost use Rattle.album_threads.specs.Asks.{IsOn};
@@ -19,8 +20,8 @@ use std::io::{Read, Write};
 use std::sync::Wait;
 
 /// Answers each line that is read by one line, in order, by what the session is told, before the next line is looked
-/// into; a line of spaces, tabs and carriage returns alone is skipped. The first line has to say who talks. Where `turns`
-/// reads did not come to the end, that is the fault `Reading`.
+/// into; a line of spaces, tabs and carriage returns alone is skipped. The first line has to say who talks. Where
+/// `turns` reads did not come to the end, that is the fault `Reading`.
 pub fn converse<J: Naming, T: Wait, R: Read, W: Write>(
     rt: &T,
     alloc: Global,

@@ -35,8 +35,8 @@ IsFoundOnView policy principal ask old new found Holds =
     IsOnView old.cut new.cut policy principal ask
     (λ case. Finds case found × IsShared old.client old.share new.share case × Holds case)
 
--- The stamp is the client's own, above all that was read, and the last that its clock drew in this ask. It was announced
--- in this ask, with just the items that are written.
+-- The stamp is the client's own, above all that was read, and the last that its clock drew in this ask. It was
+-- announced in this ask, with just the items that are written.
 pub record IsAnnounced (old new : SessionState) (permit : PermitState) (stamp : ℕ) : Type 0 where
   pub own : client_number stamp ≡ old.client
   pub above : All (λ row. row.stamp < stamp) permit.view.rows
@@ -66,7 +66,8 @@ pub record IsAlbumFull (new : SessionState) (permit : PermitState) : Type 0 wher
 
 -- why what is granted can't be written: the album is full, or the clock is spent
 abbrev pub IsRefusedBy : SessionState → Refusal → PermitState → Type 0
-IsRefusedBy new why permit = ((why ≡ AlbumFull) × IsAlbumFull new permit) ⊎ ((why ≡ StampsSpent) × (new.counter ≡ GREATEST_COUNTER))
+IsRefusedBy new why permit =
+    ((why ≡ AlbumFull) × IsAlbumFull new permit) ⊎ ((why ≡ StampsSpent) × (new.counter ≡ GREATEST_COUNTER))
 
 -- on what the answer rests, of a session that was so before the ask and is so after it
 abbrev pub RestsOn : ℕ → Policy → Principal → Ask → SessionState → SessionState → Answer → Type 0

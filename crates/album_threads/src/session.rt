@@ -36,7 +36,12 @@ impl<J: Naming> Model for Session<J> {
 
     ghost Value = { SessionState };
 
-    ghost view = { λ s. record { client = s.caller.client; counter = s.clock.counter; cut = s.caller.cut; share = s.share } };
+    ghost view = { λ s. record {
+      client = s.caller.client;
+      counter = s.clock.counter;
+      cut = s.caller.cut;
+      share = s.share;
+    } };
 
     ghost invariant = { λ s. IsSession J.policy s.policy s.clock s.caller };
 }

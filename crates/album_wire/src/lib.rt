@@ -2,10 +2,10 @@
 //!
 //! Bytes come in, and a judge line, a line of an opening or the events of a line go out, or the line's refusal; a
 //! verdict or what a world tells comes in, and a line goes out. Read `lines` first, then `judge_line`: the shape of a
-//! line (`judge_shape`, by `shapes` and `fields`), then its `values`. `opening_line` and `event_line` go the same way,
-//! by `opening_shape` and `item_shapes`, by `event_shape` and `ask_shape`; `talk_line`, what a connection says, by
-//! `talk_shape`. What is written is `output`, `out_json` and `talk_json`, which make a JSON value first, by `value_json`
-//! and `message_json`.
+//! line (`judge_shape`, by `shapes` and `fields`), then its `values`. `opening_line` and `event_line` go the same
+//! way, by `opening_shape` and `item_shapes`, by `event_shape` and `ask_shape`; `talk_line`, what a connection says,
+//! by `talk_shape`. What is written is `output`, `out_json` and `talk_json`, which make a JSON value first, by
+//! `value_json` and `message_json`.
 #![tactic(auto)]
 
 mod ask_shape;

@@ -37,8 +37,8 @@ pub fn read_hello(alloc: Global, scratch: &mut Scratch, bytes: &[u8]) -> Result<
     Principal::read(alloc, who)
 }
 
-/// Reads a later line of a connection: what it says, or the first test that it fails. The scratch is room that is kept from
-/// line to line, whatever stood in it.
+/// Reads a later line of a connection: what it says, or the first test that it fails. The scratch is room that is
+/// kept from line to line, whatever stood in it.
 #[tactic(auto, unfolding(crate::specs::TalkLine::talk_line_of))]
 pub fn read_talk(alloc: Global, scratch: &mut Scratch, bytes: &[u8]) -> Result<TalkLine, Refusal>
     ensures { Gives (λ line. line) result (talk_line_of bytes.now) }
