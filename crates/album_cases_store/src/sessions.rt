@@ -11,7 +11,7 @@ use album_eval::Principal;
 use album_items::{ItemValues, Opening, Title, Value};
 use album_permits::Served;
 use album_stamps::Refusal;
-use album_threads::{Naming, Open, Opened, Service, Session};
+use album_threads::{Gate, Naming, Open, Opened, Service, Session};
 use album_views::{Ask, NewList, NewLists};
 use album_writer::Answer;
 use std::alloc::{AllocError, Global};
@@ -56,6 +56,61 @@ fn opened(alloc: Global, entries: &[Entry], sessions: u16) -> Result<Opened, Ref
     requires { 0 < sessions }
 {
     Opened::new(alloc, &opening(alloc, entries)?, sessions)
+}
+
+/// What is done with a running service.
+trait Visit: Drop {
+    type Told;
+
+    fn visit<J: Naming + Send, R: Threads + Wait + Abort + Copy + Send + Sync>(
+        self,
+        rt: &R,
+        alloc: Global,
+        service: &Service<J>,
+    ) -> Self::Told;
+}
+
+/// What comes of the visit to a service of this opening, and the totals with which the service is closed.
+fn visited<R, G, V>(
+    rt: R,
+    alloc: Global,
+    opened: Opened,
+    gate: G,
+    visit: V,
+) -> Result<(V::Told, Totals), Refusal>
+where
+    R: Threads + Wait + Abort + Copy + Send + Sync + 'static,
+    G: Gate + Drop + Send + Sync + 'static,
+    V: Visit,
+{
+    visited_by::<Brand, R, G, V>(rt, alloc, opened, gate, visit)
+}
+
+fn visited_by<J, R, G, V>(
+    rt: R,
+    alloc: Global,
+    opened: Opened,
+    gate: G,
+    visit: V,
+) -> Result<(V::Told, Totals), Refusal>
+where
+    J: Naming + Send + 'static,
+    R: Threads + Wait + Abort + Copy + Send + Sync + 'static,
+    G: Gate + Drop + Send + Sync + 'static,
+    V: Visit,
+    requires table { opened.desk.table ≡ J.table }
+    requires terms { opened.desk.terms ≡ J.terms }
+    requires policy { opened.policy ≡ J.policy }
+    requires books { opened.books ≡ record {
+      audit_ok = J.audit_ok;
+      audit_failed = J.audit_failed;
+      alarm_ok = J.alarm_ok;
+      alarm_failed = J.alarm_failed;
+    } }
+{
+    let service = Service::<J>::open(rt, alloc, opened, gate)?;
+    let told = visit.visit(&rt, alloc, &service);
+    Ok((told, service.close(&rt)))
 }
 
 /// A session, which ends where it is let go.
@@ -244,51 +299,40 @@ fn both_told_so<J: Naming, R: Wait + Abort>(
     told_so(rt, alloc, two, counts, AFTER)
 }
 
-/// The numbers of the sessions are 1 and 2, there is no third, and they are told so.
-fn two_told_so<J: Naming, R: Wait + Abort + Copy>(
-    rt: &R,
-    alloc: Global,
-    service: &Service<J>,
-    counts: &Counts,
-) -> Result<(), Fail> {
-    let mut one = new_guest(rt, service)?;
-    let mut two = new_guest(rt, service)?;
-    let numbers = (one.session.client().number(), two.session.client().number());
-    assert_eq!(rt; numbers, (1, 2));
-    assert_eq!(rt; new_guest(rt, service).err(), Some(Refusal::SessionsSpent));
-    both_told_so(rt, alloc, counts, &mut one.session, &mut two.session)
+/// A visit of two sessions, while the gate counts. Their numbers are 1 and 2, there is no third, and they are told so.
+#[derive(Drop)]
+struct Two {
+    counts: Arc<Counts, Global>,
 }
 
-fn two_over<J: Naming + Send + 'static, R: Threads + Wait + Abort + Copy + Send + 'static>(
-    rt: R,
-    alloc: Global,
-    opened: Opened,
-) -> Result<(), Fail>
-    requires table { opened.desk.table ≡ J.table }
-    requires terms { opened.desk.terms ≡ J.terms }
-    requires policy { opened.policy ≡ J.policy }
-    requires books { opened.books ≡ record {
-      audit_ok = J.audit_ok;
-      audit_failed = J.audit_failed;
-      alarm_ok = J.alarm_ok;
-      alarm_failed = J.alarm_failed;
-    } }
-{
-    let counts = Arc::new(alloc, Counts::new())?;
-    let gate = Counting {
-        counts: Arc::try_clone(&counts)?,
-    };
-    let service = Service::<J>::open(rt, alloc, opened, gate)?;
-    let told = two_told_so(&rt, alloc, &service, &counts);
-    service.close(&rt);
-    told
+impl Visit for Two {
+    type Told = Result<(), Fail>;
+
+    fn visit<J: Naming + Send, R: Threads + Wait + Abort + Copy + Send + Sync>(
+        self,
+        rt: &R,
+        alloc: Global,
+        service: &Service<J>,
+    ) -> Result<(), Fail> {
+        let mut one = new_guest(rt, service)?;
+        let mut two = new_guest(rt, service)?;
+        let numbers = (one.session.client().number(), two.session.client().number());
+        assert_eq!(rt; numbers, (1, 2));
+        assert_eq!(rt; new_guest(rt, service).err(), Some(Refusal::SessionsSpent));
+        both_told_so(rt, alloc, &self.counts, &mut one.session, &mut two.session)
+    }
 }
 
 /// What one session writes another reads, and each read and write takes just its messages.
 #[test]
 fn two_sessions(rt: HostRuntime) -> Result<(), Fail> {
     let opened = opened(rt.alloc(), READABLE, 2)?;
-    two_over::<Brand, HostRuntime>(rt, rt.alloc(), opened)
+    let counts = Arc::new(rt.alloc(), Counts::new())?;
+    let gate = Counting {
+        counts: Arc::try_clone(&counts)?,
+    };
+    let (told, _) = visited(rt, rt.alloc(), opened, gate, Two { counts })?;
+    told
 }
 
 /// Why two asks of the session are refused.
@@ -353,56 +397,44 @@ fn new_lists(alloc: Global) -> Result<NewLists, Refusal> {
     Ok(NewLists::of(lists))
 }
 
-/// amy sets both lists; the stamp at which they are written.
-fn set_lists<J: Naming, R: Wait + Copy>(
-    rt: &R,
-    alloc: Global,
-    service: &Service<J>,
-) -> Result<u64, Refusal> {
-    let principal = Principal::read(alloc, "amy@users")?;
-    let lists = new_lists(alloc)?;
-    let mut guest = new_guest(rt, service)?;
-    committed(guest.session.ask(rt, &principal, Ask::SetLists { lists })?)
+/// A visit of a session in which amy sets both lists; the stamp at which they are written.
+#[derive(Drop)]
+struct SetBoth;
+
+impl Visit for SetBoth {
+    type Told = Result<u64, Refusal>;
+
+    fn visit<J: Naming + Send, R: Threads + Wait + Abort + Copy + Send + Sync>(
+        self,
+        rt: &R,
+        alloc: Global,
+        service: &Service<J>,
+    ) -> Result<u64, Refusal> {
+        let principal = Principal::read(alloc, "amy@users")?;
+        let lists = new_lists(alloc)?;
+        let mut guest = new_guest(rt, service)?;
+        committed(guest.session.ask(rt, &principal, Ask::SetLists { lists })?)
+    }
 }
 
 /// The stamp at which both lists are written, and whether partitions 0 and 1 were in their first messages at once.
-fn set_at_once<J: Naming + Send + 'static, R: Threads + Wait + Copy + Send + 'static>(
-    rt: R,
-    alloc: Global,
-    opened: Opened,
-) -> Result<(u64, bool), Refusal>
-    requires table { opened.desk.table ≡ J.table }
-    requires terms { opened.desk.terms ≡ J.terms }
-    requires policy { opened.policy ≡ J.policy }
-    requires books { opened.books ≡ record {
-      audit_ok = J.audit_ok;
-      audit_failed = J.audit_failed;
-      alarm_ok = J.alarm_ok;
-      alarm_failed = J.alarm_failed;
-    } }
-{
-    let entered = Arc::new(alloc, Entered::new())?;
-    let gate = Together {
-        entered: Arc::try_clone(&entered)?,
-    };
-    let service = Service::<J>::open(rt, alloc, opened, gate)?;
-    let stamp = set_lists(&rt, alloc, &service);
-    service.close(&rt);
-    Ok((stamp?, entered.at_once()))
-}
-
-fn set_over_three<R: Threads + Wait + Copy + Send + 'static>(
+fn set_at_once<R: Threads + Wait + Abort + Copy + Send + Sync + 'static>(
     rt: R,
     alloc: Global,
 ) -> Result<(u64, bool), Refusal> {
     let opened = opened(alloc, OWNED, 1)?;
-    set_at_once::<Brand, R>(rt, alloc, opened)
+    let entered = Arc::new(alloc, Entered::new())?;
+    let gate = Together {
+        entered: Arc::try_clone(&entered)?,
+    };
+    let (stamp, _) = visited(rt, alloc, opened, gate, SetBoth)?;
+    Ok((stamp?, entered.at_once()))
 }
 
 /// A session sends to both partitions before it waits for either, and each works on a thread of its own.
 #[test]
 fn two_partitions_at_once(rt: HostRuntime) {
-    assert_eq!(rt; set_over_three(rt, rt.alloc()), Ok((65_537, true)));
+    assert_eq!(rt; set_at_once(rt, rt.alloc()), Ok((65_537, true)));
 }
 
 /// What writes attributes and is granted is audited.
@@ -491,52 +523,40 @@ fn retitled_at_once<J: Naming + Send, R: Threads + Wait + Copy + Send + Sync>(
     )
 }
 
-/// Whether the first of four sessions, once it met the others, reads picture/0 at the greatest stamp at which they
-/// retitled it, and what the audit book has then.
-fn four_retitled<J: Naming + Send, R: Threads + Wait + Copy + Send + Sync>(
-    rt: &R,
-    alloc: Global,
-    service: &Service<J>,
-) -> Result<(bool, Totals), Refusal> {
-    let (one, two) = (new_guest(rt, service)?, new_guest(rt, service)?);
-    let (three, four) = (new_guest(rt, service)?, new_guest(rt, service)?);
-    let Retitled {
-        mut guest,
-        greatest,
-    } = retitled_at_once(rt, alloc, one, two, three, four)?;
-    let stamp = stamp_served(&read(rt, alloc, &mut guest.session, "amy@users")?)?;
-    Ok((stamp == greatest?, service.totals(rt)))
+/// A visit of four sessions: whether the first, once it met the others, reads picture/0 at the greatest stamp at which
+/// they retitled it, and what the audit book has then.
+#[derive(Drop)]
+struct Four;
+
+impl Visit for Four {
+    type Told = Result<(bool, Totals), Refusal>;
+
+    fn visit<J: Naming + Send, R: Threads + Wait + Abort + Copy + Send + Sync>(
+        self,
+        rt: &R,
+        alloc: Global,
+        service: &Service<J>,
+    ) -> Result<(bool, Totals), Refusal> {
+        let (one, two) = (new_guest(rt, service)?, new_guest(rt, service)?);
+        let (three, four) = (new_guest(rt, service)?, new_guest(rt, service)?);
+        let Retitled {
+            mut guest,
+            greatest,
+        } = retitled_at_once(rt, alloc, one, two, three, four)?;
+        let stamp = stamp_served(&read(rt, alloc, &mut guest.session, "amy@users")?)?;
+        Ok((stamp == greatest?, service.totals(rt)))
+    }
 }
 
 /// What four sessions read and what the audit book has, before they end and as the service is closed.
-fn four_over<J: Naming + Send + 'static, R: Threads + Wait + Copy + Send + Sync + 'static>(
-    rt: R,
-    alloc: Global,
-    opened: Opened,
-) -> Result<(bool, Totals, Totals), Refusal>
-    requires table { opened.desk.table ≡ J.table }
-    requires terms { opened.desk.terms ≡ J.terms }
-    requires policy { opened.policy ≡ J.policy }
-    requires books { opened.books ≡ record {
-      audit_ok = J.audit_ok;
-      audit_failed = J.audit_failed;
-      alarm_ok = J.alarm_ok;
-      alarm_failed = J.alarm_failed;
-    } }
-{
-    let service = Service::<J>::open(rt, alloc, opened, Open)?;
-    let told = four_retitled(&rt, alloc, &service);
-    let closed = service.close(&rt);
-    let (is_greatest, totals) = told?;
-    Ok((is_greatest, totals, closed))
-}
-
-fn hundred_retitled<R: Threads + Wait + Copy + Send + Sync + 'static>(
+fn hundred_retitled<R: Threads + Wait + Abort + Copy + Send + Sync + 'static>(
     rt: R,
     alloc: Global,
 ) -> Result<(bool, Totals, Totals), Refusal> {
     let opened = opened(alloc, AUDITED, 4)?;
-    four_over::<Brand, R>(rt, alloc, opened)
+    let (told, closed) = visited(rt, alloc, opened, Open, Four)?;
+    let (is_greatest, totals) = told?;
+    Ok((is_greatest, totals, closed))
 }
 
 /// Four sessions retitle a picture at once, each 25 times. Each retitle is committed, and audited once.

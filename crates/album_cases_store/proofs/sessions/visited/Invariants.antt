@@ -1,15 +1,15 @@
-use Rattle.album_cases_store.proofs.sessions.two_sessions.Given as goal
+use Rattle.album_cases_store.proofs.sessions.visited.Given as goal
 
 -- the desk, the policy and the four ledgers that were opened here
-abbrev pub ghosts-two_over-J-Naming : goal.ghosts-two_over-J-Naming
-ghosts-two_over-J-Naming g a = record {
+abbrev pub ghosts-visited_by-J-Naming : goal.ghosts-visited_by-J-Naming
+ghosts-visited_by-J-Naming g a = record {
   table = a.opened.desk.table;
   terms = a.opened.desk.terms;
   policy = a.opened.policy;
 }
 
-abbrev pub ghosts-two_over-J-Books : goal.ghosts-two_over-J-Books
-ghosts-two_over-J-Books g a = record {
+abbrev pub ghosts-visited_by-J-Books : goal.ghosts-visited_by-J-Books
+ghosts-visited_by-J-Books g a = record {
   audit_ok = a.opened.books.audit_ok;
   audit_failed = a.opened.books.audit_failed;
   alarm_ok = a.opened.books.alarm_ok;
