@@ -140,8 +140,8 @@ Greets old (Ok who) new text =
 Greets old (Err why) new text = (new ≡ old) × (text ≡ refusal_line why)
 
 -- a later line is answered, and the session has seen more
-pub record IsAnswered (limit : ℕ) (policy : Policy) (who : Principal) (said : TalkLine) (old new : Talker) (text : List ℕ)
-    : Type 0 where
+pub record IsAnswered (limit : ℕ) (policy : Policy) (who : Principal) (said : TalkLine) (old new : Talker)
+    (text : List ℕ) : Type 0 where
   pub named : new.who ≡ Some who
   pub on : IsOn old.session new.session
   pub answers : AnswersTalk limit policy who said old.session new.session text

@@ -190,7 +190,8 @@ fn write_outs<W: Write>(
 ) -> Result<(), Fault>
     ensures ok { OnOk result (Appends (W.contents writer.old) (W.contents writer.new)
         (told_text trace world.now.kept outs.now)) }
-    ensures fault { IfErr result (λ fault. Writes (LeavesOf fault (λ whole. whole ≡ told_text trace world.now.kept outs.now))
+    ensures fault { IfErr result (λ fault. Writes
+        (LeavesOf fault (λ whole. whole ≡ told_text trace world.now.kept outs.now))
         (W.contents writer.old) (W.contents writer.new)) }
 {
     for out in outs {

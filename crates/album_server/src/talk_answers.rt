@@ -34,8 +34,9 @@ pub(crate) fn answer<J: Naming, T: Wait>(
     who: &mut Option<Principal>,
     line: &LineIn,
 ) -> Result<Vec<u8>, Refusal>
-    ensures told { IfOk result (λ text. TalksOnce J.terms.limit J.policy (record { who = who.old; session = session.old })
-        (said line.now) (record { who = who.new; session = session.new }) text.items) }
+    ensures told { IfOk result (λ text. TalksOnce J.terms.limit J.policy
+        (record { who = who.old; session = session.old }) (said line.now)
+        (record { who = who.new; session = session.new }) text.items) }
     ensures on { IsOn session.old session.new }
 {
     if is_blank(line) {

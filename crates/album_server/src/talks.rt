@@ -85,7 +85,8 @@ fn finish<J: Naming, T: Wait, W: Write>(
     writer: &mut W,
 ) -> Result<(), Fault>
     ensures ok { OnOk result (Writes (Talks J.terms.limit J.policy (record { who = who.old; session = session.old })
-        (last lines) (record { who = who.new; session = session.new })) (W.contents writer.old) (W.contents writer.new)) }
+        (last lines) (record { who = who.new; session = session.new }))
+        (W.contents writer.old) (W.contents writer.new)) }
     ensures fault { IfErr result (λ fault. Writes
         (IsLeftBy fault (MayTalk J.terms.limit J.policy (record { who = who.old; session = session.old })) (last lines))
         (W.contents writer.old) (W.contents writer.new)) }

@@ -77,8 +77,10 @@ RestsOn limit policy principal ask old new (answer.Denied denial) =
     IsFoundOnView policy principal ask old new (finding.Denied denial) (λ case. Unit {0})
 RestsOn limit policy principal ask old new (answer.Missing object) =
     IsFoundOnView policy principal ask old new (finding.Missing object) (λ case. Unit {0})
-RestsOn limit policy principal ask old new (answer.Busy Wide) = IsWide old.cut new.cut ask
-RestsOn limit policy principal ask old new (answer.Busy Rounds) = IsOutOfReads old.cut new.cut ask
+RestsOn limit policy principal ask old new (answer.Busy Wide) =
+    IsWide old.cut new.cut ask × (new.share ≡ old.share)
+RestsOn limit policy principal ask old new (answer.Busy Rounds) =
+    IsOutOfReads old.cut new.cut ask × (new.share ≡ old.share)
 RestsOn limit policy principal ask old new (answer.Committed stamp) =
     IsBegun policy principal ask old new stamp (λ permit. IsKept new.cut permit stamp)
 RestsOn limit policy principal ask old new (answer.Aborted stamp) =

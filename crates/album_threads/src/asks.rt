@@ -1,5 +1,5 @@
 // Asks: a session reads what an ask looks at, rules on it, and serves it or writes it.
-ghost use Rattle.std.specs.Prelude.{◌≡◌, ◌≢◌, ◌≤◌, ◌⊎◌, [], ◌∷◌, Some, None, IsTrue, IfOk, IfErr, OnOk, IsOkUnless};
+ghost use Rattle.std.specs.Prelude.{◌≡◌, ◌≢◌, ◌≤◌, ◌⊎◌, [], ◌∷◌, Some, None, Err, IsTrue, IfOk, IfErr, IfSome, OnOk, IsOkUnless};
 ghost use Rattle.album_passes.specs.Cuts.{Extends, IsSound};
 ghost use Rattle.album_permits.specs.Permits.{IsPermit, permit_on};
 ghost use Rattle.album_views.specs.Asks.{is_write};
@@ -44,6 +44,7 @@ impl<J: Naming> Session<J> {
         ask: Ask,
     ) -> Result<Answer, Refusal>
         ensures rests { IfOk result (RestsOn J.terms.limit J.policy principal.now ask self.old self.new) }
+        ensures checked { IfSome (refusal_of ask principal.now) (λ e. (result ≡ Err e) × (self.new ≡ self.old)) }
         ensures refused { IfErr result (λ e. (refusal_of ask principal.now ≡ Some e) ⊎ IsNoWord e) }
         ensures grown { Extends self.old.cut self.new.cut }
         ensures client { self.new.client ≡ self.old.client }

@@ -86,6 +86,7 @@ impl<J: Naming> Session<J> {
     pub fn pending<R: Wait>(&mut self, rt: &R, part: u16) -> Result<Stamps, Refusal>
         ensures pending { IfOk result (ArePending (prefix_at self.new.cut part)) }
         ensures nowhere { self.old.cut.parts ≤ part → result ≡ Err NoSuchPart }
+        ensures untouched { self.old.cut.parts ≤ part → self.new ≡ self.old }
         ensures refused { IfErr result (λ e. part < self.old.cut.parts → IsNoWord e) }
         ensures grown { Extends self.old.cut self.new.cut }
         ensures client { self.new.client ≡ self.old.client }
@@ -106,6 +107,7 @@ impl<J: Naming> Session<J> {
         ensures unprepared { IfErr result (λ e. e ≡ NotPrepared
             → state_of (prefix_at self.new.cut part) stamp ≢ StampState.Pending) }
         ensures nowhere { self.old.cut.parts ≤ part → result ≡ Err NoSuchPart }
+        ensures untouched { self.old.cut.parts ≤ part → self.new ≡ self.old }
         ensures refused { IfErr result (λ e. part < self.old.cut.parts → e ≢ NotPrepared → IsNoWord e) }
         ensures grown { Extends self.old.cut self.new.cut }
         ensures client { self.new.client ≡ self.old.client }
@@ -131,6 +133,7 @@ impl<J: Naming> Session<J> {
         ensures untrimmed { IfErr result (λ e. part < self.old.cut.parts → (IsNoWord e → ⊥)
             → IsUntrimmed J.terms.limit self.new.cut part item e) }
         ensures nowhere { self.old.cut.parts ≤ part → result ≡ Err NoSuchPart }
+        ensures untouched { self.old.cut.parts ≤ part → self.new ≡ self.old }
         ensures grown { Extends self.old.cut self.new.cut }
         ensures client { self.new.client ≡ self.old.client }
         ensures counter { self.new.counter ≡ self.old.counter }
@@ -151,6 +154,7 @@ impl<J: Naming> Session<J> {
         ensures told { IfOk result (Tells J.terms.limit self.new.cut part inquiry.now) }
         ensures sound { OnOk result (IsSound self.new.cut) }
         ensures nowhere { self.old.cut.parts ≤ part → result ≡ Err NoSuchPart }
+        ensures untouched { self.old.cut.parts ≤ part → self.new ≡ self.old }
         ensures refused { IfErr result (λ e. part < self.old.cut.parts → IsNoWord e) }
         ensures grown { Extends self.old.cut self.new.cut }
         ensures client { self.new.client ≡ self.old.client }

@@ -101,7 +101,8 @@ impl<J: Naming> Caller<J> {
     ) -> Result<PrepareStep, Refusal>
         requires sent { asked.now.sent.items ≡ prepares_of preparing }
         requires begun { IsBegunOn self.old.cut preparing }
-        ensures tells { IfOk result (λ step. PrepareTells J.terms.limit self.new.cut preparing (step_of_prepares step)) }
+        ensures tells { IfOk result (λ step.
+            PrepareTells J.terms.limit self.new.cut preparing (step_of_prepares step)) }
         ensures over { IfOk result (λ step. IsOver (step_of_prepares step)) }
         ensures closed { IsOkUnless result Refusal.Closed }
         ensures later { IsLater self.old self.new }
