@@ -1,5 +1,6 @@
 // `converse` over readers and writers that give and take little, or fail: one session talks again and again.
 ghost use Rattle.std.specs.Prelude.{◌≡◌};
+ghost use Rattle.album_threads.specs.Opened.{opened_as};
 
 use crate::runs::{Engine, Script, assert_kept};
 use crate::streams::{Pieces, Taking};
@@ -74,15 +75,7 @@ fn talks_over<J: Naming + Send + 'static, R: Threads + Wait + Abort + Copy + Sen
     alloc: Global,
     opened: Opened,
 ) -> Result<(), Refusal>
-    requires table { opened.desk.table ≡ J.table }
-    requires terms { opened.desk.terms ≡ J.terms }
-    requires policy { opened.policy ≡ J.policy }
-    requires books { opened.books ≡ record {
-      audit_ok = J.audit_ok;
-      audit_failed = J.audit_failed;
-      alarm_ok = J.alarm_ok;
-      alarm_failed = J.alarm_failed;
-    } }
+    requires named { opened ≡ opened_as J.table J.terms J.policy J.audit_ok J.audit_failed J.alarm_ok J.alarm_failed }
 {
     let service = Service::<J>::open(rt, alloc, opened, Open)?;
     let talked = assert_talks(&rt, alloc, &service);

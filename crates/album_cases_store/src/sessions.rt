@@ -1,6 +1,7 @@
 // Sessions of a running service: what they are told, how many messages a gate sees of it, and that sessions and
 // partitions go on side by side (docs/PROTOCOL.md, "A view" and "Cuts and passes").
 ghost use Rattle.std.specs.Prelude.{◌≡◌, ◌<◌};
+ghost use Rattle.album_threads.specs.Opened.{opened_as};
 
 use crate::gates::{Counting, Counts, Entered, Together};
 use crate::messages::{item_of, same, stamp_of};
@@ -98,15 +99,7 @@ where
     R: Threads + Wait + Abort + Copy + Send + Sync + 'static,
     G: Gate + Drop + Send + Sync + 'static,
     V: Visit,
-    requires table { opened.desk.table ≡ J.table }
-    requires terms { opened.desk.terms ≡ J.terms }
-    requires policy { opened.policy ≡ J.policy }
-    requires books { opened.books ≡ record {
-      audit_ok = J.audit_ok;
-      audit_failed = J.audit_failed;
-      alarm_ok = J.alarm_ok;
-      alarm_failed = J.alarm_failed;
-    } }
+    requires named { opened ≡ opened_as J.table J.terms J.policy J.audit_ok J.audit_failed J.alarm_ok J.alarm_failed }
 {
     let service = Service::<J>::open(rt, alloc, opened, gate)?;
     let told = visit.visit(&rt, alloc, &service);
@@ -352,15 +345,7 @@ fn closed_on<J: Naming + Send + 'static, R: Threads + Wait + Copy + Send + 'stat
     alloc: Global,
     opened: Opened,
 ) -> Result<(Option<Refusal>, Option<Refusal>), Refusal>
-    requires table { opened.desk.table ≡ J.table }
-    requires terms { opened.desk.terms ≡ J.terms }
-    requires policy { opened.policy ≡ J.policy }
-    requires books { opened.books ≡ record {
-      audit_ok = J.audit_ok;
-      audit_failed = J.audit_failed;
-      alarm_ok = J.alarm_ok;
-      alarm_failed = J.alarm_failed;
-    } }
+    requires named { opened ≡ opened_as J.table J.terms J.policy J.audit_ok J.audit_failed J.alarm_ok J.alarm_failed }
 {
     let service = Service::<J>::open(rt, alloc, opened, Open)?;
     let guest = new_guest(&rt, &service);

@@ -1,5 +1,6 @@
 // The service of a port: it is opened by the lines that are read, and each connection has a thread and a session.
 ghost use Rattle.std.specs.Prelude.{◌≡◌};
+ghost use Rattle.album_threads.specs.Opened.{opened_as};
 
 use crate::answers::is_blank;
 use crate::connections::accept_all;
@@ -153,15 +154,7 @@ where
     J: Naming + Send + Sync + 'static,
     T: Threads + Wait + Eprint + Copy + Send + Sync + 'static,
     W: Write,
-    requires table { opened.desk.table ≡ J.table }
-    requires terms { opened.desk.terms ≡ J.terms }
-    requires policy { opened.policy ≡ J.policy }
-    requires books { opened.books ≡ record {
-      audit_ok = J.audit_ok;
-      audit_failed = J.audit_failed;
-      alarm_ok = J.alarm_ok;
-      alarm_failed = J.alarm_failed;
-    } }
+    requires named { opened ≡ opened_as J.table J.terms J.policy J.audit_ok J.audit_failed J.alarm_ok J.alarm_failed }
 {
     let service = Service::<J>::open(rt, alloc, opened, Open)?;
     let told = tell(alloc, &TalkOut::Serving(port), writer);

@@ -1,5 +1,6 @@
 -- What a service starts with.
 use Rattle.std.specs.Prelude.{◌≡◌, ℕ, ◌<◌, ◌≤◌, List, length, slice_index_or}
+use Rattle.atomic_table.specs.Seated.{TableId}
 use Rattle.album_stamps.specs.declared.limits.TheConstants.{MOST_PARTS}
 use Rattle.album_items.specs.Places.{rows_placed_at}
 use Rattle.album_eval.specs.declared.policies.Policy.{Policy}
@@ -26,6 +27,19 @@ pub record OpenedState : Type 0 where
   pub desk : DeskState
   pub policy : Policy
   pub books : LedgerNames
+
+-- what is so named: the table and the terms of the desk, the policy, and the four ledgers
+abbrev pub opened_as : TableId → Terms → Policy → (audit_ok audit_failed alarm_ok alarm_failed : ℕ) → OpenedState
+opened_as table terms policy audit_ok audit_failed alarm_ok alarm_failed = record {
+  desk = record { table = table; terms = terms };
+  policy = policy;
+  books = record {
+    audit_ok = audit_ok;
+    audit_failed = audit_failed;
+    alarm_ok = alarm_ok;
+    alarm_failed = alarm_failed;
+  };
+}
 
 -- There are so many partitions, not too few of them nor too many; they are those of the desk's terms as they open, with
 -- their owners, and the pass is its first one.

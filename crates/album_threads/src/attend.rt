@@ -13,7 +13,7 @@ use album_passes::Desk;
 use album_stamps::ClientNo;
 use crossbeam_channel::{Receiver, Sender};
 use std::alloc::Global;
-use std::collections::BTreeMap;
+use std::collections::{BTreeMap, VecDeque};
 use std::sync::{Arc, Wait};
 
 /// Where what is told goes.
@@ -58,21 +58,25 @@ impl<J: Naming> Ends<J> {
             return;
         };
         if let Some(end) = self.parts.get(usize::from(part)) {
-            if let Ok(letter) = Box::new(self.alloc, letter) {
-                let _ = end.send(rt, Mail::Letter(letter));
+            let mut letters = Vec::new(self.alloc);
+            if letters.push(letter).is_ok() {
+                let _ = end.send(rt, Mail::Letters(letters));
             }
         }
     }
 
-    /// The reply goes where it is sent to. One for which there is no memory is lost.
-    fn send<R: Wait>(&self, rt: &R, response: Response<J>) {
-        match response.reply().to() {
-            Node::Client(client) => {
-                if let Ok(response) = Box::new(self.alloc, response) {
-                    self.tell(rt, client, Word::Response(response));
+    /// The replies to the messages of one mail, which are all to one session, or each to a partition.
+    fn send<R: Wait>(&self, rt: &R, responses: VecDeque<Response<J>>) {
+        let Some(first) = responses.front() else {
+            return;
+        };
+        match first.reply().to() {
+            Node::Client(client) => self.tell(rt, client, Word::Responses(responses)),
+            Node::Part(_) => {
+                for response in responses {
+                    self.post(rt, response.into_letter());
                 }
             }
-            Node::Part(_) => self.post(rt, response.into_letter()),
         }
     }
 
@@ -147,23 +151,52 @@ impl<J: Naming> Post<J> {
             Mail::Question(question) => {
                 self.inquire(rt, alloc, desk, Box::into_inner(question));
             }
-            Mail::Letter(letter) => self.receive(rt, desk, gate, Box::into_inner(letter)),
+            Mail::Letters(letters) => self.receive_all(rt, alloc, desk, gate, letters),
         }
         true
     }
 
-    /// Takes a letter, and sends the reply, if there is one. A letter for which there is no memory is
-    /// lost.
-    fn receive<R: Wait, G: Gate>(&mut self, rt: &R, desk: &Desk, gate: &G, letter: Letter<J>)
+    /// Takes the letters of a mail, one after another, and sends the replies to them as one word.
+    fn receive_all<R: Wait, G: Gate>(
+        &mut self,
+        rt: &R,
+        alloc: Global,
+        desk: &Desk,
+        gate: &G,
+        letters: Vec<Letter<J>>,
+    )
+        requires table { desk.now.table ≡ J.table }
+        requires terms { desk.now.terms ≡ J.terms }
+    {
+        let (mut number, count) = (self.number, letters.len());
+        let mut responses = VecDeque::new(alloc);
+        for letter in letters {
+            self.receive(desk, gate, letter, &mut responses);
+        }
+        self.ends.send(rt, responses);
+        for _ in 0..count {
+            gate.leave(self.part, number);
+            number = number.saturating_add(1);
+        }
+    }
+
+    /// Takes a letter, and adds the reply to the responses, if there is one. A letter or a reply for which there is no
+    /// memory is lost.
+    fn receive<G: Gate>(
+        &mut self,
+        desk: &Desk,
+        gate: &G,
+        letter: Letter<J>,
+        responses: &mut VecDeque<Response<J>>,
+    )
         requires table { desk.now.table ≡ J.table }
         requires terms { desk.now.terms ≡ J.terms }
     {
         gate.enter(self.part, self.number);
-        if let Ok(Some(response)) = self.keeper.receive(desk, letter) {
-            self.ends.send(rt, response);
-        }
-        gate.leave(self.part, self.number);
         self.number = self.number.saturating_add(1);
+        if let Ok(Some(response)) = self.keeper.receive(desk, letter) {
+            let _ = responses.push_back(response);
+        }
     }
 
     /// Takes a question, and tells who asks, once what goes to other partitions is sent.

@@ -9,6 +9,7 @@ ghost use Rattle.album_threads.specs.Inquiries.{Tells};
 ghost use Rattle.album_threads.specs.Sessions.{IsCaller, IsLater, IsNoWord};
 
 use crate::inquiries::{Inquiry, Notice, Question};
+use crate::letters::Response;
 use crate::mailbox::{Mail, Word, next};
 use crate::naming::Naming;
 use album_calls::Stamps;
@@ -17,6 +18,7 @@ use album_passes::{Desk, Pass, meet};
 use album_stamps::{ClientNo, Refusal, Stamp};
 use crossbeam_channel::{Receiver, SendError, Sender};
 use std::alloc::{AllocError, Global};
+use std::collections::VecDeque;
 use std::marker::Model;
 use std::sync::{Arc, Wait};
 
@@ -36,6 +38,8 @@ pub(crate) struct Caller<J: Naming> {
     /// The mailboxes of the partitions, in order.
     to: Vec<Sender<Mail<J>>>,
     from: Receiver<Word<J>>,
+    /// What was heard and not yet taken.
+    heard: VecDeque<Response<J>>,
 }
 
 impl<J: Naming> Model for Caller<J> {
@@ -75,6 +79,7 @@ impl<J: Naming> Caller<J> {
             closed: false,
             to,
             from,
+            heard: VecDeque::new(alloc),
         }
     }
 
@@ -166,6 +171,27 @@ impl<J: Naming> Caller<J> {
             None => {
                 self.closed = true;
                 Err(Refusal::Closed)
+            }
+        }
+    }
+
+    /// The response that comes next, or `None` where it is a notice, for which nobody waits any more.
+    ///
+    /// # Errors
+    ///
+    /// `Closed`.
+    pub(crate) fn next_response<R: Wait>(&mut self, rt: &R) -> Result<Option<Response<J>>, Refusal>
+        ensures closed { IsOkUnless result Refusal.Closed }
+        ensures same { self.new ≡ self.old }
+    {
+        if let Some(response) = self.heard.pop_front() {
+            return Ok(Some(response));
+        }
+        match self.next(rt)? {
+            Word::Notice(_) => Ok(None),
+            Word::Responses(responses) => {
+                self.heard = responses;
+                Ok(self.heard.pop_front())
             }
         }
     }
@@ -265,7 +291,7 @@ impl<J: Naming> Caller<J> {
         ensures later { IsLater self.old self.new }
     {
         match self.next(rt)? {
-            Word::Response(_) => Ok(None),
+            Word::Responses(_) => Ok(None),
             Word::Notice(notice) => {
                 Ok(self.take_notice(part, tag, inquiry, Box::into_inner(notice)))
             }

@@ -1,7 +1,8 @@
 // What is told of each message that a partition takes.
 
 /// A partition's thread calls `enter` once it has taken its message of this number, from 0, and before
-/// it does what the message asks, and `leave` once its reply is sent. Registrations and inquiries aren't
+/// it does what the message asks, and `leave` once its reply is sent: those that came in one mail enter one
+/// after another, and leave when the replies to all of them are sent. Registrations and inquiries aren't
 /// numbered, and don't call it.
 pub trait Gate {
     fn enter(&self, part: u16, number: u64);

@@ -4,6 +4,7 @@ use crate::letters::{Letter, Response};
 use crate::naming::Naming;
 use crossbeam_channel::{Receiver, Sender};
 use std::alloc::Global;
+use std::collections::VecDeque;
 use std::sync::Wait;
 use std::thread;
 
@@ -16,8 +17,8 @@ const LOOKS: u32 = 4;
 pub(crate) enum Mail<J: Naming> {
     /// A session of this number begins, and takes here what it is told.
     Register(u16, Sender<Word<J>>),
-    /// A message, of a session or of another partition.
-    Letter(Box<Letter<J>, Global>),
+    /// Messages of one session, or one of another partition: those of a round that go to this partition, in order.
+    Letters(Vec<Letter<J>>),
     /// What a session asks beside messages.
     Question(Box<Question<J>, Global>),
     /// The session of this number is over.
@@ -29,8 +30,8 @@ pub(crate) enum Mail<J: Naming> {
 /// What lies in a session's mailbox.
 #[derive(Drop)]
 pub(crate) enum Word<J: Naming> {
-    /// A reply to a message.
-    Response(Box<Response<J>, Global>),
+    /// The replies to the messages of one mail, in order.
+    Responses(VecDeque<Response<J>>),
     /// What is told to a question.
     Notice(Box<Notice<J>, Global>),
 }

@@ -8,9 +8,9 @@ ghost use Rattle.album_threads.specs.Sessions.{IsLater, IsNoWord};
 use crate::asked::Asked;
 use crate::caller::Caller;
 use crate::letters::{Letter, Response};
-use crate::mailbox::{Mail, Word};
+use crate::mailbox::Mail;
 use crate::naming::Naming;
-use album_calls::{Message, Node};
+use album_calls::Message;
 use album_stamps::Refusal;
 use std::sync::Wait;
 
@@ -29,8 +29,8 @@ impl<J: Naming> Caller<J> {
         ensures same { self.new ≡ self.old }
     {
         let begun = self.split();
-        for message in &messages {
-            self.post(rt, message.copy()?)?;
+        for part in 0..self.parts() {
+            self.post(rt, part, &messages)?;
         }
         Ok(Asked {
             sent: messages,
@@ -38,17 +38,32 @@ impl<J: Naming> Caller<J> {
         })
     }
 
-    /// Sends the message, with a pass.
-    fn post<R: Wait>(&mut self, rt: &R, message: Message) -> Result<(), Refusal>
-        requires shown { Shows self.old.cut message }
+    /// Sends those of the messages that go to the partition, as one mail.
+    fn post<R: Wait>(&mut self, rt: &R, part: u16, messages: &[Message]) -> Result<(), Refusal>
+        requires shown { All (Shows self.old.cut) messages.now }
         ensures refused { IfErr result IsNoWord }
         ensures same { self.new ≡ self.old }
     {
-        let Node::Part(part) = message.to() else {
-            return Err(Refusal::Closed);
-        };
-        let letter = Letter::new(message, self.split());
-        self.send(rt, part, Mail::Letter(Box::new(self.alloc, letter)?))
+        let letters = self.letters_to(part, messages)?;
+        if letters.is_empty() {
+            return Ok(());
+        }
+        self.send(rt, part, Mail::Letters(letters))
+    }
+
+    /// Those of the messages that go to the partition, each with a pass.
+    fn letters_to(&mut self, part: u16, messages: &[Message]) -> Result<Vec<Letter<J>>, Refusal>
+        requires shown { All (Shows self.old.cut) messages.now }
+        ensures memory { IsOkUnless result Refusal.OutOfMemory }
+        ensures same { self.new ≡ self.old }
+    {
+        let mut letters = Vec::new(self.alloc);
+        for message in messages {
+            if message.to().is_part(part) {
+                letters.push(Letter::new(message.copy()?, self.split()))?;
+            }
+        }
+        Ok(letters)
     }
 
     /// Waits for a reply to one of the messages that were asked.
@@ -71,7 +86,7 @@ impl<J: Naming> Caller<J> {
         unreachable!()
     }
 
-    /// Takes the next word, and gives the reply, where it is one to one of these messages.
+    /// Takes the next response, and gives the reply, where it is one to one of these messages.
     #[tactic(auto, using(crate::proofs::SessionLemmas::later_same))]
     fn hear_next<R: Wait>(&mut self, rt: &R, asked: &Asked) -> Result<Option<Message>, Refusal>
         ensures replied { IfOk result (λ reply. IfSome reply
@@ -81,9 +96,9 @@ impl<J: Naming> Caller<J> {
         ensures closed { IsOkUnless result Refusal.Closed }
         ensures later { IsLater self.old self.new }
     {
-        match self.next(rt)? {
-            Word::Notice(_) => Ok(None),
-            Word::Response(response) => Ok(self.take(asked, Box::into_inner(response))),
+        match self.next_response(rt)? {
+            None => Ok(None),
+            Some(response) => Ok(self.take(asked, response)),
         }
     }
 

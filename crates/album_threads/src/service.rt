@@ -4,6 +4,7 @@ ghost use Rattle.std.specs.Arc.{arc_value};
 ghost use Rattle.album_stamps.specs.declared.limits.TheConstants.{MOST_PARTS};
 ghost use Rattle.album_audit.specs.Totals.{none};
 ghost use Rattle.album_passes.specs.Changes.{IsUnheard};
+ghost use Rattle.album_threads.specs.Opened.{opened_as};
 
 use crate::caller::Caller;
 use crate::gate::Gate;
@@ -79,15 +80,8 @@ impl<J: Naming + Send + 'static> Service<J> {
         opened: Opened,
         gate: G,
     ) -> Result<Service<J>, Refusal>
-        requires table { opened.desk.table ≡ J.table }
-        requires terms { opened.desk.terms ≡ J.terms }
-        requires policy { opened.policy ≡ J.policy }
-        requires books { opened.books ≡ record {
-          audit_ok = J.audit_ok;
-          audit_failed = J.audit_failed;
-          alarm_ok = J.alarm_ok;
-          alarm_failed = J.alarm_failed;
-        } }
+        requires named { opened ≡
+            opened_as J.table J.terms J.policy J.audit_ok J.audit_failed J.alarm_ok J.alarm_failed }
         ensures memory { IsOkUnless result Refusal.OutOfMemory }
     {
         let Opened {

@@ -1,4 +1,4 @@
-use Rattle.std.proofs.Common.{◌≤◌, ap, ◌∙◌, subst}
+use Rattle.std.proofs.Common.{◌≡◌, ◌≤◌, ap, ◌∙◌, subst}
 use Rattle.album_stamps.specs.declared.limits.TheConstants.{MOST_PARTS}
 use Rattle.album_passes.specs.Knowledge.{Terms}
 use Rattle.album_threads.specs.Opened.{OpenedState}
@@ -7,14 +7,16 @@ use Rattle.album_threads.proofs.service.Service.open.Goals as goal
 
 pub start_all-started-requires-clause-few : goal.start_all-started-requires-clause-few
 start_all-started-requires-clause-few g c = λ κs apart.
-    let terms = ap (λ (o : OpenedState). o.desk.terms) c.opened.view_is ∙ c.requires.terms in
+    let terms = ap (λ (o : OpenedState). o.desk.terms) (c.opened.view_is ∙ c.requires.named) in
     subst (λ (t : Terms). t.parts ≤ MOST_PARTS) terms c.opened.invariant.few
 
 pub start_all-started-requires-clause-owners : goal.start_all-started-requires-clause-owners
 start_all-started-requires-clause-owners g c = λ κs apart.
-    owners_first c.opened.inside.desk g.J.Naming.table g.J.Naming.terms _ (ap (λ (o : OpenedState). o.desk.table) c.opened.view_is ∙ c.requires.table)
-    (ap (λ (o : OpenedState). o.desk.terms) c.opened.view_is ∙ c.requires.terms) c.opened.invariant.owned
+    let named = c.opened.view_is ∙ c.requires.named in
+    owners_first c.opened.inside.desk g.J.Naming.table g.J.Naming.terms _ (ap (λ (o : OpenedState). o.desk.table) named)
+    (ap (λ (o : OpenedState). o.desk.terms) named) c.opened.invariant.owned
 
 pub start_all-started-requires-clause-partitions : goal.start_all-started-requires-clause-partitions
 start_all-started-requires-clause-partitions g c = λ κs apart.
-    partitions_first c.opened.inside.desk.terms g.J.Naming.terms _ (ap (λ (o : OpenedState). o.desk.terms) c.opened.view_is ∙ c.requires.terms) c.opened.invariant.opened
+    let terms = ap (λ (o : OpenedState). o.desk.terms) (c.opened.view_is ∙ c.requires.named) in
+    partitions_first c.opened.inside.desk.terms g.J.Naming.terms _ terms c.opened.invariant.opened
