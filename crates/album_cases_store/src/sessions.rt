@@ -59,11 +59,11 @@ fn opened(alloc: Global, entries: &[Entry], sessions: u16) -> Result<Opened, Ref
     Opened::new(alloc, &opening(alloc, entries)?, sessions)
 }
 
-/// What is done with a running service.
+/// What is done with a running service, on one thread.
 trait Visit: Drop {
     type Told;
 
-    fn visit<J: Naming + Send, R: Threads + Wait + Abort + Copy + Send + Sync>(
+    fn visit<J: Naming, R: Wait + Abort + Copy>(
         self,
         rt: &R,
         alloc: Global,
@@ -71,14 +71,14 @@ trait Visit: Drop {
     ) -> Self::Told;
 }
 
-/// What comes of the visit to a service of this opening, and the totals with which the service is closed.
+/// What comes of the visit to a service of this opening.
 fn visited<R, G, V>(
     rt: R,
     alloc: Global,
     opened: Opened,
     gate: G,
     visit: V,
-) -> Result<(V::Told, Totals), Refusal>
+) -> Result<V::Told, Refusal>
 where
     R: Threads + Wait + Abort + Copy + Send + Sync + 'static,
     G: Gate + Drop + Send + Sync + 'static,
@@ -93,7 +93,7 @@ fn visited_by<J, R, G, V>(
     opened: Opened,
     gate: G,
     visit: V,
-) -> Result<(V::Told, Totals), Refusal>
+) -> Result<V::Told, Refusal>
 where
     J: Naming + Send + 'static,
     R: Threads + Wait + Abort + Copy + Send + Sync + 'static,
@@ -103,7 +103,8 @@ where
 {
     let service = Service::<J>::open(rt, alloc, opened, gate)?;
     let told = visit.visit(&rt, alloc, &service);
-    Ok((told, service.close(&rt)))
+    service.close(&rt);
+    Ok(told)
 }
 
 /// A session, which ends where it is let go.
@@ -301,7 +302,7 @@ struct Two {
 impl Visit for Two {
     type Told = Result<(), Fail>;
 
-    fn visit<J: Naming + Send, R: Threads + Wait + Abort + Copy + Send + Sync>(
+    fn visit<J: Naming, R: Wait + Abort + Copy>(
         self,
         rt: &R,
         alloc: Global,
@@ -324,8 +325,7 @@ fn two_sessions(rt: HostRuntime) -> Result<(), Fail> {
     let gate = Counting {
         counts: Arc::try_clone(&counts)?,
     };
-    let (told, _) = visited(rt, rt.alloc(), opened, gate, Two { counts })?;
-    told
+    visited(rt, rt.alloc(), opened, gate, Two { counts })?
 }
 
 /// Why two asks of the session are refused.
@@ -389,7 +389,7 @@ struct SetBoth;
 impl Visit for SetBoth {
     type Told = Result<u64, Refusal>;
 
-    fn visit<J: Naming + Send, R: Threads + Wait + Abort + Copy + Send + Sync>(
+    fn visit<J: Naming, R: Wait + Abort + Copy>(
         self,
         rt: &R,
         alloc: Global,
@@ -412,7 +412,7 @@ fn set_at_once<R: Threads + Wait + Abort + Copy + Send + Sync + 'static>(
     let gate = Together {
         entered: Arc::try_clone(&entered)?,
     };
-    let (stamp, _) = visited(rt, alloc, opened, gate, SetBoth)?;
+    let stamp = visited(rt, alloc, opened, gate, SetBoth)?;
     Ok((stamp?, entered.at_once()))
 }
 
@@ -508,40 +508,45 @@ fn retitled_at_once<J: Naming + Send, R: Threads + Wait + Copy + Send + Sync>(
     )
 }
 
-/// A visit of four sessions: whether the first, once it met the others, reads picture/0 at the greatest stamp at which
-/// they retitled it, and what the audit book has then.
-#[derive(Drop)]
-struct Four;
-
-impl Visit for Four {
-    type Told = Result<(bool, Totals), Refusal>;
-
-    fn visit<J: Naming + Send, R: Threads + Wait + Abort + Copy + Send + Sync>(
-        self,
-        rt: &R,
-        alloc: Global,
-        service: &Service<J>,
-    ) -> Result<(bool, Totals), Refusal> {
-        let (one, two) = (new_guest(rt, service)?, new_guest(rt, service)?);
-        let (three, four) = (new_guest(rt, service)?, new_guest(rt, service)?);
-        let Retitled {
-            mut guest,
-            greatest,
-        } = retitled_at_once(rt, alloc, one, two, three, four)?;
-        let stamp = stamp_served(&read(rt, alloc, &mut guest.session, "amy@users")?)?;
-        Ok((stamp == greatest?, service.totals(rt)))
-    }
+/// Whether the first of four sessions, once it met the others, reads picture/0 at the greatest stamp at which they
+/// retitled it, and what the audit book has then.
+fn four_retitled<J: Naming + Send, R: Threads + Wait + Copy + Send + Sync>(
+    rt: &R,
+    alloc: Global,
+    service: &Service<J>,
+) -> Result<(bool, Totals), Refusal> {
+    let (one, two) = (new_guest(rt, service)?, new_guest(rt, service)?);
+    let (three, four) = (new_guest(rt, service)?, new_guest(rt, service)?);
+    let Retitled {
+        mut guest,
+        greatest,
+    } = retitled_at_once(rt, alloc, one, two, three, four)?;
+    let stamp = stamp_served(&read(rt, alloc, &mut guest.session, "amy@users")?)?;
+    Ok((stamp == greatest?, service.totals(rt)))
 }
 
-/// What four sessions read and what the audit book has, before they end and as the service is closed.
-fn hundred_retitled<R: Threads + Wait + Abort + Copy + Send + Sync + 'static>(
+/// What four sessions read and what the audit book has, before they end and as the service is closed. It is no visit,
+/// since a visit can't start threads.
+fn four_over<J: Naming + Send + 'static, R: Threads + Wait + Copy + Send + Sync + 'static>(
+    rt: R,
+    alloc: Global,
+    opened: Opened,
+) -> Result<(bool, Totals, Totals), Refusal>
+    requires named { opened ≡ opened_as J.table J.terms J.policy J.audit_ok J.audit_failed J.alarm_ok J.alarm_failed }
+{
+    let service = Service::<J>::open(rt, alloc, opened, Open)?;
+    let told = four_retitled(&rt, alloc, &service);
+    let closed = service.close(&rt);
+    let (is_greatest, totals) = told?;
+    Ok((is_greatest, totals, closed))
+}
+
+fn hundred_retitled<R: Threads + Wait + Copy + Send + Sync + 'static>(
     rt: R,
     alloc: Global,
 ) -> Result<(bool, Totals, Totals), Refusal> {
     let opened = opened(alloc, AUDITED, 4)?;
-    let (told, closed) = visited(rt, alloc, opened, Open, Four)?;
-    let (is_greatest, totals) = told?;
-    Ok((is_greatest, totals, closed))
+    four_over::<Brand, R>(rt, alloc, opened)
 }
 
 /// Four sessions retitle a picture at once, each 25 times. Each retitle is committed, and audited once.
