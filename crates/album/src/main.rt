@@ -16,7 +16,7 @@ use std::net::{Net, TcpListener, TcpStream};
 use std::process::ExitCode;
 use std::sync::Wait;
 use std::thread::Threads;
-use std::{env, io};
+use std::{env, io, time};
 
 /// How many reads a run may make.
 const TURNS: u64 = 4_294_967_296;
@@ -127,6 +127,7 @@ where
     T: Net<Listener = TcpListener, Stream = TcpStream>
         + Threads
         + Wait
+        + time::Clock
         + Eprint
         + Copy
         + Send

@@ -13,13 +13,14 @@ use std::marker::Brand;
 use std::process::Abort;
 use std::sync::Wait;
 use std::thread::Threads;
+use std::time;
 
 struct Talking<J: Naming, R: Wait + Copy> {
     rt: R,
     session: Session<J>,
 }
 
-impl<J: Naming, R: Wait + Copy> Engine for Talking<J, R> {
+impl<J: Naming, R: Wait + time::Clock + Copy> Engine for Talking<J, R> {
     fn run(
         &mut self,
         alloc: Global,
@@ -57,7 +58,7 @@ fn opened(alloc: Global) -> Result<Opened, Refusal> {
 }
 
 /// The session talks.
-fn assert_talks<J: Naming, R: Wait + Abort + Copy>(
+fn assert_talks<J: Naming, R: Wait + time::Clock + Abort + Copy>(
     rt: &R,
     alloc: Global,
     service: &Service<J>,
@@ -70,11 +71,10 @@ fn assert_talks<J: Naming, R: Wait + Abort + Copy>(
     Ok(())
 }
 
-fn talks_over<J: Naming + Send + 'static, R: Threads + Wait + Abort + Copy + Send + 'static>(
-    rt: R,
-    alloc: Global,
-    opened: Opened,
-) -> Result<(), Refusal>
+fn talks_over<
+    J: Naming + Send + 'static,
+    R: Threads + Wait + time::Clock + Abort + Copy + Send + 'static,
+>(rt: R, alloc: Global, opened: Opened) -> Result<(), Refusal>
     requires named { opened ≡ opened_as J.table J.terms J.policy J.audit_ok J.audit_failed J.alarm_ok J.alarm_failed }
 {
     let service = Service::<J>::open(rt, alloc, opened, Open)?;
@@ -83,7 +83,7 @@ fn talks_over<J: Naming + Send + 'static, R: Threads + Wait + Abort + Copy + Sen
     talked
 }
 
-fn talks_alone<R: Threads + Wait + Abort + Copy + Send + 'static>(
+fn talks_alone<R: Threads + Wait + time::Clock + Abort + Copy + Send + 'static>(
     rt: R,
     alloc: Global,
 ) -> Result<(), Refusal> {

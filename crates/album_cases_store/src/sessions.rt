@@ -20,8 +20,8 @@ use std::marker::Brand;
 use std::process::Abort;
 use std::sync::{Arc, Wait};
 use std::test::Fail;
-use std::thread;
 use std::thread::Threads;
+use std::{thread, time};
 
 /// The owner may do anything.
 const OWNED: &[Entry] = &[(AceType::Allowed, "OWNER@", 2_032_127, 0)];
@@ -63,7 +63,7 @@ fn opened(alloc: Global, entries: &[Entry], sessions: u16) -> Result<Opened, Ref
 trait Visit: Drop {
     type Told;
 
-    fn visit<J: Naming, R: Wait + Abort + Copy>(
+    fn visit<J: Naming, R: Wait + time::Clock + Abort + Copy>(
         self,
         rt: &R,
         alloc: Global,
@@ -80,7 +80,7 @@ fn visited<R, G, V>(
     visit: V,
 ) -> Result<V::Told, Refusal>
 where
-    R: Threads + Wait + Abort + Copy + Send + Sync + 'static,
+    R: Threads + Wait + time::Clock + Abort + Copy + Send + Sync + 'static,
     G: Gate + Drop + Send + Sync + 'static,
     V: Visit,
 {
@@ -96,7 +96,7 @@ fn visited_by<J, R, G, V>(
 ) -> Result<V::Told, Refusal>
 where
     J: Naming + Send + 'static,
-    R: Threads + Wait + Abort + Copy + Send + Sync + 'static,
+    R: Threads + Wait + time::Clock + Abort + Copy + Send + Sync + 'static,
     G: Gate + Drop + Send + Sync + 'static,
     V: Visit,
     requires named { opened ≡ opened_as J.table J.terms J.policy J.audit_ok J.audit_failed J.alarm_ok J.alarm_failed }
@@ -129,7 +129,7 @@ fn new_guest<J: Naming, R: Wait + Copy>(
     Ok(Guest { rt: *rt, session })
 }
 
-fn read<J: Naming, R: Wait>(
+fn read<J: Naming, R: Wait + time::Clock>(
     rt: &R,
     alloc: Global,
     session: &mut Session<J>,
@@ -140,7 +140,7 @@ fn read<J: Naming, R: Wait>(
     session.ask(rt, &principal, Ask::Read { object })
 }
 
-fn retitle<J: Naming, R: Wait>(
+fn retitle<J: Naming, R: Wait + time::Clock>(
     rt: &R,
     alloc: Global,
     session: &mut Session<J>,
@@ -195,7 +195,7 @@ fn committed_text(alloc: Global, answer: Answer) -> Result<String, Refusal> {
     Ok(format!(in alloc; "committed at {stamp}")?)
 }
 
-fn pending_text<J: Naming, R: Wait>(
+fn pending_text<J: Naming, R: Wait + time::Clock>(
     rt: &R,
     alloc: Global,
     session: &mut Session<J>,
@@ -205,7 +205,7 @@ fn pending_text<J: Naming, R: Wait>(
     Ok(format!(in alloc; "{} pending", stamps.as_slice().len())?)
 }
 
-fn text_of<J: Naming, R: Wait>(
+fn text_of<J: Naming, R: Wait + time::Clock>(
     rt: &R,
     alloc: Global,
     session: &mut Session<J>,
@@ -227,7 +227,7 @@ fn text_of<J: Naming, R: Wait>(
 }
 
 /// What the session is told, or the name of the refusal.
-fn told<J: Naming, R: Wait>(
+fn told<J: Naming, R: Wait + time::Clock>(
     rt: &R,
     alloc: Global,
     session: &mut Session<J>,
@@ -240,7 +240,7 @@ fn told<J: Naming, R: Wait>(
 }
 
 /// The session is told so, and the partitions take so many messages for it.
-fn told_so<J: Naming, R: Wait + Abort>(
+fn told_so<J: Naming, R: Wait + time::Clock + Abort>(
     rt: &R,
     alloc: Global,
     session: &mut Session<J>,
@@ -280,7 +280,7 @@ const AFTER: &[Row] = &[
 ];
 
 /// Two sessions are told so, before they meet and then.
-fn both_told_so<J: Naming, R: Wait + Abort>(
+fn both_told_so<J: Naming, R: Wait + time::Clock + Abort>(
     rt: &R,
     alloc: Global,
     counts: &Counts,
@@ -302,7 +302,7 @@ struct Two {
 impl Visit for Two {
     type Told = Result<(), Fail>;
 
-    fn visit<J: Naming, R: Wait + Abort + Copy>(
+    fn visit<J: Naming, R: Wait + time::Clock + Abort + Copy>(
         self,
         rt: &R,
         alloc: Global,
@@ -329,7 +329,7 @@ fn two_sessions(rt: HostRuntime) -> Result<(), Fail> {
 }
 
 /// Why two asks of the session are refused.
-fn refused_twice<J: Naming, R: Wait + Copy>(
+fn refused_twice<J: Naming, R: Wait + time::Clock + Copy>(
     rt: &R,
     alloc: Global,
     mut guest: Guest<J, R>,
@@ -340,7 +340,7 @@ fn refused_twice<J: Naming, R: Wait + Copy>(
 }
 
 /// Why two asks of a session are refused, once the service is closed.
-fn closed_on<J: Naming + Send + 'static, R: Threads + Wait + Copy + Send + 'static>(
+fn closed_on<J: Naming + Send + 'static, R: Threads + Wait + time::Clock + Copy + Send + 'static>(
     rt: R,
     alloc: Global,
     opened: Opened,
@@ -353,7 +353,7 @@ fn closed_on<J: Naming + Send + 'static, R: Threads + Wait + Copy + Send + 'stat
     refused_twice(&rt, alloc, guest?)
 }
 
-fn refused_once_closed<R: Threads + Wait + Copy + Send + 'static>(
+fn refused_once_closed<R: Threads + Wait + time::Clock + Copy + Send + 'static>(
     rt: R,
     alloc: Global,
 ) -> Result<(Option<Refusal>, Option<Refusal>), Refusal> {
@@ -389,7 +389,7 @@ struct SetBoth;
 impl Visit for SetBoth {
     type Told = Result<u64, Refusal>;
 
-    fn visit<J: Naming, R: Wait + Abort + Copy>(
+    fn visit<J: Naming, R: Wait + time::Clock + Abort + Copy>(
         self,
         rt: &R,
         alloc: Global,
@@ -403,7 +403,7 @@ impl Visit for SetBoth {
 }
 
 /// The stamp at which both lists are written, and whether partitions 0 and 1 were in their first messages at once.
-fn set_at_once<R: Threads + Wait + Abort + Copy + Send + Sync + 'static>(
+fn set_at_once<R: Threads + Wait + time::Clock + Abort + Copy + Send + Sync + 'static>(
     rt: R,
     alloc: Global,
 ) -> Result<(u64, bool), Refusal> {
@@ -444,7 +444,7 @@ fn stamp_served(answer: &Answer) -> Result<u64, Refusal> {
 }
 
 /// Retitles picture/0 so often; the greatest stamp of them.
-fn retitle_often<J: Naming, R: Wait>(
+fn retitle_often<J: Naming, R: Wait + time::Clock>(
     rt: &R,
     alloc: Global,
     session: &mut Session<J>,
@@ -464,14 +464,17 @@ struct Retitled<J: Naming, R: Wait + Copy> {
     greatest: Result<u64, Refusal>,
 }
 
-fn retitle_all<J: Naming, R: Wait + Copy>(alloc: Global, mut guest: Guest<J, R>) -> Retitled<J, R> {
+fn retitle_all<J: Naming, R: Wait + time::Clock + Copy>(
+    alloc: Global,
+    mut guest: Guest<J, R>,
+) -> Retitled<J, R> {
     let rt = guest.rt;
     let greatest = retitle_often(&rt, alloc, &mut guest.session);
     Retitled { guest, greatest }
 }
 
 /// The one session, once it met the other, and the greatest stamp of both.
-fn met<J: Naming, R: Wait + Copy>(
+fn met<J: Naming, R: Wait + time::Clock + Copy>(
     mut one: Retitled<J, R>,
     mut other: Retitled<J, R>,
 ) -> Retitled<J, R> {
@@ -486,7 +489,7 @@ fn greater(one: Result<u64, Refusal>, other: Result<u64, Refusal>) -> Result<u64
 
 /// Four sessions, each on a thread of its own, retitle picture/0 so often. The first, once it met the others, and the
 /// greatest stamp of all.
-fn retitled_at_once<J: Naming + Send, R: Threads + Wait + Copy + Send + Sync>(
+fn retitled_at_once<J: Naming + Send, R: Threads + Wait + time::Clock + Copy + Send + Sync>(
     rt: &R,
     alloc: Global,
     one: Guest<J, R>,
@@ -510,7 +513,7 @@ fn retitled_at_once<J: Naming + Send, R: Threads + Wait + Copy + Send + Sync>(
 
 /// Whether the first of four sessions, once it met the others, reads picture/0 at the greatest stamp at which they
 /// retitled it, and what the audit book has then.
-fn four_retitled<J: Naming + Send, R: Threads + Wait + Copy + Send + Sync>(
+fn four_retitled<J: Naming + Send, R: Threads + Wait + time::Clock + Copy + Send + Sync>(
     rt: &R,
     alloc: Global,
     service: &Service<J>,
@@ -527,11 +530,10 @@ fn four_retitled<J: Naming + Send, R: Threads + Wait + Copy + Send + Sync>(
 
 /// What four sessions read and what the audit book has, before they end and as the service is closed. It is no visit,
 /// since a visit can't start threads.
-fn four_over<J: Naming + Send + 'static, R: Threads + Wait + Copy + Send + Sync + 'static>(
-    rt: R,
-    alloc: Global,
-    opened: Opened,
-) -> Result<(bool, Totals, Totals), Refusal>
+fn four_over<
+    J: Naming + Send + 'static,
+    R: Threads + Wait + time::Clock + Copy + Send + Sync + 'static,
+>(rt: R, alloc: Global, opened: Opened) -> Result<(bool, Totals, Totals), Refusal>
     requires named { opened ≡ opened_as J.table J.terms J.policy J.audit_ok J.audit_failed J.alarm_ok J.alarm_failed }
 {
     let service = Service::<J>::open(rt, alloc, opened, Open)?;
@@ -541,7 +543,7 @@ fn four_over<J: Naming + Send + 'static, R: Threads + Wait + Copy + Send + Sync 
     Ok((is_greatest, totals, closed))
 }
 
-fn hundred_retitled<R: Threads + Wait + Copy + Send + Sync + 'static>(
+fn hundred_retitled<R: Threads + Wait + time::Clock + Copy + Send + Sync + 'static>(
     rt: R,
     alloc: Global,
 ) -> Result<(bool, Totals, Totals), Refusal> {

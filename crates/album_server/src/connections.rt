@@ -4,8 +4,8 @@ use album_threads::{Naming, Service, Session};
 use std::alloc::Global;
 use std::net::{TcpListener, TcpStream};
 use std::sync::Wait;
-use std::thread;
 use std::thread::Threads;
+use std::{thread, time};
 
 /// A session of a connection, which ends where it is let go.
 struct Guest<J: Naming, T: Wait + Copy> {
@@ -31,7 +31,7 @@ pub(crate) fn accept_all<J, T>(
 )
 where
     J: Naming + Send + Sync,
-    T: Threads + Wait + Eprint + Copy + Send + Sync,
+    T: Threads + Wait + time::Clock + Eprint + Copy + Send + Sync,
 {
     thread::scope(thread::scope_env(), &rt, |scope| {
         for _ in 0..conns {
@@ -51,7 +51,7 @@ where
 fn connection<J, T>(alloc: Global, mut guest: Guest<J, T>, stream: TcpStream, turns: u64)
 where
     J: Naming + Send + Sync,
-    T: Threads + Wait + Eprint + Copy + Send + Sync,
+    T: Threads + Wait + time::Clock + Eprint + Copy + Send + Sync,
 {
     let _ = stream.set_nodelay(true);
     let (mut from, mut to) = (&stream, &stream);

@@ -20,6 +20,7 @@ use std::marker::Brand;
 use std::net::{IpAddr, Ipv4Addr, Net, SocketAddr, TcpListener, TcpStream};
 use std::sync::Wait;
 use std::thread::Threads;
+use std::time;
 
 /// Takes lines up to the one with which the opening is whole.
 fn take_all(
@@ -112,6 +113,7 @@ where
     T: Net<Listener = TcpListener, Stream = TcpStream>
         + Threads
         + Wait
+        + time::Clock
         + Eprint
         + Copy
         + Send
@@ -152,7 +154,7 @@ fn serve_at<J, T, W>(
 ) -> Result<(), Fault>
 where
     J: Naming + Send + Sync + 'static,
-    T: Threads + Wait + Eprint + Copy + Send + Sync + 'static,
+    T: Threads + Wait + time::Clock + Eprint + Copy + Send + Sync + 'static,
     W: Write,
     requires named { opened ≡ opened_as J.table J.terms J.policy J.audit_ok J.audit_failed J.alarm_ok J.alarm_failed }
 {

@@ -20,13 +20,14 @@ use album_world::Out;
 use json::Scratch;
 use std::alloc::Global;
 use std::sync::Wait;
+use std::time;
 
 /// The answer to a line, without a byte for a line that is skipped.
 ///
 /// # Errors
 ///
 /// `OutOfMemory`, where there is none for the text of what was told.
-pub(crate) fn answer<J: Naming, T: Wait>(
+pub(crate) fn answer<J: Naming, T: Wait + time::Clock>(
     rt: &T,
     alloc: Global,
     scratch: &mut Scratch,
@@ -80,7 +81,7 @@ fn hello_line(alloc: Global, scratch: &mut Scratch, line: &LineIn) -> Result<Pri
 }
 
 /// The answer to a later line.
-fn attend<J: Naming, T: Wait>(
+fn attend<J: Naming, T: Wait + time::Clock>(
     rt: &T,
     alloc: Global,
     scratch: &mut Scratch,
@@ -111,7 +112,7 @@ fn talk_line(alloc: Global, scratch: &mut Scratch, line: &LineIn) -> Result<Talk
 }
 
 /// The text of what the session is told to the line.
-fn carry_out<J: Naming, T: Wait>(
+fn carry_out<J: Naming, T: Wait + time::Clock>(
     rt: &T,
     alloc: Global,
     session: &mut Session<J>,
@@ -130,7 +131,7 @@ fn carry_out<J: Naming, T: Wait>(
     }
 }
 
-fn carry_out_ask<J: Naming, T: Wait>(
+fn carry_out_ask<J: Naming, T: Wait + time::Clock>(
     rt: &T,
     alloc: Global,
     session: &mut Session<J>,
@@ -148,7 +149,7 @@ fn carry_out_ask<J: Naming, T: Wait>(
 }
 
 #[tactic(auto, unfolding(album_wire::specs::TalkJson::talk_text))]
-fn tell_pending<J: Naming, T: Wait>(
+fn tell_pending<J: Naming, T: Wait + time::Clock>(
     rt: &T,
     alloc: Global,
     session: &mut Session<J>,
@@ -167,7 +168,7 @@ fn tell_pending<J: Naming, T: Wait>(
     }
 }
 
-fn sweep<J: Naming, T: Wait>(
+fn sweep<J: Naming, T: Wait + time::Clock>(
     rt: &T,
     alloc: Global,
     session: &mut Session<J>,
@@ -183,7 +184,7 @@ fn sweep<J: Naming, T: Wait>(
     }
 }
 
-fn trim<J: Naming, T: Wait>(
+fn trim<J: Naming, T: Wait + time::Clock>(
     rt: &T,
     alloc: Global,
     session: &mut Session<J>,

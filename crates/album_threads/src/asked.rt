@@ -1,5 +1,5 @@
 // What was asked in one round.
-ghost use Rattle.std.specs.Prelude.{◌≡◌, IsTrue, Contains};
+ghost use Rattle.std.specs.Prelude.{◌≡◌, ◌≤◌, IsTrue, IfSome, Contains, length};
 ghost use Rattle.album_threads.specs.Replies.{IsLate};
 
 use album_calls::{Body, Message, Node, Request, same_items, same_values};
@@ -14,16 +14,28 @@ pub(crate) struct Asked {
 }
 
 impl Asked {
-    /// Whether the request is one of the messages.
-    pub(crate) fn has(&self, request: &Message) -> bool
-        ensures { IsTrue result → Contains self.now.sent.items request.now }
+    /// Where the request stands among the messages. Looked for from `first` on, and then before it: replies come mostly
+    /// in the order of the messages, so each is found next to the one before it.
+    pub(crate) fn find(&self, request: &Message, first: usize) -> Option<usize>
+        ensures { IfSome result (λ _. Contains self.now.sent.items request.now) }
     {
-        for sent in &self.sent {
-            if is_same(sent, request) {
-                return true;
+        match self.find_among(request, first, self.sent.len()) {
+            Some(index) => Some(index),
+            None => self.find_among(request, 0, first.min(self.sent.len())),
+        }
+    }
+
+    /// Where it stands from `first` on and before `end`.
+    fn find_among(&self, request: &Message, first: usize, end: usize) -> Option<usize>
+        requires { end ≤ length self.now.sent.items }
+        ensures { IfSome result (λ _. Contains self.now.sent.items request.now) }
+    {
+        for index in first..end {
+            if is_same(&self.sent[index], request) {
+                return Some(index);
             }
         }
-        false
+        None
     }
 
     /// Whether the reply's partition had by then, as the pass shows it, all marks with which the round began.

@@ -23,6 +23,7 @@ use album_views::{Ask, View, ViewStep, Viewing, Why};
 use album_writer::{Answer, Preparing};
 use std::alloc::Global;
 use std::sync::Wait;
+use std::time;
 
 /// What comes of the reads for an ask.
 #[derive(Drop)]
@@ -37,7 +38,7 @@ impl<J: Naming> Session<J> {
     /// # Errors
     ///
     /// That of `Ask::check`; else `Closed` or `OutOfMemory`. A write that has begun is answered.
-    pub fn ask<R: Wait>(
+    pub fn ask<R: Wait + time::Clock>(
         &mut self,
         rt: &R,
         principal: &Principal,
@@ -66,7 +67,7 @@ impl<J: Naming> Session<J> {
     /// # Errors
     ///
     /// `Closed` or `OutOfMemory`.
-    fn look<R: Wait>(&mut self, rt: &R, ask: Ask) -> Result<Looked, Refusal>
+    fn look<R: Wait + time::Clock>(&mut self, rt: &R, ask: Ask) -> Result<Looked, Refusal>
         requires sound { flaw_of ask ≡ None }
         ensures looks { IfOk result (Looks self.old.cut self.new.cut ask) }
         ensures refused { IfErr result IsNoWord }
@@ -94,7 +95,7 @@ impl<J: Naming> Session<J> {
     ///
     /// `Closed` or `OutOfMemory`.
     #[tactic(auto, using(crate::proofs::SessionLemmas::ahead_later))]
-    fn look_once<R: Wait>(
+    fn look_once<R: Wait + time::Clock>(
         &mut self,
         rt: &R,
         viewing: Viewing,
@@ -120,7 +121,7 @@ impl<J: Naming> Session<J> {
     /// # Errors
     ///
     /// `Closed` or `OutOfMemory`.
-    fn rule<R: Wait>(
+    fn rule<R: Wait + time::Clock>(
         &mut self,
         rt: &R,
         principal: &Principal,
@@ -184,7 +185,7 @@ impl<J: Naming> Session<J> {
     /// # Errors
     ///
     /// `Closed` or `OutOfMemory`.
-    fn grant<R: Wait>(&mut self, rt: &R, permit: Permit) -> Result<Answer, Refusal>
+    fn grant<R: Wait + time::Clock>(&mut self, rt: &R, permit: Permit) -> Result<Answer, Refusal>
         requires seen { AreSeenBy self.old.counter permit.view.rows }
         ensures grants { IfOk result (Grants J.terms.limit self.old self.new permit) }
         ensures refused { IfErr result IsNoWord }
@@ -209,7 +210,7 @@ impl<J: Naming> Session<J> {
     ///
     /// `Closed` or `OutOfMemory`.
     #[tactic(auto, using(crate::proofs::AskLemmas::next_fresh, crate::proofs::AskLemmas::own_client))]
-    fn begin<R: Wait>(&mut self, rt: &R, permit: Permit) -> Result<Answer, Refusal>
+    fn begin<R: Wait + time::Clock>(&mut self, rt: &R, permit: Permit) -> Result<Answer, Refusal>
         requires permit { IsPermit permit }
         requires change { IsTrue (is_write permit.view.ask) }
         requires seen { AreSeenBy self.old.counter permit.view.rows }

@@ -6,15 +6,16 @@ use crate::gate::Gate;
 use crate::inquiries::{Notice, Question};
 use crate::keeper::Keeper;
 use crate::letters::{Letter, Response};
-use crate::mailbox::{Mail, Word, next};
+use crate::mailbox::{Inbox, Mail, Word};
 use crate::naming::Naming;
 use album_calls::Node;
 use album_passes::Desk;
 use album_stamps::ClientNo;
-use crossbeam_channel::{Receiver, Sender};
+use crossbeam_channel::Sender;
 use std::alloc::Global;
 use std::collections::{BTreeMap, VecDeque};
 use std::sync::{Arc, Wait};
+use std::time;
 
 /// Where what is told goes.
 #[derive(Drop)]
@@ -110,19 +111,19 @@ impl<J: Naming> Post<J> {
     }
 
     /// Takes one mail after another, until it is told to leave or all who could send one are gone.
-    pub(crate) fn attend<R: Wait, G: Gate>(
+    pub(crate) fn attend<R: Wait + time::Clock, G: Gate>(
         &mut self,
         rt: &R,
         alloc: Global,
         desk: &Desk,
         gate: &G,
-        mails: &Receiver<Mail<J>>,
+        inbox: &mut Inbox<Mail<J>>,
     )
         requires table { desk.now.table ≡ J.table }
         requires terms { desk.now.terms ≡ J.terms }
     {
         for _ in rt.forever() {
-            let Some(mail) = next(rt, mails) else {
+            let Some(mail) = inbox.next(rt) else {
                 return;
             };
             if !self.take(rt, alloc, desk, gate, mail) {
@@ -170,6 +171,7 @@ impl<J: Naming> Post<J> {
     {
         let (mut number, count) = (self.number, letters.len());
         let mut responses = VecDeque::new(alloc);
+        let _ = responses.reserve(count);
         for letter in letters {
             self.receive(desk, gate, letter, &mut responses);
         }

@@ -10,7 +10,7 @@ ghost use Rattle.album_threads.specs.Sessions.{IsCaller, IsLater, IsNoWord};
 
 use crate::inquiries::{Inquiry, Notice, Question};
 use crate::letters::Response;
-use crate::mailbox::{Mail, Word, next};
+use crate::mailbox::{Inbox, Mail, Word};
 use crate::naming::Naming;
 use album_calls::Stamps;
 use album_items::ItemId;
@@ -21,6 +21,7 @@ use std::alloc::{AllocError, Global};
 use std::collections::VecDeque;
 use std::marker::Model;
 use std::sync::{Arc, Wait};
+use std::time;
 
 /// Who asks the partitions. Contracts see the client, and the cut of its pass.
 #[derive(Drop)]
@@ -37,9 +38,11 @@ pub(crate) struct Caller<J: Naming> {
     closed: bool,
     /// The mailboxes of the partitions, in order.
     to: Vec<Sender<Mail<J>>>,
-    from: Receiver<Word<J>>,
+    from: Inbox<Word<J>>,
     /// What was heard and not yet taken.
     heard: VecDeque<Response<J>>,
+    /// Where, among the messages of a round, the one stands to which a reply was taken last.
+    pub(crate) found: usize,
 }
 
 impl<J: Naming> Model for Caller<J> {
@@ -78,8 +81,9 @@ impl<J: Naming> Caller<J> {
             tag: 0,
             closed: false,
             to,
-            from,
+            from: Inbox::new(from),
             heard: VecDeque::new(alloc),
+            found: 0,
         }
     }
 
@@ -162,11 +166,11 @@ impl<J: Naming> Caller<J> {
     }
 
     /// What comes next. `Closed` where all who could send are gone.
-    pub(crate) fn next<R: Wait>(&mut self, rt: &R) -> Result<Word<J>, Refusal>
+    pub(crate) fn next<R: Wait + time::Clock>(&mut self, rt: &R) -> Result<Word<J>, Refusal>
         ensures closed { IsOkUnless result Refusal.Closed }
         ensures same { self.new ≡ self.old }
     {
-        match next(rt, &self.from) {
+        match self.from.next(rt) {
             Some(word) => Ok(word),
             None => {
                 self.closed = true;
@@ -180,7 +184,10 @@ impl<J: Naming> Caller<J> {
     /// # Errors
     ///
     /// `Closed`.
-    pub(crate) fn next_response<R: Wait>(&mut self, rt: &R) -> Result<Option<Response<J>>, Refusal>
+    pub(crate) fn next_response<R: Wait + time::Clock>(
+        &mut self,
+        rt: &R,
+    ) -> Result<Option<Response<J>>, Refusal>
         ensures closed { IsOkUnless result Refusal.Closed }
         ensures same { self.new ≡ self.old }
     {
@@ -249,7 +256,7 @@ impl<J: Naming> Caller<J> {
     ///
     /// `Closed` or `OutOfMemory`.
     #[tactic(auto, using(crate::proofs::SessionLemmas::later_same))]
-    pub(crate) fn inquire<R: Wait>(
+    pub(crate) fn inquire<R: Wait + time::Clock>(
         &mut self,
         rt: &R,
         part: u16,
@@ -275,7 +282,7 @@ impl<J: Naming> Caller<J> {
 
     /// Takes the next word, and gives what it tells, where that is told to this inquiry.
     #[tactic(auto, using(crate::proofs::SessionLemmas::later_same))]
-    fn hear_notice<R: Wait>(
+    fn hear_notice<R: Wait + time::Clock>(
         &mut self,
         rt: &R,
         part: u16,

@@ -5,12 +5,24 @@ use crate::naming::Naming;
 use crossbeam_channel::{Receiver, Sender};
 use std::alloc::Global;
 use std::collections::VecDeque;
+use std::hint::spin_loop;
 use std::sync::Wait;
-use std::thread;
+use std::time::{Duration, Instant};
+use std::{thread, time};
 
-/// How often a thread looks again, and lets others run in between, before it sleeps. To be woken costs
-/// ten times what a message costs that comes meanwhile.
-const LOOKS: u32 = 4;
+/// How often a thread that waits lets others run and looks again, before it sleeps: some 50 microseconds, where no other
+/// thread is to run. To be woken costs ten times what a message costs that comes meanwhile.
+const LOOKS: u32 = 100;
+
+/// How often it looks before it lets others run.
+const GLANCES: u32 = 5;
+
+/// How many microseconds it may take until a thread that lets others run is let run again. Where one that only computes
+/// shares its processor it takes some thousands.
+const LATE: u64 = 1_000;
+
+/// How many times a thread that was let run late sleeps at once, before it looks again.
+const NAPS: u32 = 256;
 
 /// What lies in a partition's mailbox. What is large lies behind a pointer, since a mailbox moves what it takes.
 #[derive(Drop)]
@@ -36,13 +48,56 @@ pub(crate) enum Word<J: Naming> {
     Notice(Box<Notice<J>, Global>),
 }
 
-/// What comes next, or `None` where all who could send it are gone.
-pub(crate) fn next<T: Drop, R: Wait>(rt: &R, from: &Receiver<T>) -> Option<T> {
-    for _ in 0..LOOKS {
-        if let Ok(message) = from.try_recv(rt) {
+/// Where a thread takes what lies in its mailbox.
+#[derive(Drop)]
+pub(crate) struct Inbox<T> {
+    from: Receiver<T>,
+    /// How many times more it sleeps at once.
+    naps: u32,
+}
+
+impl<T: Drop> Inbox<T> {
+    /// What comes here.
+    pub(crate) fn new(from: Receiver<T>) -> Inbox<T> {
+        Inbox { from, naps: 0 }
+    }
+
+    /// What comes next, or `None` where all who could send it are gone.
+    pub(crate) fn next<R: Wait + time::Clock>(&mut self, rt: &R) -> Option<T> {
+        if self.naps > 0 {
+            self.naps -= 1;
+        } else if let Some(message) = self.look(rt) {
             return Some(message);
         }
-        thread::yield_now();
+        self.from.recv(rt).ok()
     }
-    from.recv(rt).ok()
+
+    /// What comes while it looks. Once it is let run late, it gives up; so it does where the clock can't be read.
+    fn look<R: Wait + time::Clock>(&mut self, rt: &R) -> Option<T> {
+        let mut before = Instant::now(rt).ok()?;
+        for _ in 0..LOOKS {
+            if let Some(message) = self.glance(rt) {
+                return Some(message);
+            }
+            thread::yield_now();
+            let now = Instant::now(rt).ok()?;
+            if now.duration_since(before) > Duration::from_micros(LATE) {
+                self.naps = NAPS;
+                return None;
+            }
+            before = now;
+        }
+        None
+    }
+
+    /// What is there, or comes at once.
+    fn glance<R: Wait>(&self, rt: &R) -> Option<T> {
+        for _ in 0..GLANCES {
+            if let Ok(message) = self.from.try_recv(rt) {
+                return Some(message);
+            }
+            spin_loop();
+        }
+        None
+    }
 }

@@ -18,6 +18,7 @@ use album_reader::{Reading, Snapshot, Step};
 use album_stamps::Refusal;
 use std::alloc::Global;
 use std::sync::Wait;
+use std::time;
 
 /// How a read ends.
 #[derive(Drop)]
@@ -34,7 +35,7 @@ impl<J: Naming> Caller<J> {
     /// # Errors
     ///
     /// `Closed` or `OutOfMemory`.
-    pub(crate) fn read<R: Wait>(
+    pub(crate) fn read<R: Wait + time::Clock>(
         &mut self,
         rt: &R,
         alloc: Global,
@@ -57,7 +58,7 @@ impl<J: Naming> Caller<J> {
     }
 
     /// The second round of a read.
-    fn read_again<R: Wait>(
+    fn read_again<R: Wait + time::Clock>(
         &mut self,
         rt: &R,
         reading: Reading,
@@ -82,7 +83,7 @@ impl<J: Naming> Caller<J> {
     }
 
     /// A round of a read: its messages are sent, and the replies awaited till it is over.
-    fn read_round<R: Wait>(
+    fn read_round<R: Wait + time::Clock>(
         &mut self,
         rt: &R,
         reading: Reading,
@@ -111,7 +112,12 @@ impl<J: Naming> Caller<J> {
     }
 
     /// Waits for one reply, and takes it.
-    fn read_on<R: Wait>(&mut self, rt: &R, asked: &Asked, round: Reading) -> Result<Step, Refusal>
+    fn read_on<R: Wait + time::Clock>(
+        &mut self,
+        rt: &R,
+        asked: &Asked,
+        round: Reading,
+    ) -> Result<Step, Refusal>
         ensures step { IfOk result (λ step.
             IsStepped J.terms.limit asked.now.begun.cut self.new.cut asked.now.sent.items round (step_of step)) }
         ensures sound { OnOk result (IsSound self.new.cut) }

@@ -13,6 +13,7 @@ use crate::naming::Naming;
 use album_calls::Message;
 use album_stamps::Refusal;
 use std::sync::Wait;
+use std::time;
 
 impl<J: Naming> Caller<J> {
     /// Sends the messages, all of them before an answer is awaited.
@@ -72,7 +73,11 @@ impl<J: Naming> Caller<J> {
     ///
     /// `Closed`.
     #[tactic(auto, using(crate::proofs::SessionLemmas::later_same))]
-    pub(crate) fn hear<R: Wait>(&mut self, rt: &R, asked: &Asked) -> Result<Message, Refusal>
+    pub(crate) fn hear<R: Wait + time::Clock>(
+        &mut self,
+        rt: &R,
+        asked: &Asked,
+    ) -> Result<Message, Refusal>
         ensures replied { IfOk result (IsReplied J.terms.limit asked.now.begun.cut self.new.cut asked.now.sent.items) }
         ensures sound { OnOk result (IsSound self.new.cut) }
         ensures closed { IsOkUnless result Refusal.Closed }
@@ -88,7 +93,11 @@ impl<J: Naming> Caller<J> {
 
     /// Takes the next response, and gives the reply, where it is one to one of these messages.
     #[tactic(auto, using(crate::proofs::SessionLemmas::later_same))]
-    fn hear_next<R: Wait>(&mut self, rt: &R, asked: &Asked) -> Result<Option<Message>, Refusal>
+    fn hear_next<R: Wait + time::Clock>(
+        &mut self,
+        rt: &R,
+        asked: &Asked,
+    ) -> Result<Option<Message>, Refusal>
         ensures replied { IfOk result (λ reply. IfSome reply
             (IsReplied J.terms.limit asked.now.begun.cut self.new.cut asked.now.sent.items)) }
         ensures sound { IfOk result (λ reply. IfSome reply (λ _. IsSound self.new.cut)) }
@@ -113,9 +122,13 @@ impl<J: Naming> Caller<J> {
         ensures later { IsLater self.old self.new }
     {
         let (request, reply, pass) = response.open();
-        if !asked.has(&request) || !asked.is_before(&reply, &pass) {
+        let Some(found) = asked.find(&request, self.found) else {
+            return None;
+        };
+        if !asked.is_before(&reply, &pass) {
             return None;
         }
+        self.found = found;
         self.join(pass);
         Some(reply)
     }

@@ -21,8 +21,8 @@ use crossbeam_channel::{Receiver, SendError, Sender, unbounded};
 use std::alloc::{AllocError, Global};
 use std::marker::PhantomData;
 use std::sync::{Arc, Mutex, Wait};
-use std::thread;
 use std::thread::{JoinHandle, Threads};
+use std::{thread, time};
 
 /// The pass from which those of the sessions are split.
 #[derive(Drop)]
@@ -74,12 +74,10 @@ impl<J: Naming + Send + 'static> Service<J> {
     /// # Errors
     ///
     /// `OutOfMemory`, also where a thread can't be had. No thread runs then.
-    pub fn open<R: Threads + Wait + Copy + Send + 'static, G: Gate + Drop + Send + Sync + 'static>(
-        rt: R,
-        alloc: Global,
-        opened: Opened,
-        gate: G,
-    ) -> Result<Service<J>, Refusal>
+    pub fn open<
+        R: Threads + Wait + time::Clock + Copy + Send + 'static,
+        G: Gate + Drop + Send + Sync + 'static,
+    >(rt: R, alloc: Global, opened: Opened, gate: G) -> Result<Service<J>, Refusal>
         requires named { opened ≡
             opened_as J.table J.terms J.policy J.audit_ok J.audit_failed J.alarm_ok J.alarm_failed }
         ensures memory { IsOkUnless result Refusal.OutOfMemory }

@@ -19,6 +19,7 @@ use album_stamps::{ClientNo, Clock, Refusal, Stamp};
 use std::alloc::Global;
 use std::marker::Model;
 use std::sync::{Arc, Mutex, Wait};
+use std::time;
 
 /// A session, which asks the partitions of the service that `J` names. It has a share of the audit book, and ends by
 /// `end`. Contracts see its client, the counter of its clock, what it has seen of the partitions, and its share.
@@ -83,7 +84,7 @@ impl<J: Naming> Session<J> {
     /// # Errors
     ///
     /// `NoSuchPart` where there is none of this number; else `Closed` or `OutOfMemory`.
-    pub fn pending<R: Wait>(&mut self, rt: &R, part: u16) -> Result<Stamps, Refusal>
+    pub fn pending<R: Wait + time::Clock>(&mut self, rt: &R, part: u16) -> Result<Stamps, Refusal>
         ensures pending { IfOk result (ArePending (prefix_at self.new.cut part)) }
         ensures nowhere { self.old.cut.parts ≤ part → result ≡ Err NoSuchPart }
         ensures untouched { self.old.cut.parts ≤ part → self.new ≡ self.old }
@@ -102,7 +103,12 @@ impl<J: Naming> Session<J> {
     ///
     /// `NoSuchPart` where there is none of this number; `NotPrepared` only where the stamp isn't pending there; else
     /// `Closed` or `OutOfMemory`.
-    pub fn sweep<R: Wait>(&mut self, rt: &R, part: u16, stamp: Stamp) -> Result<(), Refusal>
+    pub fn sweep<R: Wait + time::Clock>(
+        &mut self,
+        rt: &R,
+        part: u16,
+        stamp: Stamp,
+    ) -> Result<(), Refusal>
         ensures swept { OnOk result (state_of (prefix_at self.new.cut part) stamp ≡ StampState.Pending) }
         ensures unprepared { IfErr result (λ e. e ≡ NotPrepared
             → state_of (prefix_at self.new.cut part) stamp ≢ StampState.Pending) }
@@ -125,7 +131,12 @@ impl<J: Naming> Session<J> {
     /// `NoSuchPart` where there is none of this number; `Clash` only where the item is placed elsewhere, and `Full`
     /// only where there is no room for the mark; else `Closed` or `OutOfMemory`.
     #[tactic(auto, using(crate::proofs::SessionLemmas::floor_above))]
-    pub fn trim<R: Wait>(&mut self, rt: &R, part: u16, item: ItemId) -> Result<(), Refusal>
+    pub fn trim<R: Wait + time::Clock>(
+        &mut self,
+        rt: &R,
+        part: u16,
+        item: ItemId,
+    ) -> Result<(), Refusal>
         ensures trimmed { OnOk result
             (floor (prefix_at self.new.cut part) item ≡ latest (prefix_at self.new.cut part) item) }
         ensures floor { OnOk result
@@ -145,7 +156,7 @@ impl<J: Naming> Session<J> {
 
     /// What the partition tells to the inquiry.
     #[tactic(auto, using(crate::proofs::SessionLemmas::ahead_later))]
-    fn inquire<R: Wait>(
+    fn inquire<R: Wait + time::Clock>(
         &mut self,
         rt: &R,
         part: u16,

@@ -8,7 +8,7 @@ ghost use Rattle.album_threads.specs.Opened.{first_partition, AreFirst, AreFirst
 use crate::attend::{Ends, Post};
 use crate::gate::Gate;
 use crate::keeper::Keeper;
-use crate::mailbox::Mail;
+use crate::mailbox::{Inbox, Mail};
 use crate::naming::Naming;
 use album_partition::Partition;
 use album_passes::{Desk, Owner};
@@ -16,12 +16,13 @@ use crossbeam_channel::{Receiver, Sender};
 use std::alloc::{AllocError, Global};
 use std::sync::{Arc, Wait};
 use std::thread::{JoinHandle, Threads, spawn};
+use std::time;
 
 /// Starts the threads of all partitions, as they open, the last one first, and puts them into
 /// `threads`. Where one can't be had, those that run stay there.
 pub(crate) fn start_all<
     J: Naming + Send + 'static,
-    R: Threads + Wait + Copy + Send + 'static,
+    R: Threads + Wait + time::Clock + Copy + Send + 'static,
     G: Gate + Drop + Send + Sync + 'static,
 >(
     rt: R,
@@ -84,7 +85,7 @@ pub(crate) fn post_of<J: Naming>(
 /// Starts the thread of a partition.
 pub(crate) fn start<
     J: Naming + Send + 'static,
-    R: Threads + Wait + Copy + Send + 'static,
+    R: Threads + Wait + time::Clock + Copy + Send + 'static,
     G: Gate + Drop + Send + Sync + 'static,
 >(
     rt: R,
@@ -109,7 +110,7 @@ pub(crate) fn start<
 }
 
 /// The body of the thread, which owns all it needs.
-fn attend_alone<J: Naming, R: Wait + Copy, G: Gate + Drop>(
+fn attend_alone<J: Naming, R: Wait + time::Clock + Copy, G: Gate + Drop>(
     rt: R,
     alloc: Global,
     desk: Arc<Desk, Global>,
@@ -120,5 +121,5 @@ fn attend_alone<J: Naming, R: Wait + Copy, G: Gate + Drop>(
     requires table { (arc_value desk).table ≡ J.table }
     requires terms { (arc_value desk).terms ≡ J.terms }
 {
-    post.attend(&rt, alloc, &desk, &*gate, &mails);
+    post.attend(&rt, alloc, &desk, &*gate, &mut Inbox::new(mails));
 }

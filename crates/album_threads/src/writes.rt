@@ -17,10 +17,11 @@ use album_calls::{Body, Message, Request};
 use album_stamps::{Refusal, Stamp};
 use album_writer::{Answer, CommitStep, Committing, Outcome, PrepareStep, Preparing};
 use std::sync::Wait;
+use std::time;
 
 impl<J: Naming> Caller<J> {
     /// Announces the items of the write, and carries it out. From then on what ends it tells the stamp.
-    pub(crate) fn write<R: Wait>(
+    pub(crate) fn write<R: Wait + time::Clock>(
         &mut self,
         rt: &R,
         preparing: Preparing,
@@ -63,7 +64,7 @@ impl<J: Naming> Caller<J> {
     /// # Errors
     ///
     /// `Closed` or `OutOfMemory`.
-    fn settle<R: Wait>(
+    fn settle<R: Wait + time::Clock>(
         &mut self,
         rt: &R,
         preparing: Preparing,
@@ -93,7 +94,7 @@ impl<J: Naming> Caller<J> {
     ///
     /// `Closed`.
     #[tactic(auto, using(crate::proofs::SessionLemmas::later_self, crate::proofs::WriteLemmas::begun_further))]
-    fn prepare<R: Wait>(
+    fn prepare<R: Wait + time::Clock>(
         &mut self,
         rt: &R,
         asked: &Asked,
@@ -124,7 +125,7 @@ impl<J: Naming> Caller<J> {
     ///
     /// `Closed`.
     #[tactic(auto, using(crate::proofs::SessionLemmas::later_self, crate::proofs::WriteLemmas::begun_further))]
-    fn commit<R: Wait>(
+    fn commit<R: Wait + time::Clock>(
         &mut self,
         rt: &R,
         asked: &Asked,
