@@ -50,6 +50,13 @@ def held_by(process, what):
         return next(int(row.split()[1]) for row in status if row.startswith(what + ":"))
 
 
+def processor_time():
+    """The ticks that the machine's host has taken from its processors, and those that have passed in all."""
+    with open("/proc/stat") as stat:
+        ticks = [int(word) for word in stat.readline().split()[1:9]]
+    return ticks[7], sum(ticks)
+
+
 def free_port():
     """A port that nobody has."""
     with socket.socket() as any_port:
