@@ -10,8 +10,8 @@ use std::sync::Wait;
 use std::time::{Duration, Instant};
 use std::{thread, time};
 
-/// How often a thread that waits lets others run and looks again, before it sleeps: some 50 microseconds, where no other
-/// thread is to run. To be woken costs ten times what a message costs that comes meanwhile.
+/// How often a thread that waits lets others run and looks again, before it sleeps: some 50 microseconds, where no
+/// other thread is to run. To be woken costs ten times what a message costs that comes meanwhile.
 const LOOKS: u32 = 100;
 
 /// How often it looks before it lets others run.
