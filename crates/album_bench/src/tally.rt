@@ -53,7 +53,7 @@ impl Tally {
             Reply::Prepared(_) => raise(&mut self.prepared),
             Reply::Committed(_) => raise(&mut self.committed),
             Reply::Discarded(_) => raise(&mut self.discarded),
-            Reply::Version(_, _, value) => self.count_value(value),
+            Reply::Version(_, _, value) => self.count_value(value.value()),
             Reply::Status(_, _) => raise(&mut self.statuses),
             Reply::NotPrepared(_) => raise(&mut self.not_prepared),
             Reply::Clash => raise(&mut self.clashes),

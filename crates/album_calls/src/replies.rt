@@ -2,7 +2,7 @@
 ghost use Rattle.std.specs.Prelude.{◌≡◌, IfOk, IsOkUnless};
 
 use crate::nodes::Vote;
-use album_items::{ItemId, Value};
+use album_items::{ItemId, SharedValue};
 use album_stamps::{Refusal, Stamp};
 
 /// What a partition answers.
@@ -15,7 +15,7 @@ pub enum Reply {
     /// The writes of the stamp are let go, and never will be read.
     Discarded(Stamp),
     /// The item's version: its stamp and its value.
-    Version(ItemId, Stamp, Value),
+    Version(ItemId, Stamp, SharedValue),
     /// How the stamp stands here.
     Status(Stamp, Vote),
     /// The stamp is not pending here.

@@ -166,7 +166,9 @@ fn reply_text(alloc: Global, reply: &Reply) -> Result<String, Refusal> {
         Reply::Prepared(stamp) => with_stamp(alloc, "prepared", *stamp),
         Reply::Committed(stamp) => with_stamp(alloc, "committed", *stamp),
         Reply::Discarded(stamp) => with_stamp(alloc, "discarded", *stamp),
-        Reply::Version(item, stamp, value) => version_text(alloc, *item, *stamp, value_word(value)),
+        Reply::Version(item, stamp, value) => {
+            version_text(alloc, *item, *stamp, value_word(value.value()))
+        }
         Reply::Status(stamp, vote) => Ok(format!(in alloc;
             "status {} {}",
             stamp.value(),

@@ -2,7 +2,7 @@
 // (docs/PROTOCOL.md, "A read").
 use crate::messages::{Is, item_of, items_of, value_of};
 use album_calls::{Body, Message, Node, Reply};
-use album_items::{ItemId, Items, Kind, are_single};
+use album_items::{ItemId, Items, Kind, SharedValue, are_single};
 use album_reader::{Reading, Step};
 use album_stamps::{ClientNo, MOST_READ_ITEMS, Refusal, Stamp};
 use std::alloc::Global;
@@ -56,7 +56,10 @@ type Told = (u16, u64, &'static str, Option<Is>);
 fn reply_of(alloc: Global, text: &str, is: Option<Is>) -> Result<Reply, Refusal> {
     let item = item_of(text)?;
     match is {
-        Some(is) => Ok(Reply::Version(item, Stamp::zero(), value_of(alloc, is)?)),
+        Some(is) => {
+            let value = SharedValue::of(alloc, value_of(alloc, is)?)?;
+            Ok(Reply::Version(item, Stamp::zero(), value))
+        }
         None => Ok(Reply::Gone(item)),
     }
 }

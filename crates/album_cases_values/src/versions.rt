@@ -1,6 +1,6 @@
 // What a partition keeps of its items (docs/PROTOCOL.md, "What a partition keeps").
 use crate::items::picture;
-use album_items::{ItemId, Kind};
+use album_items::{ItemId, Kind, SharedValue};
 use album_stamps::{ClientNo, Refusal, Stamp};
 use album_versions::Versions;
 use std::alloc::Global;
@@ -39,7 +39,8 @@ fn add(
     if versions.value(item, stamp).is_some() {
         return Err(Refusal::Clash);
     }
-    versions.add(item, stamp, picture(alloc, list)?)?;
+    let value = SharedValue::of(alloc, picture(alloc, list)?)?;
+    versions.add(item, stamp, value)?;
     Ok(())
 }
 
@@ -241,7 +242,7 @@ fn many(alloc: Global, item: ItemId) -> Result<Versions, Refusal> {
 /// The number of the list of the item's version at the counter.
 fn list_at(versions: &Versions, item: ItemId, counter: u64) -> Option<u64> {
     let value = versions.value(item, counted(counter)?)?;
-    Some(value.head()?.list)
+    Some(value.value().head()?.list)
 }
 
 /// The first counter up to 1,000 at which another version is found than was added.

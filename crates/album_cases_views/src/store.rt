@@ -2,8 +2,8 @@
 use album_access::{AceFlags, AceType, Mask};
 use album_calls::{Body, Message, Node, Reply};
 use album_items::{
-    Album, Content, Head, ItemId, Items, Kind, Members, Picture, Title, Value, are_single,
-    read_item,
+    Album, Content, Head, ItemId, Items, Kind, Members, Picture, SharedValue, Title, Value,
+    are_single, read_item,
 };
 use album_lists::{AccessList, Ace, Member, Name, Who};
 use album_reader::{Reading, Snapshot, Step};
@@ -136,6 +136,7 @@ fn found(alloc: Global, store: Store, item: ItemId) -> Result<Value, Refusal> {
 fn version(alloc: Global, store: Store, tag: u64, item: ItemId) -> Result<Message, Refusal> {
     let client = ClientNo::of(1).ok_or(Refusal::BadRequest)?;
     let value = found(alloc, store, item)?;
+    let value = SharedValue::of(alloc, value)?;
     let told = Body::Reply(Reply::Version(item, Stamp::zero(), value));
     Ok(Message::new(Node::Part(0), Node::Client(client), tag, told))
 }

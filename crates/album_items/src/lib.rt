@@ -8,6 +8,7 @@ mod item_ids;
 mod openings;
 mod pairs;
 mod places;
+mod shared_values;
 mod texts;
 mod values;
 
@@ -15,5 +16,6 @@ pub use collections::{ItemValues, Items, Members};
 pub use item_ids::{ItemId, Kind, items_by_text, place, read_item};
 pub use openings::{Opening, are_single, has_own_value, has_single_rows};
 pub use places::{lies_at, places_of};
+pub use shared_values::SharedValue;
 pub use texts::{Content, Title};
 pub use values::{Album, Group, Head, Picture, Value};

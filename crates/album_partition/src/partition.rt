@@ -12,7 +12,7 @@ ghost use Rattle.album_partition.specs.Trims.{trim_mark, trimmed};
 mod answers;
 mod sweeps;
 
-use crate::first_values::{FirstValues, indexes_of};
+use crate::first_values::FirstValues;
 use crate::marks::Mark;
 use crate::places::Seat;
 use crate::stored::Stored;
@@ -224,12 +224,12 @@ impl Partition {
                 given: items,
             });
         }
-        match indexes_of(alloc, items.as_slice()) {
-            Ok(indexes) => Ok(Partition {
+        match FirstValues::of(alloc, items.as_slice()) {
+            Ok(values) => Ok(Partition {
                 alloc,
                 seat,
                 limit,
-                items: FirstValues::new(items, indexes),
+                items: values,
                 stored: Stored::new(alloc),
                 votes: Vec::new(alloc),
             }),

@@ -9,9 +9,10 @@ ghost use Rattle.album_partition.specs.Marks.{ArePending, mark_writes, mark_item
 ghost use Rattle.album_partition.specs.Partition.{read_at};
 ghost use Rattle.album_partition.specs.Stored.{CanFollow, HasAdded, HasCommitted};
 
+use crate::first_values::shared_copy;
 use crate::history::History;
 use crate::marks::Mark;
-use album_items::{ItemId, ItemValues, Items, Value};
+use album_items::{ItemId, ItemValues, Items, SharedValue, Value};
 use album_stamps::{Refusal, Stamp};
 use album_terminate::StampState;
 use album_versions::Versions;
@@ -21,6 +22,7 @@ use std::marker::Model;
 /// The marks, and beside them the versions that they make. Contracts see the marks.
 #[derive(Debug, Drop)]
 pub struct Stored {
+    alloc: Global,
     history: History,
     versions: Versions,
 }
@@ -43,6 +45,7 @@ impl Stored {
         ensures { result ≡ [] }
     {
         Stored {
+            alloc,
             history: History::new(alloc),
             versions: Versions::new(alloc),
         }
@@ -120,7 +123,7 @@ impl Stored {
     }
 
     /// The value of the item's version at the stamp.
-    pub fn value(&self, item: ItemId, stamp: Stamp) -> Option<&Value>
+    pub fn value(&self, item: ItemId, stamp: Stamp) -> Option<&SharedValue>
         requires { floor self.now item ≤ stamp }
         ensures { option_copied result ≡ version self.now item stamp }
     {
@@ -160,7 +163,7 @@ impl Stored {
         ensures err { OnErr result (self.new ≡ self.old) }
     {
         // Before the mark, which takes the writes: the stamp is unknown, so its versions can go again.
-        add_rows(&mut self.versions, stamp, writes.as_slice())?;
+        add_rows(self.alloc, &mut self.versions, stamp, writes.as_slice())?;
         if let Err(error) = self.history.add(Mark::Prepared(stamp, writes, items)) {
             self.versions.drop_stamp(stamp);
             return Err(error);
@@ -213,6 +216,7 @@ impl Stored {
 
 /// Adds the rows as versions at a stamp, or none of them.
 fn add_rows(
+    alloc: Global,
     versions: &mut Versions,
     stamp: Stamp,
     rows: &[(ItemId, Value)],
@@ -223,7 +227,7 @@ fn add_rows(
     ensures err { OnErr result (SameVersions versions.old versions.new) }
 {
     for row in rows {
-        if let Err(error) = add_row(versions, stamp, row) {
+        if let Err(error) = add_row(alloc, versions, stamp, row) {
             versions.drop_stamp(stamp);
             return Err(error);
         }
@@ -231,22 +235,21 @@ fn add_rows(
     Ok(())
 }
 
-fn add_row(versions: &mut Versions, stamp: Stamp, row: &(ItemId, Value)) -> Result<(), AllocError>
+fn add_row(
+    alloc: Global,
+    versions: &mut Versions,
+    stamp: Stamp,
+    row: &(ItemId, Value),
+) -> Result<(), AllocError>
     requires { version_at versions.old row.now.0 stamp ≡ None }
     ensures ok { OnOk result (Adds versions.old versions.new row.now.0 stamp row.now.1) }
     ensures err { OnErr result (SameVersions versions.old versions.new) }
 {
-    let value = clone_of(&row.1)?;
+    let value = shared_copy(alloc, &row.1)?;
     match versions.add(row.0, stamp, value) {
         Ok(()) => Ok(()),
         Err(_) => Err(AllocError),
     }
-}
-
-fn clone_of(value: &Value) -> Result<Value, AllocError>
-    ensures { IfOk result (λ copy. copy ≡ value.now) }
-{
-    value.clone()
 }
 
 /// Commits the versions of the rows at a stamp.

@@ -6,7 +6,7 @@ ghost use Rattle.album_reader.specs.StampSets.{stamps_of};
 
 use crate::stamp_sets::add_stamp;
 use album_calls::Stamps;
-use album_items::{ItemId, Value};
+use album_items::{ItemId, SharedValue};
 use album_stamps::Stamp;
 use std::alloc::{AllocError, Global};
 use std::marker::Model;
@@ -16,7 +16,7 @@ use std::marker::Model;
 pub struct Answer {
     pub item: ItemId,
     pub stamp: Stamp,
-    pub value: Value,
+    pub value: SharedValue,
 }
 
 impl Model for Answer {

@@ -58,6 +58,6 @@ impl Snapshot {
     {
         let index = self.items.get_index_of(&item)?;
         let answer = &self.answers[index];
-        Some((answer.stamp, &answer.value))
+        Some((answer.stamp, answer.value.value()))
     }
 }

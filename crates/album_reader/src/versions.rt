@@ -5,7 +5,7 @@ ghost use Rattle.album_reader.specs.Ends.{answer_of};
 
 use crate::answers::Answer;
 use album_calls::{Body, Reply};
-use album_items::{ItemId, Value};
+use album_items::{ItemId, SharedValue};
 use album_stamps::Stamp;
 use std::alloc::AllocError;
 
@@ -14,11 +14,11 @@ use std::alloc::AllocError;
 pub struct VersionIn<'a> {
     pub item: ItemId,
     pub stamp: Stamp,
-    pub value: &'a Value,
+    pub value: &'a SharedValue,
 }
 
 impl VersionIn<'_> {
-    /// The version as an answer, with the value copied.
+    /// The version as an answer, which shares the value.
     pub fn answer(&self) -> Result<Answer, AllocError>
         ensures { IfOk result (λ answer. answer ≡ answer_of self.now) }
     {

@@ -5,7 +5,7 @@ ghost use Rattle.std.specs.Option.{option_copied};
 ghost use Rattle.album_versions.specs.Best.{best_of, unless_gone};
 ghost use Rattle.album_versions.specs.Rows.{empty_row, version_in, IsAt, IsGapFor};
 
-use album_items::Value;
+use album_items::SharedValue;
 use album_stamps::{Refusal, Refused, Stamp};
 use std::alloc::Global;
 use std::marker::Model;
@@ -14,7 +14,7 @@ use std::marker::Model;
 #[derive(Debug, Drop)]
 pub struct Version {
     pub stamp: Stamp,
-    pub value: Value,
+    pub value: SharedValue,
 }
 
 /// What is kept of an item: its versions, rising by stamp, its latest committed stamp, and its
@@ -65,7 +65,7 @@ impl Row {
     }
 
     /// The value of the version at the stamp.
-    pub fn value(&self, stamp: Stamp) -> Option<&Value>
+    pub fn value(&self, stamp: Stamp) -> Option<&SharedValue>
         ensures { option_copied result ≡ version_in self.now.versions stamp }
     {
         match self.search(stamp) {
@@ -91,7 +91,7 @@ impl Row {
     }
 
     /// Adds a version, where there is none at the stamp, unless it is below the floor.
-    pub fn add(&mut self, stamp: Stamp, value: Value) -> Result<(), Refused<Value>>
+    pub fn add(&mut self, stamp: Stamp, value: SharedValue) -> Result<(), Refused<SharedValue>>
         requires { version_in self.old.versions stamp ≡ None }
         ensures added { OnOk result ((t : ℕ) → version_in self.new.versions t
             ≡ (if t == stamp && nat_le self.old.floor t then Some value else version_in self.old.versions t)) }

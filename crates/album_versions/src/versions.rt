@@ -7,7 +7,7 @@ ghost use Rattle.album_versions.specs.Rows.{empty_row};
 ghost use Rattle.album_versions.specs.Versions.{VersionsState, version_at, latest_of, floor_of, SameVersions, Adds, Drops, Commits, Trims};
 
 use crate::rows::Row;
-use album_items::{ItemId, Value};
+use album_items::{ItemId, SharedValue};
 use album_stamps::{Refusal, Refused, Stamp};
 use std::alloc::Global;
 use std::collections::BTreeMap;
@@ -49,7 +49,12 @@ impl Versions {
     /// # Errors
     ///
     /// `OutOfMemory`, with the value handed back. Nothing changes then.
-    pub fn add(&mut self, item: ItemId, stamp: Stamp, value: Value) -> Result<(), Refused<Value>>
+    pub fn add(
+        &mut self,
+        item: ItemId,
+        stamp: Stamp,
+        value: SharedValue,
+    ) -> Result<(), Refused<SharedValue>>
         requires { version_at self.old item stamp ≡ None }
         ensures added { OnOk result (Adds self.old self.new item stamp value) }
         ensures unchanged { OnErr result (SameVersions self.old self.new) }
@@ -137,7 +142,7 @@ impl Versions {
 
     /// The value of the item's version at the stamp.
     #[tactic(auto, unfolding(crate::specs::Versions::version_at))]
-    pub fn value(&self, item: ItemId, stamp: Stamp) -> Option<&Value>
+    pub fn value(&self, item: ItemId, stamp: Stamp) -> Option<&SharedValue>
         ensures { option_copied result ≡ version_at self.now item stamp }
     {
         match self.rows.get(&item) {
@@ -153,8 +158,8 @@ fn add_in(
     row: Row,
     item: ItemId,
     stamp: Stamp,
-    value: Value,
-) -> Result<(), Refused<Value>>
+    value: SharedValue,
+) -> Result<(), Refused<SharedValue>>
     requires empty { row ≡ empty_row }
     requires new { version_at (record { rows = rows.old.entries }) item stamp ≡ None }
     ensures added { OnOk result

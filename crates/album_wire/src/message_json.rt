@@ -111,7 +111,7 @@ fn reply_json(alloc: Global, e: Envelope, reply: &Reply) -> Result<Value, AllocE
         Reply::Prepared(stamp) => stamped_json(alloc, e, "prepared", *stamp),
         Reply::Committed(stamp) => stamped_json(alloc, e, "committed", *stamp),
         Reply::Discarded(stamp) => stamped_json(alloc, e, "discarded", *stamp),
-        Reply::Version(item, stamp, value) => version_json(alloc, e, *item, *stamp, value),
+        Reply::Version(item, stamp, value) => version_json(alloc, e, *item, *stamp, value.value()),
         Reply::Status(stamp, vote) => status_json(alloc, e, *stamp, *vote),
         Reply::NotPrepared(stamp) => stamped_json(alloc, e, "not_prepared", *stamp),
         Reply::Clash => clash_json(alloc, e),

@@ -1,6 +1,7 @@
 // The table of answers: what a partition does with each message, decided before anything is kept.
 ghost use Rattle.std.specs.Prelude.{◌≡◌, ◌≤◌, true, Bool, IfOk, if◌then◌else◌};
 ghost use Rattle.std.specs.Option.{option_copied, unwrap_or};
+ghost use Rattle.album_items.specs.declared.values.Value.TheVariants.{Missing};
 ghost use Rattle.album_partition.specs.Answers.{Does, nothing, says, marks, marks_and_says, prepare_by, commit_by, check_by, mark_by, is_same, says_version, to_body, to_request, to_prepare, to_commit, to_check, to_get, to_reply, to_status, to_vote, to_prepared, to_part, mark_with};
 ghost use Rattle.album_partition.specs.History.{is_kept};
 ghost use Rattle.album_partition.specs.Marks.{state_of, is_full, floor};
@@ -12,7 +13,7 @@ use crate::partition::Partition;
 use crate::proper::is_proper;
 use crate::votes::{Noted, heard_with, new_vote};
 use album_calls::{Body, Node, Reply, Request, Stamps, Vote, same_items, same_values};
-use album_items::{ItemId, ItemValues, Items, Value};
+use album_items::{ItemId, ItemValues, Items, SharedValue};
 use album_stamps::Stamp;
 use album_terminate::{Decision, StampState, decide};
 use std::alloc::AllocError;
@@ -200,14 +201,14 @@ impl Partition {
         requires { floor self.now.marks item ≤ stamp }
         ensures { Does result (says_version self.now item stamp) }
     {
-        let value = clone_or_missing(self.value_at(item, stamp))?;
+        let value = clone_or(self.value_at(item, stamp), self.items.missing())?;
         Ok(Action::says(Reply::Version(item, stamp, value)))
     }
 
     /// The item's value at the stamp: at the zero stamp its first value.
-    fn value_at(&self, item: ItemId, stamp: Stamp) -> Option<&Value>
+    fn value_at(&self, item: ItemId, stamp: Stamp) -> Option<&SharedValue>
         requires { floor self.now.marks item ≤ stamp }
-        ensures { unwrap_or (option_copied result) Value.Missing ≡ value_at self.now item stamp }
+        ensures { unwrap_or (option_copied result) Missing ≡ value_at self.now item stamp }
     {
         if stamp.value() == 0 {
             self.items.value(item)
@@ -330,12 +331,12 @@ fn check_by(full: bool, state: StampState, stamp: Stamp) -> Action
     }
 }
 
-/// The value once more, or that the item is missing.
-fn clone_or_missing(value: Option<&Value>) -> Result<Value, AllocError>
-    ensures { IfOk result (λ copy. copy ≡ unwrap_or (option_copied value.entry) Value.Missing) }
+/// The value once more, or the other one.
+fn clone_or(value: Option<&SharedValue>, other: &SharedValue) -> Result<SharedValue, AllocError>
+    ensures { IfOk result (λ copy. copy ≡ unwrap_or (option_copied value.entry) other.now) }
 {
     match value {
-        None => Ok(Value::Missing),
+        None => other.clone(),
         Some(value) => value.clone(),
     }
 }
