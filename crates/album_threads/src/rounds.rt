@@ -58,7 +58,7 @@ impl<J: Naming> Caller<J> {
         ensures memory { IsOkUnless result Refusal.OutOfMemory }
         ensures same { self.new ≡ self.old }
     {
-        let mut letters = Vec::new(self.alloc);
+        let mut letters = Vec::with_capacity(self.alloc, count_to(part, messages))?;
         for message in messages {
             if message.to().is_part(part) {
                 letters.push(Letter::new(message.copy()?, self.split()))?;
@@ -132,4 +132,12 @@ impl<J: Naming> Caller<J> {
         self.join(pass);
         Some(reply)
     }
+}
+
+/// How many of the messages go to the partition.
+fn count_to(part: u16, messages: &[Message]) -> usize {
+    messages
+        .iter()
+        .filter(|message| message.to().is_part(part))
+        .count()
 }
