@@ -1,9 +1,10 @@
-// `converse` over readers and writers that give and take little, or fail: one session talks again and again.
+// `converse` over readers and writers that give and take little, or fail, and with one who waits for each answer: one
+// session talks again and again.
 ghost use Rattle.std.specs.Prelude.{◌≡◌};
 ghost use Rattle.album_threads.specs.Opened.{opened_as};
 
 use crate::runs::{Engine, Script, assert_kept};
-use crate::streams::{Pieces, Taking};
+use crate::streams::{Counted, Pieces, Taking, Waiting};
 use album_items::{ItemValues, Opening};
 use album_server::{Fault, converse};
 use album_stamps::Refusal;
@@ -11,7 +12,8 @@ use album_threads::{Naming, Open, Opened, Service, Session};
 use std::alloc::Global;
 use std::marker::Brand;
 use std::process::Abort;
-use std::sync::Wait;
+use std::sync::atomic::AtomicU64;
+use std::sync::{Arc, Wait};
 use std::thread::Threads;
 use std::time;
 
@@ -57,6 +59,32 @@ fn opened(alloc: Global) -> Result<Opened, Refusal> {
     Opened::new(alloc, &opening, 1)
 }
 
+/// What is said by one who waits for each answer.
+const WAITED: &[&str] = &[
+    "{\"who\":\"bo@users\"}\n",
+    "{\"pending\":0}\n",
+    "{\"pending\":3}\n",
+    "{\"ask\":\n",
+];
+
+/// How the talk with one ends who waits for each answer.
+fn waited_for<J: Naming, R: Wait + time::Clock>(
+    rt: &R,
+    alloc: Global,
+    session: &mut Session<J>,
+) -> Result<Option<Fault>, Refusal> {
+    let answered = Arc::new(alloc, AtomicU64::new(0))?;
+    let mut writer = Counted {
+        answered: Arc::try_clone(&answered)?,
+    };
+    let mut reader = Waiting {
+        left: WAITED,
+        given: 0,
+        answered,
+    };
+    Ok(converse(rt, alloc, &mut reader, &mut writer, session, 100).err())
+}
+
 /// The session talks.
 fn assert_talks<J: Naming, R: Wait + time::Clock + Abort + Copy>(
     rt: &R,
@@ -66,7 +94,8 @@ fn assert_talks<J: Naming, R: Wait + time::Clock + Abort + Copy>(
     let session = service.session(rt)?;
     let mut talking = Talking { rt: *rt, session };
     assert_kept(rt, &mut talking, alloc, &TALK);
-    let Talking { rt: _, session } = talking;
+    let Talking { rt: _, mut session } = talking;
+    assert_eq!(rt; waited_for(rt, alloc, &mut session), Ok(None));
     session.end(rt);
     Ok(())
 }

@@ -264,6 +264,9 @@ const MEANWHILE: &[Row] = &[
     (Step::Read("amy@users"), "Bay at 65537", (6, 2)),
 ];
 
+/// The other reads what was written, although it has heard of nothing since it read last: it asks the partitions anew.
+const UNHEARD: &[Row] = &[(Step::Read("bo@users"), "Bay at 65537", (6, 2))];
+
 /// The other's write has a greater stamp than the one that it read.
 const AFTER: &[Row] = &[
     (Step::Read("bo@users"), "Bay at 65537", (6, 2)),
@@ -289,6 +292,7 @@ fn both_told_so<J: Naming, R: Wait + time::Clock + Abort>(
 ) -> Result<(), Fail> {
     told_so(rt, alloc, two, counts, BEFORE)?;
     told_so(rt, alloc, one, counts, MEANWHILE)?;
+    told_so(rt, alloc, two, counts, UNHEARD)?;
     one.meet(two);
     told_so(rt, alloc, two, counts, AFTER)
 }
