@@ -60,7 +60,7 @@ impl Write for Taking {
 /// A reader that gives a line a read, and fails where a line before it isn't answered yet.
 #[derive(Drop)]
 pub(crate) struct Waiting<'a> {
-    pub(crate) left: &'a [&'a str],
+    pub(crate) lines: &'a [&'a str],
     pub(crate) given: u64,
     pub(crate) answered: Arc<AtomicU64, Global>,
 }
@@ -70,12 +70,11 @@ impl Read for Waiting<'_> {
         if self.answered.load(Ordering::SeqCst) < self.given {
             return Err(io::Error::other("not answered yet"));
         }
-        let Some((line, left)) = self.left.split_first() else {
+        let Some(line) = self.lines.get(self.given as usize) else {
             return Ok(0);
         };
         let len = line.len().min(buf.len());
         buf[..len].copy_from_slice(&line.as_bytes()[..len]);
-        self.left = left;
         self.given = self.given.wrapping_add(1);
         Ok(len)
     }

@@ -78,7 +78,7 @@ fn waited_for<J: Naming, R: Wait + time::Clock>(
         answered: Arc::try_clone(&answered)?,
     };
     let mut reader = Waiting {
-        left: WAITED,
+        lines: WAITED,
         given: 0,
         answered,
     };
