@@ -21,8 +21,8 @@ use Rattle.album_world.specs.Clients.{Client}
 use Rattle.album_world.specs.declared.clients.Doing.{Doing}
 use Rattle.album_world.specs.declared.clients.Doing.TheVariants as doing
 use Rattle.album_world.specs.Terms.{Terms, terms_of}
-use Rattle.album_world.specs.State.{client_at}
-use Rattle.album_world.specs.Past.{World, Transaction, Begun, Read, Told, Noted, last_begun, last_read}
+use Rattle.album_world.specs.State.{client_at, with_number}
+use Rattle.album_world.specs.Past.{World, Transaction, Asked, Begun, Read, Told, Noted, last_begun, last_read}
 use Rattle.album_world.specs.Turns.{Ended, Turn}
 use Rattle.album_world.specs.Changes.Change.{AtPart, AtClient, Stops}
 use Rattle.album_world.specs.Runs.{changed, read_over, reads_after, nth_after, told_to, noted_of}
@@ -302,22 +302,31 @@ part_booked t w b p h sent =
     same_booked t w next g b (λ r l. l) (λ told l. l) (λ n l. l)
     (λ c. at_adds t w next g c (client_at w.now.clients c).doing refl refl (b.at c))
 
-stop_adds : (w : World) (c : ℕ) → Adds w (changed w (Stops c))
-stop_adds w c = record {
-  transactions = λ r l. l;
-  reads = λ f l. l;
-  noted = λ n l. l;
-  messages = λ m l. l;
-  clocks = λ c. le_refl _;
-  unused = λ d s b r l e. l;
-}
+-- who was stopped, and what was asked, is nothing to what is booked
+module _ (t : Terms) (w : World) (b : IsBooked t w) (stopped : List ℕ) (asked : List Asked) where
+  abbrev alike : World
+  alike = record { now = record w.now { stopped = stopped }; past = record w.past { asked = asked } }
+
+  alike_adds : Adds w alike
+  alike_adds = record {
+    transactions = λ r l. l;
+    reads = λ f l. l;
+    noted = λ n l. l;
+    messages = λ m l. l;
+    clocks = λ c. le_refl _;
+    unused = λ d s b r l e. l;
+  }
+
+  still_booked : IsBooked t alike
+  still_booked = same_booked t w alike alike_adds b (λ r l. l) (λ told l. l) (λ n l. l)
+      (λ d. at_adds t w alike alike_adds d (client_at w.now.clients d).doing refl refl (b.at d))
 
 pub stop_booked : (t : Terms) (w : World) → IsBooked t w → (c : ℕ) → IsBooked t (changed w (Stops c))
-stop_booked t w b c =
-    let next = changed w (Stops c) in
-    let g = stop_adds w c in
-    same_booked t w next g b (λ r l. l) (λ told l. l) (λ n l. l)
-    (λ d. at_adds t w next g d (client_at w.now.clients d).doing refl refl (b.at d))
+stop_booked t w b c = still_booked t w b (with_number c w.now.stopped) w.past.asked
+
+pub request_booked : (t : Terms) (w : World) → IsBooked t w → (a : Asked)
+    → IsBooked t (record w { past = record w.past { asked = a ∷ w.past.asked } })
+request_booked t w b a = still_booked t w b w.now.stopped (a ∷ w.past.asked)
 
 -- ---- a client's turn
 
@@ -329,7 +338,7 @@ begun_client (a ∷ bs) c = go (eqb a.client c) refl (begun_client bs c)
     go true e rest = eqb-true a.client c e
     go false e rest = rest
 
-last_other : (c d : ℕ) (begun : Begun) (e : Option Ended) (fs : List Read) → begun.client ≡ c → eqb c d ≡ false
+pub last_other : (c d : ℕ) (begun : Begun) (e : Option Ended) (fs : List Read) → begun.client ≡ c → eqb c d ≡ false
     → last_read (option_to_list (option_map (read_over begun) e) ++ fs) d ≡ last_read fs d
 last_other c d begun None fs is ne = refl
 last_other c d begun (Some e) fs is ne = rw (subst (λ (z : ℕ). eqb z d ≡ false) (sym is) ne) refl

@@ -6,12 +6,13 @@ use Rattle.album_world.specs.declared.events.Event.{Event}
 use Rattle.album_writer.specs.declared.answers.Answer.{Answer}
 use Rattle.album_world.specs.declared.outs.Out.TheVariants as out
 use Rattle.album_world.specs.Terms.{Terms}
+use Rattle.album_world.specs.State.{Now}
 use Rattle.album_world.specs.Past.{World, Begun, last_begun}
 use Rattle.album_world.specs.Events.{IsNoteKept, IsRemembered}
 use Rattle.album_world.specs.Turns.{Turn}
 use Rattle.album_world.specs.Changes.{Change, change_of}
 use Rattle.album_world.specs.Changes.Change.{Nothing, AtPart, AtClient, Stops}
-use Rattle.album_world.specs.Runs.{changed, changed_by, happens, numbers_after, sent_after, outs_of, outs_by, tells, run, reads_after, read_over, nth_after, told_to, noted_of}
+use Rattle.album_world.specs.Runs.{changed, changed_by, happens, requested, numbers_after, sent_after, outs_of, outs_by, tells, run, reads_after, read_over, nth_after, told_to, noted_of}
 use Rattle.album_world.proofs.ListLemmas.{In, contains, within, in_left, in_right, in_cases, in_map, in_mapped, mapped_in, in_one, in_nil, self_eqb}
 
 -- ---- what is told
@@ -44,26 +45,40 @@ no_note first zero h = in_nil h
 no_note first (suc count) h = ⊎_elim (λ l. no_note first count l) (λ l. sent_note (in_one l))
     (in_cases (numbers_after first count) (out.Sent (first + count + 1) ∷ []) h)
 
-answer_in : (w : World) (ch : Change) (c : ℕ) (a : Answer) → In (out.Answered c a) (outs_of w.now ch)
-    → In (told_to (changed w ch).past.reads c a) (changed w ch).past.told
-answer_in w Nothing c a h = in_nil h
-answer_in w (Stops d) c a h = in_nil h
-answer_in w (AtPart p held sent) c a h = no_answer (length w.now.messages) (length sent) h
-answer_in w (AtClient d t) c a h = ⊎_elim
+-- the change is a turn of the client, and the answer is its own
+abbrev pub TellsAnswer : Change → ℕ → Answer → Type 0
+TellsAnswer Nothing c a = ⊥
+TellsAnswer (AtPart p held sent) c a = ⊥
+TellsAnswer (AtClient d t) c a = (c ≡ d) × (t.answer ≡ Some a)
+TellsAnswer (Stops d) c a = ⊥
+
+pub answer_of_change : (now : Now) (ch : Change) (c : ℕ) (a : Answer) → In (out.Answered c a) (outs_of now ch)
+    → TellsAnswer ch c a
+answer_of_change now Nothing c a h = in_nil h
+answer_of_change now (Stops d) c a h = in_nil h
+answer_of_change now (AtPart p held sent) c a h = no_answer (length now.messages) (length sent) h
+answer_of_change now (AtClient d t) c a h = ⊎_elim
     (λ l. let q = in_map (out.Noted d) (unwrap_or t.noted []) l in noted_answer q.2)
     (λ l. ⊎_elim
-    (λ i. no_answer (length w.now.messages) (length t.sent) i)
+    (λ i. no_answer (length now.messages) (length t.sent) i)
     (λ i.
     let q = in_mapped (out.Answered d) t.answer i in
     let s = answered_same q.2 in
+    (s.0, q.1 ∙ ap Some (sym s.1)))
+    (in_cases (sent_after (length now.messages) t.sent) (option_to_list (option_map (out.Answered d) t.answer)) l))
+    (in_cases (map (out.Noted d) (unwrap_or t.noted []))
+    (sent_after (length now.messages) t.sent ++ option_to_list (option_map (out.Answered d) t.answer)) h)
+
+answer_in : (w : World) (ch : Change) (c : ℕ) (a : Answer) → TellsAnswer ch c a
+    → In (told_to (changed w ch).past.reads c a) (changed w ch).past.told
+answer_in w Nothing c a h = absurd h
+answer_in w (Stops d) c a h = absurd h
+answer_in w (AtPart p held sent) c a h = absurd h
+answer_in w (AtClient d t) c a h =
     let fs = reads_after w.past d t in
     in_right w.past.told
-    (subst (λ (z : ℕ). In (told_to fs z a) (option_to_list (option_map (told_to fs d) t.answer))) (sym s.0)
-    (subst (λ (z : Answer). In (told_to fs d z) (option_to_list (option_map (told_to fs d) t.answer))) (sym s.1)
-    (mapped_in (told_to fs d) t.answer q.1))))
-    (in_cases (sent_after (length w.now.messages) t.sent) (option_to_list (option_map (out.Answered d) t.answer)) l))
-    (in_cases (map (out.Noted d) (unwrap_or t.noted []))
-    (sent_after (length w.now.messages) t.sent ++ option_to_list (option_map (out.Answered d) t.answer)) h)
+    (subst (λ (z : ℕ). In (told_to fs z a) (option_to_list (option_map (told_to fs d) t.answer))) (sym h.0)
+    (mapped_in (told_to fs d) t.answer h.1))
 
 pub answers_are_kept : (t : Terms) (w : World) (e : Event) (c : ℕ) (a : Answer)
     → Contains (tells t w e) (out.Answered c a)
@@ -71,8 +86,8 @@ pub answers_are_kept : (t : Terms) (w : World) (e : Event) (c : ℕ) (a : Answer
 answers_are_kept t w e c a h = go (change_of t w.now e) (within _ h)
   where
     go : (f : Result Change Refusal) → In (out.Answered c a) (outs_by w.now f)
-        → Contains (changed_by w f).past.told (told_to (changed_by w f).past.reads c a)
-    go (Ok ch) h = contains (answer_in w ch c a h)
+        → Contains (changed_by w e f).past.told (told_to (changed_by w e f).past.reads c a)
+    go (Ok ch) h = contains (answer_in (requested w e) ch c a (answer_of_change w.now ch c a h))
     go (Err r) h = in_nil h
 
 note_in : (w : World) (ch : Change) (c : ℕ) (n : Note) → In (out.Noted c n) (outs_of w.now ch)
@@ -110,8 +125,8 @@ pub notes_are_kept : (t : Terms) (w : World) (e : Event) (c : ℕ) (n : Note) �
     → IsNoteKept (happens t w e) c n
 notes_are_kept t w e c n h = go (change_of t w.now e) (within _ h)
   where
-    go : (f : Result Change Refusal) → In (out.Noted c n) (outs_by w.now f) → IsNoteKept (changed_by w f) c n
-    go (Ok ch) h = note_in w ch c n h
+    go : (f : Result Change Refusal) → In (out.Noted c n) (outs_by w.now f) → IsNoteKept (changed_by w e f) c n
+    go (Ok ch) h = note_in (requested w e) ch c n h
     go (Err r) h = in_nil h
 
 -- ---- what was told stays
@@ -135,14 +150,15 @@ remembered_at w (AtClient d t) = record {
       (in_left (option_to_list (option_map (noted_of (reads_after w.past d t) d) t.noted)) (within _ l));
 }
 
-remembered_by : (w : World) (f : Result Change Refusal) → IsRemembered w (changed_by w f)
-remembered_by w (Ok ch) = remembered_at w ch
-remembered_by w (Err r) = record { transactions = λ r l. l; reads = λ r l. l; told = λ r l. l; noted = λ r l. l }
+remembered_by : (w : World) (e : Event) (f : Result Change Refusal) → IsRemembered w (changed_by w e f)
+remembered_by w e (Ok ch) = let a = remembered_at (requested w e) ch in
+    record { transactions = a.transactions; reads = a.reads; told = a.told; noted = a.noted }
+remembered_by w e (Err r) = record { transactions = λ r l. l; reads = λ r l. l; told = λ r l. l; noted = λ r l. l }
 
 pub all_is_remembered : (t : Terms) (w : World) (es : List Event) → IsRemembered w (run t w es)
 all_is_remembered t w [] = record { transactions = λ r l. l; reads = λ r l. l; told = λ r l. l; noted = λ r l. l }
 all_is_remembered t w (e ∷ es) =
-    let a = remembered_by w (change_of t w.now e) in
+    let a = remembered_by w e (change_of t w.now e) in
     let d = all_is_remembered t (happens t w e) es in
     record {
       transactions = λ r l. d.transactions r (a.transactions r l);

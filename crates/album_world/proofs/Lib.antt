@@ -17,6 +17,9 @@ pub mod BookLemmas
 pub mod LedLemmas
 pub mod PromiseLemmas
 pub mod EventLemmas
+pub mod RequestLemmas
+pub mod AskedLemmas
+pub mod AnsweredLemmas
 pub mod TidyLemmas
 pub mod WorldRows
 pub mod FlagLemmas

@@ -45,6 +45,7 @@ use Rattle.album_world.specs.Changes.{Change}
 use Rattle.album_world.specs.Changes.Change.{AtPart}
 use Rattle.album_world.specs.Changes.{sweeps, trims}
 use Rattle.album_world.specs.Runs.{changed, changed_by}
+use Rattle.album_world.specs.declared.events.Event.TheVariants as event
 use Rattle.album_world.specs.Committing.{history}
 use Rattle.album_world.proofs.ListLemmas.{in_cases, in_map, in_nil, in_one, find_push, set_same, set_other, none_some, some_same, same_or_not, any_in, in_any, any_more, true_or_false}
 use Rattle.album_world.proofs.MarkLemmas.{IsPreparedIn, prepared_in, commits_is, discards_is, wrote, wrote_more, version_is, some_is, is_some_of, best_least, best_is, latest_least, latest_is, stamp_for_best}
@@ -543,7 +544,7 @@ part_kept o some w k p m sent to h got =
 -- ---- a sweep at partition p
 
 pub sweep_kept : (o : Opening) (w : World) → IsKept o w → (p t : ℕ) (h : PartitionState)
-    → slice_get w.now.partitions p ≡ Some h → IsKept o (changed_by w (sweeps p t (Some h)))
+    → slice_get w.now.partitions p ≡ Some h → IsKept o (changed_by w (event.Sweep p t) (sweeps p t (Some h)))
 sweep_kept o w k p t h got = go (is_pending (state_of h.marks t)) refl
   where
     d : IsPlaced o p h
@@ -611,7 +612,7 @@ sweep_kept o w k p t h got = go (is_pending (state_of h.marks t)) refl
         })
 
     go : (b : Bool) → is_pending (state_of h.marks t) ≡ b
-        → IsKept o (changed_by w
+        → IsKept o (changed_by w (event.Sweep p t)
         (sends_all (if b then Ok (sent_by h.number t (others_of h.number h.parts (items_at h.marks t))) else Err
         refusal.NotPrepared)))
     go true e = tell (others_of h.number h.parts (items_at h.marks t)) (is_pending_tells (state_of h.marks t) e)
@@ -624,7 +625,7 @@ abbrev trims_to : ℕ → PartitionState → Result (Option Mark) Refusal → Re
 trims_to p h r = (r >>= λ mark. Ok (with_mark h mark)) >>= λ changed. Ok (AtPart p changed [])
 
 pub trim_kept : (o : Opening) (w : World) → IsKept o w → (p i : ℕ) (h : PartitionState)
-    → slice_get w.now.partitions p ≡ Some h → IsKept o (changed_by w (trims p i (Some h)))
+    → slice_get w.now.partitions p ≡ Some h → IsKept o (changed_by w (event.Trim p i) (trims p i (Some h)))
 trim_kept o w k p i h got = go (is_placed h.number h.parts i) refl (floor h.marks i == latest h.marks i)
     (is_full h.limit h.marks) refl
   where
@@ -643,7 +644,7 @@ trim_kept o w k p i h got = go (is_placed h.number h.parts i) refl (floor h.mark
         (ap (λ (z : List Mark). let a : PartitionState = record h { marks = z } in a) (sym (append-nil h.marks))) d.is
 
     go : (a : Bool) → is_placed h.number h.parts i ≡ a → (b c : Bool) → is_full h.limit h.marks ≡ c
-        → IsKept o (changed_by w
+        → IsKept o (changed_by w (event.Trim p i)
         (trims_to p h (if not a then Err refusal.Clash else if b then Ok None else if c then Err refusal.Full else
         Ok (Some (Trimmed i)))))
     go false l b c e = k

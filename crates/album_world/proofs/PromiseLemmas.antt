@@ -36,7 +36,7 @@ use Rattle.album_world.specs.State.{client_at, message_of, is_stopped}
 use Rattle.album_world.specs.Past.{World, Transaction, Told}
 use Rattle.album_world.specs.Changes.{Change, asks_unless, asks_by, part_takes, arrives, delivers, sweeps, trims}
 use Rattle.album_world.specs.Changes.Change.{AtPart, Stops}
-use Rattle.album_world.specs.Runs.{changed, changed_by, happens, start, run, run_of}
+use Rattle.album_world.specs.Runs.{changed, changed_by, happens, new_request, requested, start, run, run_of}
 use Rattle.album_world.specs.Committing.{history, IsCommittedEverywhere, IsPromisedSomewhere}
 use Rattle.album_world.specs.Viewed.{IsToldOn, Finds}
 use Rattle.album_world.specs.Rulings.{IsBegunBy, IsRuledBy, RulingsHold}
@@ -51,7 +51,8 @@ use Rattle.album_world.proofs.PlaceLemmas.{value_placed}
 use Rattle.album_world.proofs.Invariant.{IsKept, IsAnswer}
 use Rattle.album_world.proofs.SafeLemmas.{views_atomic, views_fresh, everywhere, against, lost_against, lost_unsettled}
 use Rattle.album_world.proofs.RunLemmas.{opening_is, start_kept, event_kept, message_in, always_kept}
-use Rattle.album_world.proofs.BookLemmas.{IsLed, IsBegunFull, IsBooked, part_booked, stop_booked}
+use Rattle.album_world.proofs.BookLemmas.{IsLed, IsBegunFull, IsBooked, part_booked, stop_booked, request_booked}
+use Rattle.album_world.proofs.StopLemmas.{request_kept}
 use Rattle.album_world.proofs.LedLemmas.{message_booked, asked_booked}
 
 -- ---- at each event
@@ -60,18 +61,22 @@ module _ (o : Opening) (some : 0 < o.parts) (w : World) (k : IsKept o w) (b : Is
   abbrev t : Terms
   t = terms_of o
 
-  unless_booked : (f : Bool) (r : Refusal) (g : Result Change Refusal) → IsBooked t (changed_by w g)
-      → IsBooked t (changed_by w (if f then Err r else g))
-  unless_booked true r g h = b
-  unless_booked false r g h = h
+  unless_booked : (e : Event) (f : Bool) (r : Refusal) (g : Result Change Refusal) → IsBooked t (changed_by w e g)
+      → IsBooked t (changed_by w e (if f then Err r else g))
+  unless_booked e true r g h = b
+  unless_booked e false r g h = h
 
   module _ (c : ℕ) (who : Principal) (ask : Ask) where
     refused_booked : (tag : ℕ) (f : Option Refusal) → refusal_of ask who ≡ f
-        → IsBooked t (changed_by w (asks_unless t c (client_at w.now.clients c) tag who ask f))
+        → IsBooked t (changed_by w (event.Ask c who ask) (asks_unless t c (client_at w.now.clients c) tag who ask f))
     refused_booked tag (Some r) e = b
-    refused_booked tag None e = asked_booked o w k b c tag ask who e (objects_of ask)
+    refused_booked tag None e =
+        let a = new_request w c who ask in
+        asked_booked o (requested w (event.Ask c who ask)) (request_kept o w k a) (request_booked t w b a) c tag ask who e
+        (objects_of ask)
 
-    asks_booked : (f : Doing) → IsBooked t (changed_by w (asks_by t c (client_at w.now.clients c) who ask f))
+    asks_booked : (f : Doing) → IsBooked t (changed_by w (event.Ask c who ask)
+        (asks_by t c (client_at w.now.clients c) who ask f))
     asks_booked (doing.Idle tag) = refused_booked tag (refusal_of ask who) refl
     asks_booked (doing.Reads v r) = b
     asks_booked (doing.Prepares z) = b
@@ -85,35 +90,38 @@ module _ (o : Opening) (some : 0 < o.parts) (w : World) (k : IsKept o w) (b : Is
   arrival_booked m sent (Part p) = takes_booked p m (slice_get w.now.partitions p)
   arrival_booked m sent (ToClient c) = message_booked o w k b c m sent
 
-  delivery_booked : (f : Option Message) → ((m : Message) → f ≡ Some m → In m w.now.messages)
-      → IsBooked t (changed_by w (delivers t w.now f))
-  delivery_booked None h = b
-  delivery_booked (Some m) h = arrival_booked m (h m refl) m.to
+  delivery_booked : (n : ℕ) (f : Option Message) → ((m : Message) → f ≡ Some m → In m w.now.messages)
+      → IsBooked t (changed_by w (event.Deliver n) (delivers t w.now f))
+  delivery_booked n None h = b
+  delivery_booked n (Some m) h = arrival_booked m (h m refl) m.to
 
-  sweeps_booked : (p s : ℕ) (f : Option PartitionState) → IsBooked t (changed_by w (sweeps p s f))
+  sweeps_booked : (p s : ℕ) (f : Option PartitionState) → IsBooked t (changed_by w (event.Sweep p s) (sweeps p s f))
   sweeps_booked p s None = b
   sweeps_booked p s (Some h) = go (swept h s)
     where
-      go : (r : Result (List Message) Refusal) → IsBooked t (changed_by w (r >>= λ messages. Ok (AtPart p h messages)))
+      go : (r : Result (List Message) Refusal)
+          → IsBooked t (changed_by w (event.Sweep p s) (r >>= λ messages. Ok (AtPart p h messages)))
       go (Ok messages) = part_booked t w b p h messages
       go (Err r) = b
 
-  trims_booked : (p i : ℕ) (f : Option PartitionState) → IsBooked t (changed_by w (trims p i f))
+  trims_booked : (p i : ℕ) (f : Option PartitionState) → IsBooked t (changed_by w (event.Trim p i) (trims p i f))
   trims_booked p i None = b
   trims_booked p i (Some h) = go (trimmed h i)
     where
-      go : (r : Result PartitionState Refusal) → IsBooked t (changed_by w (r >>= λ changed. Ok (AtPart p changed [])))
+      go : (r : Result PartitionState Refusal)
+          → IsBooked t (changed_by w (event.Trim p i) (r >>= λ changed. Ok (AtPart p changed [])))
       go (Ok h) = part_booked t w b p h []
       go (Err r) = b
 
   pub event_booked : (e : Event) → IsBooked t (happens t w e)
   event_booked (event.Ask c who ask) =
-      unless_booked (not (is_client c)) refusal.BadRequest _
-      (unless_booked (is_stopped w.now c) refusal.Stopped _
+      unless_booked (event.Ask c who ask) (not (is_client c)) refusal.BadRequest _
+      (unless_booked (event.Ask c who ask) (is_stopped w.now c) refusal.Stopped _
       (asks_booked c who ask (client_at w.now.clients c).doing))
-  event_booked (event.Deliver n) = delivery_booked (message_of w.now.messages n) (λ m e. message_in o some w k n m e)
+  event_booked (event.Deliver n) = delivery_booked n (message_of w.now.messages n) (λ m e. message_in o some w k n m e)
   event_booked (event.Sweep p s) = sweeps_booked p s (slice_get w.now.partitions p)
-  event_booked (event.Stop c) = unless_booked (is_stopped w.now c) refusal.Stopped (Ok (Stops c)) (stop_booked t w b c)
+  event_booked (event.Stop c) = unless_booked (event.Stop c) (is_stopped w.now c) refusal.Stopped (Ok (Stops c))
+      (stop_booked t w b c)
   event_booked (event.Trim p i) = trims_booked p i (slice_get w.now.partitions p)
 
 run_booked : (o : Opening) → 0 < o.parts → (w : World) → IsKept o w → IsBooked (terms_of o) w → (es : List Event)
@@ -270,5 +278,6 @@ pub writes_are_granted : (o : Opening) (es : List Event) → is_opening o ≡ tr
     → WritesAreGranted (terms_of o) (run_of o es)
 writes_are_granted o es is = record {
   granted = λ by l. (always_booked o es is).granted by (within _ l);
+  single = λ one other l m e. (always_kept o es is).unique one other (within _ l) (within _ m) e;
   versions = of_one o (run_of o es) (always_kept o es is);
 }

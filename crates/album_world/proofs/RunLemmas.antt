@@ -27,13 +27,13 @@ use Rattle.album_world.specs.State.{client_at, marks_of, message_of, is_stopped}
 use Rattle.album_world.specs.Past.{World}
 use Rattle.album_world.specs.Changes.{Change, asks_unless, asks_by, part_takes, arrives, delivers, sweeps, trims}
 use Rattle.album_world.specs.Changes.Change.{Stops}
-use Rattle.album_world.specs.Runs.{changed, changed_by, happens, opens, start, run, run_of}
+use Rattle.album_world.specs.Runs.{changed, changed_by, happens, new_request, opens, requested, start, run, run_of}
 use Rattle.album_world.specs.Committing.{history}
 use Rattle.album_world.proofs.ListLemmas.{In, and_left, and_right, in_nil, got_in, range_got, none_some}
 use Rattle.album_world.proofs.PlaceLemmas.{value_placed}
 use Rattle.album_world.proofs.Invariant.{IsKept, IsPlaced, IsSound, tag_of}
 use Rattle.album_world.proofs.PartLemmas.{part_kept, sweep_kept, trim_kept}
-use Rattle.album_world.proofs.StopLemmas.{stop_kept}
+use Rattle.album_world.proofs.StopLemmas.{stop_kept, request_kept}
 use Rattle.album_world.proofs.ReplyLemmas.{asked_kept, message_kept}
 
 -- ---- as it opens
@@ -116,10 +116,10 @@ module _ (o : Opening) (is : IsOpening o) where
 
 module _ (o : Opening) (some : 0 < o.parts) (w : World) (k : IsKept o w) where
   -- a refused event is none
-  unless_kept : (b : Bool) (r : Refusal) (f : Result Change Refusal) → (b ≡ false → IsKept o (changed_by w f))
-      → IsKept o (changed_by w (if b then Err r else f))
-  unless_kept true r f h = k
-  unless_kept false r f h = h refl
+  unless_kept : (e : Event) (b : Bool) (r : Refusal) (f : Result Change Refusal)
+      → (b ≡ false → IsKept o (changed_by w e f)) → IsKept o (changed_by w e (if b then Err r else f))
+  unless_kept e true r f h = k
+  unless_kept e false r f h = h refl
 
   not_false : (b : Bool) → not b ≡ false → b ≡ true
   not_false true e = refl
@@ -127,13 +127,16 @@ module _ (o : Opening) (some : 0 < o.parts) (w : World) (k : IsKept o w) where
 
   module _ (c : ℕ) (low : 0 < c) (high : c < 65536) (who : Principal) (ask : Ask) where
     refused_kept : (tag : ℕ) → tag_of (client_at w.now.clients c).doing ≡ tag → (f : Option Refusal)
-        → IsKept o (changed_by w (asks_unless (terms_of o) c (client_at w.now.clients c) tag who ask f))
+        → IsKept o (changed_by w (event.Ask c who ask)
+        (asks_unless (terms_of o) c (client_at w.now.clients c) tag who ask f))
     refused_kept tag e (Some r) = k
-    refused_kept tag e None = asked_kept o some w k c low high tag e
+    refused_kept tag e None = asked_kept o some (requested w (event.Ask c who ask))
+        (request_kept o w k (new_request w c who ask)) c low high tag e
         (record { viewing = record { ask = ask; reads = 0 }; principal = who }) (objects_of ask)
 
     asks_kept : (f : Doing) → (client_at w.now.clients c).doing ≡ f
-        → IsKept o (changed_by w (asks_by (terms_of o) c (client_at w.now.clients c) who ask f))
+        → IsKept o (changed_by w (event.Ask c who ask)
+        (asks_by (terms_of o) c (client_at w.now.clients c) who ask f))
     asks_kept (doing.Idle tag) e = refused_kept tag (ap tag_of e) (refusal_of ask who)
     asks_kept (doing.Reads v r) e = k
     asks_kept (doing.Prepares z) e = k
@@ -149,36 +152,37 @@ module _ (o : Opening) (some : 0 < o.parts) (w : World) (k : IsKept o w) where
   arrival_kept m sent (Part p) to = takes_kept p m sent to (slice_get w.now.partitions p) refl
   arrival_kept m sent (ToClient c) to = message_kept o some w k c m sent
 
-  delivery_kept : (f : Option Message) → ((m : Message) → f ≡ Some m → In m w.now.messages)
-      → IsKept o (changed_by w (delivers (terms_of o) w.now f))
-  delivery_kept None h = k
-  delivery_kept (Some m) h = arrival_kept m (h m refl) m.to refl
+  delivery_kept : (n : ℕ) (f : Option Message) → ((m : Message) → f ≡ Some m → In m w.now.messages)
+      → IsKept o (changed_by w (event.Deliver n) (delivers (terms_of o) w.now f))
+  delivery_kept n None h = k
+  delivery_kept n (Some m) h = arrival_kept m (h m refl) m.to refl
 
   pub message_in : (n : ℕ) (m : Message) → message_of w.now.messages n ≡ Some m → In m w.now.messages
   message_in zero m e = none_some e
   message_in (suc n) m e = got_in w.now.messages n m e
 
   sweeps_kept : (p t : ℕ) (f : Option PartitionState) → slice_get w.now.partitions p ≡ f
-      → IsKept o (changed_by w (sweeps p t f))
+      → IsKept o (changed_by w (event.Sweep p t) (sweeps p t f))
   sweeps_kept p t None e = k
   sweeps_kept p t (Some h) e = sweep_kept o w k p t h e
 
   trims_kept : (p i : ℕ) (f : Option PartitionState) → slice_get w.now.partitions p ≡ f
-      → IsKept o (changed_by w (trims p i f))
+      → IsKept o (changed_by w (event.Trim p i) (trims p i f))
   trims_kept p i None e = k
   trims_kept p i (Some h) e = trim_kept o w k p i h e
 
   pub event_kept : (e : Event) → IsKept o (happens (terms_of o) w e)
   event_kept (event.Ask c who ask) =
-      unless_kept (not (is_client c)) refusal.BadRequest _ (λ e.
+      unless_kept (event.Ask c who ask) (not (is_client c)) refusal.BadRequest _ (λ e.
       let known = not_false (is_client c) e in
-      unless_kept (is_stopped w.now c) refusal.Stopped _ (λ f.
+      unless_kept (event.Ask c who ask) (is_stopped w.now c) refusal.Stopped _ (λ f.
       asks_kept c (ltb-true 0 c (and_left (nat_lt 0 c) (nat_lt c CLIENTS) known))
       (ltb-true c CLIENTS (and_right (nat_lt 0 c) (nat_lt c CLIENTS) known)) who ask
       (client_at w.now.clients c).doing refl))
-  event_kept (event.Deliver n) = delivery_kept (message_of w.now.messages n) (λ m e. message_in n m e)
+  event_kept (event.Deliver n) = delivery_kept n (message_of w.now.messages n) (λ m e. message_in n m e)
   event_kept (event.Sweep p t) = sweeps_kept p t (slice_get w.now.partitions p) refl
-  event_kept (event.Stop c) = unless_kept (is_stopped w.now c) refusal.Stopped (Ok (Stops c)) (λ e. stop_kept o w k c)
+  event_kept (event.Stop c) = unless_kept (event.Stop c) (is_stopped w.now c) refusal.Stopped (Ok (Stops c))
+      (λ e. stop_kept o w k c)
   event_kept (event.Trim p i) = trims_kept p i (slice_get w.now.partitions p) refl
 
 run_kept : (o : Opening) → 0 < o.parts → (w : World) → IsKept o w → (es : List Event) → IsKept o (run (terms_of o) w es)

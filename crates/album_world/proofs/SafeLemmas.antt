@@ -1,6 +1,6 @@
 -- What follows of the invariant for snapshots and for the outcomes of writes.
 use Rattle.std.proofs.Common.{◌≡◌, ℕ, ◌<◌, ◌≤◌, ◌+◌, ◌*◌, true, List, Some, is_some, inl, inr, ⊎_elim, sym, ap, ◌∙◌, subst, arith, Contains}
-use Rattle.std.specs.List.{find}
+use Rattle.std.specs.List.{find, list_any}
 use Rattle.album_items.specs.ItemIds.{place_of}
 use Rattle.album_items.specs.Openings.{Row}
 use Rattle.album_items.specs.Places.{places_of}
@@ -9,7 +9,7 @@ use Rattle.album_items.specs.declared.openings.Opening.{Opening}
 use Rattle.album_partition.specs.declared.marks.Mark.{Mark}
 use Rattle.album_partition.specs.declared.marks.Mark.TheVariants.{Prepared}
 use Rattle.album_partition.specs.Partition.{PartitionState}
-use Rattle.album_partition.specs.Marks.{prepares, value_in, IsPromisedAgainst}
+use Rattle.album_partition.specs.Marks.{prepares, commits, value_in, IsPromisedAgainst}
 use Rattle.album_partition.proofs.StateLemmas.{unknown_tells}
 use Rattle.album_reader.specs.Answers.{Answer as Found}
 use Rattle.album_world.specs.State.{history_in}
@@ -149,6 +149,9 @@ module _ (o : Opening) (w : World) (k : IsKept o w) where
             (λ (c : IsCommitted w row.stamp). unless (subst (IsCommitted w) q c))
             g.committed;
       }
+
+  pub not_both : (t p : ℕ) → IsAgainst o w t → list_any (commits t) (history w p) ≡ true → ⊥
+  not_both t p a c = apart o w k t a ((k.sound p).committed t c)
 
   pub lost_against : (t : ℕ) → IsAgainst o w t → IsLost w t
   lost_against t a = lost t a.of a.begun a.stamp (λ c. apart o w k t a ((k.sound c.0).committed t c.1))

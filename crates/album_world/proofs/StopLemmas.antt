@@ -1,5 +1,5 @@
--- What is kept as a client is stopped.
-use Rattle.std.proofs.Common.{ℕ, List, [], Option, Some, None, inl, inr, ⊎_elim, sym, append-nil, le_refl}
+-- What is kept as a client is stopped, and as a request is taken.
+use Rattle.std.proofs.Common.{ℕ, List, [], ◌∷◌, Option, Some, None, inl, inr, ⊎_elim, sym, append-nil, le_refl}
 use Rattle.album_items.specs.declared.openings.Opening.{Opening}
 use Rattle.album_partition.specs.Partition.{PartitionState}
 use Rattle.album_partition.specs.Marks.{commits}
@@ -7,8 +7,8 @@ use Rattle.album_reader.specs.Rounds.{RoundState}
 use Rattle.album_writer.specs.Writing.{WritingState}
 use Rattle.album_world.specs.declared.clients.Doing.{Doing}
 use Rattle.album_world.specs.declared.clients.Doing.TheVariants as doing
-use Rattle.album_world.specs.State.{client_at}
-use Rattle.album_world.specs.Past.{World, last_begun}
+use Rattle.album_world.specs.State.{client_at, with_number}
+use Rattle.album_world.specs.Past.{Asked, World, last_begun}
 use Rattle.album_world.specs.Changes.Change.{Stops}
 use Rattle.album_world.specs.Runs.{changed}
 use Rattle.album_world.specs.Committing.{history}
@@ -16,9 +16,10 @@ use Rattle.album_world.proofs.ListLemmas.{In}
 use Rattle.album_world.proofs.Invariant.{IsKept, FirstRound, SecondRound, IsRound, IsWriting, HasPrepared, HasCommitted, IsDoing}
 use Rattle.album_world.proofs.GrowthLemmas.{Grows, any_grows, tells_more, prepared_grows, fine_grows, tagged_grows, begun_grows, first_round_grows, second_round_grows, founds_grows, stamp_grows, has_fresh_grows, read_grows, answer_grows, drawn_grows, sound_grows}
 
-module _ (o : Opening) (w : World) (k : IsKept o w) (c : ℕ) where
+-- who was stopped, and what was asked, is nothing to what is kept
+module _ (o : Opening) (w : World) (k : IsKept o w) (stopped : List ℕ) (asked : List Asked) where
   abbrev next : World
-  next = changed w (Stops c)
+  next = record { now = record w.now { stopped = stopped }; past = record w.past { asked = asked } }
 
   grows : Grows o w next
   grows = record {
@@ -80,8 +81,8 @@ module _ (o : Opening) (w : World) (k : IsKept o w) (c : ℕ) where
   doing_lasts d began (doing.Commits x) h = writing_lasts d x (HasCommitted w) (HasCommitted next)
       (λ q u e. any_grows o w next grows (commits u) q e) h
 
-  pub stop_kept : IsKept o next
-  stop_kept = record {
+  same_kept : IsKept o next
+  same_kept = record {
     placed = k.placed;
     sound = λ p. sound_grows o w next grows p (history w p) (k.sound p);
     noted = λ p h e n l. prepared_grows o w next grows n.part n.stamp (k.noted p h e n l);
@@ -100,3 +101,10 @@ module _ (o : Opening) (w : World) (k : IsKept o w) (c : ℕ) where
     reads = λ f rows l e. read_grows o w next grows f.begun.partitions rows (k.reads f rows l e);
     answers = λ t l. answer_grows o w next grows t.answer (k.answers t l);
   }
+
+pub stop_kept : (o : Opening) (w : World) → IsKept o w → (c : ℕ) → IsKept o (changed w (Stops c))
+stop_kept o w k c = same_kept o w k (with_number c w.now.stopped) w.past.asked
+
+pub request_kept : (o : Opening) (w : World) → IsKept o w → (a : Asked)
+    → IsKept o (record w { past = record w.past { asked = a ∷ w.past.asked } })
+request_kept o w k a = same_kept o w k w.now.stopped (a ∷ w.past.asked)

@@ -1,5 +1,5 @@
 -- A step more of each past that a world may have, for `World`.
-use Rattle.std.proofs.Common.{◌≡◌, ◌≢◌, ◌<◌, ◌+◌, ℕ, suc, length, take, get_or, List, [], ◌∷◌, ◌++◌, Result, Ok, Err, IsOk, IfOk, IfErr, OnErr, refl, sym, ap, ◌∙◌, subst, append-nil, append_assoc, add-one}
+use Rattle.std.proofs.Common.{◌≡◌, ◌≢◌, true, ◌<◌, ◌+◌, ℕ, length, take, get_or, List, [], ◌∷◌, ◌++◌, Result, Ok, Err, IsOk, IfOk, IfErr, OnErr, refl, sym, ap, ◌∙◌, subst, append-nil, append_assoc, add-one}
 use Rattle.std.proofs.Math.Seq.{take-suc}
 use Rattle.album_stamps.specs.declared.refusals.Refusal.{Refusal}
 use Rattle.album_stamps.specs.declared.refusals.Refusal.TheVariants.{OutOfMemory}
@@ -11,8 +11,11 @@ use Rattle.album_world.specs.State.{Now}
 use Rattle.album_world.specs.Past.{World}
 use Rattle.album_world.specs.Changes.{Change, change_of}
 use Rattle.album_world.specs.Runs.{changed_by, happens, now_after, outs_by, outs_of, run, run_of, start, tells}
-use Rattle.album_world.specs.Seen.{WorldState, IsDone, IsRefused, IsStepped, IsBehind, IsReached, IsInPast, GoesOn, AreStepped, RunsOn, done_of}
+use Rattle.album_world.specs.Seen.{WorldState, IsDone, IsRefused, IsStepped, IsBehind, IsReached, IsInPast, GoesOn, AreStepped, AreInPast, RunsOn, done_of}
+use Rattle.album_items.specs.Openings.{is_opening}
+use Rattle.album_world.proofs.AskedLemmas.{answers_last, always_requested}
 use Rattle.album_world.proofs.EventLemmas.{answers_are_kept, notes_are_kept}
+use Rattle.album_world.proofs.RunLemmas.{opening_is, always_kept}
 
 -- ---- one event more
 
@@ -25,7 +28,7 @@ leads : (t : Terms) (w : World) (old new : Now) (e : Event) (outs : List Out) �
     → new ≡ (happens t w e).now
 leads t w old new e outs same d =
     d.kept ∙ ap (λ (n : Now). now_after n d.change) (sym same)
-    ∙ sym (ap (λ (r : Result Change Refusal). (changed_by w r).now) (ap (λ (n : Now). change_of t n e) same ∙ d.is))
+    ∙ sym (ap (λ (r : Result Change Refusal). (changed_by w e r).now) (ap (λ (n : Now). change_of t n e) same ∙ d.is))
 
 -- and what it tells is what is told
 told : (t : Terms) (w : World) (old new : Now) (e : Event) (outs : List Out) → w.now ≡ old → IsDone t old e new outs
@@ -46,18 +49,31 @@ behind_more o es e old new outs b d = record {
       ∙ sym (ap (λ (w : World). w.now) (run_more (terms_of o) (start o) es e));
 }
 
-in_past_of : (t : Terms) (w : World) (e : Event) (outs : List Out) → outs ≡ tells t w e → IsInPast (happens t w e) outs
-in_past_of t w e outs same = subst (IsInPast (happens t w e)) (sym same) (record {
-  answers = λ c a i. answers_are_kept t w e c a i;
-  notes = λ c n i. notes_are_kept t w e c n i;
-})
+in_past_of : (o : Opening) (es : List Event) → is_opening o ≡ true → (e : Event) (outs : List Out)
+    → outs ≡ tells (terms_of o) (run_of o es) e → IsInPast (happens (terms_of o) (run_of o es) e) outs
+in_past_of o es is e outs same =
+    let t = terms_of o in
+    let w = run_of o es in
+    subst (IsInPast (happens t w e)) (sym same) (record {
+      answers = λ c a i. answers_are_kept t w e c a i;
+      notes = λ c n i. notes_are_kept t w e c n i;
+      requests = λ c a i.
+          answers_last o (opening_is o is).some w (always_kept o es is) (always_requested o es is) e c a i;
+    })
+
+-- of the run with the event, what the event tells
+pub in_past_told : (o : Opening) (es : List Event) → is_opening o ≡ true → (e : Event)
+    → IsInPast (run_of o (es ++ e ∷ [])) (tells (terms_of o) (run_of o es) e)
+in_past_told o es is e =
+    subst (λ (w : World). IsInPast w (tells (terms_of o) (run_of o es) e)) (sym (run_more (terms_of o) (start o) es e))
+    (in_past_of o es is e (tells (terms_of o) (run_of o es) e) refl)
 
 in_past_more : (o : Opening) (es : List Event) (e : Event) (old : WorldState) (new : Now) (outs : List Out)
     → IsBehind o es old → IsDone old.terms old.kept e new outs → IsInPast (run_of o (es ++ e ∷ [])) outs
 in_past_more o es e old new outs b d =
     let done : IsDone (terms_of o) old.kept e new outs = subst (λ (t : Terms). IsDone t old.kept e new outs) b.terms d in
     subst (λ (w : World). IsInPast w outs) (sym (run_more (terms_of o) (start o) es e))
-    (in_past_of (terms_of o) (run_of o es) e outs (told (terms_of o) (run_of o es) old.kept new e outs (sym b.kept) done))
+    (in_past_of o es b.passes e outs (told (terms_of o) (run_of o es) old.kept new e outs (sym b.kept) done))
 
 -- ---- for `step`
 
@@ -113,6 +129,21 @@ module _ {Told : Type 0} (view : Told → List Out) (t : Terms) where
       ∙ ap (λ (n : ℕ). take n es) (sym (add-one i)))
       more
 
+  -- what the events told is in the past up to each
+  all_in_past : (o : Opening) (before : List Event) (old new : Now) (es : List Event) (rs : List (Result Told Refusal))
+      → AreStepped view t old es new rs → IsBehind o before (record { terms = t; kept = old })
+      → AreInPast view o before es rs
+  all_in_past o before old new [] rs h b = tt
+  all_in_past o before old new (e ∷ es) [] h b = tt
+  all_in_past o before old new (e ∷ es) (Ok x ∷ rs) h b = (
+    in_past_more o before e (record { terms = t; kept = old }) h.0 (view x) b h.1,
+    all_in_past o (before ++ e ∷ []) h.0 new es rs h.2
+        (behind_more o before e (record { terms = t; kept = old }) h.0 (view x) b h.1),
+  )
+  all_in_past o before old new (e ∷ es) (Err y ∷ rs) h b =
+      all_in_past o before h.0 new es rs h.2
+      (subst (λ (n : Now). IsBehind o before (record { terms = t; kept = n })) (sym h.1.kept) b)
+
   runs_on : (o : Opening) (before : List Event) (old new : Now) (es : List Event) (rs : List (Result Told Refusal))
       → AreStepped view t old es new rs → IsBehind o before (record { terms = t; kept = old })
       → IsBehind o (before ++ done_of es rs) (record { terms = t; kept = new })
@@ -131,7 +162,9 @@ module _ {Told : Type 0} (view : Told → List Out) (t : Terms) where
 -- and all of it
 pub run_goes_on : {Told : Type 0} (view : Told → List Out) (old new : WorldState) (es : List Event)
     (rs : List (Result Told Refusal)) → new.terms ≡ old.terms
-    → AreStepped view old.terms old.kept es new.kept rs → RunsOn old es new rs
-run_goes_on view old new es rs same h = λ o before b.
-    subst (λ (u : Terms). IsBehind o (before ++ done_of es rs) (record { terms = u; kept = new.kept })) (sym same)
-    (runs_on view old.terms o before old.kept new.kept es rs h b)
+    → AreStepped view old.terms old.kept es new.kept rs → RunsOn view old es new rs
+run_goes_on view old new es rs same h = λ o before b. (
+  subst (λ (u : Terms). IsBehind o (before ++ done_of es rs) (record { terms = u; kept = new.kept })) (sym same)
+      (runs_on view old.terms o before old.kept new.kept es rs h b),
+  all_in_past view old.terms o before old.kept new.kept es rs h b,
+)

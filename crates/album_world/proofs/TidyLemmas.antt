@@ -1,7 +1,7 @@
 -- Each turn of a client is tidy.
-use Rattle.std.proofs.Common.{◌≡◌, ℕ, Bool, true, false, not, nat_lt, ◌==◌, List, [], ◌∷◌, ◌⊎◌, inl, inr, Option, Some, None, Result, Ok, Err, sym, subst, refl, if◌then◌else◌}
+use Rattle.std.proofs.Common.{◌≡◌, ℕ, ◌+◌, ◌*◌, ◌≤◌, arith, Bool, true, false, not, nat_lt, eqb, eqb-true, ◌==◌, List, [], ◌∷◌, ◌⊎◌, inl, inr, ⊎_elim, Option, Some, None, Result, Ok, Err, sym, ap, ◌∙◌, subst, refl, le_refl, le_trans, le_of_eq, if◌then◌else◌}
 use Rattle.std.specs.List.{slice_get, list_any}
-use Rattle.album_stamps.specs.Clocks.{clock_after_next, next_of}
+use Rattle.album_stamps.specs.Clocks.{ClockState, clock_after_next, next_of}
 use Rattle.album_stamps.specs.Outcome.{◌>>=◌}
 use Rattle.album_stamps.specs.Stamps.{is_client}
 use Rattle.album_stamps.specs.declared.refusals.Refusal.{Refusal}
@@ -37,20 +37,27 @@ use Rattle.album_world.specs.Clients.{Client}
 use Rattle.album_world.specs.declared.clients.Doing.{Doing}
 use Rattle.album_world.specs.declared.clients.Doing.TheVariants as doing
 use Rattle.album_writer.specs.declared.answers.Answer.{Answer}
+use Rattle.album_writer.specs.declared.answers.Answer.TheVariants as answer
 use Rattle.album_world.specs.Terms.{Terms}
 use Rattle.album_world.specs.State.{Now, client_at, message_of, is_stopped, with_number}
-use Rattle.album_world.specs.Past.{World}
-use Rattle.album_world.specs.Runs.{changed, changed_by, happens, run}
+use Rattle.album_world.specs.Past.{World, Transaction}
+use Rattle.album_world.specs.Runs.{changed, changed_by, happens, requested, run}
 use Rattle.album_world.specs.Grants.{served_for}
-use Rattle.album_world.specs.Turns.{Turn, writes_unless, draws_by, grants, rules_by, clock_after_rows, views_by, read_turn, prepare_turn, commit_turn}
+use Rattle.album_world.specs.Turns.{Ended, Turn, ask_ends, write_begins, writes_unless, draws_by, grants, rules_by, clock_after_rows, views_by, read_turn, prepare_turn, commit_turn}
 use Rattle.album_world.specs.Changes.{Change, asks_unless, asks_by, part_takes, client_takes_by, client_takes, arrives, delivers, sweeps, trims, change_of}
 use Rattle.album_world.specs.Changes.Change.{Nothing, AtPart, AtClient, Stops}
-use Rattle.album_world.specs.Events.{IsTidy}
-use Rattle.album_world.proofs.ListLemmas.{none_some, or_cases, true_or, or_true, self_eqb}
+use Rattle.album_world.specs.Events.{IsDrawnNow, IsTidy}
+use Rattle.album_world.proofs.ListLemmas.{none_some, some_same, or_cases, true_or, or_true, same_or_not, self_eqb}
+use Rattle.album_world.proofs.ClientLemmas.{client_same, client_other, rows_client, rows_raise, draw_is, next_client, next_raise}
 
--- where it is answered, no write begins
-abbrev IsOver : Turn → Type 0
-IsOver turn = (a : Answer) → turn.answer ≡ Some a → turn.writes ≡ None
+-- Where it is answered, no write begins. The client is the same, its clock has not been set back, and the stamp of a
+-- write that begins is the one that it drew.
+record IsSteady (old : Client) (turn : Turn) : Type 0 where
+  over : (a : Answer) → turn.answer ≡ Some a → turn.writes ≡ None
+  number : turn.client.number ≡ old.number
+  own : turn.client.clock.client ≡ old.clock.client
+  rises : old.clock.counter ≤ turn.client.clock.counter
+  drawn : (by : Transaction) → turn.writes ≡ Some by → IsDrawnNow old turn by
 
 abbrev AreTidy : Now → Change → Type 0
 AreTidy now Nothing = Unit {0}
@@ -66,53 +73,122 @@ module _ (terms : Terms) (now : Now) (c : ℕ) where
   abbrev x : Client
   x = client_at now.clients c
 
-  module _ (y : Client) (tag : ℕ) (permit : PermitState) where
-    unless_over : (stamp : ℕ) (f : Bool) → IsOver (writes_unless terms y tag permit stamp f)
-    unless_over stamp true a e = refl
-    unless_over stamp false a e = none_some e
+  -- a client that goes on from another clock
+  module _ (y : Client) (number : y.number ≡ x.number) (own : y.clock.client ≡ x.clock.client)
+      (rises : x.clock.counter ≤ y.clock.counter) (tag : ℕ) (permit : PermitState) where
+    ends_steady : (a : Answer) → IsSteady x (ask_ends y tag a)
+    ends_steady a =
+        record { over = λ b e. refl; number = number; own = own; rises = rises; drawn = λ by e. none_some e }
 
-    draws_over : (f : Result ℕ Refusal) → IsOver (draws_by terms y tag permit f)
-    draws_over (Ok stamp) a e = unless_over stamp (is_full_for permit stamp) a e
-    draws_over (Err r) a e = refl
+    abbrev drawn : Client
+    drawn = record y { clock = clock_after_next y.clock }
 
-  grants_over : (y : Client) (tag : ℕ) (permit : PermitState) (f : Option Served) → IsOver (grants terms y tag permit f)
-  grants_over y tag permit (Some served) a e = refl
-  grants_over y tag permit None a e = draws_over (record y { clock = clock_after_next y.clock }) tag permit
-      (next_of y.clock) a e
+    drawn_own : drawn.clock.client ≡ x.clock.client
+    drawn_own = next_client y.clock ∙ own
 
-  rules_over : (y : Client) (tag : ℕ) (permit : PermitState) (f : Finding) → IsOver (rules_by terms y tag permit f)
-  rules_over y tag permit finding.Granted a e = grants_over y tag permit (served_for permit permit.view.ask) a e
-  rules_over y tag permit (finding.Denied reasons) a e = refl
-  rules_over y tag permit (finding.Missing object) a e = refl
+    drawn_rises : x.clock.counter ≤ drawn.clock.counter
+    drawn_rises = le_trans rises (next_raise y.clock)
+
+    drawn_ends : (a : Answer) → IsSteady x (ask_ends drawn tag a)
+    drawn_ends a = record {
+      over = λ b e. refl;
+      number = number;
+      own = drawn_own;
+      rises = drawn_rises;
+      drawn = λ by e. none_some e;
+    }
+
+    writes_steady : (stamp : ℕ) → next_of y.clock ≡ Ok stamp → IsSteady x (write_begins terms drawn tag permit stamp)
+    writes_steady stamp e =
+        let d = draw_is y.clock stamp e in
+        record {
+          over = λ a l. none_some l;
+          number = number;
+          own = drawn_own;
+          rises = drawn_rises;
+          drawn = λ by l. record {
+            is = ap (λ (z : Transaction). z.stamp) (sym (some_same l)) ∙ d.stamp_is
+                ∙ ap (λ (z : ℕ). z * 65536 + y.clock.client) (sym d.counter)
+                ∙ ap (λ (z : ℕ). drawn.clock.counter * 65536 + z) own;
+            above = (let u : x.clock.counter ≤ y.clock.counter = rises in
+                let v : drawn.clock.counter ≡ y.clock.counter + 1 = d.counter in
+                omega (arith, u, v));
+          };
+        }
+
+    draws_steady : (f : Result ℕ Refusal) → next_of y.clock ≡ f → IsSteady x (draws_by terms drawn tag permit f)
+    draws_steady (Ok stamp) e = go (is_full_for permit stamp)
+      where
+        go : (f : Bool) → IsSteady x (writes_unless terms drawn tag permit stamp f)
+        go true = drawn_ends (answer.Refused refusal.AlbumFull)
+        go false = writes_steady stamp e
+    draws_steady (Err r) e = drawn_ends (answer.Refused r)
+
+    grants_steady : (f : Option Served) → IsSteady x (grants terms y tag permit f)
+    grants_steady (Some served) = ends_steady (answer.Served served)
+    grants_steady None = draws_steady (next_of y.clock) refl
+
+    rules_steady : (f : Finding) → IsSteady x (rules_by terms y tag permit f)
+    rules_steady finding.Granted = grants_steady (served_for permit permit.view.ask)
+    rules_steady (finding.Denied reasons) = ends_steady (answer.Denied reasons)
+    rules_steady (finding.Missing object) = ends_steady (answer.Missing object)
+
+  -- the clock stays
+  same_tidy : (turn : Turn) → turn.client.number ≡ x.number → turn.client.clock ≡ x.clock
+      → ((a : Answer) → turn.answer ≡ Some a → turn.writes ≡ None) → turn.writes ≡ None → IsTidy x turn
+  same_tidy turn number same over none = record {
+    over = over;
+    unread = λ e. same;
+    number = number;
+    own = ap (λ (z : ClockState). z.client) same;
+    rises = le_of_eq (ap (λ (z : ClockState). z.counter) (sym same));
+    drawn = λ by e. none_some (sym none ∙ e);
+  }
 
   views_tidy : (tag : ℕ) (who : Principal) (step : ViewStep) → IsTidy x (views_by terms x tag who step)
-  views_tidy tag who (Again viewing items) = record { over = λ a e. none_some e; unread = λ e. refl }
-  views_tidy tag who (Busy why) = record { over = λ a e. refl; unread = λ e. refl }
+  views_tidy tag who (Again viewing items) = same_tidy _ refl refl (λ a e. none_some e) refl
+  views_tidy tag who (Busy why) = same_tidy _ refl refl (λ a e. refl) refl
   views_tidy tag who (Closed view) =
       let permit : PermitState = record { view = view; principal = who; policy = terms.policy } in
+      let steady = rules_steady (record x { clock = clock_after_rows x.clock view.rows }) refl
+      (rows_client x.clock view.rows) (rows_raise x.clock view.rows) tag permit
+      (ruling_of (basis_on terms.policy who view.rows) view.ask) in
       record {
-        over = rules_over (record x { clock = clock_after_rows x.clock view.rows }) tag permit
-            (ruling_of (basis_on terms.policy who view.rows) view.ask);
+        over = steady.over;
         unread = λ e. none_some (sym e);
+        number = steady.number;
+        own = steady.own;
+        rises = steady.rises;
+        drawn = λ by e. let d = steady.drawn by e in record { is = d.is; above = d.above };
       }
 
+  read_ends_tidy : (turn : Turn) (over : Option Ended) → IsTidy x turn → IsTidy x (record turn { over = over })
+  read_ends_tidy turn over d = record {
+    over = d.over;
+    unread = d.unread;
+    number = d.number;
+    own = d.own;
+    rises = d.rises;
+    drawn = λ by e. let g = d.drawn by e in record { is = g.is; above = g.above };
+  }
+
   read_tidy : (asking : Asking) (tag : ℕ) (s : Step) → IsTidy x (read_turn terms x tag asking s)
-  read_tidy asking tag (Same round) = record { over = λ a e. none_some e; unread = λ e. refl }
-  read_tidy asking tag (Next round sent) = record { over = λ a e. none_some e; unread = λ e. refl }
-  read_tidy asking tag (Done rows) = let d = views_tidy tag asking.principal (viewed asking.viewing rows) in
-      record { over = d.over; unread = d.unread }
-  read_tidy asking tag (Gone items) = let d = views_tidy tag asking.principal (again asking.viewing items) in
-      record { over = d.over; unread = d.unread }
+  read_tidy asking tag (Same round) = same_tidy _ refl refl (λ a e. none_some e) refl
+  read_tidy asking tag (Next round sent) = same_tidy _ refl refl (λ a e. none_some e) refl
+  read_tidy asking tag (Done rows) =
+      read_ends_tidy _ _ (views_tidy tag asking.principal (viewed asking.viewing rows))
+  read_tidy asking tag (Gone items) =
+      read_ends_tidy _ _ (views_tidy tag asking.principal (again asking.viewing items))
 
   prepare_tidy : (tag : ℕ) (s : WriteStep) → IsTidy x (prepare_turn x tag s)
-  prepare_tidy tag (Waits z) = record { over = λ a e. none_some e; unread = λ e. refl }
-  prepare_tidy tag (Commits z sent) = record { over = λ a e. none_some e; unread = λ e. refl }
-  prepare_tidy tag (Ends outcome) = record { over = λ a e. refl; unread = λ e. refl }
+  prepare_tidy tag (Waits z) = same_tidy _ refl refl (λ a e. none_some e) refl
+  prepare_tidy tag (Commits z sent) = same_tidy _ refl refl (λ a e. none_some e) refl
+  prepare_tidy tag (Ends outcome) = same_tidy _ refl refl (λ a e. refl) refl
 
   commit_tidy : (tag : ℕ) (s : WriteStep) → IsTidy x (commit_turn x tag s)
-  commit_tidy tag (Waits z) = record { over = λ a e. none_some e; unread = λ e. refl }
-  commit_tidy tag (Commits z sent) = record { over = λ a e. none_some e; unread = λ e. refl }
-  commit_tidy tag (Ends outcome) = record { over = λ a e. refl; unread = λ e. refl }
+  commit_tidy tag (Waits z) = same_tidy _ refl refl (λ a e. none_some e) refl
+  commit_tidy tag (Commits z sent) = same_tidy _ refl refl (λ a e. none_some e) refl
+  commit_tidy tag (Ends outcome) = same_tidy _ refl refl (λ a e. refl) refl
 
   takes_by_tidy : (m : Message) → is_stopped now c ≡ false → (f : Doing) → AreTidy now (client_takes_by terms c x m f)
   takes_by_tidy m awake (doing.Idle tag) = tt
@@ -138,7 +214,7 @@ module _ (terms : Terms) (now : Now) (c : ℕ) where
     where
       go : (f : Option Refusal) → AreTidyIn now (asks_unless terms c x tag who ask f)
       go (Some r) = tt
-      go None = (record { over = λ a e. none_some e; unread = λ e. refl }, awake)
+      go None = (same_tidy _ refl refl (λ a e. none_some e) refl, awake)
   asks_tidy who ask awake (doing.Reads v r) = tt
   asks_tidy who ask awake (doing.Prepares z) = tt
   asks_tidy who ask awake (doing.Commits z) = tt
@@ -187,6 +263,45 @@ pub turn_tidy : (terms : Terms) (now : Now) (e : Event) (c : ℕ) (t : Turn) →
     → IsTidy (client_at now.clients c) t
 turn_tidy terms now e c t h = (subst (AreTidyIn now) h (event_tidy terms now e)).0
 
+-- ---- clocks
+
+number_of_client : (cs : List Client) (c : ℕ) → (client_at cs c).number ≡ c
+number_of_client [] c = refl
+number_of_client (y ∷ cs) c = go (eqb y.number c) refl (number_of_client cs c)
+  where
+    go : (f : Bool) → eqb y.number c ≡ f → (client_at cs c).number ≡ c → (if f then y else client_at cs c).number ≡ c
+    go true e rest = eqb-true y.number c e
+    go false e rest = rest
+
+clock_rises : (w : World) (ch : Change) → AreTidy w.now ch → (c : ℕ)
+    → (client_at w.now.clients c).clock.counter ≤ (client_at (changed w ch).now.clients c).clock.counter
+clock_rises w Nothing h c = le_refl _
+clock_rises w (AtPart p held sent) h c = le_refl _
+clock_rises w (Stops d) h c = le_refl _
+clock_rises w (AtClient d t) h c =
+    let number : t.client.number ≡ d = h.0.number ∙ number_of_client w.now.clients d in
+    ⊎_elim
+    (λ (e : d ≡ c). subst
+    (λ (z : ℕ). (client_at w.now.clients z).clock.counter ≤ (client_at (changed w (AtClient d t)).now.clients z).clock.counter)
+    e
+    (subst (λ (z : Client). (client_at w.now.clients d).clock.counter ≤ z.clock.counter)
+    (sym (client_same w.now.clients t.client d number)) h.0.rises))
+    (λ (ne : eqb d c ≡ false). subst
+    (λ (z : Client). (client_at w.now.clients c).clock.counter ≤ z.clock.counter)
+    (sym (client_other w.now.clients t.client c (subst (λ (z : ℕ). eqb z c ≡ false) (sym number) ne))) (le_refl _))
+    (same_or_not d c)
+
+pub clocks_rise : (terms : Terms) (w : World) (es : List Event) (c : ℕ)
+    → (client_at w.now.clients c).clock.counter ≤ (client_at (run terms w es).now.clients c).clock.counter
+clocks_rise terms w [] c = le_refl _
+clocks_rise terms w (e ∷ es) c =
+    le_trans (go (change_of terms w.now e) (event_tidy terms w.now e)) (clocks_rise terms (happens terms w e) es c)
+  where
+    go : (f : Result Change Refusal) → AreTidyIn w.now f
+        → (client_at w.now.clients c).clock.counter ≤ (client_at (changed_by w e f).now.clients c).clock.counter
+    go (Ok ch) h = clock_rises (requested w e) ch h c
+    go (Err r) h = le_refl _
+
 -- no client that was stopped has a turn
 pub turn_awake : (terms : Terms) (now : Now) (e : Event) (c : ℕ) (t : Turn)
     → change_of terms now e ≡ Ok (AtClient c t) → is_stopped now c ≡ false
@@ -226,14 +341,14 @@ pub stopped_for_good : (terms : Terms) (w : World) (es : List Event) (c : ℕ) �
 stopped_for_good terms w [] c h = h
 stopped_for_good terms w (e ∷ es) c h = stopped_for_good terms (happens terms w e) es c (go (change_of terms w.now e))
   where
-    go : (f : Result Change Refusal) → is_stopped (changed_by w f).now c ≡ true
-    go (Ok ch) = stays_stopped w ch c h
+    go : (f : Result Change Refusal) → is_stopped (changed_by w e f).now c ≡ true
+    go (Ok ch) = stays_stopped (requested w e) ch c h
     go (Err r) = h
 
 pub stop_stops : (terms : Terms) (w : World) (c : ℕ) → is_stopped (happens terms w (event.Stop c)).now c ≡ true
 stop_stops terms w c = go (is_stopped w.now c) refl
   where
     go : (f : Bool) → is_stopped w.now c ≡ f
-        → is_stopped (changed_by w (if f then Err refusal.Stopped else Ok (Stops c))).now c ≡ true
+        → is_stopped (changed_by w (event.Stop c) (if f then Err refusal.Stopped else Ok (Stops c))).now c ≡ true
     go true e = e
     go false e = with_this c w.now.stopped

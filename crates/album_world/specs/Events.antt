@@ -1,5 +1,6 @@
 -- What holds of one event.
-use Rattle.std.specs.Prelude.{◌≡◌, ℕ, Some, None, Contains}
+use Rattle.std.specs.Prelude.{◌≡◌, ◌<◌, ◌≤◌, ℕ, Some, None, Contains}
+use Rattle.album_stamps.specs.Stamps.{stamp_number}
 use Rattle.album_permits.specs.declared.notes.Note.{Note}
 use Rattle.album_world.specs.Clients.{Client}
 use Rattle.album_writer.specs.declared.answers.Answer.{Answer}
@@ -14,10 +15,20 @@ pub record IsNoteKept (world : World) (client : ℕ) (note : Note) : Type 0 wher
   pub last_is : noted.last ≡ last_read world.past.reads client
   pub among : Contains noted.notes note
 
--- A client whose ask is answered begins no write. Its clock sees nothing where no view is ruled on.
+-- The write has the stamp that the client's clock drew at this event: the clock has gone on to it from below.
+pub record IsDrawnNow (old : Client) (turn : Turn) (by : Transaction) : Type 0 where
+  pub is : by.stamp ≡ stamp_number turn.client.clock.counter old.clock.client
+  pub above : old.clock.counter < turn.client.clock.counter
+
+-- A client whose ask is answered begins no write. Its clock sees nothing where no view is ruled on, is never set back,
+-- and draws the stamp of each write that begins.
 pub record IsTidy (old : Client) (turn : Turn) : Type 0 where
   pub over : (answer : Answer) → turn.answer ≡ Some answer → turn.writes ≡ None
   pub unread : turn.noted ≡ None → turn.client.clock ≡ old.clock
+  pub number : turn.client.number ≡ old.number
+  pub own : turn.client.clock.client ≡ old.clock.client
+  pub rises : old.clock.counter ≤ turn.client.clock.counter
+  pub drawn : (by : Transaction) → turn.writes ≡ Some by → IsDrawnNow old turn by
 
 -- what was begun, read, told and noted is in the later past too
 pub record IsRemembered (old new : World) : Type 0 where

@@ -43,9 +43,13 @@ pub record IsOfOne (world : World) (item stamp : ℕ) (value : Value) : Type 0 w
   pub wrote : value_in by.writes item ≡ Some value
   pub alone : (other : Transaction) → Contains world.past.transactions other → other.stamp ≡ stamp → other ≡ by
 
--- each write that was ever begun is granted, and each version that a partition has is of just one of them
+-- Each write that was ever begun is granted, no two of them have one stamp, and each version that a partition has is of
+-- just one of them.
 pub record WritesAreGranted (terms : Terms) (world : World) : Type 0 where
   pub granted : (by : Transaction) → Contains world.past.transactions by → IsGranted terms world by
+  pub single :
+      (one other : Transaction) → Contains world.past.transactions one → Contains world.past.transactions other
+      → one.stamp ≡ other.stamp → one ≡ other
   pub versions :
       (part item stamp : ℕ) (value : Value) → version (history world part) item stamp ≡ Some value
       → IsOfOne world item stamp value

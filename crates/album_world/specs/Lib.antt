@@ -16,6 +16,7 @@ pub mod Rulings
 pub mod Granted
 pub mod Outcomes
 pub mod Busy
+pub mod Requests
 pub mod Events
 pub mod Flags
 pub mod Registers

@@ -46,8 +46,21 @@ pub record Noted : Type 0 where
   pub last : Option Read
   pub notes : List Note
 
--- all of these, of reads the last ones first
+-- A request that a client made: for whom, what it asks, and the partitions just before the event that made it. And what
+-- has come of it: the reads that are over, the last one first, the writes that began, what was noted, and the answers.
+pub record Asked : Type 0 where
+  pub client : ℕ
+  pub principal : Principal
+  pub ask : Ask
+  pub partitions : List PartitionState
+  pub reads : List Read
+  pub writes : List Transaction
+  pub notes : List (List Note)
+  pub answers : List Answer
+
+-- all of these, of requests and of reads the last ones first
 pub record Past : Type 0 where
+  pub asked : List Asked
   pub transactions : List Transaction
   pub begun : List Begun
   pub reads : List Read
@@ -70,3 +83,8 @@ last_begun (begun ∷ more) client = if begun.client == client then begun else l
 abbrev pub last_read : List Read → ℕ → Option Read
 last_read [] client = None
 last_read (read ∷ more) client = if read.begun.client == client then Some read else last_read more client
+
+-- its last request
+abbrev pub last_asked : List Asked → ℕ → Option Asked
+last_asked [] client = None
+last_asked (asked ∷ more) client = if asked.client == client then Some asked else last_asked more client

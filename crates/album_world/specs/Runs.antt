@@ -1,5 +1,5 @@
 -- How a world opens, what happens to it, and what is told of that.
-use Rattle.std.specs.Prelude.{ℕ, zero, suc, ◌+◌, List, [], ◌∷◌, ◌++◌, map, filter, length, Option, Some, None, Result, Ok, Err, option_to_list, option_map, slice_set, if◌then◌else◌}
+use Rattle.std.specs.Prelude.{ℕ, zero, suc, ◌+◌, List, [], ◌∷◌, ◌++◌, ◌==◌, map, filter, length, Option, Some, None, Result, Ok, Err, option_to_list, option_map, slice_set, if◌then◌else◌}
 use Rattle.std.specs.List.{range_with_len}
 use Rattle.std.specs.Option.{unwrap_or}
 use Rattle.album_stamps.specs.declared.refusals.Refusal.{Refusal}
@@ -7,14 +7,17 @@ use Rattle.album_items.specs.declared.openings.Opening.{Opening}
 use Rattle.album_calls.specs.declared.messages.Message.{Message}
 use Rattle.album_partition.specs.Partition.{PartitionState, opening_state}
 use Rattle.album_items.specs.Places.{is_placed}
+use Rattle.album_eval.specs.declared.facts.Principal.{Principal}
 use Rattle.album_permits.specs.declared.notes.Note.{Note}
+use Rattle.album_views.specs.declared.asks.Ask.{Ask}
 use Rattle.album_world.specs.declared.events.Event.{Event}
+use Rattle.album_world.specs.declared.events.Event.TheVariants as event
 use Rattle.album_writer.specs.declared.answers.Answer.{Answer}
 use Rattle.album_world.specs.declared.outs.Out.{Out}
 use Rattle.album_world.specs.declared.outs.Out.TheVariants as out
 use Rattle.album_world.specs.Terms.{Terms, terms_of}
 use Rattle.album_world.specs.State.{Now, with_client, with_number}
-use Rattle.album_world.specs.Past.{Begun, Read, Told, Noted, Past, World, last_begun, last_read}
+use Rattle.album_world.specs.Past.{Asked, Begun, Read, Told, Noted, Past, World, last_begun, last_read}
 use Rattle.album_world.specs.Turns.{Ended, Turn}
 use Rattle.album_world.specs.Changes.{Change, change_of}
 use Rattle.album_world.specs.Changes.Change.{Nothing, AtPart, AtClient, Stops}
@@ -61,12 +64,29 @@ told_to reads number answer = record { client = number; last = last_read reads n
 abbrev pub noted_of : List Read → ℕ → List Note → Noted
 noted_of reads number notes = record { client = number; last = last_read reads number; notes = notes }
 
+-- what a turn adds to the request that it is for
+abbrev pub asked_on : Begun → Turn → Asked → Asked
+asked_on begun turn asked =
+    record asked {
+      reads = option_to_list (option_map (read_over begun) turn.over) ++ asked.reads;
+      writes = asked.writes ++ option_to_list turn.writes;
+      notes = asked.notes ++ option_to_list turn.noted;
+      answers = asked.answers ++ option_to_list turn.answer;
+    }
+
+-- the requests, once the client had its turn, which is for its last one
+abbrev pub asked_after : Begun → ℕ → Turn → List Asked → List Asked
+asked_after begun number turn [] = []
+asked_after begun number turn (asked ∷ more) =
+    if asked.client == number then asked_on begun turn asked ∷ more else asked ∷ asked_after begun number turn more
+
 -- what a change adds to it
 abbrev pub past_after : Now → Past → Change → Past
 past_after now past Nothing = past
 past_after now past (AtPart part partition messages) = past
 past_after now past (AtClient number turn) =
     record {
+      asked = asked_after (last_begun past.begun number) number turn past.asked;
       transactions = past.transactions ++ option_to_list turn.writes;
       begun = begun_after now past number turn;
       reads = reads_after past number turn;
@@ -77,18 +97,45 @@ past_after now past (Stops number) = past
 
 -- ---- an event
 
+-- a request of which nothing has come yet
+abbrev pub new_request : World → ℕ → Principal → Ask → Asked
+new_request world client principal ask =
+    record {
+      client = client;
+      principal = principal;
+      ask = ask;
+      partitions = world.now.partitions;
+      reads = [];
+      writes = [];
+      notes = [];
+      answers = [];
+    }
+
+-- the request that an event makes, if it makes one
+abbrev pub requests_of : World → Event → List Asked
+requests_of world (event.Ask client principal ask) = new_request world client principal ask ∷ []
+requests_of world (event.Deliver number) = []
+requests_of world (event.Sweep part stamp) = []
+requests_of world (event.Stop client) = []
+requests_of world (event.Trim part item) = []
+
+-- the world with it in its past, before anything has come of it
+abbrev pub requested : World → Event → World
+requested world event =
+    record world { past = record world.past { asked = requests_of world event ++ world.past.asked } }
+
 -- the world once this is changed
 abbrev pub changed : World → Change → World
 changed world change = record { now = now_after world.now change; past = past_after world.now world.past change }
 
--- one that is refused changes nothing
-abbrev pub changed_by : World → Result Change Refusal → World
-changed_by world (Ok change) = changed world change
-changed_by world (Err refusal) = world
+-- an event that is refused changes nothing, and makes no request
+abbrev pub changed_by : World → Event → Result Change Refusal → World
+changed_by world event (Ok change) = changed (requested world event) change
+changed_by world event (Err refusal) = world
 
 -- the world once the event has happened
 abbrev pub happens : Terms → World → Event → World
-happens terms world event = changed_by world (change_of terms world.now event)
+happens terms world event = changed_by world event (change_of terms world.now event)
 
 -- ---- what it tells
 
@@ -141,7 +188,7 @@ start opening =
         clients = [];
         stopped = [];
       };
-      past = record { transactions = []; begun = []; reads = []; told = []; noted = [] };
+      past = record { asked = []; transactions = []; begun = []; reads = []; told = []; noted = [] };
     }
 
 -- a world once these events have happened, in their order

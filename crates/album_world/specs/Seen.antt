@@ -15,6 +15,7 @@ use Rattle.album_world.specs.Past.{World}
 use Rattle.album_world.specs.Changes.{Change, change_of}
 use Rattle.album_world.specs.Runs.{now_after, outs_of, run_of, start, told_to}
 use Rattle.album_world.specs.Events.{IsNoteKept}
+use Rattle.album_world.specs.Requests.{IsAnsweredLast}
 
 -- what contracts see of a world: the terms on which it opened, and what it keeps
 pub record WorldState : Type 0 where
@@ -96,13 +97,15 @@ OfEachPast world Holds =
     (opening : Opening) (events : List Event) → IsBehind opening events world → Holds opening (run_of opening events)
 
 -- What the event told is in the past, of which it is the last: each answer, and each note, with the read that its
--- client had made last.
+-- client had made last. And each answer is the one to its client's last request.
 pub record IsInPast (past : World) (outs : List Out) : Type 0 where
   pub answers :
       (client : ℕ) (answer : Answer) → Contains outs (out.Answered client answer)
       → Contains past.past.told (told_to past.past.reads client answer)
   pub notes :
       (client : ℕ) (note : Note) → Contains outs (out.Noted client note) → IsNoteKept past client note
+  pub requests :
+      (client : ℕ) (answer : Answer) → Contains outs (out.Answered client answer) → IsAnsweredLast past client answer
 
 -- each past that the world may have had goes on with the event, and has what that told
 abbrev pub GoesOn : WorldState → Event → WorldState → List Out → Type 0
@@ -110,9 +113,19 @@ GoesOn old event new outs =
     (opening : Opening) (events : List Event) → IsBehind opening events old
     → IsBehind opening (events ++ event ∷ []) new × IsInPast (run_of opening (events ++ event ∷ [])) outs
 
+-- Each of these events that was done, in its turn behind those before, told what is in the past up to it.
+abbrev pub AreInPast :
+    {Told : Type 0} → (Told → List Out) → Opening → List Event → List Event → List (Result Told Refusal) → Type 0
+AreInPast view opening before [] results = Unit {0}
+AreInPast view opening before (event ∷ events) [] = Unit {0}
+AreInPast view opening before (event ∷ events) (Ok told ∷ results) =
+    IsInPast (run_of opening (before ++ event ∷ [])) (view told)
+    × AreInPast view opening (before ++ event ∷ []) events results
+AreInPast view opening before (event ∷ events) (Err why ∷ results) = AreInPast view opening before events results
+
 -- the same of several events, of which those that are refused are no events
 abbrev pub RunsOn :
-    {Told : Type 0} → WorldState → List Event → WorldState → List (Result Told Refusal) → Type 0
-RunsOn old events new results =
+    {Told : Type 0} → (Told → List Out) → WorldState → List Event → WorldState → List (Result Told Refusal) → Type 0
+RunsOn view old events new results =
     (opening : Opening) (before : List Event) → IsBehind opening before old
-    → IsBehind opening (before ++ done_of events results) new
+    → IsBehind opening (before ++ done_of events results) new × AreInPast view opening before events results

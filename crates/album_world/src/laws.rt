@@ -1,7 +1,9 @@
 // What holds of every run of a world: of every list of events, from any opening.
-ghost use Rattle.std.specs.Prelude.{◌≡◌, ℕ, List, true, false, Ok, Some, Contains};
+ghost use Rattle.std.specs.Prelude.{◌≡◌, ◌≤◌, ℕ, List, true, false, Ok, Some, Contains};
+ghost use Rattle.std.specs.List.{list_any};
 ghost use Rattle.album_items.specs.Openings.{is_opening};
 ghost use Rattle.album_items.specs.declared.openings.Opening.{Opening};
+ghost use Rattle.album_partition.specs.Marks.{discards};
 ghost use Rattle.album_permits.specs.Permits.{PermitState};
 ghost use Rattle.album_permits.specs.Serving.{IsServed};
 ghost use Rattle.album_permits.specs.declared.findings.Finding.{Finding};
@@ -11,12 +13,14 @@ ghost use Rattle.album_world.specs.Atomic.{ViewsAreReadAtomic};
 ghost use Rattle.album_world.specs.Busy.{BusyHasItsCause};
 ghost use Rattle.album_world.specs.Changes.Change.{AtClient};
 ghost use Rattle.album_world.specs.Changes.{change_of};
+ghost use Rattle.album_world.specs.Committing.{history, IsCommittedAt};
 ghost use Rattle.album_world.specs.Events.{IsNoteKept, IsRemembered, IsTidy};
 ghost use Rattle.album_world.specs.Fresh.{ViewsAreFresh};
 ghost use Rattle.album_world.specs.Grants.{served_for};
 ghost use Rattle.album_world.specs.Granted.{WritesAreGranted};
 ghost use Rattle.album_world.specs.Outcomes.{OutcomesAreTrue};
 ghost use Rattle.album_world.specs.Past.{World, last_begun};
+ghost use Rattle.album_world.specs.Requests.{AnswersAreToRequests};
 ghost use Rattle.album_world.specs.Rulings.{RulingsHold};
 ghost use Rattle.album_world.specs.Runs.{changed, happens, run, run_of, tells, told_to};
 ghost use Rattle.album_world.specs.State.{Now, client_at, is_stopped};
@@ -86,6 +90,21 @@ pub fn busy_has_its_cause()
         → BusyHasItsCause (run_of opening events) }
 {}
 
+/// A law: answers are to requests. Each answer is the one answer to a request of its client, told on what was read for
+/// that request alone, and once it was made. An outcome is of the one write that was begun for it, and where any other
+/// answer was given, nothing was begun. No client makes a request before its last one is answered.
+pub fn answers_are_to_requests()
+    ensures { (opening : Opening) (events : List Happening) → is_opening opening ≡ true
+        → AnswersAreToRequests (terms_of opening) (run_of opening events) }
+{}
+
+/// A law: what one partition has committed, no partition has discarded.
+pub fn committed_is_never_discarded()
+    ensures { (opening : Opening) (events : List Happening) (stamp part other : ℕ) → is_opening opening ≡ true
+        → IsCommittedAt (run_of opening events) stamp part
+        → list_any (discards stamp) (history (run_of opening events) other) ≡ false }
+{}
+
 /// A law: what an event tells is in the past of the world after it, with the read that the client had made last.
 /// So each of the promises is one about what events tell.
 pub fn what_is_told_is_in_the_past()
@@ -109,11 +128,18 @@ pub fn a_read_begins_with_its_partitions()
         → (last_begun (changed world (AtClient client turn)).past.begun client).partitions ≡ world.now.partitions }
 {}
 
-/// A law: a client whose ask is answered begins no write at that event, and its clock sees nothing where no view is
-/// ruled on.
+/// A law: a client whose ask is answered begins no write at that event. Its clock sees nothing where no view is ruled
+/// on, is never set back, and draws the stamp of each write that begins, which is above all that it drew or saw.
 pub fn turns_are_tidy()
     ensures { (terms : Terms) (now : Now) (event : Happening) (client : ℕ) (turn : Turn)
         → change_of terms now event ≡ Ok (AtClient client turn) → IsTidy (client_at now.clients client) turn }
+{}
+
+/// A law: a clock is never set back, whatever happens. So no stamp is drawn twice.
+pub fn clocks_rise()
+    ensures { (terms : Terms) (world : World) (events : List Happening) (client : ℕ)
+        → (client_at world.now.clients client).clock.counter
+        ≤ (client_at (run terms world events).now.clients client).clock.counter }
 {}
 
 /// A law: a client that is stopped stays so, whatever happens, and does nothing any more.

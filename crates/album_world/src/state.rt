@@ -1,5 +1,5 @@
 // What a world keeps, and what each event does to it.
-ghost use Rattle.std.specs.Prelude.{◌≡◌, ◌≢◌, ◌<◌, length, slice_get, option_copied, Some, None, Ok, Err, IsOk, IfOk, IfErr, IfSome, OnErr, IfNone, IsOkUnless};
+ghost use Rattle.std.specs.Prelude.{◌≡◌, ◌≢◌, ◌<◌, ℕ, length, slice_get, option_copied, Some, None, Ok, Err, IsOk, IfOk, IfErr, IfSome, OnErr, IfNone, IsOkUnless};
 ghost use Rattle.album_calls.specs.declared.messages.Message.{Message as Sent};
 ghost use Rattle.album_world.specs.Changes.{asks, change_of, client_takes, delivers, part_takes, stops, sweeps, trims};
 ghost use Rattle.album_world.specs.Seen.{IsChanged, IsMade};
@@ -46,6 +46,8 @@ impl Model for State {
 impl State {
     /// Does what the event says, and tells what comes of it.
     pub fn step(&mut self, alloc: Global, terms: Terms, event: &Event) -> Result<Vec<Out>, Refusal>
+        ensures stop { IfErr result
+            (λ e. e ≡ Refusal.OutOfMemory → (client : ℕ) → event.now ≢ Event.Stop client) }
         ensures done { IfOk result (λ outs. IsMade (change_of terms self.old event.now) self.old self.new outs.items) }
         ensures refused { IfErr result (λ e. e ≢ Refusal.OutOfMemory → change_of terms self.old event.now ≡ Err e) }
         ensures memory { IfErr result (λ e. e ≡ Refusal.OutOfMemory → IsOk (change_of terms self.old event.now)) }
@@ -212,7 +214,7 @@ impl State {
     fn stop(&mut self, alloc: Global, client: ClientNo) -> Result<Vec<Out>, Refusal>
         ensures done { IfOk result (λ outs. IsMade (stops self.old client) self.old self.new outs.items) }
         ensures refused { IfErr result (λ e. e ≢ Refusal.OutOfMemory → stops self.old client ≡ Err e) }
-        ensures memory { IfErr result (λ e. e ≡ Refusal.OutOfMemory → IsOk (stops self.old client)) }
+        ensures memory { IfErr result (λ e. e ≢ Refusal.OutOfMemory) }
         ensures unchanged { OnErr result (self.new ≡ self.old) }
     {
         if self.stopped.has(client) {

@@ -1,5 +1,5 @@
 // A world: what happens to it, and what it tells.
-ghost use Rattle.std.specs.Prelude.{◌≡◌, ◌≢◌, length, slice_get, option_copied, Ok, Err, IsOk, IfOk, IfErr, OnErr, IsOkUnless};
+ghost use Rattle.std.specs.Prelude.{◌≡◌, ◌≢◌, ℕ, length, slice_get, option_copied, Ok, Err, IsOk, IfOk, IfErr, OnErr, IsOkUnless};
 ghost use Rattle.album_stamps.specs.Outcome.{Makes};
 ghost use Rattle.album_world.specs.Atomic.{ViewsAreReadAtomic};
 ghost use Rattle.album_world.specs.Busy.{BusyHasItsCause};
@@ -7,6 +7,7 @@ ghost use Rattle.album_world.specs.Changes.{change_of};
 ghost use Rattle.album_world.specs.Fresh.{ViewsAreFresh};
 ghost use Rattle.album_world.specs.Granted.{WritesAreGranted};
 ghost use Rattle.album_world.specs.Outcomes.{OutcomesAreTrue};
+ghost use Rattle.album_world.specs.Requests.{AnswersAreToRequests};
 ghost use Rattle.album_world.specs.Rulings.{RulingsHold};
 ghost use Rattle.album_world.specs.Seen.{AreStepped, GoesOn, IsDone, IsReached, OfEachPast, RunsOn, opened};
 ghost use Rattle.album_world.specs.State.{message_of};
@@ -91,6 +92,9 @@ impl World {
             (λ e. e ≡ Refusal.OutOfMemory → IsOk (change_of self.old.terms self.old.kept event.now)) }
         ensures unchanged { OnErr result (self.new ≡ self.old) }
         ensures terms { self.new.terms ≡ self.old.terms }
+        // A stop takes no memory.
+        ensures stop { IfErr result
+            (λ e. e ≡ Refusal.OutOfMemory → (client : ℕ) → event.now ≢ Event.Stop client) }
 
         // Each past goes on with the event, and has what that told.
         ensures goes_on { IfOk result (λ outs. GoesOn self.old event.now self.new outs.items) }
@@ -102,6 +106,8 @@ impl World {
         ensures views_are_fresh { OfEachPast self.new (λ opening past. ViewsAreFresh (terms_of opening) past) }
         ensures outcomes_are_true { OfEachPast self.new (λ opening past. OutcomesAreTrue (terms_of opening) past) }
         ensures busy_has_its_cause { OfEachPast self.new (λ opening past. BusyHasItsCause past) }
+        ensures answers_are_to_requests { OfEachPast self.new
+            (λ opening past. AnswersAreToRequests (terms_of opening) past) }
     {
         self.state.step(self.alloc, self.terms, event)
     }
@@ -118,8 +124,8 @@ impl World {
         ensures unchanged { OnErr result (self.new ≡ self.old) }
         ensures terms { self.new.terms ≡ self.old.terms }
 
-        // Each past goes on with the events that are not refused.
-        ensures goes_on { IfOk result (λ results. RunsOn self.old events.now self.new results.items) }
+        // Each past goes on with the events that are not refused, and has what they told.
+        ensures goes_on { IfOk result (λ results. RunsOn (λ outs. outs.items) self.old events.now self.new results.items) }
 
         // And this holds of each past.
         ensures rulings_hold { OfEachPast self.new (λ opening past. RulingsHold (terms_of opening) past) }
@@ -128,6 +134,8 @@ impl World {
         ensures views_are_fresh { OfEachPast self.new (λ opening past. ViewsAreFresh (terms_of opening) past) }
         ensures outcomes_are_true { OfEachPast self.new (λ opening past. OutcomesAreTrue (terms_of opening) past) }
         ensures busy_has_its_cause { OfEachPast self.new (λ opening past. BusyHasItsCause past) }
+        ensures answers_are_to_requests { OfEachPast self.new
+            (λ opening past. AnswersAreToRequests (terms_of opening) past) }
     {
         let mut results = Vec::with_capacity(self.alloc, events.len())?;
         for event in events {

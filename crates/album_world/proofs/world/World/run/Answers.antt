@@ -1,8 +1,8 @@
 use Rattle.std.proofs.Common.{◌≡◌, ◌<◌, length, get_or, rules}
 use Rattle.std.proofs.lemmas.List.{take_all}
+use Rattle.album_world.proofs.AnsweredLemmas.{answers_are_to_requests}
 use Rattle.album_world.proofs.PromiseLemmas.{rulings_hold, writes_are_granted, views_are_read_atomic, views_are_fresh, outcomes_are_true, busy_has_its_cause}
 use Rattle.album_world.proofs.StoryLemmas.{next_stepped, run_goes_on}
-use Rattle.album_world.specs.Seen.{AreStepped}
 use Rattle.album_world.proofs.world.World.run.Goals as goal
 
 -- one event more
@@ -59,3 +59,9 @@ returns-in_err-results-clause-busy_has_its_cause c = λ opening events behind. b
 
 pub returns-clause-busy_has_its_cause : goal.returns-clause-busy_has_its_cause
 returns-clause-busy_has_its_cause c = λ opening events behind. busy_has_its_cause opening events behind.passes
+
+pub returns-in_err-results-clause-answers_are_to_requests : goal.returns-in_err-results-clause-answers_are_to_requests
+returns-in_err-results-clause-answers_are_to_requests c = λ opening events behind. answers_are_to_requests opening events behind.passes
+
+pub returns-clause-answers_are_to_requests : goal.returns-clause-answers_are_to_requests
+returns-clause-answers_are_to_requests c = λ opening events behind. answers_are_to_requests opening events behind.passes

@@ -1,3 +1,4 @@
+use Rattle.album_world.proofs.AnsweredLemmas.{answers_are_to_requests}
 use Rattle.album_world.proofs.PromiseLemmas.{rulings_hold, writes_are_granted, views_are_read_atomic, views_are_fresh, outcomes_are_true, busy_has_its_cause}
 use Rattle.std.proofs.Common.{◌≡◌, ◌≢◌, Err, IfOk, IfErr, subst, rules}
 use Rattle.album_stamps.specs.declared.refusals.Refusal.TheVariants.{OutOfMemory}
@@ -50,3 +51,6 @@ returns-clause-outcomes_are_true c = λ opening events behind. outcomes_are_true
 
 pub returns-clause-busy_has_its_cause : goal.returns-clause-busy_has_its_cause
 returns-clause-busy_has_its_cause c = λ opening events behind. busy_has_its_cause opening events behind.passes
+
+pub returns-clause-answers_are_to_requests : goal.returns-clause-answers_are_to_requests
+returns-clause-answers_are_to_requests c = λ opening events behind. answers_are_to_requests opening events behind.passes
