@@ -11,7 +11,7 @@ use Rattle.album_world.specs.Terms.{Terms}
 use Rattle.album_world.specs.State.{Now}
 use Rattle.album_world.specs.Past.{Past, World}
 use Rattle.album_world.specs.Changes.{Change, change_of}
-use Rattle.album_world.specs.Runs.{now_after, past_after, outs_of, happens, changed_by}
+use Rattle.album_world.specs.Runs.{now_after, past_after, outs_of, happens, changed_by, requested}
 use Rattle.album_world.specs.Seen.{WorldState, IsDone}
 use Rattle.album_world.specs.declared.events.Event.{Event}
 use Rattle.album_world.specs.declared.events.Event.TheVariants as event
@@ -61,14 +61,15 @@ pub told_so : (text_of : Bool → Now → Result Change Refusal → List ℕ)
     → Leads (λ before. Happens text_of terms trace before event) old new past (told_text trace new.kept outs)
 told_so text_of says terms trace old new event outs past done =
     let world = world_of old.kept past in
-    let next : world_of new.kept (past_after old.kept past done.change) ≡ happens terms world event =
-    ap (λ now. world_of now (past_after old.kept past done.change)) done.kept ∙ ap (changed_by world) (sym done.is) in
+    let then : Past = past_after old.kept (requested world event).past done.change in
+    let next : world_of new.kept then ≡ happens terms world event =
+    ap (λ now. world_of now then) done.kept ∙ ap (changed_by world event) (sym done.is) in
     let text : told_text trace new.kept outs ≡ text_of trace old.kept (change_of terms old.kept event) =
     ap (λ now. told_text trace now outs) done.kept
     ∙ ap (told_text trace (now_after old.kept done.change)) done.told
     ∙ sym (says trace old.kept done.change)
     ∙ ap (text_of trace old.kept) (sym done.is) in
-    (past_after old.kept past done.change, inl (next, text))
+    (then, inl (next, text))
 
 -- it is refused for its own reason
 pub refused_so : (text_of : Bool → Now → Result Change Refusal → List ℕ)
@@ -78,7 +79,7 @@ pub refused_so : (text_of : Bool → Now → Result Change Refusal → List ℕ)
     → Leads (λ before. Happens text_of terms trace before event) old new past (text_of trace old.kept (Err e))
 refused_so text_of terms trace old new event e past is same =
     let next : with_past new past ≡ happens terms (with_past old past) event =
-    ap (λ w. with_past w past) same ∙ ap (changed_by (with_past old past)) (sym is) in
+    ap (λ w. with_past w past) same ∙ ap (changed_by (with_past old past) event) (sym is) in
     (past, inl (next, ap (text_of trace old.kept) (sym is)))
 
 -- it is refused for memory

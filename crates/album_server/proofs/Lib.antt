@@ -14,3 +14,4 @@ pub mod Standing
 pub mod ReplayTurns
 pub mod Talking
 pub mod TalkTurns
+pub mod Promising

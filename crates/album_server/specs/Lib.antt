@@ -1,6 +1,7 @@
 pub mod Answers
 pub mod Writes
 pub mod Replay
+pub mod Promise
 pub mod WorkedOpening
 pub mod Stages
 pub mod Talk

@@ -23,7 +23,10 @@ mod writing;
 pub use engine::judge;
 pub use fault::Fault;
 pub use judged::one_judgement;
-pub use replays::{replays_are_computed, replays_go_on, worked_replays};
+pub use replays::{
+    a_replay_runs_what_its_lines_spell, replays_are_computed, replays_go_on, what_replay_prints,
+    worked_replays,
+};
 pub use scripts::replay;
 pub use serving::{Served, serve};
 pub use talks::converse;

@@ -1,7 +1,10 @@
 // The text of a replay: laws of it.
-ghost use Rattle.std.specs.Prelude.{◌≡◌, ◌++◌, List, [], ℕ, codes};
+ghost use Rattle.std.specs.Prelude.{◌≡◌, ◌++◌, Bool, List, [], ℕ, codes};
 ghost use Rattle.album_wire.specs.Lines.{Line, ended};
-ghost use Rattle.album_server.specs.Replay.{Stage, Unopened, Over, Replays, IsReplay, replay_text};
+ghost use Rattle.album_world.specs.Past.{World};
+ghost use Rattle.album_world.specs.Terms.{Terms};
+ghost use Rattle.album_server.specs.Promise.{IsAsPromised, IsSpelledBy};
+ghost use Rattle.album_server.specs.Replay.{Stage, Unopened, Running, Over, Replays, IsReplay, replay_text};
 ghost use Rattle.album_server.specs.WorkedOpening.{owners_all, trip_opened};
 ghost use Rattle.album_server.specs.Writes.{IsPrefixOf};
 
@@ -23,6 +26,19 @@ pub fn replays_go_on()
 
     // Once an opening was refused, nothing more is printed.
     ensures over { (lines : List Line) → Replays Over lines Over [] }
+{}
+
+/// A law: what is printed of an input keeps the promise. Each part of it is a refusal, or is told of the world that the
+/// lines before it spell; on that world all promises hold, and what is printed as an answer is the one answer to its
+/// client's last request.
+pub fn what_replay_prints()
+    ensures { (input text : List ℕ) → IsReplay input text → IsAsPromised input text }
+{}
+
+/// A law: the world of a replay in progress is the run of the opening and of the events that its lines spell.
+pub fn a_replay_runs_what_its_lines_spell()
+    ensures { (lines : List Line) (terms : Terms) (trace : Bool) (world : World) (text : List ℕ)
+        → Replays Unopened lines (Running terms trace world) text → IsSpelledBy lines terms world }
 {}
 
 /// A law: texts of replays that were worked out by hand.

@@ -3,6 +3,7 @@ ghost use Rattle.std.specs.Prelude.{◌≡◌, ◌⊎◌, map, Err, OnOk, OnErr,
 ghost use Rattle.std.specs.Io.KnownBytes.{IsAtEnd};
 ghost use Rattle.album_wire.specs.Lines.{said, last};
 ghost use Rattle.album_world.specs.Past.{Past};
+ghost use Rattle.album_server.specs.Promise.{IsAsPromised};
 ghost use Rattle.album_server.specs.Replay.{IsReplay, IsLeftOf, IsOverBy};
 ghost use Rattle.album_server.specs.Stages.{Replayed, Ends, IsLeftAmid, IsLeftAtEnd, stage_of};
 ghost use Rattle.album_server.specs.Writes.{HasRead, Writes, Exchanges, IsPrefixOf};
@@ -27,6 +28,9 @@ pub fn replay<R: Read, W: Write>(
     // Without a fault, what is written is the text of the whole input.
     ensures ok { OnOk result (IfSome (R.remaining reader.old) (λ input.
         Writes (IsReplay input) (W.contents writer.old) (W.contents writer.new))) }
+    // And that keeps the promise: each line printed as an answer is one, on the world that the lines before it spell.
+    ensures promise { OnOk result (IfSome (R.remaining reader.old) (λ input.
+        Writes (IsAsPromised input) (W.contents writer.old) (W.contents writer.new))) }
     // All of it was read, or so much that its opening was refused.
     ensures whole { OnOk result (IsAtEnd (R.remaining reader.new) ⊎ Exchanges IsOverBy
         (R.remaining reader.old) (R.remaining reader.new) (W.contents writer.old) (W.contents writer.new)) }

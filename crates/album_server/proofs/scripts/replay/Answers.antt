@@ -2,6 +2,7 @@ use Rattle.std.proofs.Common.{◌≡◌, ◌≢◌, ◌≤◌, [], length, take,
 use Rattle.std.proofs.lemmas.List.{length-take}
 use Rattle.std.proofs.lemmas.Result.{IfErr-weaker, on_ok_weaker, err_from_is_err_and}
 use Rattle.album_server.specs.declared.engine.TheConstants.{PIECE}
+use Rattle.album_server.proofs.Promising.{promised}
 use Rattle.album_server.proofs.ReplayTurns.{begins, has_read_more, over_now, over_whole, prefix_so_far, turn_done, turn_left, turn_uncut, prefix_of_turn, last_done, last_left, prefix_of_last}
 use Rattle.album_server.proofs.scripts.replay.Goals as goal
 
@@ -24,6 +25,10 @@ returns-then-len-eq0-clause-ok g c =
     on_ok_weaker c.finish.result
     (λ w. last_done _ _ _ _ none _ _ _ _ _ _ c.loop-turn.invariant.replayed c.in-Ok.ensures.bytes.0 end w)
     c.finish.ensures.ok
+
+pub returns-then-len-eq0-clause-promise : goal.returns-then-len-eq0-clause-promise
+returns-then-len-eq0-clause-promise g c =
+    on_ok_weaker c.finish.result (promised _ _ _) (returns-then-len-eq0-clause-ok g c)
 
 pub returns-then-len-eq0-clause-err : goal.returns-then-len-eq0-clause-err
 returns-then-len-eq0-clause-err g c =
@@ -108,6 +113,9 @@ returns-then-is_over-clause-ok g c =
     over_whole _ _ _ _ _ _ _ (sym c.is_over.ensures ∙ c.if-is_over.true)
     (turn_done _ _ _ _ _ _ c.in_ok-ended.ensures.lines _ _ _ _ _ _ _ short c.loop-turn.invariant.replayed c.in-Ok.ensures.bytes.0
     (rw c.deref.ensures.value at c.in_ok-take_lines.ensures.ok))
+
+pub returns-then-is_over-clause-promise : goal.returns-then-is_over-clause-promise
+returns-then-is_over-clause-promise g c = promised _ _ _ (returns-then-is_over-clause-ok g c)
 
 pub returns-then-is_over-clause-whole : goal.returns-then-is_over-clause-whole
 returns-then-is_over-clause-whole g c =
