@@ -2,3 +2,4 @@ pub mod Gathering
 pub mod GroupsFoundLemmas
 pub mod Judging
 pub mod Looking
+pub mod Titling

@@ -17,6 +17,7 @@ mod rows;
 // What holds of them.
 mod bases;
 mod laws;
+mod titles;
 
 pub use bases::a_ruling_has_a_basis;
 pub use hearings::Hearing;
@@ -25,3 +26,4 @@ pub use listing::list;
 pub use reasons::{Alternative, Reason};
 pub use rows::{Row, Rows};
 pub use sights::Sight;
+pub use titles::titles_are_shown_where_granted;
