@@ -3,3 +3,4 @@ pub mod GroupsFoundLemmas
 pub mod Judging
 pub mod Looking
 pub mod Titling
+pub mod Baring

@@ -8,3 +8,4 @@ pub mod Listing
 pub mod Showing
 pub mod Told
 pub mod Agreement
+pub mod Disclosure
