@@ -47,11 +47,11 @@ use Rattle.album_permits.proofs.Meeting.{granted-met}
 use Rattle.album_permits.proofs.Transacting.{no-flaw-of}
 
 -- what is ruled on for a permit
-abbrev basis_for : PermitState → Basis
+abbrev pub basis_for : PermitState → Basis
 basis_for permit = basis_on permit.policy permit.principal permit.view.rows
 
 -- each need of a permit's ask is met
-needs-met : (permit : PermitState) → IsPermit permit → has_needs_met (basis_for permit) permit.view.ask ≡ true
+pub needs-met : (permit : PermitState) → IsPermit permit → has_needs_met (basis_for permit) permit.view.ask ≡ true
 needs-met permit kept =
     (granted-met (basis_for permit) permit.view.ask).0
     (sym (ruling-alike permit.policy permit.principal permit.view.ask permit.view.rows permit.view.rows kept.basis
@@ -74,7 +74,7 @@ just-met basis object mask met =
     one true e = refl
     one false e = e
 
-only-met :
+pub only-met :
     (basis : Basis) (object : ℕ) (mask : Mask) → (is_need_met basis (just object mask) && true) ≡ true
     → IsHeaded (basis.seen object) × (is_granted_on basis object mask ≡ true)
 only-met basis object mask met = just-met basis object mask (and_parts (is_need_met basis (just object mask)) true met).0

@@ -9,3 +9,4 @@ pub mod Elements
 pub mod Telling
 pub mod Changing
 pub mod Granting
+pub mod Disclosing

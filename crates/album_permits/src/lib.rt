@@ -25,12 +25,14 @@ mod merging;
 mod writes;
 
 // What holds of rulings, and of what is written.
+mod disclosure;
 mod laws;
 mod meaning;
 mod noting;
 mod rights;
 mod transactions;
 
+pub use disclosure::{answers_disclose_nothing, secrets_decide_nothing};
 pub use findings::{Denial, Finding};
 pub use laws::{one_ruling, permits_are_spent_on_what_is_named, rulings_look_at_what_is_named};
 pub use meaning::{granted_where_each_need_is_met, what_is_written_is_needed};
