@@ -1,6 +1,6 @@
 -- What totals have of one record, of two lists, and together (`one-of`, `totals-append`, `totals-whole`), for the law
 -- `each_record_counts_once`.
-use Rattle.std.proofs.Common.{◌≡◌, ◌+◌, ◌++◌, ◌&&◌, ℕ, suc, List, [], ◌∷◌, Bool, true, false, not, cond, count_by, length, refl, ap, ◌∙◌, arith}
+use Rattle.std.proofs.Common.{◌≡◌, ◌+◌, ◌++◌, ◌&&◌, ℕ, suc, List, [], ◌∷◌, Bool, true, false, not, cond, length, refl, ap, ◌∙◌, arith}
 use Rattle.std.proofs.lemmas.List.Sums.{sum_by-append}
 use Rattle.album_audit.specs.Totals.{is_audit_ok, is_audit_failed, is_alarm_ok, is_alarm_failed, totals_of, plus}
 use Rattle.album_audit.specs.declared.totals.Record.{Record}

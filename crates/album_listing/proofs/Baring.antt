@@ -2,12 +2,11 @@
 -- (`seen-bared`, `basis-bared`); two that are ruled alike agree when they are bared (`agree-bared`), so that a reason is
 -- the same on both (`reason-both`), and the rows too that may be seen (`rows-alike`). For the law
 -- `listings_disclose_nothing`, and for those of rulings.
-use Rattle.std.proofs.Common.{◌≡◌, ◌==◌, ◌<◌, ℕ, zero, suc, List, [], ◌∷◌, ◌++◌, Bool, true, false, Option, Some, None, Contains, IsTrue, cond, find, map, option_map, refl, sym, ap, subst, ◌∙◌, arith, if◌then◌else◌}
+use Rattle.std.proofs.Common.{◌≡◌, ◌==◌, ◌<◌, ℕ, zero, suc, List, [], ◌∷◌, Bool, true, false, Option, Some, None, Contains, IsTrue, cond, find, map, option_map, refl, sym, ap, subst, ◌∙◌, arith, if◌then◌else◌}
 use Rattle.std.specs.List.{filter_map, slice_index_or}
 use Rattle.std.specs.Option.{option_map_or}
 use Rattle.std.proofs.lemmas.List.Elements.{Contains-append_left}
 use Rattle.album_access.specs.declared.masks.Mask.{Mask}
-use Rattle.album_lists.specs.declared.lists.Ace.{Ace}
 use Rattle.album_lists.specs.declared.whos.Member.{Member}
 use Rattle.album_eval.proofs.Giving.{other_bits_same}
 use Rattle.album_eval.specs.Groups.{IsMember}
@@ -237,8 +236,8 @@ made-bared policy me rows i =
 pub reason-bare : (basis : Basis) (a : Alternative) → reason_of (bare_basis basis) a ≡ reason_of basis a
 reason-bare basis a =
     λ k. option_map
-        (λ head. with_verdict a (verdict (case_on basis head) (entries-bare (basis.seen (list head.list)) k) a.mask))
-        (head-bare (basis.seen a.object) k)
+    (λ head. with_verdict a (verdict (case_on basis head) (entries-bare (basis.seen (list head.list)) k) a.mask))
+    (head-bare (basis.seen a.object) k)
 
 reason-bared :
     (policy : Policy) (me : Principal) (rows : List Answer) (i : ℕ → Bool) (a : Alternative)

@@ -1,6 +1,6 @@
 -- The rows that are listed are just those that may be shown (`shown-listed`, `listed-shown`), for the law
 -- `titles_are_shown_where_granted`.
-use Rattle.std.proofs.Common.{◌≡◌, ◌<◌, ◌==◌, ℕ, zero, suc, length, List, [], ◌∷◌, Bool, true, false, Option, Some, None, Contains, IsTrue, option_map, refl, sym, ap, subst, ◌∙◌, arith, if◌then◌else◌}
+use Rattle.std.proofs.Common.{◌≡◌, ◌<◌, ◌==◌, ℕ, zero, suc, length, List, [], ◌∷◌, Bool, true, false, Option, Some, None, Contains, option_map, refl, sym, ap, subst, ◌∙◌, arith, if◌then◌else◌}
 use Rattle.std.specs.List.{filter_map, cons_option, slice_index_or}
 use Rattle.std.specs.Option.{option_map_or}
 use Rattle.std.proofs.lemmas.Bool.{eqb-true, eq-eqb}
@@ -10,7 +10,7 @@ use Rattle.album_items.specs.Values.{children_of}
 use Rattle.album_items.specs.declared.values.Value.{Value}
 use Rattle.album_items.specs.declared.values.Value.TheVariants as value
 use Rattle.album_listing.specs.Basis.{Basis}
-use Rattle.album_listing.specs.Listing.{title_in, title_shown, row_for, listed}
+use Rattle.album_listing.specs.Listing.{title_in, row_for, listed}
 use Rattle.album_listing.specs.Masks.{READ_ATTRIBUTES}
 use Rattle.album_listing.specs.Reasons.{is_granted_on}
 use Rattle.album_listing.specs.Showing.{IsTitledIn, MayBeShown}

@@ -2,20 +2,18 @@
 -- for a principal it is granted and served the same (`granted-alike`, `served-alike`). For the laws
 -- `secrets_decide_nothing` and `answers_disclose_nothing`: what is found on a basis is what is found on it when it is
 -- bared (`ruling-bare`, `notes-bare`).
-use Rattle.std.proofs.Common.{◌≡◌, ℕ, List, [], ◌∷◌, Option, Some, None, Contains, IsTrue, is_none, is_some, map, find, option_map, option_to_list, refl, sym, ap, subst, ◌∙◌, if◌then◌else◌}
+use Rattle.std.proofs.Common.{◌≡◌, ℕ, List, [], ◌∷◌, Option, is_none, is_some, map, find, option_map, option_to_list, refl, sym, ap, ◌∙◌, if◌then◌else◌}
 use Rattle.std.specs.List.{flat_map, filter_map}
 use Rattle.std.specs.Option.{option_map_or}
 use Rattle.album_eval.specs.Audit.{audited}
 use Rattle.album_eval.specs.Verdict.{verdict}
-use Rattle.album_lists.specs.declared.lists.Ace.{Ace}
 use Rattle.album_eval.specs.declared.facts.Principal.{Principal}
 use Rattle.album_eval.specs.declared.policies.Policy.{Policy}
 use Rattle.album_items.specs.ItemIds.{list}
-use Rattle.album_items.specs.Values.{head_of, children_of, entries_of}
+use Rattle.album_items.specs.Values.{children_of}
 use Rattle.album_items.specs.declared.values.Head.{Head}
 use Rattle.album_items.specs.declared.values.Value.{Value}
 use Rattle.album_reader.specs.Answers.{Answer}
-use Rattle.album_reader.specs.Snapshots.{version_read}
 use Rattle.album_views.specs.Naming.IsNamed.{Subject}
 use Rattle.album_views.specs.Seen.{seen}
 use Rattle.album_views.specs.declared.asks.Ask.{Ask}
@@ -33,13 +31,11 @@ use Rattle.album_listing.proofs.Baring.{head-bare, home-bare, entries-bare, bare
 use Rattle.album_listing.proofs.GroupsFoundLemmas.{basis-based}
 use Rattle.album_listing.proofs.Judging.{first-of}
 use Rattle.album_listing.proofs.Looking.{made, basis-made}
-use Rattle.album_permits.specs.Findings.{is_missing, missing_in, reasons_of, found_by, need_found, and_then_found, needs_found, ruling_of}
+use Rattle.album_permits.specs.Findings.{missing_in, reasons_of, found_by, need_found, and_then_found, needs_found, ruling_of}
 use Rattle.album_permits.specs.Needs.{just, needs_of}
-use Rattle.album_permits.specs.Notes.{note_by, notes_on, notes_for, checked, need_notes, and_then_noted, needs_noted, notes_of}
+use Rattle.album_permits.specs.Notes.{note_by, notes_for, checked, need_notes, and_then_noted, needs_noted, notes_of}
 use Rattle.album_permits.specs.Permits.{permit_on, IsPermit}
 use Rattle.album_permits.specs.Serving.{read_of, IsServed}
-use Rattle.album_permits.specs.declared.findings.Finding.{Finding}
-use Rattle.album_permits.specs.declared.notes.Note.{Note}
 use Rattle.album_permits.specs.declared.serving.Served.{Served}
 use Rattle.album_permits.specs.declared.serving.Served.TheVariants as served
 use Rattle.album_permits.proofs.Agreeing.{ruling-alike, notes-alike}
@@ -75,10 +71,10 @@ module _ (basis : Basis) where
   reasons-bare : (need : List Alternative) → reasons_of (bare_basis basis) need ≡ reasons_of basis need
   reasons-bare need =
       λ k. filter_map
-          (λ (a : Alternative). option_map
-          (λ head. with_verdict a (verdict (case_on basis head) (entries-bare (basis.seen (list head.list)) k) a.mask))
-          (head-bare (basis.seen a.object) k))
-          need
+      (λ (a : Alternative). option_map
+      (λ head. with_verdict a (verdict (case_on basis head) (entries-bare (basis.seen (list head.list)) k) a.mask))
+      (head-bare (basis.seen a.object) k))
+      need
 
   found-bare : (need : List Alternative) → need_found (bare_basis basis) need ≡ need_found basis need
   found-bare need = λ k. found_by (missing-bare need k) (reasons-bare need k)
@@ -91,14 +87,14 @@ module _ (basis : Basis) where
   for-bare : (r : Reason) → notes_for (bare_basis basis) r ≡ notes_for basis r
   for-bare r =
       λ k. flat_map
-          (λ (head : Head). map (note_by r (entries-bare (basis.seen (list head.list)) k))
-          (audited (case_on basis head) r.mask (is_grant r.verdict) (entries-bare (basis.seen (list head.list)) k)))
-          (option_to_list (head-bare (basis.seen r.object) k))
+      (λ (head : Head). map (note_by r (entries-bare (basis.seen (list head.list)) k))
+      (audited (case_on basis head) r.mask (is_grant r.verdict) (entries-bare (basis.seen (list head.list)) k)))
+      (option_to_list (head-bare (basis.seen r.object) k))
 
   noted-bare : (need : List Alternative) → need_notes (bare_basis basis) need ≡ need_notes basis need
   noted-bare need =
       λ k. if is_some (missing-bare need k) then []
-          else flat_map (λ r. for-bare r k) (checked (reasons-bare need k))
+      else flat_map (λ r. for-bare r k) (checked (reasons-bare need k))
 
   all-noted-bare :
       (needs : List (List Alternative)) → needs_noted (bare_basis basis) needs ≡ needs_noted basis needs

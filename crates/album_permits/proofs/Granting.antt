@@ -1,7 +1,7 @@
 -- What a permit writes of what it does not make is a granted change (`effect-granted`), and what it is served is granted
 -- (`picture-granted`, `group-granted`, `rows-granted`, `entries-granted`), for the laws `what_changes_is_granted` and
 -- `what_is_served_is_granted`.
-use Rattle.std.proofs.Common.{◌≡◌, ◌⊎◌, ◌==◌, ◌++◌, ◌<◌, ◌*◌, ◌+◌, ◌/◌, ◌%◌, ◌&&◌, ◌||◌, ℕ, zero, suc, List, [], ◌∷◌, Bool, true, false, not, Some, None, Contains, IsTrue, is_none, map, inl, inr, refl, sym, ap, subst, ◌∙◌, arith}
+use Rattle.std.proofs.Common.{◌≡◌, ◌⊎◌, ◌==◌, ◌++◌, ◌<◌, ◌&&◌, ◌||◌, ℕ, zero, suc, List, [], ◌∷◌, Bool, true, false, not, Some, Contains, IsTrue, map, inl, inr, refl, sym, ap, subst, ◌∙◌, arith}
 use Rattle.std.specs.List.{list_any, list_all, flat_map, slice_index_or}
 use Rattle.std.proofs.lemmas.Bool.{and_parts, or_left, not-true, both_ways, eqb-true}
 use Rattle.album_access.specs.declared.masks.Mask.{Mask}
@@ -10,7 +10,7 @@ use Rattle.album_lists.specs.declared.lists.Ace.{Ace}
 use Rattle.album_lists.specs.declared.whos.Member.{Member}
 use Rattle.album_items.specs.ItemBack.{kind_of-item}
 use Rattle.album_items.specs.ItemIds.{picture, album, list, kind_of, number_of}
-use Rattle.album_items.specs.Values.{head_of, home_of, list_of, members_of}
+use Rattle.album_items.specs.Values.{home_of, list_of, members_of}
 use Rattle.album_items.specs.declared.values.Value.{Value}
 use Rattle.album_items.specs.declared.values.Value.TheVariants as value
 use Rattle.album_views.proofs.Flaws.{no_flaw}
@@ -31,14 +31,12 @@ use Rattle.album_listing.specs.declared.rows.Row.{Row}
 use Rattle.album_listing.proofs.GroupsFoundLemmas.{basis-based}
 use Rattle.album_permits.specs.Changes.{with_title, with_content, with_home, with_owner, with_members, without_child, with_child}
 use Rattle.album_permits.specs.Effects.{Write, list_dropped, taken_out, list_written, written, effect_of}
-use Rattle.album_permits.specs.Findings.{is_missing, ruling_of}
+use Rattle.album_permits.specs.Findings.{is_missing}
 use Rattle.album_permits.specs.Meaning.{is_need_met, has_needs_met}
-use Rattle.album_permits.specs.Needs.{just, deletion, needs_of}
+use Rattle.album_permits.specs.Needs.{just, deletion}
 use Rattle.album_permits.specs.Permits.{PermitState, IsPermit}
 use Rattle.album_permits.specs.Rights.{is_granted_to, may_delete, IsNew, Changes, IsGrantedChange}
 use Rattle.album_permits.specs.Serving.{read_of, IsServed, IsServedFor}
-use Rattle.album_permits.specs.declared.findings.Finding.TheVariants.{Granted}
-use Rattle.album_permits.specs.declared.serving.Served.{Served}
 use Rattle.album_permits.specs.declared.serving.Served.TheVariants as served
 use Rattle.album_permits.proofs.Agreeing.{ruling-alike}
 use Rattle.album_permits.proofs.Changing.{IsHeaded, MayGain, MayLose, granted-change, titled, refilled, remembered, reowned, rehomed, with-child, without-child}
@@ -275,8 +273,7 @@ module _ (permit : PermitState) (stamp : ℕ) where
   written-right me (ask.List object) met kinds = tt
   written-right me (ask.GetList object) met kinds = tt
   written-right me (ask.AddPicture into title content) met kinds =
-      let granted = only-met (basis_for permit) into ADD_FILE met in
-      (
+      let granted = only-met (basis_for permit) into ADD_FILE met in (
         inl (refl, (0, omega arith, refl)),
         (
           inl (refl, (2, omega arith, refl)),
@@ -288,8 +285,7 @@ module _ (permit : PermitState) (stamp : ℕ) where
       )
   written-right me (ask.AddAlbum into title) met kinds =
       let granted = only-met (basis_for permit) into ADD_SUBDIRECTORY met in
-      let other : kind_of (album stamp) ≡ 0 → ⊥ = λ e. omega (arith, e, kind_of-item 1 stamp (omega arith)) in
-      (
+      let other : kind_of (album stamp) ≡ 0 → ⊥ = λ e. omega (arith, e, kind_of-item 1 stamp (omega arith)) in (
         inl (refl, (1, omega arith, refl)),
         (
           inl (refl, (2, omega arith, refl)),
@@ -297,23 +293,20 @@ module _ (permit : PermitState) (stamp : ℕ) where
         ),
       )
   written-right me (ask.Retitle object title) met kinds =
-      let granted = only-met (basis_for permit) object WRITE_ATTRIBUTES met in
-      (
+      let granted = only-met (basis_for permit) object WRITE_ATTRIBUTES met in (
         inr (granted-change permit object (shown object) (with_title title (shown object))
             (titled permit object title (shown object) granted.0 granted.1)),
         tt,
       )
   written-right me (ask.Replace object content) met kinds =
-      let granted = only-met (basis_for permit) object WRITE_DATA met in
-      (
+      let granted = only-met (basis_for permit) object WRITE_DATA met in (
         inr (granted-change permit object (shown object) (with_content content (shown object))
             (refilled permit object content (shown object) granted.0 granted.1)),
         tt,
       )
   written-right me (ask.Delete object) met kinds =
       let may = deletion-met permit object (and_parts (is_need_met (basis_for permit) (deletion shown object)) true met).0
-      in
-      (
+      in (
         inr (vanishes object object (inl refl) may.granted),
         right (ask.Delete object) (list_dropped shown object ++ taken_out shown object)
             (each-append IsGranted (list_dropped shown object) (taken_out shown object)
@@ -327,8 +320,7 @@ module _ (permit : PermitState) (stamp : ℕ) where
       let granted = only-met (basis_for permit) to ADD_FILE parts.1 in
       let right_kinds = moved-kinds object to kinds in
       let home : is_granted_to permit (album (number_of to)) ADD_FILE ≡ true =
-      subst (λ (i : ℕ). is_granted_to permit i ADD_FILE ≡ true) (sym right_kinds.1) granted.1 in
-      (
+      subst (λ (i : ℕ). is_granted_to permit i ADD_FILE ≡ true) (sym right_kinds.1) granted.1 in (
         inr (granted-change permit object (shown object) (with_home (number_of to) (shown object))
             (rehomed permit object (number_of to) (shown object) may.headed may.granted home)),
         right (ask.Move object to) (taken_out shown object ++ (to, with_child object (shown to)) ∷ [])
@@ -339,15 +331,13 @@ module _ (permit : PermitState) (stamp : ℕ) where
   written-right me (ask.SetLists lists) met kinds =
       right (ask.SetLists lists) (flat_map (list_written shown) lists) (lists-right lists met)
   written-right me (ask.SetOwner object owner number) met kinds =
-      let granted = only-met (basis_for permit) object WRITE_OWNER met in
-      (
+      let granted = only-met (basis_for permit) object WRITE_OWNER met in (
         inr (granted-change permit object (shown object) (with_owner owner number (shown object))
             (reowned permit object owner number (shown object) granted.0 granted.1)),
         tt,
       )
   written-right me (ask.SetMembers object members) met kinds =
-      let granted = only-met (basis_for permit) object WRITE_DATA met in
-      (
+      let granted = only-met (basis_for permit) object WRITE_DATA met in (
         inr (granted-change permit object (shown object) (with_members members (shown object))
             (remembered permit object members (shown object) granted.0 granted.1)),
         tt,
@@ -398,8 +388,7 @@ module _ (permit : PermitState) where
       go (value.Picture x) same granted e =
           let o : object ≡ other = cc in
           let t : title ≡ x.title = cc in
-          let k : content ≡ x.content = cc in
-          (
+          let k : content ≡ x.content = cc in (
             subst (λ (i : ℕ). is_granted_to permit i READ_DATA ≡ true) (sym o) granted,
             ap (λ (i : ℕ). title_told (sight i)) o ∙ ap title_told same ∙ ap Some (sym t),
             ap (λ (i : ℕ). content_told (sight i)) o ∙ ap content_told same ∙ ap Some (sym k),
@@ -436,8 +425,7 @@ module _ (permit : PermitState) where
           → IsReadGroup object members
       at v same granted e =
           let o : object ≡ other = cc in
-          let m : members ≡ members_of v = cc in
-          (
+          let m : members ≡ members_of v = cc in (
             subst (λ (i : ℕ). is_granted_to permit i READ_DATA ≡ true) (sym o) granted,
             ap (λ (i : ℕ). members_of (sight i)) o ∙ ap members_of same ∙ sym m,
           )
@@ -517,10 +505,9 @@ module _ (permit : PermitState) where
       let e = l.told in absurd (let f : served.Entries object stamp entries ≡ served.Listed album (stamp_seen permit.view.rows album) l.rows = e in cc)
   entries-for object stamp entries (ask.GetList other) met l =
       let e : served.Entries object stamp entries
-          ≡ served.Entries other (stamp_named permit.view.rows other) (entries_named sight other) = l in
+      ≡ served.Entries other (stamp_named permit.view.rows other) (entries_named sight other) = l in
       let o : object ≡ other = cc in
-      let k : entries ≡ entries_named sight other = cc in
-      (
+      let k : entries ≡ entries_named sight other = cc in (
         subst (λ (i : ℕ). is_granted_to permit i READ_ACL ≡ true) (sym o)
             (only-met (basis_for permit) other READ_ACL met).1,
         ap (entries_named sight) o ∙ sym k,

@@ -1,8 +1,8 @@
 -- Each note is of what is needed and tells its verdict (`note-told`), what a denial tells is not granted (`denied-told`),
 -- and in the place of what a granted ask is not granted it is granted something else (`granted-spared`), for the laws
 -- `notes_tell_the_verdict` and `notes_go_with_the_ruling`.
-use Rattle.std.proofs.Common.{◌≡◌, ◌<◌, ◌+◌, ◌++◌, ◌&&◌, ◌||◌, ℕ, zero, suc, length, List, [], ◌∷◌, Bool, true, false, Option, Some, None, Contains, IsTrue, is_some, map, take, position, option_map, option_to_list, refl, sym, ap, subst, ◌∙◌, arith, if◌then◌else◌}
-use Rattle.std.specs.List.{list_all, list_any, flat_map, filter_map, cons_option, slice_index_or}
+use Rattle.std.proofs.Common.{◌≡◌, ◌+◌, ◌||◌, ℕ, List, [], ◌∷◌, Bool, true, false, Option, Some, None, Contains, IsTrue, is_some, map, take, position, option_map, option_to_list, refl, sym, ap, subst, ◌∙◌, if◌then◌else◌}
+use Rattle.std.specs.List.{list_all, list_any, flat_map, cons_option}
 use Rattle.std.specs.Option.{option_map_or}
 use Rattle.std.proofs.lemmas.Bool.{and_parts, or_parts, both_ways}
 use Rattle.album_lists.specs.declared.lists.Ace.{Ace}
@@ -11,11 +11,11 @@ use Rattle.album_items.specs.declared.values.Head.{Head}
 use Rattle.album_eval.specs.Audit.{audited}
 use Rattle.album_views.specs.declared.asks.Ask.{Ask}
 use Rattle.album_listing.specs.Basis.{Basis}
-use Rattle.album_listing.specs.Reasons.{on, case_on, entries_on, verdict_on, with_verdict, reason_of, is_grant, is_granted_on}
+use Rattle.album_listing.specs.Reasons.{on, case_on, entries_on, verdict_on, with_verdict, is_grant, is_granted_on}
 use Rattle.album_listing.specs.declared.reasons.Alternative.{Alternative}
 use Rattle.album_listing.specs.declared.reasons.Reason.{Reason}
 use Rattle.album_permits.specs.Findings.{missing_in, reasons_of, is_met, found_by, need_found, and_then_found, needs_found, ruling_of}
-use Rattle.album_permits.specs.Meaning.{is_need_met, has_needs_met}
+use Rattle.album_permits.specs.Meaning.{is_need_met}
 use Rattle.album_permits.specs.Needs.{needs_of}
 use Rattle.album_permits.specs.Notes.{note_by, notes_on, notes_for, checked, need_notes, and_then_noted, needs_noted, notes_of}
 use Rattle.album_permits.specs.Noting.{IsNeeded, IsSpared}
@@ -51,9 +51,9 @@ module _ (basis : Basis) (good : Alternative → Type 0) where
       go (Some head) e rest = (
         (
           sym (ap
-          (λ (o : Option Head). option_map_or (λ (r : Reason). is_grant r.verdict)
-          (option_map (λ h. with_verdict a (verdict_on basis h a.mask)) o) false)
-          e),
+              (λ (o : Option Head). option_map_or (λ (r : Reason). is_grant r.verdict)
+              (option_map (λ h. with_verdict a (verdict_on basis h a.mask)) o) false)
+              e),
           all a (first a need),
         ),
         rest,

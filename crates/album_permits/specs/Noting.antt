@@ -1,5 +1,5 @@
 -- What is noted, and how notes go with a ruling.
-use Rattle.std.specs.Prelude.{◌≡◌, List, IsTrue, Contains}
+use Rattle.std.specs.Prelude.{List, IsTrue, Contains}
 use Rattle.album_listing.specs.Basis.{Basis}
 use Rattle.album_listing.specs.Reasons.{is_granted_on}
 use Rattle.album_listing.specs.declared.reasons.Alternative.{Alternative}
