@@ -13,7 +13,11 @@ mod share;
 mod tally;
 mod totals;
 
+// What holds of the totals.
+mod laws;
+
 pub use book::AuditBook;
+pub use laws::each_record_counts_once;
 pub use names::{Blanks, Books};
 pub use share::Share;
 pub use totals::{Record, Totals};

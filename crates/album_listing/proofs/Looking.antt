@@ -56,7 +56,7 @@ basis-made policy me rows basis based =
 
 -- ---- groups
 
-same-test : (a b : Bool) → (IsTrue a → IsTrue b) → (IsTrue b → IsTrue a) → a ≡ b
+pub same-test : (a b : Bool) → (IsTrue a → IsTrue b) → (IsTrue b → IsTrue a) → a ≡ b
 same-test true true f g = refl
 same-test true false f g = sym (f refl)
 same-test false true f g = g refl
@@ -158,7 +158,7 @@ module _ (ask : Ask) (one other : List Answer) (agree : AgreeOn ask one other) w
 
 -- ---- rows
 
-filter-same :
+pub filter-same :
     (f g : ℕ → Option Row) (xs : List ℕ) → ((x : ℕ) → Contains xs x → f x ≡ g x) → filter_map f xs ≡ filter_map g xs
 filter-same f g [] same = refl
 filter-same f g (x ∷ xs) same =

@@ -5,4 +5,7 @@ pub mod Reasons
 pub mod Sights
 pub mod Hearings
 pub mod Listing
+pub mod Showing
+pub mod Told
 pub mod Agreement
+pub mod Disclosure

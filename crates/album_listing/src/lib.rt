@@ -16,12 +16,16 @@ mod rows;
 
 // What holds of them.
 mod bases;
+mod disclosure;
 mod laws;
+mod titles;
 
 pub use bases::a_ruling_has_a_basis;
+pub use disclosure::listings_disclose_nothing;
 pub use hearings::Hearing;
 pub use laws::{listings_are_alike, listings_look_at_what_is_named};
 pub use listing::list;
 pub use reasons::{Alternative, Reason};
 pub use rows::{Row, Rows};
 pub use sights::Sight;
+pub use titles::titles_are_shown_where_granted;

@@ -5,3 +5,8 @@ pub mod Transacting
 pub mod Rows
 pub mod Meeting
 pub mod Needing
+pub mod Elements
+pub mod Telling
+pub mod Changing
+pub mod Granting
+pub mod Disclosing

@@ -62,7 +62,7 @@ module _ (asked : Ask) (one other : List Answer) (agree : AgreeOn asked one othe
       (subst (λ (o : Option Head). Contains (option_to_list (option_map (λ (h : Head). list h.list) o)) (list head.list)) (sym e)
       (first-of (list head.list) []))
 
-  entries-alike :
+  pub entries-alike :
       (item : ℕ) → Contains (subjects_of (seen one) asked) item
       → entries_named (seen one) item ≡ entries_named (seen other) item
   entries-alike item subject =

@@ -446,7 +446,7 @@ seen-right (row ∷ rows) item right =
 
 -- ---- the law
 
-no-flaw-of : (asked : Ask) (p : Principal) → refusal_of asked p ≡ None → flaw_of asked ≡ None
+pub no-flaw-of : (asked : Ask) (p : Principal) → refusal_of asked p ≡ None → flaw_of asked ≡ None
 no-flaw-of asked p e = go (flaw_of asked) refl
   where
     go : (o : Option Refusal) → flaw_of asked ≡ o → flaw_of asked ≡ None

@@ -9,3 +9,5 @@ pub mod Effects
 pub mod Writes
 pub mod Kinds
 pub mod Meaning
+pub mod Noting
+pub mod Rights
