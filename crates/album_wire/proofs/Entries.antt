@@ -1,4 +1,4 @@
--- What is read of entries, of an access list and of members is what spells them. For `one_question`.
+-- What is read of entries, of an access list and of members is what spells them. For the laws of lines.
 use Rattle.std.proofs.Common.{◌≡◌, ◌≤◌, ℕ, List, [], ◌∷◌, length, Bool, true, false, cond, nat_lt, bytes_eq, codes, IsTrue, Some, None, Ok, Err, refl, sym, ap, ◌∙◌, subst}
 use Rattle.std.specs.List.{list_all, AllZip}
 use Rattle.std.specs.Option.{ok_or}

@@ -1,4 +1,4 @@
--- What is read of a JSON value is what it spells: its texts, numbers, lists and names. For `one_question`.
+-- What is read of a JSON value is what it spells: its texts, numbers, lists and names. For the laws of lines.
 use Rattle.std.proofs.Common.{◌≡◌, ◌==◌, ℕ, List, [], ◌∷◌, Bool, true, Ordering, Less, Equal, Greater, Option, Some, Ok, Contains, is_eq, refl, sym, ap, ◌∙◌, arith}
 use Rattle.std.specs.Option.{ok_or}
 use Rattle.std.specs.Ordering.{nat_cmp, match_ordering}
@@ -93,7 +93,7 @@ known_name : (names : List (List ℕ)) (name : List ℕ) → is_among names name
 known_name names name h =
     Contains-from_any {eq = λ q n. bytes_eq n q} (λ q n e. sym ((bytes_eq-Decides n q).0 e)) name names h
 
-is_there : (names : List (List ℕ)) (name : List ℕ) → Contains names name → is_among names name ≡ true
+pub is_there : (names : List (List ℕ)) (name : List ℕ) → Contains names name → is_among names name ≡ true
 is_there names name h = list_any_at (λ n. bytes_eq n name) names h.0 name h.1 ((bytes_eq-Decides _ name).1 h.2)
 
 -- a name is found where it is first, or among the others

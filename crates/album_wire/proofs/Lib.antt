@@ -12,3 +12,10 @@ pub mod Questions
 pub mod Texts
 pub mod Floats
 pub mod OnLiterals
+pub mod Forms
+pub mod HexTexts
+pub mod ItemSpelling
+pub mod AskSpelling
+pub mod OpeningSpelling
+pub mod EventSpelling
+pub mod TalkSpelling

@@ -1,4 +1,4 @@
--- The value of a line: of bytes that are one JSON text, and of those that are none. For `data`.
+-- The value of a line: of bytes that are one JSON text, and of those that are none. For `data` and the laws of lines.
 use Rattle.std.proofs.Common.{◌≡◌, ◌≢◌, ℕ, List, [], ◌∷◌, Bool, true, false, cond, is_some, Option, Some, None, Ok, Err, refl, ap}
 use Rattle.std.specs.Option.{ok_or}
 use Rattle.std.specs.Str.{IsUtf8, is_utf8}
@@ -12,8 +12,10 @@ use Rattle.serde_json.specs.Data.{Data}
 use Rattle.serde_json.specs.Read.{read, max_depth}
 use Rattle.album_stamps.specs.declared.refusals.Refusal.TheVariants.{BadLine}
 use Rattle.album_wire.specs.Fields.{data_of}
+use Rattle.album_wire.specs.Spelling.{IsJson}
 use Rattle.album_wire.specs.Trees.{is_in_range, data_in}
 use Rattle.album_wire.proofs.Reading.{in_range}
+use Rattle.album_wire.proofs.Steps.{value_there}
 
 -- bytes that are no text, or no JSON
 pub data_refused : (bytes : List ℕ) → (IsUtf8 bytes → read bytes ≡ None) → data_of bytes ≡ Err BadLine
@@ -28,6 +30,15 @@ data_refused bytes none = by_test (is_utf8 bytes) refl
 pub data_read : (bytes : List ℕ) (d : Data) → IsUtf8 bytes → read bytes ≡ Some d → data_of bytes ≡ Ok d
 unfolding data_of
 data_read bytes d utf8 is = rw (is_utf8-from_IsUtf8 bytes utf8, is) refl
+
+-- bytes of which a value was read
+pub data_spelled : (bytes : List ℕ) (d : Data) → data_of bytes ≡ Ok d → IsJson d bytes
+unfolding data_of
+data_spelled bytes d = go (is_utf8 bytes) refl
+  where
+    go : (b : Bool) → is_utf8 bytes ≡ b → cond b (ok_or (read bytes) BadLine) (Err BadLine) ≡ Ok d → IsJson d bytes
+    go true e h = record { utf8 = IsUtf8-from_is_utf8 bytes e; value = value_there _ BadLine d h }
+    go false e h = cc
 
 -- no value stands at the front of the tokens
 pub none_read : (bytes : List ℕ) → json.value max_depth (tokens bytes) ≡ None → read bytes ≡ None

@@ -1,17 +1,14 @@
 -- What is read of a judge line is the question that it spells. For `questions_by_line`, which is `one_question`.
-use Rattle.std.proofs.Common.{◌≡◌, ◌≢◌, inl, inr, ◌↔◌, ◌==◌, ℕ, List, [], ◌∷◌, map, Bool, true, false, cond, Option, Some, None, Ok, Err, codes, bytes_eq, MatchOption, IsSomeAnd, AllPairs, refl, sym, ap, ◌∙◌, subst}
+use Rattle.std.proofs.Common.{◌≡◌, ◌≢◌, inl, inr, ◌↔◌, ◌==◌, ℕ, List, [], ◌∷◌, map, Bool, true, false, cond, Option, Some, None, Ok, Err, codes, bytes_eq, MatchOption, AllPairs, refl, sym, ap, ◌∙◌, subst}
 use Rattle.std.specs.List.{list_any, AllZip, AllByRecursion, IsDistinct}
 use Rattle.std.specs.Option.{ok_or}
-use Rattle.std.specs.Str.{is_utf8}
 use Rattle.std.proofs.lemmas.Bool.{and_parts, and_from, or_parts, not-true, not_from_false}
 use Rattle.std.proofs.lemmas.Bool.Decides.{Decides-eqb}
 use Rattle.std.proofs.lemmas.Map.Made.{AllPairs-from_IsDistinct, IsDistinct-from_AllPairs}
 use Rattle.std.proofs.lemmas.Slice.Eq.{bytes_eq-Decides}
-use Rattle.std.proofs.lemmas.Str.{IsUtf8-from_is_utf8}
 use Rattle.serde_json.specs.Data.{Data, array, string}
 use Rattle.serde_json.specs.Find.{get}
-use Rattle.serde_json.specs.Read.{read}
-use Rattle.album_stamps.specs.declared.refusals.Refusal.TheVariants.{BadLine, BadRequest, BadWho}
+use Rattle.album_stamps.specs.declared.refusals.Refusal.TheVariants.{BadRequest, BadWho}
 use Rattle.album_stamps.specs.Distinct.{are_single}
 use Rattle.album_stamps.specs.Outcome.{◌>>=◌}
 use Rattle.album_access.specs.Bits.{mask_bits, mask_of}
@@ -27,11 +24,11 @@ use Rattle.album_eval.proofs.Principals.{principal_spelled, spelled_principal}
 use Rattle.album_wire.specs.Fields.{guard, sized, only_of, field_of, text_of, whole_of, list_of, each, data_of}
 use Rattle.album_wire.specs.Shapes.{entry_shapes_of, texts_of}
 use Rattle.album_wire.specs.Values.{each_of, members_read}
-use Rattle.album_wire.specs.Spelling.{whole_data, list_data, IsJson, IsText, HasOnly}
+use Rattle.album_wire.specs.Spelling.{whole_data, list_data, IsText, HasOnly}
 use Rattle.album_wire.specs.JudgeShape.{SpelledGroup, SpelledJudge, judge_keys, group_shape_of, numbers, groups_shape_of, holder_of, kind_shape_of, policy_shape_of, judge_shape_of}
 use Rattle.album_wire.specs.JudgeLine.{Listing, Question, IsKindText, IsPolicyNumber, IsGroup, AreGroups, IsQuestion, IsJudgeLine, carried_list_of, listing_of, question_of, judge_of}
-use Rattle.album_wire.proofs.Steps.{step_taken, same_value, value_there, test_passed, each_read, read_each, each_of_read, read_each_of, zip_through, zip_between}
-use Rattle.album_wire.proofs.Members.{data_read}
+use Rattle.album_wire.proofs.Steps.{step_taken, same_value, value_there, test_passed, there, taken, each_read, read_each, each_of_read, read_each_of, zip_through, zip_between}
+use Rattle.album_wire.proofs.Members.{data_read, data_spelled}
 use Rattle.album_wire.proofs.Json.{text_read, whole_read, list_read, two, sized_read, same_two, names_spelled, names_read}
 use Rattle.album_wire.proofs.Entries.{mask_read, read_mask, access_list_spelled, access_list_read, members_spelled, members_parts}
 
@@ -359,9 +356,6 @@ values_read q s is = rw (is.list, is.groups, is.owner, is.who, is.mask, is.holde
 
 -- ---- the line
 
-there : {A : Type 0} (o : Option A) (a : A) (P : A → Type 0) → o ≡ Some a → P a → IsSomeAnd o P
-there o a P e h = rw e h
-
 question_spelled : (q : Question) (s : SpelledJudge) (d : Data) → IsShape s d → IsValued q s → IsQuestion q d
 question_spelled q s d shape is =
     let mask = mask_read s.mask q.mask is.mask in
@@ -379,10 +373,6 @@ question_spelled q s d shape is =
       has_mask = mask.1;
       policy = policy_spelled _ q.policy (shape.policy ∙ ap Ok is.policy);
     }
-
-taken : {A : Type 0} (o : Option A) (P : A → Type 0) → IsSomeAnd o P → (a : A) × (o ≡ Some a) × P a
-taken None P h = absurd h
-taken (Some a) P h = (a, refl, h)
 
 question_read : (q : Question) (d : Data) → IsQuestion q d → (judge_shape_of d >>= question_of) ≡ Ok q
 question_read q d is =
@@ -425,14 +415,6 @@ question_read q d is =
       policy = refl;
     } in
     rw (shape_read s d shape) (values_read q s values)
-
-data_spelled : (bytes : List ℕ) (d : Data) → data_of bytes ≡ Ok d → IsJson d bytes
-unfolding data_of
-data_spelled bytes d = go (is_utf8 bytes) refl
-  where
-    go : (b : Bool) → is_utf8 bytes ≡ b → cond b (ok_or (read bytes) BadLine) (Err BadLine) ≡ Ok d → IsJson d bytes
-    go true e h = record { utf8 = IsUtf8-from_is_utf8 bytes e; value = value_there _ BadLine d h }
-    go false e h = cc
 
 pub one_question : (q : Question) (bytes : List ℕ) → (judge_of bytes ≡ Ok q) ↔ IsJudgeLine q bytes
 unfolding judge_of

@@ -1,5 +1,5 @@
--- A definition in steps, taken apart: each step has given a value. For `one_question`; `step_taken` is a step of a `do`.
-use Rattle.std.proofs.Common.{◌≡◌, List, [], ◌∷◌, Bool, true, false, Option, Some, None, Result, Ok, Err, refl, ap, subst}
+-- A definition in steps, taken apart: each step has given a value. For the laws of lines; `step_taken` is a step.
+use Rattle.std.proofs.Common.{◌≡◌, List, [], ◌∷◌, Bool, true, false, Option, Some, None, Result, Ok, Err, IsSomeAnd, refl, ap, subst}
 use Rattle.std.specs.List.{AllZip}
 use Rattle.std.specs.Option.{ok_or}
 use Rattle.serde_json.specs.Data.{Data, Items, no_items, item}
@@ -25,6 +25,14 @@ value_there (Some x) e a h = cc
 pub test_passed : (test b : Bool) → guard test ≡ Ok b → test ≡ true
 test_passed true b h = refl
 test_passed false b h = cc
+
+-- what holds of a value that is there
+pub there : {A : Type 0} (o : Option A) (a : A) (P : A → Type 0) → o ≡ Some a → P a → IsSomeAnd o P
+there o a P e h = rw e h
+
+pub taken : {A : Type 0} (o : Option A) (P : A → Type 0) → IsSomeAnd o P → (a : A) × (o ≡ Some a) × P a
+taken None P h = absurd h
+taken (Some a) P h = (a, refl, h)
 
 -- ---- lists
 

@@ -1,5 +1,11 @@
 pub mod Lines
 pub mod Spelling
+pub mod ObjectSpelling
+pub mod ItemSpelling
+pub mod AskSpelling
+pub mod OpeningSpelling
+pub mod EventSpelling
+pub mod TalkSpelling
 pub mod Fields
 pub mod Trees
 pub mod Shapes

@@ -1,0 +1,36 @@
+-- The lines of an opening, as they are spelled.
+use Rattle.std.specs.Prelude.{◌≡◌, ℕ, List, [], ◌∷◌, codes, true, false}
+use Rattle.serde_json.specs.Data.{Data}
+use Rattle.album_items.specs.declared.values.Value.{Value}
+use Rattle.album_wire.specs.Spelling.{IsJson, HasOnly}
+use Rattle.album_wire.specs.ObjectSpelling.{IsWhole, IsTruth, HasMember, MayHave, HasJust}
+use Rattle.album_wire.specs.ItemSpelling.{IsItem, IsValue}
+use Rattle.album_wire.specs.declared.opening_line.OpeningLine.{OpeningLine}
+use Rattle.album_wire.specs.declared.opening_line.OpeningLine.TheVariants as line
+use Rattle.album_wire.specs.declared.opening_shape.Header.{Header}
+use Rattle.album_wire.specs.declared.opening_shape.TheConstants.{DEFAULT_LIMIT, DEFAULT_POLICY}
+
+-- How the store is to be opened. Where `limit` or `policy` is left out it is the usual one, and where `trace` is, no
+-- message is told.
+pub record IsHeader (header : Header) (d : Data) : Type 0 where
+  pub names : HasOnly (codes "parts" ∷ codes "limit" ∷ codes "policy" ∷ codes "trace" ∷ []) d
+  pub parts : HasMember (codes "parts") (IsWhole header.parts) d
+  pub limit : MayHave (codes "limit") (header.limit ≡ DEFAULT_LIMIT) (IsWhole header.limit) d
+  pub policy : MayHave (codes "policy") (header.policy ≡ DEFAULT_POLICY) (IsWhole header.policy) d
+  pub trace : MayHave (codes "trace") (header.trace ≡ false) (IsTruth header.trace) d
+
+-- an item, and its first value
+pub record IsFirstValue (item : ℕ) (value : Value) (d : Data) : Type 0 where
+  pub names : HasOnly (codes "item" ∷ codes "value" ∷ []) d
+  pub item_there : HasMember (codes "item") (IsItem item) d
+  pub value_there : HasMember (codes "value") (IsValue value) d
+
+-- the object of a line: a header, an item with its value, or that this is all
+abbrev pub IsOpening : OpeningLine → Data → Type 0
+IsOpening (line.Open header) = HasJust (codes "open") (IsHeader header)
+IsOpening (line.Item item value) = IsFirstValue item value
+IsOpening line.Begin = HasJust (codes "begin") (IsTruth true)
+
+-- the bytes of a line that says this
+abbrev pub IsOpeningLine : OpeningLine → List ℕ → Type 0
+IsOpeningLine line bytes = (d : Data) × IsJson d bytes × IsOpening line d
