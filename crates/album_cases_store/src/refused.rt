@@ -55,16 +55,26 @@ fn opened_again(
     Ok(Partition::new(alloc, 0, 3, items, 10)?)
 }
 
-/// What the partition shows: its marks, and the latest stamps of the items.
-fn shown(alloc: Global, partition: &Partition) -> Result<String, Refusal> {
+/// The stamps of these tests.
+const STAMPS: &[u64] = &[65537, 131073, 196609];
+
+/// What the partition replies of the item to one who has seen all of them.
+fn got(alloc: Global, partition: &mut Partition, item: &'static str) -> Result<String, Refusal> {
+    let message = sent(alloc, Node::Part(0), 10, Step::Get(item, STAMPS))?;
+    let reply = partition.receive(&message)?;
+    told(alloc, &reply)
+}
+
+/// What the partition shows: its marks, and what it replies of its items.
+fn shown(alloc: Global, partition: &mut Partition) -> Result<String, Refusal> {
+    let picture = got(alloc, partition, "picture/0")?;
+    let list = got(alloc, partition, "list/1")?;
     let marks = whole_text(alloc, &partition.history())?;
-    let picture = partition.latest(item_of("picture/0")?).value();
-    let list = partition.latest(item_of("list/1")?).value();
-    Ok(format!(in alloc; "{} {picture} {list}", marks.as_str())?)
+    Ok(format!(in alloc; "{} {} {}", marks.as_str(), picture.as_str(), list.as_str())?)
 }
 
 /// Whether the partition shows what it did when this text was made of it.
-fn stays(alloc: Global, partition: &Partition, before: &Result<String, Refusal>) -> bool {
+fn stays(alloc: Global, partition: &mut Partition, before: &Result<String, Refusal>) -> bool {
     match (before, shown(alloc, partition)) {
         (Ok(before), Ok(now)) => now == *before,
         _ => false,
