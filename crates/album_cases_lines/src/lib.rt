@@ -1,4 +1,5 @@
-//! Tests of lines, and of the engines that answer, replay and talk over readers and writers in memory.
+//! Tests of lines, of the engines that answer, replay and talk over readers and writers in memory, and of a world by
+//! calls that no line makes.
 #![tactic(auto)]
 
 #[cfg(test)]
@@ -11,3 +12,5 @@ mod streams;
 mod talk_runs;
 #[cfg(test)]
 mod wire;
+#[cfg(test)]
+mod worlds;

@@ -22,9 +22,17 @@ fn cut(
     second: &[u8],
 ) -> Result<(usize, Option<usize>, Option<usize>), Refusal> {
     let mut lines = Lines::new(alloc);
-    let ended = lines.feed(first)?.len();
-    let next = len_of(lines.feed(second)?.first());
+    let ended = fed(&mut lines, first)?.len();
+    let next = len_of(fed(&mut lines, second)?.first());
     Ok((ended, next, len_of(lines.end().as_ref())))
+}
+
+/// The lines that end in the piece. Where it is refused for want of memory, nothing of it is kept, and it is fed again.
+fn fed(lines: &mut Lines, piece: &[u8]) -> Result<Vec<LineIn>, Refusal> {
+    match lines.feed(piece) {
+        Ok(ended) => Ok(ended),
+        Err(_) => lines.feed(piece),
+    }
 }
 
 #[test]

@@ -13,6 +13,8 @@ mod passes;
 #[cfg(test)]
 mod reader;
 #[cfg(test)]
+mod refused;
+#[cfg(test)]
 mod sessions;
 #[cfg(test)]
 mod terminate;

@@ -1,10 +1,11 @@
 // Replies to a read that are no answers, words that an item is gone, and how many items a read may have
 // (docs/PROTOCOL.md, "A read").
 use crate::messages::{Is, item_of, items_of, value_of};
+use crate::refused::{is_as_before, whole_text};
 use album_calls::{Body, Message, Node, Reply};
 use album_items::{ItemId, Items, Kind, SharedValue, are_single};
 use album_reader::{Reading, Step};
-use album_stamps::{ClientNo, MOST_READ_ITEMS, Refusal, Stamp};
+use album_stamps::{ClientNo, MOST_READ_ITEMS, Refusal, Refused, Stamp};
 use std::alloc::Global;
 use std::process::Abort;
 use std::test::Fail;
@@ -14,18 +15,62 @@ fn reader() -> Result<ClientNo, Refusal> {
     ClientNo::of(2).ok_or(Refusal::BadRequest)
 }
 
-/// Client 2 begins to read these items, under the tag 3.
+/// Client 2 begins to read these items, under the tag 3; once more with what is handed back, where there was no memory.
 fn started(alloc: Global, items: Items) -> Result<(Reading, Vec<Message>), Refusal> {
     let client = reader()?;
-    if items.as_slice().is_empty() || !are_single(items.as_slice()) {
-        return Err(Refusal::BadRequest);
+    let before = whole_text(alloc, &items);
+    match start(alloc, items, client) {
+        Ok(started) => Ok(started),
+        Err(Refused { refusal, given }) => {
+            if refusal != Refusal::OutOfMemory {
+                return Err(refusal);
+            }
+            if !is_as_before(alloc, &given, &before) {
+                return Err(Refusal::Clash);
+            }
+            Ok(start(alloc, given, client)?)
+        }
     }
-    Ok(Reading::start(alloc, items, client, 3, 3)?)
 }
 
-fn given(step: Step, reply: &Message) -> Result<Step, Refusal> {
+fn start(
+    alloc: Global,
+    items: Items,
+    client: ClientNo,
+) -> Result<(Reading, Vec<Message>), Refused<Items>> {
+    if items.as_slice().is_empty() || !are_single(items.as_slice()) {
+        return Err(Refused {
+            refusal: Refusal::BadRequest,
+            given: items,
+        });
+    }
+    Reading::start(alloc, items, client, 3, 3)
+}
+
+/// What comes of the reply; once more with the reading that is handed back, where there was no memory.
+fn replied(alloc: Global, reading: Reading, reply: &Message) -> Result<Step, Refusal> {
+    let before = whole_text(alloc, &reading);
+    match reading.on_reply(reply) {
+        Ok(step) => Ok(step),
+        Err(Refused { refusal: _, given }) => replied_again(alloc, given, reply, &before),
+    }
+}
+
+fn replied_again(
+    alloc: Global,
+    reading: Reading,
+    reply: &Message,
+    before: &Result<String, Refusal>,
+) -> Result<Step, Refusal> {
+    if !is_as_before(alloc, &reading, before) {
+        return Err(Refusal::Clash);
+    }
+    Ok(reading.on_reply(reply)?)
+}
+
+fn given(alloc: Global, step: Step, reply: &Message) -> Result<Step, Refusal> {
     match step {
-        Step::Same(reading) => Ok(reading.on_reply(reply)?),
+        Step::Same(reading) => replied(alloc, reading, reply),
         Step::Next(reading, messages) => Ok(Step::Next(reading, messages)),
         Step::Done(snapshot) => Ok(Step::Done(snapshot)),
         Step::Gone(items) => Ok(Step::Gone(items)),
@@ -84,11 +129,12 @@ fn messages_of(alloc: Global, rows: Replies) -> Result<Vec<(Message, &'static st
 /// The reading is so far after each reply.
 fn comes_so_far(
     rt: &impl Abort,
+    alloc: Global,
     mut step: Step,
     replies: &[(Message, &'static str)],
 ) -> Result<(), Fail> {
     for (reply, expected) in replies {
-        step = given(step, reply)?;
+        step = given(alloc, step, reply)?;
         assert!(rt; word(&step) == *expected);
     }
     Ok(())
@@ -108,7 +154,7 @@ const NO_ANSWERS: Replies = &[
 #[test]
 fn replies_that_are_no_answers(rt: HostRuntime) -> Result<(), Fail> {
     let replies = messages_of(rt.alloc(), NO_ANSWERS)?;
-    comes_so_far(&rt, copied(rt.alloc())?, &replies)
+    comes_so_far(&rt, rt.alloc(), copied(rt.alloc())?, &replies)
 }
 
 /// What both partitions tell in the first round.
@@ -118,9 +164,13 @@ const FIRST: Replies = &[
 ];
 
 /// What comes of the step as it is given one reply after the other.
-fn after(mut step: Step, replies: &[(Message, &'static str)]) -> Result<Step, Refusal> {
+fn after(
+    alloc: Global,
+    mut step: Step,
+    replies: &[(Message, &'static str)],
+) -> Result<Step, Refusal> {
     for (reply, _) in replies {
-        step = given(step, reply)?;
+        step = given(alloc, step, reply)?;
     }
     Ok(step)
 }
@@ -135,7 +185,7 @@ fn second(step: Step) -> Result<Step, Refusal> {
 /// The second round of a read of both items, as it begins.
 fn half_read(alloc: Global) -> Result<Step, Refusal> {
     let replies = messages_of(alloc, FIRST)?;
-    second(after(copied(alloc)?, &replies)?)
+    second(after(alloc, copied(alloc)?, &replies)?)
 }
 
 /// Words that an item is gone, and how far the first round is then.
@@ -159,9 +209,9 @@ const GONE: Replies = &[
 #[test]
 fn a_read_of_what_is_gone(rt: HostRuntime) -> Result<(), Fail> {
     let early = messages_of(rt.alloc(), GONE_TOO_EARLY)?;
-    comes_so_far(&rt, copied(rt.alloc())?, &early)?;
+    comes_so_far(&rt, rt.alloc(), copied(rt.alloc())?, &early)?;
     let replies = messages_of(rt.alloc(), GONE)?;
-    comes_so_far(&rt, half_read(rt.alloc())?, &replies)
+    comes_so_far(&rt, rt.alloc(), half_read(rt.alloc())?, &replies)
 }
 
 /// So many pictures.

@@ -221,13 +221,29 @@ fn digits(rows: &ItemValues) -> u64 {
     number
 }
 
+/// The rows are shared; once more, where there was no memory for it: what they hold is the same then.
+fn share(rows: &mut ItemValues) -> Result<(), Refusal> {
+    match rows.share() {
+        Ok(()) => Ok(()),
+        Err(_) => rows.share(),
+    }
+}
+
+/// A copy of the rows; made once more, where that was refused.
+fn copied(rows: &ItemValues) -> Result<ItemValues, Refusal> {
+    match rows.copy() {
+        Ok(copy) => Ok(copy),
+        Err(_) => rows.copy(),
+    }
+}
+
 /// The first numbers of rows that were shared so many times, and those of their copy.
 fn shared_digits(alloc: Global, times: usize) -> Result<(u64, u64), Refusal> {
     let mut rows = each_kind(alloc)?;
     for _ in 0..times {
-        rows.share()?;
+        share(&mut rows)?;
     }
-    let copy = rows.copy()?;
+    let copy = copied(&rows)?;
     Ok((digits(&rows), digits(&copy)))
 }
 

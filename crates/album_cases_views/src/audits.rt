@@ -36,9 +36,24 @@ fn note_all<J: Books>(
             alarm: *alarm,
             success: *success,
         };
-        book.note(share, client, note)?;
+        noted(book, share, client, note)?;
     }
     Ok(())
+}
+
+/// The note is added; once more, where that was refused, since nothing was added then.
+fn noted<J: Books>(
+    book: &mut AuditBook<J>,
+    share: &mut Share<J>,
+    client: ClientNo,
+    note: Note,
+) -> Result<(), Refusal> {
+    let before = book.records().len();
+    match book.note(share, client, note) {
+        Ok(()) => Ok(()),
+        Err(_) if book.records().len() == before => book.note(share, client, note),
+        Err(_) => Err(Refusal::Clash),
+    }
 }
 
 /// The totals, once two sessions noted the one and the other and handed their shares back.

@@ -1,5 +1,9 @@
 // What the writes of a granted ask keep (docs/PROTOCOL.md, "Rulings").
+ghost use Rattle.std.specs.Prelude.{IsTrue};
+ghost use Rattle.album_views.specs.Asks.{is_write};
+
 use crate::asks::Verb;
+use crate::refused::{given_back, is_as_before, whole_text};
 use crate::ruling::{Asked, permit_of};
 use crate::store::{ALLOW, AMY, Is, Store};
 use album_eval::{Policy, Principal};
@@ -16,18 +20,29 @@ fn stamp() -> Result<Stamp, Refusal> {
 /// What the permit's ask writes; once more, where it was refused.
 fn write(alloc: Global, permit: Permit, stamp: Stamp) -> Result<Writes, Refusal> {
     if !permit.writes() {
-        drop(permit.give_back());
-        return Err(Refusal::Clash);
+        return Err(given_back(permit, Refusal::Clash));
+    }
+    let before = whole_text(alloc, &permit);
+    match permit.effect(alloc, stamp) {
+        Ok(writes) => Ok(writes),
+        Err(Refused { refusal: _, given }) => write_again(alloc, given, stamp, &before),
+    }
+}
+
+fn write_again(
+    alloc: Global,
+    permit: Permit,
+    stamp: Stamp,
+    before: &Result<String, Refusal>,
+) -> Result<Writes, Refusal>
+    requires { IsTrue (is_write permit.view.ask) }
+{
+    if !is_as_before(alloc, &permit, before) {
+        return Err(given_back(permit, Refusal::Clash));
     }
     match permit.effect(alloc, stamp) {
         Ok(writes) => Ok(writes),
-        Err(Refused { refusal: _, given }) => match given.effect(alloc, stamp) {
-            Ok(writes) => Ok(writes),
-            Err(Refused { refusal, given }) => {
-                drop(given.give_back());
-                Err(refusal)
-            }
-        },
+        Err(Refused { refusal, given }) => Err(given_back(given, refusal)),
     }
 }
 

@@ -1,6 +1,6 @@
 //! Tests of what no script of lines reaches, over a store that a table spells: asks and their copies, the names of a
-//! snapshot, a listing of what is missing, what writes keep, replies to a write, and the audit book. What asks are
-//! answered is told by the scripts in `rows/replay`.
+//! snapshot, a listing of what is missing, what writes keep, replies to a write, the audit book, and calls that are
+//! refused for want of memory. What asks are answered is told by the scripts in `rows/replay`.
 #![tactic(auto)]
 
 #[cfg(test)]
@@ -13,6 +13,8 @@ mod checks;
 mod effects;
 #[cfg(test)]
 mod listings;
+#[cfg(test)]
+mod refused;
 #[cfg(test)]
 mod ruling;
 #[cfg(test)]

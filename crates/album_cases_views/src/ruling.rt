@@ -1,6 +1,10 @@
 // What is ruled on an ask over a store, and the permit that comes of it. Where a call is refused for want of memory it
-// is made once more, with what it handed back: so `rt try --test --fail-alloc N` tells whether that is what went in.
+// is made once more, with what it handed back: so doubt/memory tells whether that is what went in.
+ghost use Rattle.std.specs.Prelude.{◌≡◌, None};
+ghost use Rattle.album_views.specs.Checks.{refusal_of};
+
 use crate::asks::{Verb, ask_of};
+use crate::refused::{is_as_before, whole_text};
 use crate::store::Store;
 use crate::viewing::view_of;
 use album_eval::{Policy, Principal};
@@ -23,10 +27,27 @@ fn rule(
         drop(view);
         return Err(refusal);
     }
+    let before = whole_text(alloc, &view);
     match rule_on(alloc, view, principal, policy) {
         Ok(ruled) => Ok(ruled),
-        Err(refused) => Ok(rule_on(alloc, refused.given, principal, policy)?),
+        Err(refused) => rule_again(alloc, refused.given, principal, policy, &before),
     }
+}
+
+fn rule_again(
+    alloc: Global,
+    view: View,
+    principal: &Principal,
+    policy: Policy,
+    before: &Result<String, Refusal>,
+) -> Result<Ruled, Refusal>
+    requires { refusal_of view.ask principal.now ≡ None }
+{
+    if !is_as_before(alloc, &view, before) {
+        drop(view);
+        return Err(Refusal::Clash);
+    }
+    Ok(rule_on(alloc, view, principal, policy)?)
 }
 
 /// The view of what is asked, and who asks.

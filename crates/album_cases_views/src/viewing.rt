@@ -1,4 +1,9 @@
-// The reads that are made for an ask over a store, and the view that comes of them.
+// The reads that are made for an ask over a store, and the view that comes of them. A call that is refused is made once
+// more with what it hands back.
+ghost use Rattle.std.specs.Prelude.{◌≡◌, None};
+ghost use Rattle.album_views.specs.Checks.{flaw_of};
+
+use crate::refused::{is_as_before, whole_text};
 use crate::store::{Store, snapshot};
 use album_eval::Principal;
 use album_items::Items;
@@ -13,18 +18,65 @@ fn started(alloc: Global, ask: Ask, principal: &Principal) -> Result<(Viewing, I
         drop(ask);
         return Err(refusal);
     }
+    let before = whole_text(alloc, &ask);
+    match Viewing::start(alloc, ask) {
+        Ok(started) => Ok(started),
+        Err(refused) => started_again(alloc, refused.given, &before),
+    }
+}
+
+fn started_again(
+    alloc: Global,
+    ask: Ask,
+    before: &Result<String, Refusal>,
+) -> Result<(Viewing, Items), Refusal>
+    requires { flaw_of ask ≡ None }
+{
+    if !is_as_before(alloc, &ask, before) {
+        drop(ask);
+        return Err(Refusal::Clash);
+    }
     Ok(Viewing::start(alloc, ask)?)
 }
 
 /// What comes of the snapshot, for a copy of the viewing.
 fn seen(alloc: Global, viewing: &Viewing, snapshot: Snapshot) -> Result<ViewStep, Refusal> {
     match viewing.copy() {
-        Ok(copy) => Ok(copy.on_snapshot(alloc, snapshot)?),
+        Ok(copy) => seen_by(alloc, viewing, copy, snapshot),
         Err(refusal) => {
             drop(snapshot);
             Err(refusal)
         }
     }
+}
+
+fn seen_by(
+    alloc: Global,
+    viewing: &Viewing,
+    copy: Viewing,
+    snapshot: Snapshot,
+) -> Result<ViewStep, Refusal> {
+    let before = whole_text(alloc, &snapshot);
+    match copy.on_snapshot(alloc, snapshot) {
+        Ok(step) => Ok(step),
+        Err(refused) => seen_again(alloc, viewing, refused.given, &before),
+    }
+}
+
+fn seen_again(
+    alloc: Global,
+    viewing: &Viewing,
+    given: (Viewing, Snapshot),
+    before: &Result<String, Refusal>,
+) -> Result<ViewStep, Refusal> {
+    let (copy, snapshot) = given;
+    let is_same = is_as_before(alloc, &copy, &whole_text(alloc, viewing));
+    if !is_same || !is_as_before(alloc, &snapshot, before) {
+        drop(copy);
+        drop(snapshot);
+        return Err(Refusal::Clash);
+    }
+    Ok(copy.on_snapshot(alloc, snapshot)?)
 }
 
 /// What comes of a read of the items.

@@ -1,10 +1,11 @@
 // Writes over three partitions (docs/PROTOCOL.md, "A write"): what comes of the replies, strays among them. amy sets
 // other lists of her two pictures, so list/0 and list/1 are written: at the partitions 2 and 0.
-ghost use Rattle.std.specs.Prelude.{◌≡◌, Some, IfOk, IsTrue};
+ghost use Rattle.std.specs.Prelude.{◌≡◌, Some, IfErr, IfOk, IsTrue};
 ghost use Rattle.album_stamps.specs.Stamps.{client_of};
 ghost use Rattle.album_views.specs.Asks.{is_write};
 
 use crate::asks::{Verb, ask_of, many_lists, set_lists};
+use crate::refused::{given_back, is_as_before, whole_text};
 use crate::ruling::permit_on;
 use crate::store::{ALLOW, AMY, Is, Store, item_of};
 use crate::viewing::view_of;
@@ -92,6 +93,7 @@ fn stamp_of(value: u64) -> Result<(Stamp, ClientNo), Refusal>
 /// The permit's write at the stamp `T`, its Prepares under the tag 5.
 fn begin(alloc: Global, permit: Permit) -> Result<(Preparing, Vec<Message>), Refused<Permit>>
     requires { IsTrue (is_write permit.view.ask) }
+    ensures { IfErr result (λ e. e.given ≡ permit) }
 {
     match stamp_of(T) {
         Ok((stamp, client)) => Preparing::begin(alloc, permit, stamp, client, 5, 3),
@@ -105,16 +107,31 @@ fn begin(alloc: Global, permit: Permit) -> Result<(Preparing, Vec<Message>), Ref
 /// Why a write was refused; its permit is given back.
 fn refused(refused: Refused<Permit>) -> Refusal {
     let Refused { refusal, given } = refused;
-    drop(given.give_back());
-    refusal
+    given_back(given, refusal)
 }
 
-/// amy's write of the ask.
+/// amy's write of the ask; begun once more, where that was refused.
 fn begun(alloc: Global, ask: Ask) -> Result<(Preparing, Vec<Message>), Refusal> {
     let permit = permit_of(alloc, ask)?;
     if !permit.writes() {
-        drop(permit.give_back());
-        return Err(Refusal::BadRequest);
+        return Err(given_back(permit, Refusal::BadRequest));
+    }
+    let before = whole_text(alloc, &permit);
+    match begin(alloc, permit) {
+        Ok(begun) => Ok(begun),
+        Err(refused) => begun_again(alloc, refused.given, &before),
+    }
+}
+
+fn begun_again(
+    alloc: Global,
+    permit: Permit,
+    before: &Result<String, Refusal>,
+) -> Result<(Preparing, Vec<Message>), Refusal>
+    requires { IsTrue (is_write permit.view.ask) }
+{
+    if !is_as_before(alloc, &permit, before) {
+        return Err(given_back(permit, Refusal::Clash));
     }
     begin(alloc, permit).map_err(refused)
 }

@@ -1,0 +1,112 @@
+// Calls that are refused for want of memory (docs/PROTOCOL.md, "Rulings"): what they hand back is what they were given,
+// and a call that is made with it once more does what one does that is not refused. doubt/memory refuses each allocation
+// of these tests in turn; where none is, they show the answers alone.
+ghost use Rattle.std.specs.Prelude.{◌≡◌, false};
+ghost use Rattle.album_views.specs.Asks.{is_write};
+
+use crate::asks::Verb;
+use crate::ruling::permit_of;
+use crate::store::{ALLOW, AMY, Is, Store};
+use album_eval::Policy;
+use album_permits::{Permit, Served};
+use album_stamps::{Refusal, Refused};
+use std::alloc::Global;
+use std::fmt::Debug;
+
+/// The text that tells all of a value, or that there was no memory for it.
+pub fn whole_text<T: Debug>(alloc: Global, value: &T) -> Result<String, Refusal> {
+    Ok(format!(in alloc; "{value:?}")?)
+}
+
+/// Whether the value is what it was when this text was made of it.
+pub fn is_as_before<T: Debug>(alloc: Global, value: &T, before: &Result<String, Refusal>) -> bool {
+    match (before, whole_text(alloc, value)) {
+        (Ok(before), Ok(now)) => now == *before,
+        _ => false,
+    }
+}
+
+/// amy's picture in her album, whose lists let her do anything and others read.
+const STORE: Store = &[
+    ("picture/0", Is::Picture(0)),
+    ("album/0", Is::Album(1)),
+    (
+        "list/0",
+        Is::List(&[
+            (ALLOW, "OWNER@", 2_032_127, 0),
+            (ALLOW, "EVERYONE@", 129, 0),
+        ]),
+    ),
+    ("list/1", Is::List(&[(ALLOW, "OWNER@", 2_032_127, 0)])),
+];
+
+/// The refusal; the permit is given back.
+pub fn given_back(permit: Permit, refusal: Refusal) -> Refusal {
+    drop(permit.give_back());
+    refusal
+}
+
+/// What the permit's ask is served; once more, where that was refused.
+fn serve(alloc: Global, permit: Permit) -> Result<Served, Refusal>
+    requires { is_write permit.view.ask ≡ false }
+{
+    let before = whole_text(alloc, &permit);
+    match permit.serve(alloc) {
+        Ok(served) => Ok(served),
+        Err(Refused { refusal: _, given }) => serve_again(alloc, given, &before),
+    }
+}
+
+fn serve_again(
+    alloc: Global,
+    permit: Permit,
+    before: &Result<String, Refusal>,
+) -> Result<Served, Refusal>
+    requires { is_write permit.view.ask ≡ false }
+{
+    if !is_as_before(alloc, &permit, before) {
+        return Err(given_back(permit, Refusal::Clash));
+    }
+    match permit.serve(alloc) {
+        Ok(served) => Ok(served),
+        Err(Refused { refusal, given }) => Err(given_back(given, refusal)),
+    }
+}
+
+fn served_by(alloc: Global, permit: Permit) -> Result<Served, Refusal> {
+    if permit.writes() {
+        return Err(given_back(permit, Refusal::Clash));
+    }
+    serve(alloc, permit)
+}
+
+/// How much is served: the bytes of a title, the members of a group, the entries of a list, or the rows of an album.
+fn amount(served: &Served) -> usize {
+    match served {
+        Served::Picture { title, .. } => title.as_str().len(),
+        Served::Group { members, .. } => members.as_slice().len(),
+        Served::Entries { list, .. } => list.entries().len(),
+        Served::Listed { rows, .. } => rows.as_slice().len(),
+    }
+}
+
+/// How much amy is served of what she asks.
+fn served(alloc: Global, verb: Verb, text: &'static str) -> Result<usize, Refusal> {
+    let permit = permit_of(alloc, (STORE, AMY, verb, text), Policy::One)?;
+    let served = served_by(alloc, permit)?;
+    let amount = amount(&served);
+    drop(served);
+    Ok(amount)
+}
+
+/// The title "Sea", two entries, and the one child that is there.
+#[test]
+fn a_refused_permit_is_served_again(rt: HostRuntime) {
+    for (verb, text, amount) in [
+        (Verb::Read, "picture/0", 3),
+        (Verb::GetList, "picture/0", 2),
+        (Verb::List, "album/0", 1),
+    ] {
+        assert_eq!(rt; served(rt.alloc(), verb, text), Ok(amount));
+    }
+}
