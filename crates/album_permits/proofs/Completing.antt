@@ -6,7 +6,6 @@ use Rattle.std.specs.Option.{option_map_or}
 use Rattle.std.proofs.lemmas.Bool.{both_ways}
 use Rattle.std.proofs.lemmas.List.Elements.{Contains-append_left, Contains-append_right, Contains-get_or}
 use Rattle.std.proofs.lemmas.List.Quantifiers.{position-Some}
-use Rattle.album_lists.specs.declared.lists.Ace.{Ace}
 use Rattle.album_items.specs.Values.{head_of}
 use Rattle.album_items.specs.declared.values.Head.{Head}
 use Rattle.album_eval.specs.Audit.{audited}
