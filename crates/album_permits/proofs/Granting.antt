@@ -35,7 +35,7 @@ use Rattle.album_permits.specs.Findings.{is_missing}
 use Rattle.album_permits.specs.Meaning.{is_need_met, has_needs_met}
 use Rattle.album_permits.specs.Needs.{just, deletion}
 use Rattle.album_permits.specs.Permits.{PermitState, IsPermit}
-use Rattle.album_permits.specs.Rights.{is_granted_to, may_delete, IsNew, Changes, IsGrantedChange}
+use Rattle.album_permits.specs.Rights.{is_granted_to, may_delete, IsNew, IsRewritten, IsGrantedChange}
 use Rattle.album_permits.specs.Serving.{read_of, IsServed, IsServedFor}
 use Rattle.album_permits.specs.declared.serving.Served.TheVariants as served
 use Rattle.album_permits.proofs.Agreeing.{ruling-alike}
@@ -344,7 +344,7 @@ module _ (permit : PermitState) (stamp : ℕ) where
       )
 
 pub effect-granted :
-    (permit : PermitState) (stamp item : ℕ) (is : Value) → Changes permit stamp item is
+    (permit : PermitState) (stamp item : ℕ) (is : Value) → IsRewritten permit stamp item is
     → IsGrantedChange permit item (seen permit.view.rows item) is
 effect-granted permit stamp item is change =
     let asked = permit.view.ask in

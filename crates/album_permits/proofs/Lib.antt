@@ -10,3 +10,4 @@ pub mod Telling
 pub mod Changing
 pub mod Granting
 pub mod Disclosing
+pub mod Completing

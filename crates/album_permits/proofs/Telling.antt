@@ -131,7 +131,7 @@ note-told basis ask note c =
 -- ---- a denial
 
 -- no reason grants
-none-met : (rs : List Reason) → is_met rs ≡ false → Each (λ (r : Reason). is_grant r.verdict ≡ false) rs
+pub none-met : (rs : List Reason) → is_met rs ≡ false → Each (λ (r : Reason). is_grant r.verdict ≡ false) rs
 none-met [] e = tt
 none-met (r ∷ rs) e = let parts = or_parts (is_grant r.verdict) (is_met rs) e in (parts.0, none-met rs parts.1)
 

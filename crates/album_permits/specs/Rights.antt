@@ -39,7 +39,7 @@ pub record MayVanish (permit : PermitState) (item : ℕ) : Type 0 where
   pub granted : IsTrue (may_delete permit object)
 
 -- the item is the list of an object on which WRITE_ACL is granted
-pub record MayBeListed (permit : PermitState) (item : ℕ) : Type 0 where
+pub record MayBeSet (permit : PermitState) (item : ℕ) : Type 0 where
   pub object : ℕ
   pub whose : Contains (list_of (seen permit.view.rows object)) item
   pub granted : IsTrue (is_granted_to permit object WRITE_ACL)
@@ -52,7 +52,7 @@ IsNew permit stamp item =
     IsTrue (is_adding permit.view.ask) × Contains (picture stamp ∷ album stamp ∷ list stamp ∷ []) item
 
 -- by the permit an item that it does not make is to have this value
-pub record Changes (permit : PermitState) (stamp item : ℕ) (is : Value) : Type 0 where
+pub record IsRewritten (permit : PermitState) (stamp item : ℕ) (is : Value) : Type 0 where
   pub permitted : IsPermit permit
   pub written : Contains (effect_of permit stamp) (item, is)
   pub older : ¬ IsNew permit stamp item
@@ -63,7 +63,7 @@ pub record IsGrantedChange (permit : PermitState) (item : ℕ) (was is : Value) 
   -- it is gone where it may be deleted
   pub gone : is ≡ value.Missing → MayVanish permit item
   -- it has new entries where WRITE_ACL is granted
-  pub entries : (entries : List Ace) → is ≡ value.List entries → MayBeListed permit item
+  pub entries : (entries : List Ace) → is ≡ value.List entries → MayBeSet permit item
   -- by no right it has another list
   pub own_list : (number : ℕ) → Contains (list_of is) number → Contains (list_of was) number
   -- another owner or head group by WRITE_OWNER

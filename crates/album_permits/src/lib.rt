@@ -37,7 +37,7 @@ pub use findings::{Denial, Finding};
 pub use laws::{one_ruling, permits_are_spent_on_what_is_named, rulings_look_at_what_is_named};
 pub use meaning::{granted_where_each_need_is_met, what_is_written_is_needed};
 pub use notes::Note;
-pub use noting::{notes_go_with_the_ruling, notes_tell_the_verdict};
+pub use noting::{notes_go_with_the_ruling, notes_tell_the_verdict, what_takes_note_is_noted};
 pub use permits::Permit;
 pub use rights::{what_changes_is_granted, what_is_served_is_granted};
 pub use rulings::{Ruled, Ruling, rule_on};

@@ -10,13 +10,13 @@ ghost use Rattle.album_listing.specs.Sights.{entries_named};
 ghost use Rattle.album_listing.specs.Told.{title_told, content_told};
 ghost use Rattle.album_listing.specs.declared.rows.Row.{Row};
 ghost use Rattle.album_permits.specs.Permits.{PermitState, IsPermit};
-ghost use Rattle.album_permits.specs.Rights.{is_granted_to, Changes, IsGrantedChange};
+ghost use Rattle.album_permits.specs.Rights.{is_granted_to, IsGrantedChange, IsRewritten};
 ghost use Rattle.album_permits.specs.Serving.{IsServed};
 ghost use Rattle.album_permits.specs.declared.serving.Served.TheVariants as served;
 
 /// A law: nothing of an item is changed without the right to change it, whatever is asked.
 pub fn what_changes_is_granted()
-    ensures { (permit : PermitState) (stamp item : ℕ) (is : Value) → Changes permit stamp item is
+    ensures { (permit : PermitState) (stamp item : ℕ) (is : Value) → IsRewritten permit stamp item is
         → IsGrantedChange permit item (seen permit.view.rows item) is }
 {}
 
