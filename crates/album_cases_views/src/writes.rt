@@ -491,3 +491,9 @@ fn replies_carry_a_write_on(rt: HostRuntime) {
         assert_eq!(rt; after(rt.alloc(), replies), Ok((*end, T)));
     }
 }
+
+/// A write is begun with the permit that came back, where it was refused, and goes on.
+#[test]
+fn a_refused_write_begins_again(rt: HostRuntime) {
+    assert_eq!(rt; after(rt.alloc(), &[P0, P2]), Ok(("commits", T)));
+}
