@@ -1,6 +1,6 @@
 -- What is read of items and of their values is what spells them. For the laws of lines; `value_spelled` and
 -- `value_parts` are of whole values. How the text of an item is read is a law of items, which these take first.
-use Rattle.std.proofs.Common.{◌≡◌, ◌≤◌, ◌↔◌, ◌⊎◌, inl, inr, ◌||◌, ◌==◌, ℕ, List, [], ◌∷◌, length, codes, Bool, true, false, cond, nat_lt, IsTrue, Option, Some, None, Result, Ok, Err, refl, sym, ap, ◌∙◌, subst}
+use Rattle.std.proofs.Common.{◌≡◌, ◌≤◌, ◌↔◌, ◌⊎◌, inl, inr, ◌||◌, ◌==◌, ℕ, List, length, codes, Bool, true, false, cond, nat_lt, IsTrue, Option, Some, None, Result, Ok, Err, refl, sym, ap, ◌∙◌, subst}
 use Rattle.std.specs.Option.{ok_or}
 use Rattle.std.proofs.lemmas.Bool.{ltb-false, le-ltb}
 use Rattle.std.proofs.lemmas.Bool.Decides.{Decides-eqb}
@@ -30,7 +30,7 @@ use Rattle.album_wire.specs.ItemShapes.{item_named, may_be_child, child_of, Spel
 use Rattle.album_wire.specs.OpeningLine.{head_with, value_read}
 use Rattle.album_wire.specs.ObjectSpelling.{HasMember}
 use Rattle.album_wire.specs.ItemSpelling.{IsItem, IsChild, IsOwner, IsTitle, IsHexText, IsContent, IsEntries, IsHome, HasHead, IsPicture, IsAlbum, IsListValue, IsGroupValue, IsValue}
-use Rattle.album_wire.proofs.Steps.{step_taken, same_value, value_there, test_passed, taken, there}
+use Rattle.album_wire.proofs.Steps.{step_taken, same_value, value_there, test_passed, taken}
 use Rattle.album_wire.proofs.Json.{whole_read}
 use Rattle.album_wire.proofs.Entries.{access_list_spelled, access_list_read, members_spelled, members_parts}
 use Rattle.album_wire.proofs.HexTexts.{hex_spelled, spelled_hex}
