@@ -9,7 +9,7 @@ use Rattle.album_lists.specs.declared.whos.Member.{Member}
 use Rattle.album_views.specs.declared.asks.Ask.{Ask}
 use Rattle.album_views.specs.declared.asks.Ask.TheVariants as ask
 use Rattle.album_views.specs.declared.asks.NewList.{NewList}
-use Rattle.album_wire.specs.Fields.{sized, only_of, field_of, text_of, each}
+use Rattle.album_wire.specs.Fields.{sized, only_of, field_of, text_of}
 use Rattle.album_wire.specs.Shapes.{entry_shapes_of, texts_of}
 use Rattle.album_wire.specs.Values.{each_of, owner_read, title_read, content_read, entries_read, members_read}
 use Rattle.album_wire.specs.Spelling.{HasOnly, IsList, AreMembers, list_data}

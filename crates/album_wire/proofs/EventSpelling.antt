@@ -1,12 +1,11 @@
 -- What is read of an event's line is what spells it. For `events_by_line`, which is `one_event_line`.
-use Rattle.std.proofs.Common.{◌≡◌, ◌≤◌, ◌<◌, ◌+◌, ◌-◌, ◌⊎◌, inl, inr, ◌↔◌, ℕ, suc, List, [], ◌∷◌, codes, Bool, true, false, cond, nat_le, Some, None, Ok, refl, sym, ap, ◌∙◌, subst, arith}
+use Rattle.std.proofs.Common.{◌≡◌, ◌≤◌, ◌-◌, ◌⊎◌, inl, inr, ◌↔◌, ℕ, suc, List, [], ◌∷◌, codes, Bool, true, false, cond, nat_le, Some, None, Ok, refl, sym, ap, ◌∙◌, subst, arith}
 use Rattle.std.specs.Option.{ok_or}
 use Rattle.std.proofs.lemmas.Bool.{leb-true, le-leb}
 use Rattle.serde_json.specs.Data.{Data, array}
 use Rattle.serde_json.specs.Find.{get}
 use Rattle.album_stamps.specs.Stamps.{is_client, client_of_number, is_stamp, stamp_of_value}
 use Rattle.album_stamps.specs.declared.refusals.Refusal.TheVariants.{BadRequest, BadWho}
-use Rattle.album_stamps.specs.Outcome.{◌>>=◌}
 use Rattle.album_eval.specs.Matching.{principal_of}
 use Rattle.album_eval.specs.declared.facts.Principal.{Principal}
 use Rattle.album_eval.proofs.Principals.{principal_spelled, spelled_principal}

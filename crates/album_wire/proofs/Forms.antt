@@ -1,6 +1,6 @@
 -- What is read of a line's members is what has their form, and the other way round. For the laws of lines, which are
 -- each `line_by` of their kind.
-use Rattle.std.proofs.Common.{◌≡◌, ◌↔◌, ℕ, List, [], ◌∷◌, Bool, true, false, cond, is_some, Option, Some, None, Result, Ok, Err, MatchOption, refl, ap, ◌∙◌}
+use Rattle.std.proofs.Common.{◌≡◌, ◌↔◌, ℕ, List, Bool, true, false, cond, is_some, Option, Some, None, Result, Ok, MatchOption, refl, ap, ◌∙◌}
 use Rattle.std.specs.Option.{ok_or}
 use Rattle.serde_json.specs.Data.{Data, null, boolean, number, string, array, object}
 use Rattle.serde_json.specs.Find.{get}
@@ -9,7 +9,7 @@ use Rattle.album_stamps.specs.declared.refusals.Refusal.{Refusal}
 use Rattle.album_stamps.specs.declared.refusals.Refusal.TheVariants.{BadRequest}
 use Rattle.album_stamps.specs.Outcome.{◌>>=◌}
 use Rattle.album_wire.specs.Fields.{data_of, is_among, only_of, field_of, has, member_or, text_of, whole_of, truth_of, list_of, each}
-use Rattle.album_wire.specs.Spelling.{IsJson, HasOnly, IsList, whole_data}
+use Rattle.album_wire.specs.Spelling.{IsJson, HasOnly, IsList}
 use Rattle.album_wire.specs.ObjectSpelling.{IsWhole, IsTruth, HasMember}
 use Rattle.album_wire.proofs.Steps.{step_taken, value_there, there, taken, each_read, read_each, zip_weaker}
 use Rattle.album_wire.proofs.Members.{data_read, data_spelled}

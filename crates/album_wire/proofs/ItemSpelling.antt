@@ -1,6 +1,6 @@
 -- What is read of items and of their values is what spells them. For the laws of lines; `value_spelled` and
 -- `value_parts` are of whole values. How the text of an item is read is a law of items, which these take first.
-use Rattle.std.proofs.Common.{◌≡◌, ◌≤◌, ◌↔◌, ◌⊎◌, inl, inr, ◌||◌, ◌==◌, ℕ, List, [], ◌∷◌, length, codes, Bool, true, false, cond, nat_lt, IsTrue, Option, Some, None, Result, Ok, Err, refl, sym, ap, ◌∙◌, subst}
+use Rattle.std.proofs.Common.{◌≡◌, ◌≤◌, ◌↔◌, ◌⊎◌, inl, inr, ◌||◌, ◌==◌, ℕ, List, length, codes, Bool, true, false, cond, nat_lt, IsTrue, Option, Some, None, Result, Ok, Err, refl, sym, ap, ◌∙◌, subst}
 use Rattle.std.specs.Option.{ok_or}
 use Rattle.std.proofs.lemmas.Bool.{ltb-false, le-ltb}
 use Rattle.std.proofs.lemmas.Bool.Decides.{Decides-eqb}
@@ -28,9 +28,9 @@ use Rattle.album_wire.specs.Spelling.{IsList, AreMembers}
 use Rattle.album_wire.specs.JudgeLine.{carried, carried_list_of}
 use Rattle.album_wire.specs.ItemShapes.{item_named, may_be_child, child_of, SpelledHead, SpelledValue, Picture as PictureShape, Album as AlbumShape, Entries as EntriesShape, Group as GroupShape, head_shape_of, home_shape_of, picture_keys, album_keys, list_keys, group_keys, picture_shape_of, album_shape_of, list_shape_of, group_shape_of, value_shape_of}
 use Rattle.album_wire.specs.OpeningLine.{head_with, value_read}
-use Rattle.album_wire.specs.ObjectSpelling.{HasMember}
-use Rattle.album_wire.specs.ItemSpelling.{IsItem, IsChild, IsOwner, IsTitle, IsHexText, IsContent, IsEntries, IsHome, HasHead, IsPicture, IsAlbum, IsListValue, IsGroupValue, IsValue}
-use Rattle.album_wire.proofs.Steps.{step_taken, same_value, value_there, test_passed, taken, there}
+use Rattle.album_wire.specs.ObjectSpelling.{HasMember, HasJust}
+use Rattle.album_wire.specs.ItemSpelling.{IsItem, IsChild, IsOwner, IsTitle, IsHexText, IsContent, IsEntries, IsHome, HasHead, IsPicture, IsAlbum, IsGroupValue, IsValue}
+use Rattle.album_wire.proofs.Steps.{step_taken, same_value, value_there, test_passed, taken}
 use Rattle.album_wire.proofs.Json.{whole_read}
 use Rattle.album_wire.proofs.Entries.{access_list_spelled, access_list_read, members_spelled, members_parts}
 use Rattle.album_wire.proofs.HexTexts.{hex_spelled, spelled_hex}
@@ -179,27 +179,28 @@ list_spelled v s d h g =
     let shape : EntriesShape entries.0 ≡ s = same_value _ _ entries.2 in
     let list = step_taken (entries_read entries.0) _ v (ap value_read shape ∙ g) in
     let same : value.List list.0 ≡ v = same_value _ _ list.2 in
-    let is : IsListValue list.0 d = (
-      names.0,
-      member_as (codes "entries") d (Shape entries.0) (IsEntries list.0) (entries_form list.0 entries.0 list.1)
-          entries.1,
-    ) in
+    let is : HasJust (codes "entries") (IsEntries list.0) d = record {
+      names = names.0;
+      value =
+          member_as (codes "entries") d (Shape entries.0) (IsEntries list.0)
+          (entries_form list.0 entries.0 list.1) entries.1;
+    } in
     subst (λ w. IsValue w d) same is
 
-list_value_parts : (list : List Ace) (d : Data) → IsListValue list d
+list_value_parts : (list : List Ace) (d : Data) → HasJust (codes "entries") (IsEntries list) d
     → (s : SpelledValue) × (value_shape_of d ≡ Ok s) × (value_read s ≡ Ok (value.List list))
 unfolding list_shape_of value_read
 list_value_parts list d is =
     let entries =
     member_parts (codes "entries") d entry_shapes_of (IsEntries list) (λ es. entries_read es ≡ Ok list)
-    (entries_parts list) is.1 in
+    (entries_parts list) is.value in
     let s : SpelledValue = EntriesShape entries.0 in
     let shape : list_shape_of d ≡ Ok s =
-    names_then list_keys d _ s is.0
+    names_then list_keys d _ s is.names
     (known_then (codes "entries") d entry_shapes_of entries.0 _ s entries.1 refl) in
     let read : value_read s ≡ Ok (value.List list) = step_then (entries_read entries.0) _ list _ entries.2 refl in
     let which : value_shape_of d ≡ Ok s =
-    on_true (has (codes "entries") d) _ _ s (is_in (codes "entries") (IsEntries list) d is.1) shape in
+    on_true (has (codes "entries") d) _ _ s (is_in (codes "entries") (IsEntries list) d is.value) shape in
     (s, which, read)
 
 group_spelled : (v : Value) (s : SpelledValue) (d : Data) → group_shape_of d ≡ Ok s → value_read s ≡ Ok v → IsValue v d
@@ -284,7 +285,8 @@ picture_spelled v s d h g =
     subst (λ w. IsValue w d) same is
 
 -- a title that is there is one
-pub title_valid : (title : List ℕ) (d : Data) → HasMember (codes "title") (IsTitle title) d → title_read title ≡ Ok title
+pub title_valid : (title : List ℕ) (d : Data) → HasMember (codes "title") (IsTitle title) d
+    → title_read title ≡ Ok title
 title_valid title d is = read_title title (taken _ (IsTitle title) is).2.1
 
 pub title_then : {B : Type 0} (title : List ℕ) (d : Data) (f : List ℕ → Result B Refusal) (b : B)

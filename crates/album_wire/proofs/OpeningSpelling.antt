@@ -2,7 +2,6 @@
 use Rattle.std.proofs.Common.{◌≡◌, ◌↔◌, ℕ, List, [], ◌∷◌, codes, true, false, Ok, refl, ap, ◌∙◌, subst}
 use Rattle.serde_json.specs.Data.{Data}
 use Rattle.serde_json.specs.Find.{get}
-use Rattle.album_stamps.specs.Outcome.{◌>>=◌}
 use Rattle.album_items.specs.declared.values.Value.{Value}
 use Rattle.album_wire.specs.Fields.{guard, has, member_or, whole_of, truth_of}
 use Rattle.album_wire.specs.ItemShapes.{SpelledValue, value_shape_of}

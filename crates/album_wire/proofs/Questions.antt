@@ -1,5 +1,5 @@
 -- What is read of a judge line is the question that it spells. For `questions_by_line`, which is `one_question`.
-use Rattle.std.proofs.Common.{◌≡◌, ◌≢◌, inl, inr, ◌↔◌, ◌==◌, ℕ, List, [], ◌∷◌, map, Bool, true, false, cond, Option, Some, None, Ok, Err, codes, bytes_eq, MatchOption, AllPairs, refl, sym, ap, ◌∙◌, subst}
+use Rattle.std.proofs.Common.{◌≡◌, ◌≢◌, inl, inr, ◌↔◌, ◌==◌, ℕ, List, [], ◌∷◌, map, Bool, true, false, cond, Option, Some, None, Ok, codes, bytes_eq, MatchOption, AllPairs, refl, sym, ap, ◌∙◌, subst}
 use Rattle.std.specs.List.{list_any, AllZip, AllByRecursion, IsDistinct}
 use Rattle.std.specs.Option.{ok_or}
 use Rattle.std.proofs.lemmas.Bool.{and_parts, and_from, or_parts, not-true, not_from_false}

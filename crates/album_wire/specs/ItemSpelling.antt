@@ -16,7 +16,7 @@ use Rattle.album_items.specs.declared.values.Picture.{Picture}
 use Rattle.album_items.specs.declared.values.Value.{Value}
 use Rattle.album_items.specs.declared.values.Value.TheVariants as value
 use Rattle.album_wire.specs.Spelling.{HasOnly, IsText, IsList, IsAccessList, AreMembers}
-use Rattle.album_wire.specs.ObjectSpelling.{IsWhole, HasMember}
+use Rattle.album_wire.specs.ObjectSpelling.{IsWhole, HasMember, HasJust}
 
 -- ---- items
 
@@ -46,7 +46,7 @@ pub record AreDigits (byte first second : ℕ) : Type 0 where
   pub second_digit : hex_digit_value second ≡ Some low
   pub together : byte ≡ high * 16 + low
 
--- two digits a byte
+-- a text of two digits a byte
 abbrev pub IsHexText : List ℕ → List ℕ → Type 0
 IsHexText [] [] = ⊤
 IsHexText [] (digit ∷ text) = ⊥
@@ -94,10 +94,6 @@ pub record IsAlbum (album : Album) (d : Data) : Type 0 where
   pub home : HasMember (codes "home") (IsHome album.home) d
   pub children : HasMember (codes "children") (IsList IsChild album.children) d
 
--- the value of a list
-abbrev pub IsListValue : List Ace → Data → Type 0
-IsListValue entries d = HasOnly (codes "entries" ∷ []) d × HasMember (codes "entries") (IsEntries entries) d
-
 -- the value of a group
 pub record IsGroupValue (group : Group) (d : Data) : Type 0 where
   pub names : HasOnly (codes "owner" ∷ codes "group" ∷ codes "list" ∷ codes "members" ∷ []) d
@@ -109,5 +105,5 @@ abbrev pub IsValue : Value → Data → Type 0
 IsValue value.Missing d = ⊥
 IsValue (value.Picture picture) d = IsPicture picture d
 IsValue (value.Album album) d = IsAlbum album d
-IsValue (value.List entries) d = IsListValue entries d
+IsValue (value.List entries) d = HasJust (codes "entries") (IsEntries entries) d
 IsValue (value.Group group) d = IsGroupValue group d
