@@ -27,15 +27,7 @@ fn note_all<J: Books>(
     client: ClientNo,
     notes: &[Noted],
 ) -> Result<(), Refusal> {
-    let object = item_of("picture/0")?;
-    for (alarm, success) in notes {
-        let note = Note {
-            object,
-            mask: Mask::READ_DATA,
-            index: 1,
-            alarm: *alarm,
-            success: *success,
-        };
+    for note in notes {
         noted(book, share, client, note)?;
     }
     Ok(())
@@ -46,14 +38,31 @@ fn noted<J: Books>(
     book: &mut AuditBook<J>,
     share: &mut Share<J>,
     client: ClientNo,
-    note: Note,
+    noted: &Noted,
 ) -> Result<(), Refusal> {
     let before = book.records().len();
-    match book.note(share, client, note) {
-        Ok(()) => Ok(()),
-        Err(_) if book.records().len() == before => book.note(share, client, note),
-        Err(_) => Err(Refusal::Clash),
+    let note = note_of(noted)?;
+    if book.note(share, client, note).is_ok() {
+        return Ok(());
     }
+    if book.records().len() != before {
+        return Err(Refusal::Clash);
+    }
+    let again = note_of(noted)?;
+    book.note(share, client, again)
+}
+
+/// The note of it, by the entry at index 1.
+fn note_of(noted: &Noted) -> Result<Note, Refusal> {
+    let (alarm, success) = *noted;
+    let object = item_of("picture/0")?;
+    Ok(Note {
+        object,
+        mask: Mask::READ_DATA,
+        index: 1,
+        alarm,
+        success,
+    })
 }
 
 /// The totals, once two sessions noted the one and the other and handed their shares back.
