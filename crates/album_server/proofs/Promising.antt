@@ -57,10 +57,10 @@ among_one some (d ∷ all) e (left h) = left (among_one some all e h)
 -- ---- parts of a text
 
 -- the text is that of parts, each of which is right by the input
-record Parts (input : List Line) (text : List ℕ) : Type 0 where
-  parts : List Printed
-  whole : text ≡ flat_map text_of parts
-  right : (part : Printed) → In part parts → IsRight input part
+pub record Parts (input : List Line) (text : List ℕ) : Type 0 where
+  pub parts : List Printed
+  pub whole : text ≡ flat_map text_of parts
+  pub right : (part : Printed) → In part parts → IsRight input part
 
 no_parts : (input : List Line) → Parts input []
 no_parts input = record { parts = []; whole = refl; right = λ part i. in_nil i }
@@ -132,16 +132,16 @@ module _ (input lines later first others : List Line) (before : input ≡ lines 
               before = before;
               spelled = record { first = first; others = others; split = split; opens = opens; among = among };
               hold = all_hold o (es ++ e ∷ []) opens.passes;
-              told = is_of (run_of o (es ++ e ∷ [])) outs past d.0 (contains d.1);
+              is = is_of (run_of o (es ++ e ∷ [])) outs past d.0 (contains d.1);
             });
       }
 
   -- one event, of which so much is known before
-  record Goes (es all : List Event) (next : World) (text : List ℕ) : Type 0 where
-    some : List Event
-    now : next ≡ run_of o some
-    among : AreAmong some all
-    parts : Parts input text
+  pub record Goes (es all : List Event) (next : World) (text : List ℕ) : Type 0 where
+    pub some : List Event
+    pub now : next ≡ run_of o some
+    pub among : AreAmong some all
+    pub parts : Parts input text
 
   module _ (text_by : Bool → Now → Result Change Refusal → List ℕ)
       (says : (trace : Bool) (now : Now) (ch : Change)
@@ -221,12 +221,12 @@ spelled_more lines l b e =
 -- ---- where a replay stands
 
 -- the lines that were read spell the world
-record RunsIt (done : List Line) (terms : Terms) (world : World) : Type 0 where
-  opening : Opening
-  events : List Event
-  spelled : Spell done opening events
-  of : terms ≡ terms_of opening
-  now : world ≡ run_of opening events
+pub record RunsIt (done : List Line) (terms : Terms) (world : World) : Type 0 where
+  pub opening : Opening
+  pub events : List Event
+  pub spelled : Spell done opening events
+  pub of : terms ≡ terms_of opening
+  pub now : world ≡ run_of opening events
 
 abbrev StandsBy : List Line → Stage → Type 0
 StandsBy done Unopened = opening_said done ≡ []
@@ -235,9 +235,9 @@ StandsBy done (Running terms trace world) = RunsIt done terms world
 StandsBy done Over = Unit {0}
 
 -- a line is taken: what is printed of it, and where the replay stands then
-record IsTaken (input done : List Line) (step : Step) : Type 0 where
-  stands : StandsBy done step.next
-  parts : Parts input step.text
+pub record IsTaken (input done : List Line) (step : Step) : Type 0 where
+  pub stands : StandsBy done step.next
+  pub parts : Parts input step.text
 
 over_taken : (input done : List Line) (r : Refusal) (step : Step) → step ≡ refused r → IsTaken input done step
 over_taken input done r step e =
@@ -382,9 +382,9 @@ module _ (input done : List Line) (l : Line) (later : List Line) (before : input
         now = same;
       }
 
-      record IsRunOn (terms : Terms) (next : World) (text : List ℕ) : Type 0 where
-        stands : RunsIt now_done terms next
-        parts : Parts input text
+      pub record IsRunOn (terms : Terms) (next : World) (text : List ℕ) : Type 0 where
+        pub stands : RunsIt now_done terms next
+        pub parts : Parts input text
 
       runs_on : (r : Result Spelled Refusal) → event_line_read l ≡ r → (next : World) (text : List ℕ)
           → Runs (terms_of o) trace (run_of o es) r next text → IsRunOn (terms_of o) next text
@@ -449,9 +449,9 @@ module _ (input done : List Line) (l : Line) (later : List Line) (before : input
 
 -- ---- all lines
 
-record AreTaken (input done : List Line) (last : Stage) (text : List ℕ) : Type 0 where
-  stands : StandsBy done last
-  parts : Parts input text
+pub record AreTaken (input done : List Line) (last : Stage) (text : List ℕ) : Type 0 where
+  pub stands : StandsBy done last
+  pub parts : Parts input text
 
 lines_taken : (input done lines : List Line) → input ≡ done ++ lines → (stage : Stage) → StandsBy done stage
     → (last : Stage) (text : List ℕ) → Replays stage lines last text → AreTaken input input last text

@@ -122,7 +122,7 @@ pub record IsToldOf (input lines : List Line) (opening : Opening) (events : List
   pub before : input ≡ lines ++ later
   pub spelled : Spell lines opening events
   pub hold : AllHold opening (run_of opening events)
-  pub told : IsOf (run_of opening events) told
+  pub is : IsOf (run_of opening events) told
 
 abbrev pub IsRight : List Line → Printed → Type 0
 IsRight input (Refused refusal) = Unit {0}
