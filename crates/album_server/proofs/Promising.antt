@@ -1,5 +1,5 @@
 -- What a replay prints is as it is promised: for the law, and for `replay`.
-use Rattle.std.proofs.Common.{◌≡◌, ◌×◌, ◌⊎◌, ℕ, List, [], ◌∷◌, ◌++◌, map, filter, Bool, true, false, not, Option, Some, None, Result, Ok, Err, inl, inr, ⊎_elim, refl, sym, ap, ◌∙◌, subst, append_assoc, append-nil, Contains, if◌then◌else◌}
+use Rattle.std.proofs.Common.{◌≡◌, ◌⊎◌, ℕ, List, [], ◌∷◌, ◌++◌, map, filter, Bool, true, false, not, Option, Some, None, Result, Ok, Err, inl, inr, ⊎_elim, refl, sym, ap, ◌∙◌, subst, append_assoc, append-nil, Contains, if◌then◌else◌}
 use Rattle.std.specs.Bool.{MatchBool}
 use Rattle.std.specs.List.{flat_map}
 use Rattle.std.specs.Option.{IfSome}
@@ -44,15 +44,21 @@ among_none : (es : List Event) → AreAmong [] es
 among_none [] = nothing
 among_none (e ∷ es) = left (among_none es)
 
+more_after : {some all : List Event} (others : List Event) → AreAmong some all → AreAmong some (all ++ others)
+more_after others nothing = among_none others
+more_after others (taken h) = taken (more_after others h)
+more_after others (left h) = left (more_after others h)
+
 among_more : (some all others : List Event) → AreAmong some all → AreAmong some (all ++ others)
-among_more [] [] others nothing = among_none others
-among_more (e ∷ some) (e ∷ all) others (taken h) = taken (among_more some all others h)
-among_more some (e ∷ all) others (left h) = left (among_more some all others h)
+among_more some all others h = more_after others h
+
+one_after : {some all : List Event} (e : Event) → AreAmong some all → AreAmong (some ++ e ∷ []) (all ++ e ∷ [])
+one_after e nothing = taken nothing
+one_after e (taken h) = taken (one_after e h)
+one_after e (left h) = left (one_after e h)
 
 among_one : (some all : List Event) (e : Event) → AreAmong some all → AreAmong (some ++ e ∷ []) (all ++ e ∷ [])
-among_one [] [] e nothing = taken nothing
-among_one (d ∷ some) (d ∷ all) e (taken h) = taken (among_one some all e h)
-among_one some (d ∷ all) e (left h) = left (among_one some all e h)
+among_one some all e h = one_after e h
 
 -- ---- parts of a text
 
