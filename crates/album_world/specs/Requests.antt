@@ -89,8 +89,8 @@ pub record IsForRequest (world : World) (by : Transaction) : Type 0 where
   pub writes : Contains asked.writes by
 
 -- What has come of each request that was ever made came of it alone. Each answer that was ever told is to one of them,
--- and each write that was ever begun is for one. No client makes a request before its last one is answered. (Of requests
--- the last one is the first in the list.)
+-- and each write that was ever begun is for one. No client makes a request before its last one is answered. (Of
+-- requests the last one is the first in the list.)
 pub record AnswersAreToRequests (terms : Terms) (world : World) : Type 0 where
   pub alone : (asked : Asked) → Contains world.past.asked asked → IsServedAlone terms world asked
   pub told : (told : Told) → Contains world.past.told told → IsToRequest world told

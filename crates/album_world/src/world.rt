@@ -125,7 +125,8 @@ impl World {
         ensures terms { self.new.terms ≡ self.old.terms }
 
         // Each past goes on with the events that are not refused, and has what they told.
-        ensures goes_on { IfOk result (λ results. RunsOn (λ outs. outs.items) self.old events.now self.new results.items) }
+        ensures goes_on { IfOk result
+            (λ results. RunsOn (λ outs. outs.items) self.old events.now self.new results.items) }
 
         // And this holds of each past.
         ensures rulings_hold { OfEachPast self.new (λ opening past. RulingsHold (terms_of opening) past) }
