@@ -15,7 +15,7 @@ use Rattle.album_world.specs.Terms.{Terms, terms_of}
 use Rattle.album_world.specs.State.{Now}
 use Rattle.album_world.specs.Past.{World}
 use Rattle.album_world.specs.Changes.{Change, change_of}
-use Rattle.album_world.specs.Runs.{now_after, outs_of, happens, run_of, start, tells, outs_by}
+use Rattle.album_world.specs.Runs.{now_after, outs_of, run_of, start, tells, outs_by}
 use Rattle.album_world.specs.Seen.{IsInPast}
 use Rattle.album_world.specs.declared.events.Event.{Event}
 use Rattle.album_world.specs.declared.outs.Out.{Out}
@@ -33,8 +33,8 @@ use Rattle.album_wire.specs.declared.event_shape.Spelled.TheVariants as spelled
 use Rattle.album_wire.specs.declared.opening_line.OpeningLine.{OpeningLine}
 use Rattle.album_wire.specs.declared.opening_line.OpeningLine.TheVariants as line
 use Rattle.album_wire.specs.declared.opening_shape.Header.{Header}
-use Rattle.album_server.specs.Replay.{Stage, Unopened, BeingOpened, Running, Over, Step, refused, silently, opening_of, begun, first_line, later_line, opened_by, message_shown, event_text, delivery_text, Happens, Delivers, Spells, Runs, opening_line_read, event_line_read, IsOpened, IsTold, IsRun, Takes, IsStep, Replays, IsReplay, end_text}
-use Rattle.album_server.specs.Promise.{opening_said, item_said, SpellsOpening, events_read, events_spelled, AreAmong, Spell, IsSpelledBy, AllHold, IsOf, Printed, Refused, Told, text_of, IsToldOf, IsRight, IsAsPromised}
+use Rattle.album_server.specs.Replay.{Stage, Unopened, BeingOpened, Running, Over, Step, refused, silently, opening_of, first_line, later_line, opened_by, message_shown, event_text, delivery_text, Happens, Delivers, Runs, opening_line_read, event_line_read, IsOpened, IsTold, IsRun, Takes, IsStep, Replays, IsReplay, end_text}
+use Rattle.album_server.specs.Promise.{opening_said, item_said, SpellsOpening, events_read, events_spelled, AreAmong, Spell, IsSpelledBy, AllHold, IsOf, Printed, Refused, Told, text_of, IsRight, IsAsPromised}
 use Rattle.album_server.specs.Promise.AreAmong.{nothing, taken, left}
 use Rattle.album_server.specs.Writes.{Writes}
 
