@@ -17,6 +17,7 @@ pub mod Granted
 pub mod Outcomes
 pub mod Busy
 pub mod Requests
+pub mod Told
 pub mod Events
 pub mod Flags
 pub mod Registers

@@ -25,6 +25,7 @@ ghost use Rattle.album_world.specs.Rulings.{RulingsHold};
 ghost use Rattle.album_world.specs.Runs.{changed, happens, run, run_of, tells, told_to};
 ghost use Rattle.album_world.specs.State.{Now, client_at, is_stopped};
 ghost use Rattle.album_world.specs.Terms.{Terms, terms_of};
+ghost use Rattle.album_world.specs.Told.{IsToldOnce, all_told};
 ghost use Rattle.album_world.specs.Turns.{Turn};
 ghost use Rattle.album_world.specs.Viewed.{Finds};
 ghost use Rattle.album_world.specs.declared.events.Event.{Event as Happening};
@@ -115,6 +116,15 @@ pub fn what_is_told_is_in_the_past()
     ensures notes { (terms : Terms) (world : World) (event : Happening) (client : ℕ) (note : Note)
         → Contains (tells terms world event) (Told.Noted client note)
         → IsNoteKept (happens terms world event) client note }
+{}
+
+/// A law: each answer, each note and each message is told once: what an event tells, and what a run of them does, is in
+/// its order just what the past has more after it.
+pub fn each_thing_is_told_once()
+    ensures event { (terms : Terms) (world : World) (event : Happening)
+        → IsToldOnce world (happens terms world event) (tells terms world event) }
+    ensures run { (terms : Terms) (world : World) (events : List Happening)
+        → IsToldOnce world (run terms world events) (all_told terms world events) }
 {}
 
 /// A law: nothing of the past is forgotten, whatever happens. So what a promise says of an answer holds for good.
