@@ -1,7 +1,7 @@
 use Rattle.std.proofs.Common.{◌≡◌, length, ap, rules, ◌∙◌}
-use Rattle.album_world.specs.Clients.{Client}
+use Rattle.album_client.specs.Clients.{Client}
 use Rattle.album_world.proofs.MoveLemmas.{told_is}
-use Rattle.album_world.proofs.clients.Client.turn.Goals as goal
+use Rattle.album_world.proofs.turns.turn.Goals as goal
 
 -- what it has become, what it sends, and what is told
 pub returns-clause-turned : goal.returns-clause-turned
@@ -12,6 +12,6 @@ returns-clause-turned c = λ turn is.
       client = c.becomes.ensures ∙ is.client;
       sent_is = is.sent;
       told =
-          told_is c.args.before _ c.args.self.now.number turn c.args.moved _
-          (ap (λ (x : Client). x.number) c.self.view_is) is outs;
+          told_is c.args.before _ c.args.client.now.number turn c.args.moved _
+          (ap (λ (x : Client). x.number) c.client.view_is) is outs;
     }
