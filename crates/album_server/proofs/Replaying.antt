@@ -3,7 +3,7 @@
 use Rattle.std.proofs.Common.{◌≡◌, ℕ, List, [], ◌∷◌, ◌++◌, Bool, true, false, cond, Result, Ok, Err, inl, refl, sym, ap, ◌∙◌, subst, append_assoc}
 use Rattle.std.specs.Bool.{MatchBool}
 use Rattle.album_stamps.specs.declared.refusals.Refusal.{Refusal}
-use Rattle.album_world.specs.Terms.{Terms}
+use Rattle.album_client.specs.Terms.{Terms}
 use Rattle.album_world.specs.Past.{World}
 use Rattle.album_world.specs.Runs.{happens}
 use Rattle.album_world.specs.declared.events.Event.{Event}

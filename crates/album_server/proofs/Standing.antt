@@ -7,8 +7,8 @@ use Rattle.album_stamps.specs.declared.refusals.Refusal.TheVariants.{OutOfMemory
 use Rattle.album_items.specs.Openings.{is_opening}
 use Rattle.album_items.specs.declared.openings.Opening.{Opening}
 use Rattle.std.proofs.KnownBytes.{Appends-trans, Appends-nil}
+use Rattle.album_client.specs.Terms.{terms_of}
 use Rattle.album_world.specs.Past.{Past}
-use Rattle.album_world.specs.Terms.{terms_of}
 use Rattle.album_world.specs.Runs.{start}
 use Rattle.album_world.specs.Seen.{WorldState, opened}
 use Rattle.album_wire.specs.declared.opening_line.OpeningLine.{OpeningLine}

@@ -6,7 +6,7 @@ use Rattle.album_stamps.specs.declared.refusals.Refusal.TheVariants.{OutOfMemory
 use Rattle.album_items.specs.Openings.{Row, is_opening}
 use Rattle.album_items.specs.declared.openings.Opening.{Opening}
 use Rattle.album_calls.specs.declared.messages.Message.{Message}
-use Rattle.album_world.specs.Terms.{Terms, terms_of}
+use Rattle.album_client.specs.Terms.{Terms, terms_of}
 use Rattle.album_world.specs.State.{Now, message_of}
 use Rattle.album_world.specs.Past.{World}
 use Rattle.album_world.specs.Changes.{Change, change_of}

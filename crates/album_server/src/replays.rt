@@ -1,8 +1,8 @@
 // The text of a replay: laws of it.
 ghost use Rattle.std.specs.Prelude.{◌≡◌, ◌++◌, Bool, List, [], ℕ, codes};
 ghost use Rattle.album_wire.specs.Lines.{Line, ended};
+ghost use Rattle.album_client.specs.Terms.{Terms};
 ghost use Rattle.album_world.specs.Past.{World};
-ghost use Rattle.album_world.specs.Terms.{Terms};
 ghost use Rattle.album_server.specs.Promise.{IsAsPromised, IsSpelledBy};
 ghost use Rattle.album_server.specs.Replay.{Stage, Unopened, Running, Over, Replays, IsReplay, replay_text};
 ghost use Rattle.album_server.specs.WorkedOpening.{owners_all, trip_opened};

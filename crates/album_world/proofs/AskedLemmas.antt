@@ -45,18 +45,18 @@ use Rattle.album_writer.specs.declared.told.Told.{Told as Heard}
 use Rattle.album_writer.specs.declared.told.Told.TheVariants as told
 use Rattle.album_writer.specs.declared.answers.Answer.{Answer}
 use Rattle.album_writer.specs.declared.answers.Answer.TheVariants as answer
+use Rattle.album_client.specs.declared.clients.Doing.{Doing}
+use Rattle.album_client.specs.declared.clients.Doing.TheVariants as doing
+use Rattle.album_client.specs.Terms.{Terms, terms_of}
+use Rattle.album_client.specs.Askings.{Asking}
+use Rattle.album_client.specs.Clients.{Client}
+use Rattle.album_client.specs.Grants.{served_for}
+use Rattle.album_client.specs.Turns.{Transaction, Ended, Turn, sends, read_begins, ask_ends, round_for, write_begins, writes_unless, draws_by, grants, rules_by, clock_after_rows, read_ends, read_turn, prepare_turn, commit_turn}
 use Rattle.album_world.specs.declared.events.Event.{Event}
 use Rattle.album_world.specs.declared.events.Event.TheVariants as event
-use Rattle.album_world.specs.Askings.{Asking}
-use Rattle.album_world.specs.Clients.{Client}
-use Rattle.album_world.specs.declared.clients.Doing.{Doing}
-use Rattle.album_world.specs.declared.clients.Doing.TheVariants as doing
 use Rattle.album_world.specs.declared.outs.Out.TheVariants as out
-use Rattle.album_world.specs.Terms.{Terms, terms_of}
 use Rattle.album_world.specs.State.{client_at, history_in, is_stopped, message_of}
-use Rattle.album_world.specs.Past.{World, Asked, Transaction, Begun, Read, last_asked, last_begun, last_read}
-use Rattle.album_world.specs.Grants.{served_for}
-use Rattle.album_world.specs.Turns.{Ended, Turn, sends, read_begins, ask_ends, round_for, write_begins, writes_unless, draws_by, grants, rules_by, clock_after_rows, read_ends, read_turn, prepare_turn, commit_turn}
+use Rattle.album_world.specs.Past.{World, Asked, Begun, Read, last_asked, last_begun, last_read}
 use Rattle.album_world.specs.Changes.{Change, asks_unless, asks_by, part_takes, client_takes_by, arrives, delivers, sweeps, trims, change_of}
 use Rattle.album_world.specs.Changes.Change.{Nothing, AtPart, AtClient, Stops}
 use Rattle.album_world.specs.Runs.{changed, changed_by, happens, new_request, nth_after, read_over, reads_after, outs_by, requested, run, run_of, start, tells, asked_on}

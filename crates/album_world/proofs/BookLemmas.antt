@@ -16,14 +16,14 @@ use Rattle.album_permits.specs.declared.notes.Note.{Note}
 use Rattle.album_writer.specs.Writing.{WritingState, places_in}
 use Rattle.album_writer.specs.declared.answers.Answer.{Answer}
 use Rattle.album_writer.specs.declared.answers.Answer.TheVariants as answer
-use Rattle.album_world.specs.Askings.{Asking}
-use Rattle.album_world.specs.Clients.{Client}
-use Rattle.album_world.specs.declared.clients.Doing.{Doing}
-use Rattle.album_world.specs.declared.clients.Doing.TheVariants as doing
-use Rattle.album_world.specs.Terms.{Terms, terms_of}
+use Rattle.album_client.specs.declared.clients.Doing.{Doing}
+use Rattle.album_client.specs.declared.clients.Doing.TheVariants as doing
+use Rattle.album_client.specs.Terms.{Terms, terms_of}
+use Rattle.album_client.specs.Askings.{Asking}
+use Rattle.album_client.specs.Clients.{Client}
+use Rattle.album_client.specs.Turns.{Transaction, Ended, Turn}
 use Rattle.album_world.specs.State.{client_at, with_number}
-use Rattle.album_world.specs.Past.{World, Transaction, Asked, Begun, Read, Told, Noted, last_begun, last_read}
-use Rattle.album_world.specs.Turns.{Ended, Turn}
+use Rattle.album_world.specs.Past.{World, Asked, Begun, Read, Told, Noted, last_begun, last_read}
 use Rattle.album_world.specs.Changes.Change.{AtPart, AtClient, Stops}
 use Rattle.album_world.specs.Runs.{changed, read_over, reads_after, nth_after, told_to, noted_of}
 use Rattle.album_world.specs.Committing.{parts_of}

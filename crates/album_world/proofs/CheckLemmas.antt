@@ -6,10 +6,10 @@ use Rattle.album_eval.specs.declared.facts.Principal.{Principal}
 use Rattle.album_views.specs.declared.asks.Ask.{Ask}
 use Rattle.album_lists.specs.Whos.{or_else}
 use Rattle.album_views.specs.Checks.{refusal_of, flaw_of}
-use Rattle.album_world.specs.Terms.{Terms}
-use Rattle.album_world.specs.Clients.{Client}
-use Rattle.album_world.specs.declared.clients.Doing.{Doing}
-use Rattle.album_world.specs.declared.clients.Doing.TheVariants.{Idle, Reads, Prepares, Commits}
+use Rattle.album_client.specs.declared.clients.Doing.{Doing}
+use Rattle.album_client.specs.declared.clients.Doing.TheVariants.{Idle, Reads, Prepares, Commits}
+use Rattle.album_client.specs.Terms.{Terms}
+use Rattle.album_client.specs.Clients.{Client}
 use Rattle.album_world.specs.Moves.{idle_tag}
 use Rattle.album_world.specs.Changes.{asks_by, asks_unless}
 use Rattle.album_world.specs.Registers.{asks_of}

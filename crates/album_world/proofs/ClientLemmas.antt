@@ -24,9 +24,9 @@ use Rattle.album_writer.specs.Writing.{WritingState, places_in}
 use Rattle.album_writer.specs.declared.told.Told.{Told}
 use Rattle.album_writer.specs.declared.told.Told.TheVariants as told
 use Rattle.album_writer.specs.Told.{reply_told, body_told, concerns, told_of}
-use Rattle.album_world.specs.Clients.{Client}
+use Rattle.album_client.specs.Clients.{Client}
+use Rattle.album_client.specs.Turns.{clock_after_rows}
 use Rattle.album_world.specs.State.{client_at, with_client}
-use Rattle.album_world.specs.Turns.{clock_after_rows}
 use Rattle.album_world.proofs.ListLemmas.{In, and_left, and_right, and_both, in_uncons, in_nil, in_any, in_map, none_some, some_same}
 use Rattle.album_world.proofs.ListLemmas.In.{here, there}
 

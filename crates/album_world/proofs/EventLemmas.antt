@@ -2,14 +2,14 @@
 use Rattle.std.proofs.Common.{◌≡◌, ℕ, zero, suc, ◌+◌, Bool, true, List, [], ◌∷◌, ◌++◌, map, length, Option, Some, None, option_to_list, option_map, unwrap_or, Result, Ok, Err, ⊎_elim, sym, ap, ◌∙◌, subst, refl, Contains, if◌then◌else◌}
 use Rattle.album_stamps.specs.declared.refusals.Refusal.{Refusal}
 use Rattle.album_permits.specs.declared.notes.Note.{Note}
+use Rattle.album_client.specs.Terms.{Terms}
+use Rattle.album_client.specs.Turns.{Turn}
 use Rattle.album_world.specs.declared.events.Event.{Event}
 use Rattle.album_writer.specs.declared.answers.Answer.{Answer}
 use Rattle.album_world.specs.declared.outs.Out.TheVariants as out
-use Rattle.album_world.specs.Terms.{Terms}
 use Rattle.album_world.specs.State.{Now}
 use Rattle.album_world.specs.Past.{World, Begun, last_begun}
 use Rattle.album_world.specs.Events.{IsNoteKept, IsRemembered}
-use Rattle.album_world.specs.Turns.{Turn}
 use Rattle.album_world.specs.Changes.{Change, change_of}
 use Rattle.album_world.specs.Changes.Change.{Nothing, AtPart, AtClient, Stops}
 use Rattle.album_world.specs.Runs.{changed, changed_by, happens, requested, numbers_after, sent_after, outs_of, outs_by, tells, run, reads_after, read_over, nth_after, told_to, noted_of}

@@ -22,9 +22,10 @@ use Rattle.album_partition.proofs.GrowthLemmas.{promised_stays}
 use Rattle.album_reader.specs.Answers.{Answer as Found}
 use Rattle.album_writer.specs.declared.answers.Answer.{Answer}
 use Rattle.album_writer.specs.declared.answers.Answer.TheVariants as answer
+use Rattle.album_client.specs.Turns.{Transaction}
 use Rattle.album_world.proofs.ListLemmas.{In}
 use Rattle.album_world.specs.State.{client_at, history_in}
-use Rattle.album_world.specs.Past.{World, Transaction}
+use Rattle.album_world.specs.Past.{World}
 use Rattle.album_world.specs.Committing.{history, IsCommitted}
 use Rattle.album_world.proofs.ListLemmas.{any_more}
 use Rattle.album_world.proofs.MarkLemmas.{IsPreparedIn, prepared_more, wrote, wrote_more}

@@ -29,11 +29,12 @@ use Rattle.album_items.specs.Transactions.{items_written}
 use Rattle.album_writer.specs.Writing.{WritingState, places_in}
 use Rattle.album_writer.specs.declared.answers.Answer.{Answer}
 use Rattle.album_writer.specs.declared.answers.Answer.TheVariants as answer
-use Rattle.album_world.specs.Clients.{Client}
-use Rattle.album_world.specs.declared.clients.Doing.{Doing}
-use Rattle.album_world.specs.declared.clients.Doing.TheVariants as doing
+use Rattle.album_client.specs.declared.clients.Doing.{Doing}
+use Rattle.album_client.specs.declared.clients.Doing.TheVariants as doing
+use Rattle.album_client.specs.Clients.{Client, tag_of}
+use Rattle.album_client.specs.Turns.{Transaction}
 use Rattle.album_world.specs.State.{history_in, client_at}
-use Rattle.album_world.specs.Past.{World, Transaction, Read, Told, last_begun}
+use Rattle.album_world.specs.Past.{World, Read, Told, last_begun}
 use Rattle.album_world.specs.Committing.{history, IsCommitted, IsCommittedAt}
 use Rattle.album_world.specs.Atomic.{first_value}
 use Rattle.album_world.proofs.ListLemmas.{In}
@@ -131,12 +132,6 @@ IsFine o w from to (body.Request r) = IsAsk o w to r
 IsFine o w from to (body.Reply r) = IsSay o w from r
 
 -- ---- tags
-
-abbrev pub tag_of : Doing → ℕ
-tag_of (doing.Idle tag) = tag
-tag_of (doing.Reads asking round) = round.asker.tag
-tag_of (doing.Prepares writing) = writing.tag
-tag_of (doing.Commits writing) = writing.tag
 
 abbrev pub tag_at : World → ℕ → ℕ
 tag_at w c = tag_of (client_at w.now.clients c).doing

@@ -44,15 +44,16 @@ use Rattle.album_writer.specs.declared.told.Told.{Told as Heard}
 use Rattle.album_writer.specs.declared.told.Told.TheVariants as told
 use Rattle.album_writer.specs.declared.answers.Answer.{Answer}
 use Rattle.album_writer.specs.declared.answers.Answer.TheVariants as answer
-use Rattle.album_world.specs.Askings.{Asking}
-use Rattle.album_world.specs.Clients.{Client}
-use Rattle.album_world.specs.declared.clients.Doing.{Doing}
-use Rattle.album_world.specs.declared.clients.Doing.TheVariants as doing
-use Rattle.album_world.specs.Terms.{Terms, terms_of}
+use Rattle.album_client.specs.declared.clients.Doing.{Doing}
+use Rattle.album_client.specs.declared.clients.Doing.TheVariants as doing
+use Rattle.album_client.specs.Terms.{Terms, terms_of}
+use Rattle.album_client.specs.Askings.{Asking}
+use Rattle.album_client.specs.Clients.{Client}
+use Rattle.album_client.specs.Grants.{served_for}
+use Rattle.album_client.specs.Turns.{Transaction, Ended, Turn, still, sends, read_begins, ask_ends, write_begins, writes_unless, draws_by, grants, rules_by, clock_after_rows, read_ends, read_turn, prepare_turn, commit_turn}
+use Rattle.album_client.proofs.GrantLemmas.{served_is, unserved_writes, taken_flawless, spent_is}
 use Rattle.album_world.specs.State.{client_at, is_stopped}
-use Rattle.album_world.specs.Past.{World, Transaction, Begun, Read, last_begun, last_read}
-use Rattle.album_world.specs.Grants.{served_for}
-use Rattle.album_world.specs.Turns.{Ended, Turn, still, sends, read_begins, ask_ends, write_begins, writes_unless, draws_by, grants, rules_by, clock_after_rows, read_ends, read_turn, prepare_turn, commit_turn}
+use Rattle.album_world.specs.Past.{World, Begun, Read, last_begun, last_read}
 use Rattle.album_world.specs.Changes.Change.{AtClient, Nothing}
 use Rattle.album_world.specs.Changes.{client_takes_by, client_takes}
 use Rattle.album_world.specs.Runs.{changed, read_over, told_to, noted_of}
@@ -67,7 +68,6 @@ use Rattle.album_world.proofs.ClientLemmas.{rows_client, rows_raise, rows_seen, 
 use Rattle.album_world.proofs.Invariant.{IsKept, IsDoing}
 use Rattle.album_world.proofs.TurnLemmas.{IsNew, not_same, same_now}
 use Rattle.album_world.proofs.ReplyLemmas.{with_past}
-use Rattle.album_world.proofs.GrantLemmas.{served_is, unserved_writes, taken_flawless, spent_is}
 use Rattle.album_world.proofs.BookLemmas.{IsLed, IsWriteOn, IsBegunFull, IsCount, IsAt, IsBooked, led_adds, noting_adds, noting_by, at_adds, begun_client, last_here, turn_adds, turn_booked}
 
 module _ (o : Opening) (w : World) (k : IsKept o w) (b : IsBooked (terms_of o) w) (c : ℕ) where

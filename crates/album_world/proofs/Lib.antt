@@ -12,7 +12,6 @@ pub mod TurnLemmas
 pub mod ReplyLemmas
 pub mod StopLemmas
 pub mod RunLemmas
-pub mod GrantLemmas
 pub mod BookLemmas
 pub mod LedLemmas
 pub mod PromiseLemmas

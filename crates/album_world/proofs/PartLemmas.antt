@@ -36,8 +36,8 @@ use Rattle.album_versions.specs.Best.{best_of}
 use Rattle.album_reader.specs.Rounds.{RoundState}
 use Rattle.album_writer.specs.Writing.{WritingState}
 use Rattle.album_items.specs.Transactions.{items_written}
-use Rattle.album_world.specs.declared.clients.Doing.{Doing}
-use Rattle.album_world.specs.declared.clients.Doing.TheVariants as doing
+use Rattle.album_client.specs.declared.clients.Doing.{Doing}
+use Rattle.album_client.specs.declared.clients.Doing.TheVariants as doing
 use Rattle.album_world.proofs.ListLemmas.{In}
 use Rattle.album_world.specs.State.{marks_of, history_in, client_at}
 use Rattle.album_world.specs.Past.{World, last_begun}

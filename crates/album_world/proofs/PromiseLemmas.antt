@@ -25,15 +25,16 @@ use Rattle.album_views.specs.declared.asks.Ask.{Ask}
 use Rattle.album_permits.proofs.Agreeing.{ruling-alike}
 use Rattle.album_permits.specs.Permits.{PermitState, IsPermit}
 use Rattle.album_permits.specs.declared.findings.Finding.{Finding}
+use Rattle.album_client.specs.declared.clients.Doing.{Doing}
+use Rattle.album_client.specs.declared.clients.Doing.TheVariants as doing
+use Rattle.album_client.specs.Terms.{Terms, terms_of}
+use Rattle.album_client.specs.Turns.{Transaction}
 use Rattle.album_world.specs.declared.events.Event.{Event}
 use Rattle.album_world.specs.declared.events.Event.TheVariants as event
 use Rattle.album_writer.specs.declared.answers.Answer.{Answer}
 use Rattle.album_writer.specs.declared.answers.Answer.TheVariants as answer
-use Rattle.album_world.specs.declared.clients.Doing.{Doing}
-use Rattle.album_world.specs.declared.clients.Doing.TheVariants as doing
-use Rattle.album_world.specs.Terms.{Terms, terms_of}
 use Rattle.album_world.specs.State.{client_at, message_of, is_stopped}
-use Rattle.album_world.specs.Past.{World, Transaction, Told}
+use Rattle.album_world.specs.Past.{World, Told}
 use Rattle.album_world.specs.Changes.{Change, asks_unless, asks_by, part_takes, arrives, delivers, sweeps, trims}
 use Rattle.album_world.specs.Changes.Change.{AtPart, Stops}
 use Rattle.album_world.specs.Runs.{changed, changed_by, happens, new_request, requested, start, run, run_of}

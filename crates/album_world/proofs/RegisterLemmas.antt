@@ -8,14 +8,13 @@ use Rattle.album_eval.specs.declared.facts.Principal.{Principal}
 use Rattle.album_views.specs.Checks.{refusal_of}
 use Rattle.album_views.specs.declared.asks.Ask.{Ask}
 use Rattle.album_reader.proofs.Snapshots.{sameness-sym}
-use Rattle.album_world.specs.Clients.{Client}
-use Rattle.album_world.specs.Clients.{newcomer}
+use Rattle.album_client.specs.Terms.{Terms}
+use Rattle.album_client.specs.Clients.{Client, newcomer}
+use Rattle.album_client.specs.Turns.{Turn}
 use Rattle.album_world.specs.declared.outs.Out.{Out}
-use Rattle.album_world.specs.Terms.{Terms}
 use Rattle.album_world.specs.State.{client_at, with_client}
 use Rattle.album_world.specs.Changes.{Change, asks_unless}
 use Rattle.album_world.specs.Changes.Change.{Nothing, AtPart, AtClient, Stops}
-use Rattle.album_world.specs.Turns.{Turn}
 use Rattle.album_world.specs.Moves.{IsChangedBy, IsTurned}
 use Rattle.album_world.specs.Registers.{AreChangedBy, StandsAt, asks_of, has_number, numbers_of, takes_of}
 

@@ -43,15 +43,15 @@ use Rattle.album_writer.specs.declared.told.Told.{Told}
 use Rattle.album_writer.specs.declared.told.Told.TheVariants as told
 use Rattle.album_writer.specs.declared.answers.Answer.{Answer}
 use Rattle.album_writer.specs.declared.answers.Answer.TheVariants as answer
-use Rattle.album_world.specs.Askings.{Asking}
-use Rattle.album_world.specs.Clients.{Client}
-use Rattle.album_world.specs.declared.clients.Doing.{Doing}
-use Rattle.album_world.specs.declared.clients.Doing.TheVariants as doing
-use Rattle.album_world.specs.Terms.{terms_of}
+use Rattle.album_client.specs.declared.clients.Doing.{Doing}
+use Rattle.album_client.specs.declared.clients.Doing.TheVariants as doing
+use Rattle.album_client.specs.Terms.{terms_of}
+use Rattle.album_client.specs.Askings.{Asking}
+use Rattle.album_client.specs.Clients.{Client, tag_of}
+use Rattle.album_client.specs.Grants.{served_for}
+use Rattle.album_client.specs.Turns.{Transaction, Ended, Turn, still, sends, asker_at, read_begins, ask_ends, round_for, write_begins, writes_unless, draws_by, grants, rules_by, clock_after_rows, views_by, read_turn, prepare_turn, commit_turn}
 use Rattle.album_world.specs.State.{client_at, is_stopped}
-use Rattle.album_world.specs.Past.{World, Transaction, Begun, last_begun}
-use Rattle.album_world.specs.Grants.{served_for}
-use Rattle.album_world.specs.Turns.{Ended, Turn, still, sends, asker_at, read_begins, ask_ends, round_for, write_begins, writes_unless, draws_by, grants, rules_by, clock_after_rows, views_by, read_turn, prepare_turn, commit_turn}
+use Rattle.album_world.specs.Past.{World, Begun, last_begun}
 use Rattle.album_world.specs.Changes.Change.{AtClient, Nothing}
 use Rattle.album_world.specs.Changes.{client_takes_by, client_takes}
 use Rattle.album_world.specs.Runs.{changed, nth_after}
@@ -61,7 +61,7 @@ use Rattle.album_world.proofs.ListLemmas.In.{here}
 use Rattle.album_world.proofs.MarkLemmas.{IsPreparedIn, prepared_in, wrote}
 use Rattle.album_world.proofs.PlaceLemmas.{place_in, item_in, stamp_in, in_stamps}
 use Rattle.album_world.proofs.ClientLemmas.{rows_client, rows_raise, draw_is, next_client, next_raise, each_item, own_nothing, none_found, there_in, IsFoundBy, found_is, put_cases, put_own, told_to_is}
-use Rattle.album_world.proofs.Invariant.{IsKept, IsSettled, IsValue, IsFine, IsTagged, tag_of, GetsWith, TellsWith, IsAsked, IsAnswered, FirstRound, SecondRound, IsCollectedStamp, HasFresh, IsAsking, IsFetching, IsRound, IsReading, IsWriting, HasPrepared, HasCommitted, IsDoing, IsAnswer, IsRead, IsDone}
+use Rattle.album_world.proofs.Invariant.{IsKept, IsSettled, IsValue, IsFine, IsTagged, GetsWith, TellsWith, IsAsked, IsAnswered, FirstRound, SecondRound, IsCollectedStamp, HasFresh, IsAsking, IsFetching, IsRound, IsReading, IsWriting, HasPrepared, HasCommitted, IsDoing, IsAnswer, IsRead, IsDone}
 use Rattle.album_world.proofs.GrowthLemmas.{begun_grows, stamp_grows, has_fresh_grows, settled_grows}
 use Rattle.album_world.proofs.WroteLemmas.{written_here}
 use Rattle.album_world.proofs.TurnLemmas.{IsSent, IsNew, turn_kept, turn_grows, doing_lasts}

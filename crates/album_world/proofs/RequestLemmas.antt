@@ -3,13 +3,13 @@ use Rattle.std.proofs.Common.{◌≡◌, ℕ, ◌≤◌, Bool, true, false, eqb,
 use Rattle.album_items.specs.declared.openings.Opening.{Opening}
 use Rattle.album_writer.specs.Writing.{WritingState}
 use Rattle.album_writer.specs.declared.answers.Answer.{Answer}
-use Rattle.album_world.specs.Askings.{Asking}
-use Rattle.album_world.specs.Clients.{Client}
-use Rattle.album_world.specs.declared.clients.Doing.{Doing}
-use Rattle.album_world.specs.declared.clients.Doing.TheVariants as doing
+use Rattle.album_client.specs.declared.clients.Doing.{Doing}
+use Rattle.album_client.specs.declared.clients.Doing.TheVariants as doing
+use Rattle.album_client.specs.Askings.{Asking}
+use Rattle.album_client.specs.Clients.{Client}
+use Rattle.album_client.specs.Turns.{Transaction, Ended, Turn}
 use Rattle.album_world.specs.State.{client_at}
-use Rattle.album_world.specs.Past.{World, Asked, Transaction, Begun, Read, Told, last_asked, last_begun, last_read}
-use Rattle.album_world.specs.Turns.{Ended, Turn}
+use Rattle.album_world.specs.Past.{World, Asked, Begun, Read, Told, last_asked, last_begun, last_read}
 use Rattle.album_world.specs.Changes.Change.{AtClient}
 use Rattle.album_world.specs.Runs.{changed, read_over, reads_after, nth_after, told_to, asked_on, asked_after}
 use Rattle.album_world.specs.Requests.{AreAtOrAfter, HasBegun, IsAnsweredLast}

@@ -18,11 +18,12 @@ use Rattle.album_partition.specs.Marks.{value_in}
 use Rattle.album_views.specs.Asks.{objects_of}
 use Rattle.album_views.specs.Checks.{refusal_of}
 use Rattle.album_views.specs.declared.asks.Ask.{Ask}
+use Rattle.album_client.specs.Clients.{tag_of}
+use Rattle.album_client.specs.declared.clients.Doing.{Doing}
+use Rattle.album_client.specs.declared.clients.Doing.TheVariants as doing
+use Rattle.album_client.specs.Terms.{terms_of}
 use Rattle.album_world.specs.declared.events.Event.{Event}
 use Rattle.album_world.specs.declared.events.Event.TheVariants as event
-use Rattle.album_world.specs.declared.clients.Doing.{Doing}
-use Rattle.album_world.specs.declared.clients.Doing.TheVariants as doing
-use Rattle.album_world.specs.Terms.{terms_of}
 use Rattle.album_world.specs.State.{client_at, marks_of, message_of, is_stopped}
 use Rattle.album_world.specs.Past.{World}
 use Rattle.album_world.specs.Changes.{Change, asks_unless, asks_by, part_takes, arrives, delivers, sweeps, trims}
@@ -31,7 +32,7 @@ use Rattle.album_world.specs.Runs.{changed, changed_by, happens, new_request, op
 use Rattle.album_world.specs.Committing.{history}
 use Rattle.album_world.proofs.ListLemmas.{In, and_left, and_right, in_nil, got_in, range_got, none_some}
 use Rattle.album_world.proofs.PlaceLemmas.{value_placed}
-use Rattle.album_world.proofs.Invariant.{IsKept, IsPlaced, IsSound, tag_of}
+use Rattle.album_world.proofs.Invariant.{IsKept, IsPlaced, IsSound}
 use Rattle.album_world.proofs.PartLemmas.{part_kept, sweep_kept, trim_kept}
 use Rattle.album_world.proofs.StopLemmas.{stop_kept, request_kept}
 use Rattle.album_world.proofs.ReplyLemmas.{asked_kept, message_kept}

@@ -12,9 +12,10 @@ use Rattle.album_partition.specs.Partition.{PartitionState}
 use Rattle.album_partition.specs.Marks.{prepares, commits, value_in, IsPromisedAgainst}
 use Rattle.album_partition.proofs.StateLemmas.{unknown_tells}
 use Rattle.album_reader.specs.Answers.{Answer as Found}
+use Rattle.album_client.specs.Terms.{terms_of}
+use Rattle.album_client.specs.Turns.{Transaction}
 use Rattle.album_world.specs.State.{history_in}
-use Rattle.album_world.specs.Terms.{terms_of}
-use Rattle.album_world.specs.Past.{World, Transaction}
+use Rattle.album_world.specs.Past.{World}
 use Rattle.album_world.specs.Committing.{history, IsCommitted, IsCommittedAt, IsCommittedEverywhere, IsPromisedSomewhere}
 use Rattle.album_world.specs.Atomic.{IsFracturedBy, IsWritten, ViewsAreReadAtomic}
 use Rattle.album_world.specs.Fresh.{IsFreshRow, ViewsAreFresh}

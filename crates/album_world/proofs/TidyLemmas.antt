@@ -30,20 +30,20 @@ use Rattle.album_permits.specs.declared.findings.Finding.TheVariants as finding
 use Rattle.album_permits.specs.declared.serving.Served.{Served}
 use Rattle.album_writer.specs.Rounds.{WriteStep, prepare_stepped, commit_stepped}
 use Rattle.album_writer.specs.Rounds.WriteStep.{Waits, Commits, Ends}
+use Rattle.album_client.specs.declared.clients.Doing.{Doing}
+use Rattle.album_client.specs.declared.clients.Doing.TheVariants as doing
+use Rattle.album_client.specs.Terms.{Terms}
+use Rattle.album_client.specs.Askings.{Asking}
+use Rattle.album_client.specs.Clients.{Client}
+use Rattle.album_client.specs.Grants.{served_for}
+use Rattle.album_client.specs.Turns.{Transaction, Ended, Turn, ask_ends, write_begins, writes_unless, draws_by, grants, rules_by, clock_after_rows, views_by, read_turn, prepare_turn, commit_turn}
 use Rattle.album_world.specs.declared.events.Event.{Event}
 use Rattle.album_world.specs.declared.events.Event.TheVariants as event
-use Rattle.album_world.specs.Askings.{Asking}
-use Rattle.album_world.specs.Clients.{Client}
-use Rattle.album_world.specs.declared.clients.Doing.{Doing}
-use Rattle.album_world.specs.declared.clients.Doing.TheVariants as doing
 use Rattle.album_writer.specs.declared.answers.Answer.{Answer}
 use Rattle.album_writer.specs.declared.answers.Answer.TheVariants as answer
-use Rattle.album_world.specs.Terms.{Terms}
 use Rattle.album_world.specs.State.{Now, client_at, message_of, is_stopped, with_number}
-use Rattle.album_world.specs.Past.{World, Transaction}
+use Rattle.album_world.specs.Past.{World}
 use Rattle.album_world.specs.Runs.{changed, changed_by, happens, requested, run}
-use Rattle.album_world.specs.Grants.{served_for}
-use Rattle.album_world.specs.Turns.{Ended, Turn, ask_ends, write_begins, writes_unless, draws_by, grants, rules_by, clock_after_rows, views_by, read_turn, prepare_turn, commit_turn}
 use Rattle.album_world.specs.Changes.{Change, asks_unless, asks_by, part_takes, client_takes_by, client_takes, arrives, delivers, sweeps, trims, change_of}
 use Rattle.album_world.specs.Changes.Change.{Nothing, AtPart, AtClient, Stops}
 use Rattle.album_world.specs.Events.{IsDrawnNow, IsTidy}

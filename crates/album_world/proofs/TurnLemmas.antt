@@ -10,19 +10,19 @@ use Rattle.album_reader.specs.Answers.{Answer as Found}
 use Rattle.album_reader.specs.Rounds.{RoundState}
 use Rattle.album_writer.specs.Writing.{WritingState}
 use Rattle.album_writer.specs.declared.answers.Answer.{Answer}
-use Rattle.album_world.specs.Clients.{Client}
-use Rattle.album_world.specs.declared.clients.Doing.{Doing}
-use Rattle.album_world.specs.declared.clients.Doing.TheVariants as doing
+use Rattle.album_client.specs.declared.clients.Doing.{Doing}
+use Rattle.album_client.specs.declared.clients.Doing.TheVariants as doing
+use Rattle.album_client.specs.Clients.{Client, tag_of}
+use Rattle.album_client.specs.Turns.{Transaction, Ended, Turn}
 use Rattle.album_world.proofs.ListLemmas.{In}
 use Rattle.album_world.specs.State.{client_at}
-use Rattle.album_world.specs.Past.{World, Transaction, Begun, Read, Told, last_begun}
-use Rattle.album_world.specs.Turns.{Ended, Turn}
+use Rattle.album_world.specs.Past.{World, Begun, Read, Told, last_begun}
 use Rattle.album_world.specs.Changes.Change.{AtClient}
 use Rattle.album_world.specs.Runs.{changed, read_over, reads_after, nth_after, told_to}
 use Rattle.album_world.specs.Committing.{history}
 use Rattle.album_world.proofs.ListLemmas.{in_left, in_cases, in_option, in_mapped, some_same, same_or_not, apart}
 use Rattle.album_world.proofs.ClientLemmas.{client_same, client_other}
-use Rattle.album_world.proofs.Invariant.{IsKept, IsFine, IsTagged, tag_of, tag_at, FirstRound, SecondRound, IsRound, IsWriting, HasPrepared, HasCommitted, IsDoing, IsClient, IsAnswer, IsRead}
+use Rattle.album_world.proofs.Invariant.{IsKept, IsFine, IsTagged, tag_at, FirstRound, SecondRound, IsRound, IsWriting, HasPrepared, HasCommitted, IsDoing, IsClient, IsAnswer, IsRead}
 use Rattle.album_world.proofs.GrowthLemmas.{Grows, any_grows, tells_more, prepared_grows, fine_grows, tagged_grows, begun_grows, first_round_grows, second_round_grows, founds_grows, stamp_grows, has_fresh_grows, read_grows, answer_grows, drawn_grows, sound_grows}
 
 pub begun_other : (b : Bool) (c d n : ℕ) (ps : List PartitionState) (bs : List Begun) → eqb c d ≡ false

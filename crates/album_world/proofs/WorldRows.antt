@@ -26,21 +26,20 @@ use Rattle.album_listing.specs.GroupsFound.{groups_found}
 use Rattle.album_listing.specs.Masks.{WRITE_ATTRIBUTES}
 use Rattle.album_eval.specs.declared.verdicts.Verdict.TheVariants.{DeniedAtEnd}
 use Rattle.album_permits.specs.declared.serving.Served.TheVariants as served
+use Rattle.album_client.specs.declared.clients.Doing.TheVariants.{Idle}
+use Rattle.album_client.specs.Terms.{terms_of}
+use Rattle.album_client.specs.Askings.{Asking}
+use Rattle.album_client.specs.Clients.{Client, newcomer}
+use Rattle.album_client.specs.Turns.{read_turn}
 use Rattle.album_world.specs.declared.events.Event.{Event}
 use Rattle.album_world.specs.declared.events.Event.TheVariants as event
 use Rattle.album_writer.specs.declared.answers.Answer.{Answer}
 use Rattle.album_writer.specs.declared.answers.Answer.TheVariants as answer
 use Rattle.album_reader.specs.Rounds.Step.{Done, Gone}
 use Rattle.album_views.specs.declared.viewing.Why.TheVariants.{Rounds}
-use Rattle.album_world.specs.Askings.{Asking}
-use Rattle.album_world.specs.Clients.{Client}
-use Rattle.album_world.specs.declared.clients.Doing.TheVariants.{Idle}
-use Rattle.album_world.specs.Clients.{newcomer}
-use Rattle.album_world.specs.Turns.{read_turn}
 use Rattle.album_world.specs.Changes.{Change, change_of}
 use Rattle.album_world.specs.Past.{Read, Told}
 use Rattle.album_world.specs.State.{Now}
-use Rattle.album_world.specs.Terms.{terms_of}
 use Rattle.album_world.specs.Runs.{run_of}
 
 -- amy and bo, by names of one letter

@@ -6,7 +6,8 @@ use Rattle.album_items.specs.declared.openings.Opening.{Opening}
 use Rattle.album_items.specs.declared.values.Value.{Value}
 use Rattle.album_partition.specs.Marks.{value_in}
 use Rattle.album_partition.proofs.GrowthLemmas.{promised_unprepared}
-use Rattle.album_world.specs.Past.{World, Transaction}
+use Rattle.album_client.specs.Turns.{Transaction}
+use Rattle.album_world.specs.Past.{World}
 use Rattle.album_world.specs.Committing.{history}
 use Rattle.album_world.proofs.ListLemmas.{In}
 use Rattle.album_world.proofs.MarkLemmas.{IsPreparedIn, wrote, wrote_by, wrote_is, wrote_none}

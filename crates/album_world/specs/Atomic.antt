@@ -6,7 +6,8 @@ use Rattle.album_items.specs.declared.values.Value.{Value}
 use Rattle.album_items.specs.declared.values.Value.TheVariants.{Missing}
 use Rattle.album_partition.specs.Marks.{value_in}
 use Rattle.album_reader.specs.Answers.{Answer as Row}
-use Rattle.album_world.specs.Past.{Transaction, Read, World}
+use Rattle.album_client.specs.Turns.{Transaction}
+use Rattle.album_world.specs.Past.{Read, World}
 use Rattle.album_world.specs.Committing.{IsCommitted}
 
 -- a committed transaction wrote both items, and one is read at its stamp, and the other at a smaller one

@@ -18,14 +18,14 @@ use Rattle.album_views.specs.Asks.{objects_of}
 use Rattle.album_views.specs.Checks.{refusal_of}
 use Rattle.album_views.specs.declared.asks.Ask.{Ask}
 use Rattle.album_writer.specs.Rounds.{prepare_stepped, commit_stepped}
+use Rattle.album_client.specs.declared.clients.Doing.{Doing}
+use Rattle.album_client.specs.declared.clients.Doing.TheVariants.{Idle, Reads, Prepares, Commits}
+use Rattle.album_client.specs.Terms.{Terms}
+use Rattle.album_client.specs.Clients.{Client}
+use Rattle.album_client.specs.Turns.{Turn, read_begins, read_turn, prepare_turn, commit_turn}
 use Rattle.album_world.specs.declared.events.Event.{Event}
 use Rattle.album_world.specs.declared.events.Event.TheVariants as event
-use Rattle.album_world.specs.Terms.{Terms}
-use Rattle.album_world.specs.Clients.{Client}
-use Rattle.album_world.specs.declared.clients.Doing.{Doing}
-use Rattle.album_world.specs.declared.clients.Doing.TheVariants.{Idle, Reads, Prepares, Commits}
 use Rattle.album_world.specs.State.{Now, message_of, client_at, is_stopped}
-use Rattle.album_world.specs.Turns.{Turn, read_begins, read_turn, prepare_turn, commit_turn}
 
 -- what an event changes: nothing; a partition, which sends messages; a client; or which clients are stopped
 pub data Change : Type 0 where

@@ -5,9 +5,10 @@ use Rattle.album_items.specs.Places.{places_of}
 use Rattle.album_items.specs.Transactions.{items_written}
 use Rattle.album_partition.specs.Marks.{commits, IsPromisedAgainst}
 use Rattle.album_partition.specs.declared.marks.Mark.{Mark}
-use Rattle.album_world.specs.Terms.{Terms}
+use Rattle.album_client.specs.Terms.{Terms}
+use Rattle.album_client.specs.Turns.{Transaction}
 use Rattle.album_world.specs.State.{history_in}
-use Rattle.album_world.specs.Past.{Transaction, World}
+use Rattle.album_world.specs.Past.{World}
 
 -- the history of a partition
 abbrev pub history : World → ℕ → List Mark

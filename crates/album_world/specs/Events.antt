@@ -2,10 +2,10 @@
 use Rattle.std.specs.Prelude.{◌≡◌, ◌<◌, ◌≤◌, ℕ, Some, None, Contains}
 use Rattle.album_stamps.specs.Stamps.{stamp_number}
 use Rattle.album_permits.specs.declared.notes.Note.{Note}
-use Rattle.album_world.specs.Clients.{Client}
+use Rattle.album_client.specs.Clients.{Client}
+use Rattle.album_client.specs.Turns.{Transaction, Turn}
 use Rattle.album_writer.specs.declared.answers.Answer.{Answer}
-use Rattle.album_world.specs.Past.{Transaction, Read, Told, Noted, World, last_read}
-use Rattle.album_world.specs.Turns.{Turn}
+use Rattle.album_world.specs.Past.{Read, Told, Noted, World, last_read}
 
 -- the note is among those that the past has for the client and the read that it made last
 pub record IsNoteKept (world : World) (client : ℕ) (note : Note) : Type 0 where

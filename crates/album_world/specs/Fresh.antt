@@ -5,9 +5,10 @@ use Rattle.album_items.specs.ItemIds.{place_of}
 use Rattle.album_partition.specs.Marks.{commits, value_in}
 use Rattle.album_partition.specs.Partition.{PartitionState}
 use Rattle.album_reader.specs.Answers.{Answer as Row}
-use Rattle.album_world.specs.Terms.{Terms}
+use Rattle.album_client.specs.Terms.{Terms}
+use Rattle.album_client.specs.Turns.{Transaction}
 use Rattle.album_world.specs.State.{history_in}
-use Rattle.album_world.specs.Past.{Transaction, Read, World}
+use Rattle.album_world.specs.Past.{Read, World}
 
 -- the row is at no smaller stamp than any transaction that wrote its item, and that the item's partition had committed
 abbrev pub IsFreshRow : Terms → World → List PartitionState → Row → Type 0

@@ -8,9 +8,10 @@ use Rattle.album_permits.specs.Writes.{AreWrites}
 use Rattle.album_views.specs.Views.{IsView}
 use Rattle.album_reader.specs.Answers.{Answer as Row}
 use Rattle.album_permits.specs.Permits.{permit_on}
-use Rattle.album_world.specs.Terms.{Terms}
+use Rattle.album_client.specs.Terms.{Terms}
+use Rattle.album_client.specs.Turns.{Transaction}
 use Rattle.album_world.specs.State.{client_at}
-use Rattle.album_world.specs.Past.{Transaction, Read, World}
+use Rattle.album_world.specs.Past.{Read, World}
 use Rattle.album_world.specs.Committing.{history}
 
 -- the client's clock drew the stamp

@@ -1,10 +1,5 @@
-pub mod Terms
-pub mod Askings
-pub mod Clients
 pub mod State
 pub mod Past
-pub mod Grants
-pub mod Turns
 pub mod Changes
 pub mod Runs
 pub mod Moves

@@ -10,9 +10,10 @@ use Rattle.album_calls.specs.declared.replies.Reply.TheVariants as reply
 use Rattle.album_permits.specs.Effects.{is_full_for}
 use Rattle.album_permits.specs.Permits.{PermitState}
 use Rattle.album_reader.specs.Answers.{Answer as Row}
-use Rattle.album_world.specs.Terms.{Terms}
+use Rattle.album_client.specs.Terms.{Terms}
+use Rattle.album_client.specs.Turns.{Transaction}
 use Rattle.album_world.specs.State.{client_at}
-use Rattle.album_world.specs.Past.{Transaction, Read, Told, World}
+use Rattle.album_world.specs.Past.{Read, Told, World}
 use Rattle.album_world.specs.Viewed.{IsToldOn}
 use Rattle.album_world.specs.Committing.{parts_of, IsCommitted, IsCommittedEverywhere, IsPromisedSomewhere}
 use Rattle.album_world.specs.Granted.{IsDrawnBy}

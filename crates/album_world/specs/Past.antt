@@ -4,20 +4,10 @@ use Rattle.album_eval.specs.declared.facts.Principal.{Principal}
 use Rattle.album_partition.specs.Partition.{PartitionState}
 use Rattle.album_reader.specs.Answers.{Answer as Row}
 use Rattle.album_views.specs.declared.asks.Ask.{Ask}
-use Rattle.album_permits.specs.Effects.{Write}
-use Rattle.album_permits.specs.Permits.{PermitState}
 use Rattle.album_permits.specs.declared.notes.Note.{Note}
+use Rattle.album_client.specs.Turns.{Transaction}
 use Rattle.album_world.specs.State.{Now}
 use Rattle.album_writer.specs.declared.answers.Answer.{Answer}
-
--- a write that a client began: who did, under which tag it sent its Prepares, at which stamp, by which permit, and all
--- that it writes
-pub record Transaction : Type 0 where
-  pub client : ℕ
-  pub tag : ℕ
-  pub stamp : ℕ
-  pub permit : PermitState
-  pub writes : List Write
 
 -- a read that a client began: which one it is of those that are made for one ask, from 1, and the partitions just
 -- before the event that began it

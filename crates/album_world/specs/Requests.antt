@@ -3,11 +3,12 @@ use Rattle.std.specs.Prelude.{◌≡◌, ◌≤◌, ℕ, List, [], ◌∷◌, �
 use Rattle.album_partition.specs.Partition.{PartitionState}
 use Rattle.album_partition.specs.declared.marks.Mark.{Mark}
 use Rattle.album_reader.specs.Answers.{Answer as Row}
+use Rattle.album_client.specs.Terms.{Terms}
+use Rattle.album_client.specs.Turns.{Transaction}
 use Rattle.album_world.specs.Fresh.{IsFreshFrom}
-use Rattle.album_world.specs.Past.{Asked, Transaction, Read, Told, World, last_asked, last_read}
+use Rattle.album_world.specs.Past.{Asked, Read, Told, World, last_asked, last_read}
 use Rattle.album_world.specs.Runs.{told_to}
 use Rattle.album_world.specs.State.{history_in}
-use Rattle.album_world.specs.Terms.{Terms}
 use Rattle.album_writer.specs.declared.answers.Answer.{Answer}
 use Rattle.album_writer.specs.declared.answers.Answer.TheVariants as answer
 

@@ -4,8 +4,9 @@ use Rattle.album_permits.specs.Permits.{PermitState, IsPermit}
 use Rattle.album_permits.specs.Serving.{IsServed}
 use Rattle.album_permits.specs.declared.findings.Finding.TheVariants as finding
 use Rattle.album_permits.specs.declared.serving.Served.{Served}
-use Rattle.album_world.specs.Terms.{Terms}
-use Rattle.album_world.specs.Past.{Transaction, Told, Noted, World}
+use Rattle.album_client.specs.Terms.{Terms}
+use Rattle.album_client.specs.Turns.{Transaction}
+use Rattle.album_world.specs.Past.{Told, Noted, World}
 use Rattle.album_world.specs.Viewed.{IsOnView, IsToldOn, Finds, Notes}
 use Rattle.album_writer.specs.declared.answers.Answer.{Answer}
 use Rattle.album_writer.specs.declared.answers.Answer.TheVariants as answer

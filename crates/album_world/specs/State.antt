@@ -4,8 +4,7 @@ use Rattle.std.specs.List.{list_any, slice_get}
 use Rattle.album_calls.specs.declared.messages.Message.{Message}
 use Rattle.album_partition.specs.Partition.{PartitionState}
 use Rattle.album_partition.specs.declared.marks.Mark.{Mark}
-use Rattle.album_world.specs.Clients.{Client}
-use Rattle.album_world.specs.Clients.{newcomer}
+use Rattle.album_client.specs.Clients.{Client, newcomer}
 
 -- The partitions, in the order of their numbers; all messages that were ever sent, in their order; the clients that
 -- have asked, in the order of their first asks; and those that were stopped, rising.

@@ -6,7 +6,7 @@ use Rattle.album_writer.specs.declared.answers.Answer.{Answer}
 use Rattle.album_world.specs.declared.events.Event.{Event}
 use Rattle.album_world.specs.declared.outs.Out.{Out}
 use Rattle.album_world.specs.declared.outs.Out.TheVariants as out
-use Rattle.album_world.specs.Terms.{Terms}
+use Rattle.album_client.specs.Terms.{Terms}
 use Rattle.album_world.specs.Past.{Told, Noted, World}
 use Rattle.album_world.specs.Runs.{happens, tells}
 

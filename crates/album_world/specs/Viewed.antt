@@ -8,7 +8,7 @@ use Rattle.album_permits.specs.Notes.{notes_of}
 use Rattle.album_permits.specs.Permits.{PermitState, permit_on}
 use Rattle.album_permits.specs.declared.findings.Finding.{Finding}
 use Rattle.album_permits.specs.declared.notes.Note.{Note}
-use Rattle.album_world.specs.Terms.{Terms}
+use Rattle.album_client.specs.Terms.{Terms}
 use Rattle.album_world.specs.Past.{Read, Told, World}
 
 -- What a client had read last is closed: a view of its ask. Of that, who asks, and the policy, as they would stand in a

@@ -19,18 +19,9 @@
 mod events;
 mod outs;
 
-// What is fixed, and what a world is made of.
-mod askings;
-mod clients;
-mod terms;
-
-// What a client does at one event.
-mod moves;
-mod reads;
-mod rulings;
+// What a client does at one event, and what is told of it.
 mod telling;
 mod turns;
-mod writes;
 
 // What an event does, and the world.
 mod opening;

@@ -4,10 +4,10 @@ ghost use Rattle.std.specs.List.{range_with_len};
 ghost use Rattle.album_items.specs.Openings.{is_opening};
 ghost use Rattle.album_items.specs.Places.{rows_placed_at};
 ghost use Rattle.album_stamps.specs.declared.limits.TheConstants.{MOST_PARTS};
+ghost use Rattle.album_client.specs.Terms.{terms_of};
 ghost use Rattle.album_world.specs.Runs.{opens};
-ghost use Rattle.album_world.specs.Terms.{terms_of};
 
-use crate::terms::Terms;
+use album_client::Terms;
 use album_eval::Policy;
 use album_items::{ItemId, ItemValues, Opening, Value, place};
 use album_partition::Partition;

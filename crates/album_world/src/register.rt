@@ -1,14 +1,14 @@
 // The clients that have asked.
 ghost use Rattle.std.specs.Prelude.{◌≡◌, ◌≢◌, ◌<◌, ◌≤◌, ◌^◌, ◌++◌, ◌∷◌, false, [], length, Err, IsOk, IsOkAnd, IsOkUnless, IfOk, IfErr, IfSome, IfNone, OnOk, OnErr, MatchResult};
 ghost use Rattle.album_stamps.specs.declared.limits.TheConstants.{MOST_READ_ITEMS};
-ghost use Rattle.album_world.specs.Clients.{newcomer};
+ghost use Rattle.album_client.specs.Clients.{newcomer};
 ghost use Rattle.album_world.specs.Registers.{AreChangedBy, StandsAt, asks_of, has_number, takes_of};
 ghost use Rattle.album_world.specs.State.{client_at};
 
-use crate::clients::Client;
 use crate::outs::Out;
-use crate::terms::Terms;
+use crate::turns;
 use album_calls::Message;
+use album_client::{Client, Terms};
 use album_eval::Principal;
 use album_stamps::{ClientNo, Refusal};
 use album_views::Ask;
@@ -27,7 +27,7 @@ pub(crate) struct Register {
 
 impl Model for Register {
     ghost use Rattle.std.specs.Prelude.{◌≡◌, List};
-    ghost use Rattle.album_world.specs.Clients.{Client as State};
+    ghost use Rattle.album_client.specs.Clients.{Client as State};
     ghost use Rattle.album_world.specs.Registers.{numbers_of};
 
     ghost Value = { List State };
@@ -72,7 +72,7 @@ impl Register {
         ensures not_memory { IfErr result (λ e. e ≢ Refusal.OutOfMemory) }
     {
         match self.index_of(number) {
-            Some(index) => self.clients[index].may_ask(terms, principal, ask),
+            Some(index) => turns::may_ask(&self.clients[index], terms, principal, ask),
             None => ask.check(principal),
         }
     }
@@ -98,7 +98,10 @@ impl Register {
         ensures unchanged { OnErr result (self.new ≡ self.old) }
     {
         match self.index_of(number) {
-            Some(index) => self.clients[index].ask(alloc, terms, principal, ask, before),
+            Some(index) => {
+                let client = &mut self.clients[index];
+                turns::ask(client, alloc, terms, principal, ask, before)
+            }
             None => self.enter(alloc, terms, number, principal, ask, before),
         }
     }
@@ -125,7 +128,7 @@ impl Register {
         ensures unchanged { OnErr result (self.new ≡ self.old) }
     {
         let mut client = Client::new(number);
-        let told = client.ask(alloc, terms, principal, ask, before)?;
+        let told = turns::ask(&mut client, alloc, terms, principal, ask, before)?;
         self.put(client)?;
         Ok(told)
     }
@@ -161,7 +164,7 @@ impl Register {
         ensures unchanged { OnErr result (self.new ≡ self.old) }
     {
         match self.index_of(number) {
-            Some(index) => self.clients[index].take(alloc, terms, message, before),
+            Some(index) => turns::take(&mut self.clients[index], alloc, terms, message, before),
             None => Ok((Vec::new(alloc), Vec::new(alloc))),
         }
     }

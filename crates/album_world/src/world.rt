@@ -1,6 +1,7 @@
 // A world: what happens to it, and what it tells.
 ghost use Rattle.std.specs.Prelude.{◌≡◌, ◌≢◌, ℕ, length, slice_get, option_copied, Ok, Err, IsOk, IfOk, IfErr, OnErr, IsOkUnless};
 ghost use Rattle.album_stamps.specs.Outcome.{Makes};
+ghost use Rattle.album_client.specs.Terms.{terms_of};
 ghost use Rattle.album_world.specs.Atomic.{ViewsAreReadAtomic};
 ghost use Rattle.album_world.specs.Busy.{BusyHasItsCause};
 ghost use Rattle.album_world.specs.Changes.{change_of};
@@ -11,7 +12,6 @@ ghost use Rattle.album_world.specs.Requests.{AnswersAreToRequests};
 ghost use Rattle.album_world.specs.Rulings.{RulingsHold};
 ghost use Rattle.album_world.specs.Seen.{AreStepped, GoesOn, IsDone, IsReached, OfEachPast, RunsOn, opened};
 ghost use Rattle.album_world.specs.State.{message_of};
-ghost use Rattle.album_world.specs.Terms.{terms_of};
 
 use crate::events::Event;
 use crate::opening::{partitions_of, terms_of};
@@ -19,8 +19,8 @@ use crate::outs::Out;
 use crate::register::Register;
 use crate::state::State;
 use crate::stopped::Stopped;
-use crate::terms::Terms;
 use album_calls::Message;
+use album_client::Terms;
 use album_items::Opening;
 use album_partition::Partition;
 use album_stamps::Refusal;

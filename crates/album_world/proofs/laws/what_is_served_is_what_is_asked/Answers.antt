@@ -1,5 +1,5 @@
 use Rattle.std.proofs.Common.{refl}
-use Rattle.album_world.proofs.GrantLemmas.{served_is}
+use Rattle.album_client.proofs.GrantLemmas.{served_is}
 use Rattle.album_world.proofs.laws.what_is_served_is_what_is_asked.Goals as goal
 
 pub returns : goal.returns

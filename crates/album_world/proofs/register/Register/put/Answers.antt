@@ -1,5 +1,5 @@
 use Rattle.std.proofs.Common.{◌≡◌, ℕ, List, [], ◌∷◌, ◌++◌, false, sym, ap, ◌∙◌, subst, rules}
-use Rattle.album_world.specs.Clients.{Client}
+use Rattle.album_client.specs.Clients.{Client}
 use Rattle.album_world.specs.Registers.{has_number, numbers_of}
 use Rattle.album_world.proofs.RegisterLemmas.{keys_push}
 use Rattle.album_world.proofs.register.Register.put.Goals as goal

@@ -1,0 +1,38 @@
+use Rattle.std.proofs.Common.{◌≡◌, Some, ap, refl, rules}
+use Rattle.std.proofs.lemmas.Result.{IfOk-weaker}
+use Rattle.album_views.specs.Asks.{objects_of}
+use Rattle.album_client.specs.Askings.{Asking}
+use Rattle.album_client.specs.Clients.{Client}
+use Rattle.album_client.specs.Turns.{read_begins}
+use Rattle.album_world.specs.Moves.{idle_tag}
+use Rattle.album_world.proofs.CheckLemmas.{is_taken}
+use Rattle.album_world.proofs.MoveLemmas.{asked_done}
+use Rattle.album_world.proofs.RegisterLemmas.{turned_number}
+use Rattle.album_world.proofs.turns.ask.Goals as goal
+
+-- it was idle, and may ask
+pub returns-clause-done : goal.returns-clause-done
+returns-clause-done c =
+    let x = c.args.client.now in
+    let asking : Asking = record { viewing = record { ask = c.args.ask.now; reads = 0 }; principal = c.args.principal.now } in
+    let idles : idle_tag x.doing ≡ Some c.in-Some.tag = search rules in
+    let number = ap (λ (y : Client). y.number) c.actor.ensures.client in
+    let clock = ap (λ (y : Client). y.clock) c.actor.ensures.client in
+    let is = rw (c.actor.ensures.terms, number, clock, c.in_ok-copy.ensures.copy, c.in_ok-copy-2.ensures.copy) at c.in_ok-moved.ensures.moved in
+    IfOk-weaker c.turn.result _ _ (λ r turned.
+    asked_done c.args.before c.args.terms x c.turn.new.client c.args.principal.now c.args.ask.now c.in-Some.tag r.0.items r.1.items
+    idles (is_taken c.args.terms x.number x c.args.principal.now c.args.ask.now c.requires.may) turned)
+    (c.turn.ensures.turned (read_begins c.args.terms x c.in-Some.tag asking (objects_of c.args.ask.now)) is)
+
+-- and keeps its number
+pub returns-clause-number : goal.returns-clause-number
+returns-clause-number c =
+    let x = c.args.client.now in
+    let asking : Asking = record { viewing = record { ask = c.args.ask.now; reads = 0 }; principal = c.args.principal.now } in
+    let idles : idle_tag x.doing ≡ Some c.in-Some.tag = search rules in
+    let number = ap (λ (y : Client). y.number) c.actor.ensures.client in
+    let clock = ap (λ (y : Client). y.clock) c.actor.ensures.client in
+    let is = rw (c.actor.ensures.terms, number, clock, c.in_ok-copy.ensures.copy, c.in_ok-copy-2.ensures.copy) at c.in_ok-moved.ensures.moved in
+    turned_number c.turn.result x c.turn.new.client (read_begins c.args.terms x c.in-Some.tag asking (objects_of c.args.ask.now))
+    c.args.before (λ r. r.0.items) (λ r. r.1.items) refl
+    (c.turn.ensures.turned (read_begins c.args.terms x c.in-Some.tag asking (objects_of c.args.ask.now)) is) c.turn.ensures.unchanged
