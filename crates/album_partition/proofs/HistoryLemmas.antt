@@ -1,8 +1,8 @@
 -- What is kept of each stamp stays so as one mark more is made, and the pending stamps are listed from it.
 -- `History::add` needs `made`, `History::after` the lemmas that begin with `after_` and `count_`, and
 -- `History::pending` `pending_listed`.
-use Rattle.std.proofs.Common.{◌≡◌, ◌≢◌, ℕ, zero, suc, ◌<◌, ◌≤◌, ◌+◌, ◌-◌, ◌^◌, ◌⊎◌, ⊎_elim, Bool, true, false, ◌==◌, ◌||◌, cond, List, [], ◌∷◌, ◌++◌, length, Option, Some, None, refl, sym, ap, ◌∙◌, subst, arith, Equal, Contains, is_some, filter}
-use Rattle.std.specs.BTreeMap.{BTreeMap, get, is_at}
+use Rattle.std.proofs.Common.{◌≡◌, ◌≢◌, ◌↔◌, ℕ, zero, suc, ◌<◌, ◌≤◌, ◌+◌, ◌-◌, ◌^◌, ◌⊎◌, ⊎_elim, Bool, true, false, ◌==◌, ◌||◌, cond, List, [], ◌∷◌, ◌++◌, length, Option, Some, None, refl, sym, ap, ◌∙◌, subst, arith, Equal, Contains, is_some, filter}
+use Rattle.std.specs.BTreeMap.{is_at}
 use Rattle.std.specs.List.{list_any, find, slice_get}
 use Rattle.std.specs.Ordering.{nat_cmp, is_eq}
 use Rattle.std.specs.Cmp.{nat_cmp_is, Equal-is}
@@ -13,18 +13,18 @@ use Rattle.album_stamps.specs.declared.limits.TheConstants.{MOST_MARKS}
 use Rattle.album_items.specs.Openings.{Row}
 use Rattle.album_terminate.specs.declared.deciding.StampState.{StampState}
 use Rattle.album_terminate.specs.declared.deciding.StampState.TheVariants as state
-use Rattle.album_partition.specs.declared.history.Standing.{Standing}
-use Rattle.album_partition.specs.declared.history.Standing.TheVariants as standing
+use Rattle.album_partition.specs.declared.standings.Standing.{Standing}
+use Rattle.album_partition.specs.declared.standings.Standing.TheVariants as standing
 use Rattle.album_partition.specs.declared.marks.Mark.{Mark}
 use Rattle.album_partition.specs.declared.marks.Mark.TheVariants.{Prepared, Committed, Discarded, Trimmed}
 use Rattle.album_partition.specs.Marks.{mark_stamp, is_mark_of, prepares, commits, state_of, is_unknown, is_pending, may_follow, pending_stamps, ArePending}
+use Rattle.album_partition.specs.Standings.{standing_in, stands_pending, AreInSet, ArePendingIn}
 use Rattle.album_partition.specs.History.{IsAt, Stands, WillStand, IsHistory, kept_by, kept_mark}
 use Rattle.album_partition.specs.declared.history.Change.{Change}
 use Rattle.album_partition.proofs.LegalLemmas.{is_legal-push}
 use Rattle.album_partition.proofs.ListLemmas.{kept_in, kept_out}
 use Rattle.album_partition.proofs.StateLemmas.{find_push_no, find_push_first, prepares_no, own_mark, no_mark, state_push_other, prepared_is_pending, committed_is_committed, discarded_is_discarded, unknown_tells, pending_tells, is_unknown_tells, is_pending_tells, same_stamp}
 use Rattle.album_partition.proofs.LoadLemmas.{prepared_counts, committed_counts, discarded_counts, refused_counts, trimmed_counts, pending_few}
-use Rattle.std.specs.BTreeMap as tree
 use Rattle.std.specs.List.Sorted.{IsStrictlySortedBy}
 use Rattle.std.proofs.lemmas.List.Kept.{IsStrictlySortedBy-filter}
 use Rattle.std.proofs.lemmas.Cmp.{nat_cmp_total}
@@ -96,27 +96,27 @@ key_tells s t =
     ((λ e. exact_unsigned s t ((Equal-is (nat_cmp s t)).0 e)), (λ (same : s ≡ t). (Equal-is (nat_cmp s t)).1 (sym (nat_cmp_is s t Equal same))))
     (Decides-eqb s t)
 
-pub indexed_push : (marks : List Mark) (mark : Mark) (index later : BTreeMap ℕ Standing) (count next u : ℕ) (found : Standing)
+pub indexed_push : (marks : List Mark) (mark : Mark) (index later : List (ℕ × Standing)) (count next u : ℕ) (found : Standing)
     → IsHistory marks index count
     → may_follow marks mark ≡ true
     → mark_stamp mark ≡ Some u
     → Stands (marks ++ mark ∷ []) u (Some found)
-    → ((q : ℕ) → get nat_cmp later q ≡ cond (is_at (nat_cmp u) q) (Some found) (get nat_cmp index q))
+    → ((q : ℕ) → standing_in later q ≡ cond (is_at (nat_cmp u) q) (Some found) (standing_in index q))
     → next ≡ length (pending_stamps (marks ++ mark ∷ []))
     → IsHistory (marks ++ mark ∷ []) later next
 indexed_push marks mark index later count next u found h may of own updated counted =
     record {
       legal = is_legal-push marks mark h.legal may;
-      stands = λ t. subst (Stands (marks ++ mark ∷ []) t) (sym (updated t)) (subst (λ (b : Bool). Stands (marks ++ mark ∷ []) t (cond b (Some found) (get nat_cmp index t))) (sym (key_tells u t)) (go t (u == t) refl));
+      stands = λ t. subst (Stands (marks ++ mark ∷ []) t) (sym (updated t)) (subst (λ (b : Bool). Stands (marks ++ mark ∷ []) t (cond b (Some found) (standing_in index t))) (sym (key_tells u t)) (go t (u == t) refl));
       count = counted;
     }
   where
-    go : (t : ℕ) (b : Bool) → (u == t) ≡ b → Stands (marks ++ mark ∷ []) t (cond b (Some found) (get nat_cmp index t))
+    go : (t : ℕ) (b : Bool) → (u == t) ≡ b → Stands (marks ++ mark ∷ []) t (cond b (Some found) (standing_in index t))
     go t true e = subst (λ s. Stands (marks ++ mark ∷ []) s (Some found)) ((Decides-eqb u t).0 e) own
-    go t false e = stands_push_other marks mark t (get nat_cmp index t) (own_mark mark u t of ∙ e) (h.stands t)
+    go t false e = stands_push_other marks mark t (standing_in index t) (own_mark mark u t of ∙ e) (h.stands t)
 
 -- a mark of no stamp leaves what is kept of each
-pub pushed_of_none : (marks later : List Mark) (mark : Mark) (index : BTreeMap ℕ Standing) (count : ℕ)
+pub pushed_of_none : (marks later : List Mark) (mark : Mark) (index : List (ℕ × Standing)) (count : ℕ)
     → IsHistory marks index count
     → may_follow marks mark ≡ true
     → WillStand marks mark None
@@ -126,7 +126,7 @@ pushed_of_none marks later mark index count h may none made =
     subst (λ (ms : List Mark). IsHistory ms index count) (sym made)
     (record {
       legal = is_legal-push marks mark h.legal may;
-      stands = λ t. stands_push_other marks mark t (get nat_cmp index t) (no_mark mark t none) (h.stands t);
+      stands = λ t. stands_push_other marks mark t (standing_in index t) (no_mark mark t none) (h.stands t);
       count = h.count ∙ sym (counts mark none);
     })
   where
@@ -170,30 +170,30 @@ after_discarded marks mark t may same = rw same (stands_discarded marks t (uncom
     uncommitted state.Discarded e h = absurd (cc)
 
 -- the marks that a history keeps are those that are seen
-pub seen : {items marks : List Mark} {index : BTreeMap ℕ Standing} {count : ℕ} → items ≡ marks → IsHistory items index count → IsHistory marks index count
+pub seen : {items marks : List Mark} {index : List (ℕ × Standing)} {count : ℕ} → items ≡ marks → IsHistory items index count → IsHistory marks index count
 seen {index = index} {count = count} same h = subst (λ (ms : List Mark). IsHistory ms index count) same h
 
 -- how many stamps are pending then
-pub count_prepared : (marks : List Mark) (index : BTreeMap ℕ Standing) (count : ℕ) (mark : Mark) (t : ℕ) (ws : List Row) (is : List ℕ) → IsHistory marks index count → length marks < MOST_MARKS → may_follow marks mark ≡ true → mark ≡ Prepared t ws is → (count + 1 < 2 ^ 64) × (count + 1 ≡ length (pending_stamps (marks ++ mark ∷ [])))
+pub count_prepared : (marks : List Mark) (index : List (ℕ × Standing)) (count : ℕ) (mark : Mark) (t : ℕ) (ws : List Row) (is : List ℕ) → IsHistory marks index count → length marks < MOST_MARKS → may_follow marks mark ≡ true → mark ≡ Prepared t ws is → (count + 1 < 2 ^ 64) × (count + 1 ≡ length (pending_stamps (marks ++ mark ∷ [])))
 count_prepared marks index count mark t ws is h room may same =
     let counted : count ≡ length (pending_stamps marks) = h.count in
     let few : length (pending_stamps marks) ≤ length marks = pending_few marks in
     let more : length (pending_stamps (marks ++ mark ∷ [])) ≡ length (pending_stamps marks) + 1 = rw same (prepared_counts marks t ws is (is_unknown_tells (state_of marks t) (rw same at may))) in
     (omega arith, omega arith)
 
-pub count_committed : (marks : List Mark) (index : BTreeMap ℕ Standing) (count : ℕ) (mark : Mark) (t : ℕ) → IsHistory marks index count → may_follow marks mark ≡ true → mark ≡ Committed t → (1 ≤ count) × (count - 1 ≡ length (pending_stamps (marks ++ mark ∷ [])))
+pub count_committed : (marks : List Mark) (index : List (ℕ × Standing)) (count : ℕ) (mark : Mark) (t : ℕ) → IsHistory marks index count → may_follow marks mark ≡ true → mark ≡ Committed t → (1 ≤ count) × (count - 1 ≡ length (pending_stamps (marks ++ mark ∷ [])))
 count_committed marks index count mark t h may same =
     let counted : count ≡ length (pending_stamps marks) = h.count in
     let fewer : length (pending_stamps (marks ++ mark ∷ [])) + 1 ≡ length (pending_stamps marks) = rw same (committed_counts marks t h.legal (is_pending_tells (state_of marks t) (rw same at may))) in
     (omega arith, omega arith)
 
-pub count_discarded : (marks : List Mark) (index : BTreeMap ℕ Standing) (count : ℕ) (mark : Mark) (t : ℕ) → IsHistory marks index count → mark ≡ Discarded t → state_of marks t ≡ state.Pending → (1 ≤ count) × (count - 1 ≡ length (pending_stamps (marks ++ mark ∷ [])))
+pub count_discarded : (marks : List Mark) (index : List (ℕ × Standing)) (count : ℕ) (mark : Mark) (t : ℕ) → IsHistory marks index count → mark ≡ Discarded t → state_of marks t ≡ state.Pending → (1 ≤ count) × (count - 1 ≡ length (pending_stamps (marks ++ mark ∷ [])))
 count_discarded marks index count mark t h same pending =
     let counted : count ≡ length (pending_stamps marks) = h.count in
     let fewer : length (pending_stamps (marks ++ mark ∷ [])) + 1 ≡ length (pending_stamps marks) = rw same (discarded_counts marks t h.legal pending) in
     (omega arith, omega arith)
 
-pub count_refused : (marks : List Mark) (index : BTreeMap ℕ Standing) (count : ℕ) (mark : Mark) (t : ℕ) → IsHistory marks index count → may_follow marks mark ≡ true → mark ≡ Discarded t → state_of marks t ≢ state.Pending → count ≡ length (pending_stamps (marks ++ mark ∷ []))
+pub count_refused : (marks : List Mark) (index : List (ℕ × Standing)) (count : ℕ) (mark : Mark) (t : ℕ) → IsHistory marks index count → may_follow marks mark ≡ true → mark ≡ Discarded t → state_of marks t ≢ state.Pending → count ≡ length (pending_stamps (marks ++ mark ∷ []))
 count_refused marks index count mark t h may same other =
     h.count ∙ sym (rw same (refused_counts marks t (unknown (state_of marks t) refl (rw same at may) other)))
   where
@@ -210,44 +210,32 @@ not_pending state.Committed h e = absurd (cc)
 not_pending state.Discarded h e = absurd (cc)
 not_pending state.Pending h e = ⊎_elim (λ (f : state.Pending ≡ state.Unknown). absurd (cc)) (λ g. ⊎_elim (λ (f : state.Pending ≡ state.Committed). absurd (cc)) (λ (f : state.Pending ≡ state.Discarded). absurd (cc)) g) h
 
-pub made : (marks items : List Mark) (mark : Mark) (change : Change) (index later : BTreeMap ℕ Standing) (count : ℕ)
+pub made : (marks items : List Mark) (mark : Mark) (change : Change) (index later : List (ℕ × Standing)) (count : ℕ)
     → IsHistory marks index count
     → may_follow marks mark ≡ true
     → WillStand marks mark (Some change)
-    → ((q : ℕ) → get nat_cmp later q ≡ cond (is_at (nat_cmp change.stamp) q) (Some change.standing) (get nat_cmp index q))
+    → ((q : ℕ) → standing_in later q ≡ cond (is_at (nat_cmp change.stamp) q) (Some change.standing) (standing_in index q))
     → items ≡ marks ++ mark ∷ []
     → IsHistory items later change.pending
 made marks items mark change index later count h may will updated same =
     subst (λ (ms : List Mark). IsHistory ms later change.pending) (sym same)
     (indexed_push marks mark index later count change.pending change.stamp change.standing h may will.0 will.1 updated will.2)
 
-pub listed : (test : ℕ → Bool) (found rest all later : List ℕ) (t : ℕ) → found ++ filter test rest ≡ all → rest ≡ t ∷ later → test t ≡ true → (found ++ t ∷ []) ++ filter test later ≡ all
-listed test found rest all later t e is passes =
-    append_assoc found (t ∷ []) (filter test later)
-    ∙ ap (λ (ts : List ℕ). found ++ ts) (sym (rw (is, passes) refl))
-    ∙ e
-
-pub passed_over : (test : ℕ → Bool) (found rest all later : List ℕ) (t : ℕ) → found ++ filter test rest ≡ all → rest ≡ t ∷ later → test t ≡ false → found ++ filter test later ≡ all
-passed_over test found rest all later t e is fails = ap (λ (ts : List ℕ). found ++ ts) (sym (rw (is, fails) refl)) ∙ e
-
-pub all_listed : (test : ℕ → Bool) (found rest all : List ℕ) → found ++ filter test rest ≡ all → rest ≡ [] → found ≡ all
-all_listed test found rest all e is = sym (append-nil found) ∙ ap (λ (ts : List ℕ). found ++ filter test ts) (sym is) ∙ e
-
 -- ---- all that are pending
 
-indexed : (marks : List Mark) (t : ℕ) (found : Option Standing) → Stands marks t found → state_of marks t ≡ state.Pending → is_some found ≡ true
-indexed marks t None stands pending = absurd (cc)
-indexed marks t (Some found) stands pending = refl
+-- a stamp stands as pending just where the marks say so
+pending_stands : (marks : List Mark) (t : ℕ) (found : Option Standing) → Stands marks t found
+    → (stands_pending found ≡ true) ↔ (state_of marks t ≡ state.Pending)
+pending_stands marks t None stands = (λ e. absurd (cc), λ e. absurd (cc))
+pending_stands marks t (Some (standing.Pending n)) stands = (λ e. stands.0, λ e. refl)
+pending_stands marks t (Some (standing.Committed n)) stands = (λ e. absurd (cc), λ e. absurd (let h = stands.0 in cc))
+pending_stands marks t (Some standing.Discarded) stands = (λ e. absurd (cc), λ e. absurd (cc))
 
-pub pending_listed : (marks : List Mark) (index : BTreeMap ℕ Standing) (count : ℕ) (found : List ℕ) → IsHistory marks index count → IsStrictlySortedBy nat_cmp (tree.keys index) → found ≡ filter (λ t. is_pending (state_of marks t)) (tree.keys index) → ArePending marks found
-pending_listed marks index count found h ordered is =
-    record {
-      pending = λ t. (
-        (λ (c : Contains found t). is_pending_tells (state_of marks t) (kept_in (λ s. is_pending (state_of marks s)) (tree.keys index) t (subst (λ (ts : List ℕ). Contains ts t) is c)).0),
-        (λ (pending : state_of marks t ≡ state.Pending).
-            subst (λ (ts : List ℕ). Contains ts t) (sym is)
-            (kept_out (λ s. is_pending (state_of marks s)) (tree.keys index) t (ap is_pending pending)
-            ((btree_map_contains_key_iff nat_cmp_total exact_unsigned index t).0 (indexed marks t (tree.get nat_cmp index t) (h.stands t) pending)))),
-      );
-      rising = subst (λ (ts : List ℕ). IsStrictlySortedBy nat_cmp ts) (sym is) (IsStrictlySortedBy-filter nat_cmp (λ t. is_pending (state_of marks t)) (tree.keys index) ordered);
-    }
+pub pending_listed : (marks : List Mark) (index : List (ℕ × Standing)) (count : ℕ) (found : List ℕ)
+    → IsHistory marks index count → ArePendingIn index found → ArePending marks found
+pending_listed marks index count found h are = record {
+  pending = λ t.
+      let told = pending_stands marks t (standing_in index t) (h.stands t) in
+      (λ c. told.0 ((are.pending t).0 c), λ p. (are.pending t).1 (told.1 p));
+  rising = are.rising;
+}

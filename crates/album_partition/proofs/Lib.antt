@@ -4,6 +4,7 @@ pub mod LegalLemmas
 pub mod LoadLemmas
 pub mod ProperLemmas
 pub mod VoteLemmas
+pub mod StandingLemmas
 pub mod HistoryLemmas
 pub mod VersionLemmas
 pub mod TrimLemmas

@@ -1,14 +1,13 @@
 -- How a history finds the state of a stamp, and where in it the stamp was prepared.
 use Rattle.std.specs.Prelude.{◌≡◌, ℕ, ◌<◌, Bool, true, false, List, [], ◌∷◌, ◌++◌, length, Option, Some, None}
 use Rattle.std.specs.List.{find, slice_get}
-use Rattle.std.specs.BTreeMap.{BTreeMap, get}
-use Rattle.std.specs.Ordering.{nat_cmp}
 use Rattle.album_terminate.specs.declared.deciding.StampState.{StampState}
 use Rattle.album_terminate.specs.declared.deciding.StampState.TheVariants as state
-use Rattle.album_partition.specs.declared.history.Standing.{Standing}
-use Rattle.album_partition.specs.declared.history.Standing.TheVariants.{Pending, Committed, Discarded}
+use Rattle.album_partition.specs.declared.standings.Standing.{Standing}
+use Rattle.album_partition.specs.declared.standings.Standing.TheVariants.{Pending, Committed, Discarded}
 use Rattle.album_partition.specs.declared.history.Change.{Change}
 use Rattle.album_partition.specs.declared.marks.Mark.{Mark}
+use Rattle.album_partition.specs.Standings.{standing_in}
 use Rattle.album_partition.specs.Marks.{mark_stamp, prepares, state_of, is_legal, pending_stamps}
 
 -- the mark that prepared a stamp stands at the index
@@ -34,9 +33,9 @@ WillStand marks mark (Some change) =
 
 -- The marks follow each other as they may; beside them stand, of each stamp, what is kept of it, and how many
 -- are pending.
-pub record IsHistory (marks : List Mark) (standings : BTreeMap ℕ Standing) (pending : ℕ) : Type 0 where
+pub record IsHistory (marks : List Mark) (standings : List (ℕ × Standing)) (pending : ℕ) : Type 0 where
   pub legal : is_legal marks ≡ true
-  pub stands : (stamp : ℕ) → Stands marks stamp (get nat_cmp standings stamp)
+  pub stands : (stamp : ℕ) → Stands marks stamp (standing_in standings stamp)
   pub count : pending ≡ length (pending_stamps marks)
 
 -- a stamp in this state was prepared, and not discarded

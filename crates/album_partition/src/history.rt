@@ -3,24 +3,16 @@ ghost use Rattle.std.specs.Prelude.{◌≡◌, ◌<◌, ◌++◌, ◌∷◌, [],
 ghost use Rattle.std.specs.List.{slice_get};
 ghost use Rattle.std.specs.Option.{option_copied};
 ghost use Rattle.album_stamps.specs.declared.limits.TheConstants.{MOST_MARKS};
-ghost use Rattle.album_partition.specs.Marks.{ArePending, mark_writes, mark_items, state_of, is_pending, may_follow, is_legal, pending_stamps};
+ghost use Rattle.album_partition.specs.Marks.{ArePending, mark_writes, mark_items, state_of, may_follow, is_legal, pending_stamps};
 ghost use Rattle.album_partition.specs.History.{IsAt, Stands, WillStand, kept_mark};
 
 use crate::marks::Mark;
+use crate::standings::{Standing, Standings};
 use album_items::{ItemId, Value};
 use album_stamps::Stamp;
 use album_terminate::StampState;
 use std::alloc::{AllocError, Global};
-use std::collections::BTreeMap;
 use std::marker::Model;
-
-/// How a stamp stands, and at which index of the marks it was prepared.
-#[derive(Clone, Copy, Debug)]
-pub enum Standing {
-    Pending(usize),
-    Committed(usize),
-    Discarded,
-}
 
 /// What a mark changes beside the list: how its stamp stands once it is made, and how many are
 /// pending then.
@@ -37,7 +29,7 @@ pub struct Change {
 pub struct History {
     marks: Vec<Mark>,
     /// Of each stamp that a mark is of, how it stands.
-    standings: BTreeMap<Stamp, Standing>,
+    standings: Standings,
     /// How many stamps are pending.
     pending: usize,
 }
@@ -61,7 +53,7 @@ impl History {
     {
         History {
             marks: Vec::new(alloc),
-            standings: BTreeMap::new(alloc),
+            standings: Standings::new(alloc),
             pending: 0,
         }
     }
@@ -90,7 +82,7 @@ impl History {
     fn standing(&self, stamp: Stamp) -> Option<Standing>
         ensures { Stands self.now stamp result }
     {
-        self.standings.get(&stamp).copied()
+        self.standings.get(stamp)
     }
 
     /// What is prepared at a stamp that is pending or committed.
@@ -159,7 +151,7 @@ impl History {
     {
         // Room first: once the stamp stands as after the mark, nothing may fail.
         self.marks.reserve(1)?;
-        self.standings.insert(change.stamp, change.standing)?;
+        self.standings.set(change.stamp, change.standing)?;
         self.pending = change.pending;
         self.marks.push_reserved(mark);
         Ok(())
@@ -217,19 +209,7 @@ impl History {
     pub fn pending(&self, alloc: Global) -> Result<Vec<Stamp>, AllocError>
         ensures { IfOk result (λ stamps. ArePending self.now stamps.items) }
     {
-        let mut stamps = Vec::new(alloc);
-        for stamp in self.standings.keys() {
-            if self.is_pending(*stamp) {
-                stamps.push(*stamp)?;
-            }
-        }
-        Ok(stamps)
-    }
-
-    fn is_pending(&self, stamp: Stamp) -> bool
-        ensures { result ≡ is_pending (state_of self.now stamp) }
-    {
-        self.state(stamp) == StampState::Pending
+        self.standings.pending(alloc)
     }
 
     /// How many stamps are pending.

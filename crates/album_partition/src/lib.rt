@@ -17,6 +17,7 @@ mod marks;
 mod partition;
 mod places;
 mod proper;
+mod standings;
 mod stored;
 mod votes;
 
