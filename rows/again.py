@@ -5,6 +5,7 @@ replay in which each ask has its answer before the next one comes is a talk: its
 are those of the talk, and what it notes is counted in the totals."""
 import json
 import pathlib
+import re
 import subprocess
 
 import talks
@@ -32,7 +33,12 @@ def begin(program, script, told):
             return
     words = [program, "serve", str(free_port()), "--conns", "1"]
     done = subprocess.run(words, input=script, capture_output=True, timeout=SECONDS)
-    want((1, told, b""), (done.returncode, done.stdout, done.stderr), "the run")
+    want((1, told), (done.returncode, done.stdout), "the run")
+    name = json.loads(told)["name"]
+    said = re.fullmatch(r"album: opening(?:, line (\d+))?: (\w+)\n", done.stderr.decode())
+    want(name, said and said[2], "the refusal on standard error")
+    most = script.count(b"\n") + 2
+    want(True, said[1] is None or 1 <= int(said[1]) <= most, "that the line is one of the opening")
 
 
 def begun(program, row):

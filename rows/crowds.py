@@ -250,10 +250,11 @@ def port_that_is_taken(program):
     """It is asked for once the opening is taken."""
     with socket.create_server(("127.0.0.1", 0)) as taken:
         words = [program, "serve", str(taken.getsockname()[1])]
-        for opening, wanted in ((joined(TRIP), (1, b"", b"album: port refused\n")),
-                                (b"{}\n", (1, b'{"name":"BadRequest","refused":3}\n', b""))):
+        for opening, wanted in ((joined(TRIP), (1, b"", b"album: port refused")),
+                                (b"{}\n", (1, b'{"name":"BadRequest","refused":3}\n',
+                                           b"album: opening, line 1: BadRequest"))):
             done = subprocess.run(words, input=opening, capture_output=True, timeout=SECONDS)
-            want(wanted, (done.returncode, done.stdout, done.stderr), "the run")
+            want(wanted, (done.returncode, done.stdout, done.stderr.splitlines()[-1]), "the run")
 
 
 FACTS = {

@@ -1,5 +1,6 @@
 """A running service, `album serve`, and connections to it, for the rows."""
 import json
+import resource
 import socket
 import struct
 import subprocess
@@ -27,16 +28,22 @@ def free_port():
 
 
 class Service:
-    """A running service, which is killed where it is left before its end."""
+    """A running service, which is killed where it is left before its end. It may have further words on its command
+    line, an input that doesn't end with the opening, so many files at most, and a file for what it says."""
 
-    def __init__(self, program, opening, conns):
+    def __init__(self, program, opening, conns, *words, goes_on=False, files=None, errors=None):
         self.port = free_port()
-        self.errors = tempfile.TemporaryFile()
+        self.errors = tempfile.TemporaryFile() if errors is None else errors
+        limit = (lambda: resource.setrlimit(resource.RLIMIT_NOFILE, (files, files))) if files else None
         with tempfile.TemporaryFile() as lines:
             lines.write(opening)
             lines.seek(0)
-            self.run = subprocess.Popen([program, "serve", str(self.port), "--conns", str(conns)], stdin=lines,
-                                        stdout=subprocess.PIPE, stderr=self.errors)
+            self.run = subprocess.Popen([program, "serve", str(self.port), "--conns", str(conns), *words],
+                                        stdin=subprocess.PIPE if goes_on else lines, stdout=subprocess.PIPE,
+                                        stderr=self.errors, preexec_fn=limit)
+        if goes_on:
+            self.run.stdin.write(opening)
+            self.run.stdin.flush()
         self.clock = threading.Timer(SECONDS, self.run.kill)
         self.clock.start()
 
@@ -53,6 +60,8 @@ class Service:
         self.run.kill()
         self.run.wait()
         self.run.stdout.close()
+        if self.run.stdin is not None:
+            self.run.stdin.close()
         self.errors.close()
 
     def end(self, printed, said):

@@ -7,9 +7,9 @@ mod texts;
 use crate::texts::{
     ABOUT, JUDGE_ABOUT, JUDGE_HELP, NO_TEXT, REPLAY_ABOUT, REPLAY_HELP, SERVE_ABOUT, SERVE_HELP,
 };
-use album_server::{Fault, Served, judge, replay, serve};
+use album_server::{Fault, Served, Serving, judge, replay, serve_for, serve_until};
 use clap::error::ErrorKind;
-use clap::{Arg, ArgMatches, Command, Error, value_parser};
+use clap::{Arg, ArgAction, ArgMatches, Command, Error, value_parser};
 use std::alloc::{AllocError, Global};
 use std::io::{Read, Write};
 use std::net::{Net, TcpListener, TcpStream};
@@ -76,7 +76,9 @@ fn serve_command<'a>(alloc: Global) -> Result<Command<'a>, AllocError> {
         .about(SERVE_ABOUT)
         .after_help(SERVE_HELP)
         .arg(port_arg(alloc))?
-        .arg(conns_arg(alloc))
+        .arg(conns_arg(alloc))?
+        .arg(idle_arg(alloc))?
+        .arg(until_eof_arg(alloc))
 }
 
 fn port_arg<'a>(alloc: Global) -> Arg<'a> {
@@ -93,6 +95,21 @@ fn conns_arg<'a>(alloc: Global) -> Arg<'a> {
         .help("How many connections are served")
         .value_parser(value_parser!(u16).range(1..))
         .default_value("65535")
+}
+
+fn idle_arg<'a>(alloc: Global) -> Arg<'a> {
+    Arg::new(alloc, "idle")
+        .long("idle")
+        .value_name("SECONDS")
+        .help("A connection that says nothing for so long ends")
+        .value_parser(value_parser!(u32).range(1..))
+}
+
+fn until_eof_arg<'a>(alloc: Global) -> Arg<'a> {
+    Arg::new(alloc, "until-eof")
+        .long("until-eof")
+        .help("Serves until standard input ends, and then lets what has begun be answered")
+        .action(ArgAction::SetTrue)
 }
 
 /// Answers the lines of the reader, to its end.
@@ -116,7 +133,7 @@ fn replay_lines<R: Read, W: Write>(
 }
 
 /// Serves the port that the command line names.
-fn serve_port<T, R: Read, W: Write>(
+fn serve_port<T, R: Read + Send, W: Write>(
     rt: T,
     alloc: Global,
     reader: &mut R,
@@ -139,7 +156,17 @@ where
     let conns = matches
         .and_then(|m| m.get_one::<u16>("conns"))
         .unwrap_or(u16::MAX);
-    serve(rt, alloc, reader, writer, port, conns, TURNS)
+    let idle = matches.and_then(|m| m.get_one::<u32>("idle")).unwrap_or(0);
+    let serving = Serving {
+        port,
+        conns,
+        turns: TURNS,
+        idle,
+    };
+    if matches.is_some_and(|m| m.get_flag("until-eof")) {
+        return serve_until(rt, alloc, reader, writer, serving);
+    }
+    serve_for(rt, alloc, reader, writer, serving)
 }
 
 /// The status of a service that has ended.

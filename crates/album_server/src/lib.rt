@@ -6,6 +6,7 @@
 #![tactic(auto)]
 
 mod answers;
+mod accepting;
 mod connections;
 mod engine;
 mod events;
@@ -18,6 +19,7 @@ mod serving;
 mod stages;
 mod talk_answers;
 mod talks;
+mod telling;
 mod writing;
 
 pub use engine::judge;
@@ -28,5 +30,5 @@ pub use replays::{
     worked_replays,
 };
 pub use scripts::replay;
-pub use serving::{Served, serve};
+pub use serving::{Served, Serving, serve, serve_for, serve_until};
 pub use talks::converse;
