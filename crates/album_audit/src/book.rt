@@ -1,8 +1,8 @@
 // The audit book.
-ghost use Rattle.std.specs.Prelude.{◌≡◌, ◌≤◌, ◌+◌, ◌++◌, ◌∷◌, [], IfOk, IfErr, OnOk, OnErr, IsOkUnless, MatchResult};
+ghost use Rattle.std.specs.Prelude.{◌≡◌, ◌≤◌, ◌+◌, ◌∷◌, [], true, false, IfOk, IfErr, OnOk, OnErr, IsOkUnless, MatchResult};
 ghost use Rattle.album_stamps.specs.declared.limits.TheConstants.{CLIENTS};
 ghost use Rattle.album_audit.specs.Totals.{totals_of, none, plus};
-ghost use Rattle.album_audit.specs.Books.{new_book};
+ghost use Rattle.album_audit.specs.Books.{is_at_end, new_book};
 
 use crate::names::{AlarmFailed, AlarmOk, AuditFailed, AuditOk, Blanks, Books};
 use crate::share::Share;
@@ -10,14 +10,13 @@ use crate::tally::Tally;
 use crate::totals::{Record, Totals};
 use album_permits::Note;
 use album_stamps::{CLIENTS, ClientNo, Refusal};
-use std::alloc::Global;
 use std::marker::Model;
 
-/// What was noted, and the shares of it that sessions have. Contracts see the records, how many shares were given,
-/// how many of them aren't gathered, and what the gathered ones had.
+/// How much was noted, and the shares of it that sessions have. Contracts see the totals, how many shares were given,
+/// how many of them aren't gathered, and what the gathered ones had. What was noted isn't kept, so a book takes no more
+/// memory however much is.
 #[derive(Drop)]
 pub struct AuditBook<J: Books> {
-    records: Vec<Record>,
     given: u64,
     out: u64,
     audit_ok: Tally<AuditOk<J>>,
@@ -28,13 +27,17 @@ pub struct AuditBook<J: Books> {
 
 impl<J: Books> Model for AuditBook<J> {
     ghost use Rattle.std.specs.Prelude.{◌≡◌};
-    ghost use Rattle.album_audit.specs.Totals.{totals_of};
     ghost use Rattle.album_audit.specs.Books.{BookState, IsBook, AreLent};
 
     ghost Value = { BookState };
 
     ghost view = { λ b. record {
-      records = b.records.items;
+      totals = record {
+        audit_ok = b.audit_ok.total;
+        audit_failed = b.audit_failed.total;
+        alarm_ok = b.alarm_ok.total;
+        alarm_failed = b.alarm_failed.total;
+      };
       given = b.given;
       out = b.out;
       gathered = record {
@@ -46,7 +49,12 @@ impl<J: Books> Model for AuditBook<J> {
     } };
 
     ghost invariant = { λ b. IsBook (record {
-      records = b.records.items;
+      totals = record {
+        audit_ok = b.audit_ok.total;
+        audit_failed = b.audit_failed.total;
+        alarm_ok = b.alarm_ok.total;
+        alarm_failed = b.alarm_failed.total;
+      };
       given = b.given;
       out = b.out;
       gathered = record {
@@ -56,12 +64,6 @@ impl<J: Books> Model for AuditBook<J> {
         alarm_failed = b.alarm_failed.rest.amount;
       };
     })
-        × (totals_of b.records.items ≡ record {
-          audit_ok = b.audit_ok.total;
-          audit_failed = b.audit_failed.total;
-          alarm_ok = b.alarm_ok.total;
-          alarm_failed = b.alarm_failed.total;
-        })
         × AreLent b.out (record {
           audit_ok = b.audit_ok.rest.parts;
           audit_failed = b.audit_failed.rest.parts;
@@ -71,8 +73,8 @@ impl<J: Books> Model for AuditBook<J> {
 }
 
 impl<J: Books> AuditBook<J> {
-    /// A book with no record, over the ledgers that `J` names.
-    pub fn new(alloc: Global, blanks: Blanks) -> AuditBook<J>
+    /// A book in which nothing is noted, over the ledgers that `J` names.
+    pub fn new(blanks: Blanks) -> AuditBook<J>
         requires names { blanks ≡ record {
           audit_ok = J.audit_ok;
           audit_failed = J.audit_failed;
@@ -88,7 +90,6 @@ impl<J: Books> AuditBook<J> {
             alarm_failed,
         } = blanks;
         AuditBook {
-            records: Vec::new(alloc),
             given: 0,
             out: 0,
             audit_ok: Tally::open(audit_ok),
@@ -125,11 +126,12 @@ impl<J: Books> AuditBook<J> {
         })
     }
 
-    /// Adds one record, which counts in the share too.
+    /// Counts one note, in the book and in the share.
     ///
     /// # Errors
     ///
-    /// `OutOfMemory`; book and share stay as they are.
+    /// `OutOfMemory` exactly where a total has come to the end of its numbers, after 2^64 - 1 notes of one kind; book and
+    /// share stay as they are. It takes no memory.
     pub fn note(
         &mut self,
         share: &mut Share<J>,
@@ -137,16 +139,19 @@ impl<J: Books> AuditBook<J> {
         note: Note,
     ) -> Result<(), Refusal>
         ensures book { OnOk result (self.new ≡ record self.old {
-          records = self.old.records ++ record { client = client; note = note } ∷ [];
+          totals = plus self.old.totals (totals_of (record { client = client; note = note } ∷ []));
         }) }
         ensures share { OnOk result
             (share.new ≡ plus share.old (totals_of (record { client = client; note = note } ∷ []))) }
         ensures memory { IsOkUnless result Refusal.OutOfMemory }
+        ensures end { OnErr result (is_at_end self.old.totals ≡ true) }
+        ensures counted { OnOk result (is_at_end self.old.totals ≡ false) }
         ensures unchanged { OnErr result ((self.new ≡ self.old) × (share.new ≡ share.old)) }
     {
-        let record = Record { client, note };
-        let one = Totals::of(&record);
-        self.records.push(record)?;
+        if self.is_at_end() {
+            return Err(Refusal::OutOfMemory);
+        }
+        let one = Totals::of(&Record { client, note });
         self.audit_ok.add(&mut share.audit_ok, one.audit_ok);
         self.audit_failed
             .add(&mut share.audit_failed, one.audit_failed);
@@ -156,16 +161,22 @@ impl<J: Books> AuditBook<J> {
         Ok(())
     }
 
-    /// What was noted, in order.
-    pub fn records(&self) -> &[Record]
-        ensures { result.now ≡ self.now.records }
+    /// Whether a total has come to the end of its numbers.
+    fn is_at_end(&self) -> bool
+        ensures { result ≡ is_at_end self.now.totals }
     {
-        self.records.as_slice()
+        let Totals {
+            audit_ok,
+            audit_failed,
+            alarm_ok,
+            alarm_failed,
+        } = self.totals();
+        [audit_ok, audit_failed, alarm_ok, alarm_failed].contains(&u64::MAX)
     }
 
-    /// How many records there are of each kind.
+    /// How many notes there are of each kind.
     pub fn totals(&self) -> Totals
-        ensures totals { result ≡ totals_of self.now.records }
+        ensures totals { result ≡ self.now.totals }
         ensures settled { self.now.out ≡ 0 → result ≡ self.now.gathered }
     {
         Totals {
@@ -178,7 +189,7 @@ impl<J: Books> AuditBook<J> {
 
     /// Takes a share back, which is spent by it.
     pub fn gather(&mut self, share: Share<J>)
-        ensures records { self.new.records ≡ self.old.records }
+        ensures totals { self.new.totals ≡ self.old.totals }
         ensures given { self.new.given ≡ self.old.given }
         ensures out { self.new.out + 1 ≡ self.old.out }
         ensures gathered { self.new.gathered ≡ plus self.old.gathered share }

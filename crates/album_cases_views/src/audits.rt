@@ -6,7 +6,6 @@ use album_access::Mask;
 use album_audit::{AuditBook, Blanks, Books, Share, Totals};
 use album_permits::Note;
 use album_stamps::{ClientNo, Refusal};
-use std::alloc::Global;
 use std::marker::Brand;
 
 /// What is noted of picture/0: whether by an alarm, and whether what was asked was granted.
@@ -27,29 +26,11 @@ fn note_all<J: Books>(
     client: ClientNo,
     notes: &[Noted],
 ) -> Result<(), Refusal> {
-    for note in notes {
-        noted(book, share, client, note)?;
+    for noted in notes {
+        let note = note_of(noted)?;
+        book.note(share, client, note)?;
     }
     Ok(())
-}
-
-/// The note is added; once more, where that was refused, since nothing was added then.
-fn noted<J: Books>(
-    book: &mut AuditBook<J>,
-    share: &mut Share<J>,
-    client: ClientNo,
-    noted: &Noted,
-) -> Result<(), Refusal> {
-    let before = book.records().len();
-    let note = note_of(noted)?;
-    if book.note(share, client, note).is_ok() {
-        return Ok(());
-    }
-    if book.records().len() != before {
-        return Err(Refusal::Clash);
-    }
-    let again = note_of(noted)?;
-    book.note(share, client, again)
 }
 
 /// The note of it, by the entry at index 1.
@@ -67,7 +48,6 @@ fn note_of(noted: &Noted) -> Result<Note, Refusal> {
 
 /// The totals, once two sessions noted the one and the other and handed their shares back.
 fn totals_in<J: Books>(
-    alloc: Global,
     blanks: Blanks,
     one: &[Noted],
     other: &[Noted],
@@ -79,7 +59,7 @@ fn totals_in<J: Books>(
       alarm_failed = J.alarm_failed;
     } }
 {
-    let mut book = AuditBook::<J>::new(alloc, blanks);
+    let mut book = AuditBook::<J>::new(blanks);
     session_in(&mut book, ClientNo::of(1), one)?;
     session_in(&mut book, ClientNo::of(2), other)?;
     Ok(book.totals())
@@ -98,12 +78,12 @@ fn session_in<J: Books>(
     noted
 }
 
-fn totals(alloc: Global, one: &[Noted], other: &[Noted]) -> Result<Totals, Refusal> {
-    totals_in::<Brand>(alloc, Blanks::new(), one, other)
+fn totals(one: &[Noted], other: &[Noted]) -> Result<Totals, Refusal> {
+    totals_in::<Brand>(Blanks::new(), one, other)
 }
 
 /// What the share after so many is.
-fn share_after<J: Books>(alloc: Global, blanks: Blanks, shares: u64) -> Result<(), Refusal>
+fn share_after<J: Books>(blanks: Blanks, shares: u64) -> Result<(), Refusal>
     requires names { blanks ≡ record {
       audit_ok = J.audit_ok;
       audit_failed = J.audit_failed;
@@ -111,7 +91,7 @@ fn share_after<J: Books>(alloc: Global, blanks: Blanks, shares: u64) -> Result<(
       alarm_failed = J.alarm_failed;
     } }
 {
-    let mut book = AuditBook::<J>::new(alloc, blanks);
+    let mut book = AuditBook::<J>::new(blanks);
     for _ in 0..shares {
         let share = book.share()?;
         book.gather(share);
@@ -121,8 +101,8 @@ fn share_after<J: Books>(alloc: Global, blanks: Blanks, shares: u64) -> Result<(
     Ok(())
 }
 
-fn next_share(alloc: Global, shares: u64) -> Result<(), Refusal> {
-    share_after::<Brand>(alloc, Blanks::new(), shares)
+fn next_share(shares: u64) -> Result<(), Refusal> {
+    share_after::<Brand>(Blanks::new(), shares)
 }
 
 #[test]
@@ -140,15 +120,15 @@ fn each_note_counts_in_its_kind(rt: HostRuntime) {
         alarm_failed: 2,
     };
 
-    assert_eq!(rt; totals(rt.alloc(), &READ_AND_DENIED, &[]), Ok(audited));
-    assert_eq!(rt; totals(rt.alloc(), &EACH_KIND, &READ_AND_DENIED), Ok(all));
+    assert_eq!(rt; totals(&READ_AND_DENIED, &[]), Ok(audited));
+    assert_eq!(rt; totals(&EACH_KIND, &READ_AND_DENIED), Ok(all));
 }
 
 #[test]
 fn a_share_for_each_client_number(rt: HostRuntime) {
-    assert_eq!(rt; next_share(rt.alloc(), MOST_SHARES - 1), Ok(()));
+    assert_eq!(rt; next_share(MOST_SHARES - 1), Ok(()));
     assert_eq!(rt;
-        next_share(rt.alloc(), MOST_SHARES),
+        next_share(MOST_SHARES),
         Err(Refusal::SessionsSpent)
     );
 }

@@ -93,7 +93,7 @@ impl<J: Naming + Send + 'static> Service<J> {
         } = opened;
         let desk = Arc::new(alloc, desk)?;
         let gate = Arc::new(alloc, gate)?;
-        let book = Arc::new(alloc, Mutex::new(AuditBook::new(alloc, blanks)))?;
+        let book = Arc::new(alloc, Mutex::new(AuditBook::new(blanks)))?;
         let seed = Mutex::new(Seed {
             pass,
             of: PhantomData,
