@@ -1,10 +1,11 @@
 -- What keeps a round in order, for `Round::take` (`put_answer-set`, `lacks-free`, `lacks-taken`), for `Round::snapshot`
 -- (`items_read-in_order`) and for what a reading is at each time (`first_open`, `stepped-open`).
-use Rattle.std.proofs.Common.{◌≡◌, ℕ, zero, suc, ◌+◌, ◌<◌, ◌≤◌, ◌^◌, Bool, true, false, not, ◌&&◌, ◌==◌, List, [], ◌∷◌, length, Option, Some, None, is_some, get_or, set, position, refl, sym, ap, ◌∙◌, if◌then◌else◌, arith}
+use Rattle.std.proofs.Common.{◌≡◌, ℕ, zero, suc, ◌+◌, ◌<◌, ◌≤◌, ◌^◌, Bool, true, false, not, ◌&&◌, ◌==◌, List, [], ◌∷◌, length, Option, Some, None, is_some, get_or, set, position, refl, sym, ap, subst, AllPairs, ◌∙◌, if◌then◌else◌, arith}
 use Rattle.std.specs.Option.{option_map_or}
 use Rattle.std.proofs.lemmas.Bool.{and_parts, and_from, and_right, eqb-true, eq-eqb, not-true, or_parts, or_left, or_right, or_from}
 use Rattle.std.proofs.lemmas.Bool.Decides.{nat_tests}
 use Rattle.std.proofs.lemmas.List.Quantifiers.{position-Some}
+use Rattle.std.proofs.lemmas.Option.{same_Some}
 use Rattle.album_stamps.specs.Distinct.{are_single}
 use Rattle.album_stamps.specs.declared.limits.TheConstants.{MOST_READ_ITEMS}
 use Rattle.album_calls.specs.declared.messages.Message.{Message}
@@ -12,7 +13,9 @@ use Rattle.album_reader.specs.Answers.{Asker, Answer, answers_there, are_there}
 use Rattle.album_reader.specs.Rounds.{RoundState, no_answers, first_round, has_item, has_answer, lacks, new_answer, put_answer, with_answer, end_by, end_of, outcome, taken, is_gone, stepped, are_in_order, IsOpen, StaysOpen}
 use Rattle.album_reader.specs.Rounds.Step.{Same, Gone}
 use Rattle.album_reader.specs.Snapshots.{items_read}
+use Rattle.album_reader.specs.StampSets.{stamps_of}
 use Rattle.album_reader.proofs.Others.{has_answer-at}
+use Rattle.album_reader.proofs.StampSets.{stamps_of-rises}
 
 -- ---- answers in order
 
@@ -276,6 +279,7 @@ first_open asker items some few single next_tag = record {
   in_order = no_answers-in_order items;
   lacking = no_answers-lacking items some;
   next_tag = λ e. next_tag;
+  rising = λ stamps e. absurd (cc);
 }
 
 -- with its answer in it the round is in order
@@ -283,6 +287,13 @@ pub with_answer-in_order :
     (round :
     RoundState) (answer : Answer) → IsOpen round → are_in_order round.items (with_answer round answer).answers ≡ true
 with_answer-in_order round answer lasts = put_answer-in_order answer round.items round.answers lasts.in_order
+
+-- the stamps that a second round asks with rise
+rises_if_shown :
+    (answers : List Answer) (stamps : List ℕ)
+    → Some (stamps_of answers) ≡ Some stamps → AllPairs (λ s t. s < t) stamps
+rises_if_shown answers stamps same =
+    subst (λ (s : List ℕ). AllPairs (λ a b. a < b) s) (same_Some _ _ same) (stamps_of-rises answers)
 
 outcome-open :
     (round : RoundState) (answer : Answer)
@@ -300,6 +311,7 @@ outcome-open round answer lasts = go (are_there (with_answer round answer).answe
       in_order = no_answers-in_order round.items;
       lacking = no_answers-lacking round.items (some_items round.items round.answers lasts.in_order lasts.lacking);
       next_tag = λ e. absurd (cc);
+      rising = rises_if_shown (answers_there put.answers);
     }
     by (Some stamps) = tt
 
@@ -313,6 +325,7 @@ outcome-open round answer lasts = go (are_there (with_answer round answer).answe
       in_order = with_answer-in_order round answer lasts;
       lacking = e;
       next_tag = lasts.next_tag;
+      rising = lasts.rising;
     }
 
 pub stepped-open : (round : RoundState) (message : Message) → IsOpen round → StaysOpen (stepped round message)

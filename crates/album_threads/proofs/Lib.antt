@@ -12,3 +12,6 @@ pub mod WriteLemmas
 pub mod AskLemmas
 pub mod RestLemmas
 pub mod LookLemmas
+pub mod PhaseLemmas
+pub mod CarryLemmas
+pub mod RuledLemmas

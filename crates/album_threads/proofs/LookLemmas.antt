@@ -44,7 +44,7 @@ module _ (b c : Cut) (viewing : ViewingState) (items : List ℕ) where
       else Again next (names_of rows viewing.ask)
 
   -- it is done, and closed, names too many items, is the last one, or is read anew
-  done_so : (rows : List Row) (step : ViewStep) → IsSound c → flaw_of viewing.ask ≡ None → IsReadOf b c items rows
+  pub done_so : (rows : List Row) (step : ViewStep) → IsSound c → flaw_of viewing.ask ≡ None → IsReadOf b c items rows
       → step ≡ stepped viewing rows → AsksReadable step → LooksOnce b c viewing items step
   done_so rows step s flawless read is readable =
       go (is_closed viewing.ask rows) (nat_lt MOST_READ_ITEMS (length names)) (nat_le MOST_READS (viewing.reads + 1)) refl refl refl is

@@ -1,0 +1,213 @@
+-- What a client does at one event: it asks, or a message comes to it.
+use Rattle.std.specs.Prelude.{ℕ, ◌+◌, Bool, true, false, List, [], ◌∷◌, Option, Some, None, Result, Ok, Err}
+use Rattle.album_stamps.specs.Clocks.{ClockState, clock_after_see, clock_after_next, next_of}
+use Rattle.album_stamps.specs.declared.refusals.Refusal.{Refusal}
+use Rattle.album_stamps.specs.declared.refusals.Refusal.TheVariants.{AlbumFull, Full}
+use Rattle.album_calls.specs.declared.messages.Message.{Message}
+use Rattle.album_eval.specs.declared.facts.Principal.{Principal}
+use Rattle.album_reader.specs.Answers.{Asker, Answer as Row}
+use Rattle.album_reader.specs.Rounds.{first_round, gets_of}
+use Rattle.album_reader.specs.Rounds.{Step as ReadStep, stepped as read_stepped}
+use Rattle.album_reader.specs.Rounds.Step.{Same, Next, Done, Gone}
+use Rattle.album_views.specs.Steps.{stepped, again}
+use Rattle.album_views.specs.Views.{ViewState}
+use Rattle.album_views.specs.declared.asks.Ask.{Ask}
+use Rattle.album_views.specs.declared.viewing.ViewStep.{ViewStep}
+use Rattle.album_views.specs.declared.viewing.ViewStep.TheVariants.{Again, Closed, Busy}
+use Rattle.album_listing.specs.Basis.{Basis}
+use Rattle.album_listing.specs.GroupsFound.{basis_on}
+use Rattle.album_permits.specs.Effects.{Write, effect_of, is_full_for}
+use Rattle.album_permits.specs.Findings.{ruling_of}
+use Rattle.album_permits.specs.Notes.{notes_of}
+use Rattle.album_permits.specs.Permits.{PermitState}
+use Rattle.album_permits.specs.declared.findings.Finding.{Finding}
+use Rattle.album_permits.specs.declared.findings.Finding.TheVariants as finding
+use Rattle.album_permits.specs.declared.notes.Note.{Note}
+use Rattle.album_permits.specs.declared.serving.Served.{Served}
+use Rattle.album_writer.specs.Rounds.{WriteStep, prepare_stepped, commit_stepped}
+use Rattle.album_writer.specs.Rounds.WriteStep.{Waits, Commits as Decides, Ends}
+use Rattle.album_writer.specs.Writing.{WritingState, prepare_round, prepares_of}
+use Rattle.album_writer.specs.declared.outcomes.Outcome.{Outcome}
+use Rattle.album_writer.specs.declared.outcomes.Outcome.TheVariants as outcome
+use Rattle.album_client.specs.Terms.{Terms}
+use Rattle.album_client.specs.Askings.{Asking}
+use Rattle.album_client.specs.Clients.{Client}
+use Rattle.album_client.specs.declared.clients.Doing.{Doing}
+use Rattle.album_client.specs.declared.clients.Doing.TheVariants.{Idle, Reads, Prepares, Commits}
+use Rattle.album_client.specs.Grants.{served_for}
+use Rattle.album_writer.specs.declared.answers.Answer.{Answer}
+use Rattle.album_writer.specs.declared.answers.Answer.TheVariants as answer
+
+-- a write that a client begins: who does, under which tag it sends its Prepares, at which stamp, by which permit, and all
+-- that it writes
+pub record Transaction : Type 0 where
+  pub client : ℕ
+  pub tag : ℕ
+  pub stamp : ℕ
+  pub permit : PermitState
+  pub writes : List Write
+
+-- how a read is over: for which ask and whom it was made, and what was read; or nothing, where an item was gone
+pub record Ended : Type 0 where
+  pub ask : Ask
+  pub principal : Principal
+  pub rows : Option (List Row)
+
+-- What a client has become, and what it tells: what is noted of a ruling, messages, and the answer to its ask. And what
+-- the past has of it: the read that is over, the write that begins, and whether a read begins.
+pub record Turn : Type 0 where
+  pub client : Client
+  pub noted : Option (List Note)
+  pub sent : List Message
+  pub answer : Option Answer
+  pub over : Option Ended
+  pub writes : Option Transaction
+  pub reads : Bool
+
+-- ---- the four ways to go on
+
+-- nothing more is told
+abbrev pub still : Client → Turn
+still client =
+    record { client = client; noted = None; sent = []; answer = None; over = None; writes = None; reads = false }
+
+-- these messages are sent
+abbrev pub sends : Client → List Message → Turn
+sends client messages = record (still client) { sent = messages }
+
+-- the client asks the partitions under this tag
+abbrev pub asker_at : Terms → Client → ℕ → Asker
+asker_at terms client tag = record { client = client.number; tag = tag; parts = terms.parts }
+
+-- a read of the items begins, in the round behind that of the tag
+abbrev pub read_begins : Terms → Client → ℕ → Asking → List ℕ → Turn
+read_begins terms client tag asking items =
+    record (still (record client { doing = Reads asking (first_round (asker_at terms client (tag + 1)) items) })) {
+      sent = gets_of (asker_at terms client (tag + 1)) [] items;
+      reads = true;
+    }
+
+-- the ask is answered
+abbrev pub ask_ends : Client → ℕ → Answer → Turn
+ask_ends client tag answer = record (still (record client { doing = Idle tag })) { answer = Some answer }
+
+-- ---- a write
+
+-- the round of Prepares behind that of the tag
+abbrev pub round_for : Terms → Client → ℕ → PermitState → ℕ → WritingState
+round_for terms client tag permit stamp = prepare_round permit stamp client.number (tag + 1) terms.parts
+
+-- it begins, and writes the effect of its permit
+abbrev pub write_begins : Terms → Client → ℕ → PermitState → ℕ → Turn
+write_begins terms client tag permit stamp =
+    record (still (record client { doing = Prepares (round_for terms client tag permit stamp) })) {
+      sent = prepares_of (round_for terms client tag permit stamp);
+      writes = Some (record {
+        client = client.number;
+        tag = tag + 1;
+        stamp = stamp;
+        permit = permit;
+        writes = effect_of permit stamp;
+      });
+    }
+
+-- unless the album that gets a child is full
+abbrev pub writes_unless : Terms → Client → ℕ → PermitState → ℕ → Bool → Turn
+writes_unless terms client tag permit stamp true = ask_ends client tag (answer.Refused AlbumFull)
+writes_unless terms client tag permit stamp false = write_begins terms client tag permit stamp
+
+-- by the stamp that is drawn; one that was drawn stays so, whatever becomes of the ask
+abbrev pub draws_by : Terms → Client → ℕ → PermitState → Result ℕ Refusal → Turn
+draws_by terms client tag permit (Ok stamp) = writes_unless terms client tag permit stamp (is_full_for permit stamp)
+draws_by terms client tag permit (Err refusal) = ask_ends client tag (answer.Refused refusal)
+
+-- a stamp is drawn from the client's clock
+abbrev pub draws : Terms → Client → ℕ → PermitState → Turn
+draws terms client tag permit =
+    draws_by terms (record client { clock = clock_after_next client.clock }) tag permit (next_of client.clock)
+
+-- ---- a view
+
+-- what is granted is served, or is written
+abbrev pub grants : Terms → Client → ℕ → PermitState → Option Served → Turn
+grants terms client tag permit (Some served) = ask_ends client tag (answer.Served served)
+grants terms client tag permit None = draws terms client tag permit
+
+-- by the ruling
+abbrev pub rules_by : Terms → Client → ℕ → PermitState → Finding → Turn
+rules_by terms client tag permit finding.Granted = grants terms client tag permit (served_for permit permit.view.ask)
+rules_by terms client tag permit (finding.Denied reasons) = ask_ends client tag (answer.Denied reasons)
+rules_by terms client tag permit (finding.Missing object) = ask_ends client tag (answer.Missing object)
+
+-- the ask of the view is ruled on, by the written policy, and the ruling is noted
+abbrev pub rules_on : Terms → Client → ℕ → PermitState → Basis → Turn
+rules_on terms client tag permit basis =
+    record (rules_by terms client tag permit (ruling_of basis permit.view.ask)) {
+      noted = Some (notes_of basis permit.view.ask);
+    }
+
+-- a clock that has seen all stamps of a snapshot
+abbrev pub clock_after_rows : ClockState → List Row → ClockState
+clock_after_rows clock [] = clock
+clock_after_rows clock (row ∷ rows) = clock_after_rows (clock_after_see clock row.stamp) rows
+
+-- the client's clock sees the stamps of the view before the ask is ruled on
+abbrev pub rules : Terms → Client → ℕ → Principal → ViewState → Turn
+rules terms client tag principal view =
+    rules_on terms (record client { clock = clock_after_rows client.clock view.rows }) tag
+    (record { view = view; principal = principal; policy = terms.policy })
+    (basis_on terms.policy principal view.rows)
+
+-- what comes of a read that was made for a view: another one, a ruling, or that there is no view, and then the clock
+-- sees nothing
+abbrev pub views_by : Terms → Client → ℕ → Principal → ViewStep → Turn
+views_by terms client tag principal (Again viewing items) =
+    read_begins terms client tag (record { viewing = viewing; principal = principal }) items
+views_by terms client tag principal (Closed view) = rules terms client tag principal view
+views_by terms client tag principal (Busy why) = ask_ends client tag (answer.Busy why)
+
+-- ---- messages
+
+-- a read is over
+abbrev pub read_ends : Terms → Client → ℕ → Asking → Option (List Row) → ViewStep → Turn
+read_ends terms client tag asking rows step =
+    record (views_by terms client tag asking.principal step) {
+      over = Some (record { ask = asking.viewing.ask; principal = asking.principal; rows = rows });
+    }
+
+-- what a message does in a read
+abbrev pub read_turn : Terms → Client → ℕ → Asking → ReadStep → Turn
+read_turn terms client tag asking (Same round) = still (record client { doing = Reads asking round })
+read_turn terms client tag asking (Next round messages) =
+    sends (record client { doing = Reads asking round }) messages
+read_turn terms client tag asking (Done rows) =
+    read_ends terms client tag asking (Some rows) (stepped asking.viewing rows)
+read_turn terms client tag asking (Gone items) =
+    read_ends terms client tag asking None (again asking.viewing items)
+
+-- the answer to an ask whose write is over
+abbrev pub answer_of : Outcome → Answer
+answer_of (outcome.Committed stamp) = answer.Committed stamp
+answer_of (outcome.Aborted stamp) = answer.Aborted stamp
+answer_of (outcome.Full stamp) = answer.Unsettled stamp Full
+
+-- what a message does in a round of Prepares
+abbrev pub prepare_turn : Client → ℕ → WriteStep → Turn
+prepare_turn client tag (Waits writing) = still (record client { doing = Prepares writing })
+prepare_turn client tag (Decides writing messages) = sends (record client { doing = Commits writing }) messages
+prepare_turn client tag (Ends outcome) = ask_ends client tag (answer_of outcome)
+
+-- and in one of Commits
+abbrev pub commit_turn : Client → ℕ → WriteStep → Turn
+commit_turn client tag (Waits writing) = still (record client { doing = Commits writing })
+commit_turn client tag (Decides writing messages) = sends (record client { doing = Commits writing }) messages
+commit_turn client tag (Ends outcome) = ask_ends client tag (answer_of outcome)
+
+-- what comes of a message to a client that does this; to an idle one it does nothing
+abbrev pub turn_of : Terms → Client → Message → Doing → Turn
+turn_of terms client message (Idle tag) = still (record client { doing = Idle tag })
+turn_of terms client message (Reads asking round) =
+    read_turn terms client round.asker.tag asking (read_stepped round message)
+turn_of terms client message (Prepares writing) =
+    prepare_turn client writing.tag (prepare_stepped writing message)
+turn_of terms client message (Commits writing) = commit_turn client writing.tag (commit_stepped writing message)

@@ -1,0 +1,105 @@
+// What a client does with a view.
+ghost use Rattle.std.specs.Prelude.{◌≡◌, ◌+◌, ◌<◌, ◌^◌, None, Some, IfOk, IsOkUnless};
+ghost use Rattle.album_permits.specs.Permits.{PermitState};
+ghost use Rattle.album_permits.specs.Rulings.{told_by, Keeps};
+ghost use Rattle.album_views.specs.Checks.{refusal_of};
+ghost use Rattle.album_client.specs.Grants.{served_for};
+ghost use Rattle.album_client.specs.Moves.{client_of, IsMoved};
+ghost use Rattle.album_client.specs.Turns.{clock_after_rows, grants, rules, rules_by};
+
+use crate::moves::{Actor, Moved};
+use album_eval::Principal;
+use album_permits::{Permit, Ruled, Ruling, rule_on};
+use album_reader::Answer as Row;
+use album_stamps::{Clock, Refusal, Refused};
+use album_views::View;
+use album_writer::Answer;
+
+impl Actor {
+    /// The ask of the view is ruled on, once the clock has seen the view's stamps.
+    pub(crate) fn rules(self, tag: u64, principal: &Principal, view: View) -> Result<Moved, Refusal>
+        requires fits { tag + 2 < 2 ^ 64 }
+        requires taken { refusal_of view.ask principal.now ≡ None }
+        ensures moved { IfOk result (IsMoved (rules self.terms (client_of self) tag principal.now view)) }
+        ensures memory { IsOkUnless result Refusal.OutOfMemory }
+    {
+        let alloc = self.alloc;
+        let policy = self.terms.policy();
+        let actor = self.after(&view);
+        let ruled = rule_on(alloc, view, principal, policy)?;
+        actor.tells(tag, ruled)
+    }
+
+    /// The same actor once its clock has seen the view's stamps.
+    fn after(self, view: &View) -> Actor
+        ensures client { client_of result ≡ record (client_of self) {
+          clock = clock_after_rows self.clock view.now.rows;
+        } }
+        ensures terms { result.terms ≡ self.terms }
+    {
+        Actor {
+            alloc: self.alloc,
+            terms: self.terms,
+            number: self.number,
+            clock: clock_after(self.clock, view.answers()),
+        }
+    }
+
+    /// The ruling is told by its notes, and leads on.
+    fn tells(self, tag: u64, ruled: Ruled) -> Result<Moved, Refusal>
+        requires fits { tag + 2 < 2 ^ 64 }
+        ensures moved { (permit : PermitState) → Keeps permit.policy permit.principal permit.view ruled.ruling
+            → IfOk result (IsMoved (record (rules_by self.terms (client_of self) tag permit (told_by ruled.ruling)) {
+              noted = Some ruled.notes.items;
+            })) }
+        ensures memory { IsOkUnless result Refusal.OutOfMemory }
+    {
+        let Ruled { ruling, notes } = ruled;
+        let moved = self.ruled(tag, ruling)?;
+        Ok(moved.noting(notes))
+    }
+
+    /// What the ruling leads to.
+    fn ruled(self, tag: u64, ruling: Ruling) -> Result<Moved, Refusal>
+        requires fits { tag + 2 < 2 ^ 64 }
+        ensures moved { (permit : PermitState) → Keeps permit.policy permit.principal permit.view ruling
+            → IfOk result (IsMoved (rules_by self.terms (client_of self) tag permit (told_by ruling))) }
+        ensures memory { IsOkUnless result Refusal.OutOfMemory }
+    {
+        match ruling {
+            Ruling::Granted(permit) => self.grants(tag, permit),
+            Ruling::Denied(denial, _view) => Ok(self.ask_ends(tag, Answer::Denied(denial))),
+            Ruling::Missing(object, _view) => Ok(self.ask_ends(tag, Answer::Missing(object))),
+        }
+    }
+
+    /// What is granted is served, or is written.
+    fn grants(self, tag: u64, permit: Permit) -> Result<Moved, Refusal>
+        requires fits { tag + 2 < 2 ^ 64 }
+        ensures moved { IfOk result
+            (IsMoved (grants self.terms (client_of self) tag permit (served_for permit permit.view.ask))) }
+        ensures memory { IsOkUnless result Refusal.OutOfMemory }
+    {
+        if permit.writes() {
+            return self.draws(tag, permit);
+        }
+        match permit.serve(self.alloc) {
+            Ok(served) => Ok(self.ask_ends(tag, Answer::Served(served))),
+            Err(Refused { refusal, given }) => {
+                drop(given.give_back());
+                Err(refusal)
+            }
+        }
+    }
+}
+
+/// The clock once it has seen all the stamps.
+fn clock_after(mut clock: Clock, rows: &[Row]) -> Clock
+    ensures seen { result ≡ clock_after_rows clock rows.now }
+    ensures own { result.client ≡ clock.client }
+{
+    for row in rows {
+        clock.see(row.stamp);
+    }
+    clock
+}

@@ -1,0 +1,98 @@
+// What a client does in a write.
+ghost use Rattle.std.specs.Prelude.{◌≡◌, ◌+◌, ◌<◌, ◌^◌, IfOk, IsOkUnless, IsTrue, Some};
+ghost use Rattle.album_permits.specs.Effects.{is_full_for};
+ghost use Rattle.album_stamps.specs.Stamps.{client_of as drawer_of};
+ghost use Rattle.album_views.specs.Asks.{is_write};
+ghost use Rattle.album_client.specs.Moves.{client_of, IsMoved};
+ghost use Rattle.album_client.specs.Turns.{answer_of, commit_turn, draws, prepare_turn, writes_unless};
+ghost use Rattle.album_writer.specs.Rounds.{commit_stepped, prepare_stepped};
+
+use crate::clients::Doing;
+use crate::moves::{Actor, Moved};
+use album_calls::Message;
+use album_permits::Permit;
+use album_stamps::{Refusal, Refused, Stamp};
+use album_writer::{Answer, CommitStep, Committing, Outcome, PrepareStep, Preparing};
+
+impl Actor {
+    /// A stamp is drawn for the write of the permit's ask.
+    pub(crate) fn draws(mut self, tag: u64, permit: Permit) -> Result<Moved, Refusal>
+        requires fits { tag + 2 < 2 ^ 64 }
+        requires change { IsTrue (is_write permit.view.ask) }
+        ensures moved { IfOk result (IsMoved (draws self.terms (client_of self) tag permit)) }
+        ensures memory { IsOkUnless result Refusal.OutOfMemory }
+    {
+        match self.clock.next() {
+            Ok(stamp) => self.write_begins(tag, permit, stamp),
+            Err(refusal) => {
+                drop(permit.give_back());
+                Ok(self.ask_ends(tag, Answer::Refused(refusal)))
+            }
+        }
+    }
+
+    /// The write begins, unless the album that gets a child is full.
+    fn write_begins(self, tag: u64, permit: Permit, stamp: Stamp) -> Result<Moved, Refusal>
+        requires fits { tag + 2 < 2 ^ 64 }
+        requires change { IsTrue (is_write permit.view.ask) }
+        requires own { drawer_of stamp ≡ Some self.number }
+        ensures moved { IfOk result
+            (IsMoved (writes_unless self.terms (client_of self) tag permit stamp (is_full_for permit stamp))) }
+        ensures memory { IsOkUnless result Refusal.OutOfMemory }
+    {
+        let parts = self.terms.parts();
+        match Preparing::begin(self.alloc, permit, stamp, self.number, tag + 1, parts) {
+            Ok((preparing, prepares)) => {
+                Ok(self.with(Doing::Prepares(preparing), prepares, None))
+            }
+            Err(Refused { refusal, given }) => {
+                drop(given.give_back());
+                match refusal {
+                    Refusal::AlbumFull => Ok(self.ask_ends(tag, Answer::Refused(refusal))),
+                    _ => Err(refusal),
+                }
+            }
+        }
+    }
+
+    /// What one does in a round of Prepares.
+    pub fn prepares(self, preparing: Preparing, message: &Message) -> Moved
+        ensures { IsMoved (prepare_turn (client_of self) preparing.tag (prepare_stepped preparing message.now)) result }
+    {
+        let tag = preparing.tag();
+        let _few = preparing.count();
+        match preparing.on_reply(message) {
+            PrepareStep::Same(preparing) => {
+                self.with(Doing::Prepares(preparing), Vec::new(self.alloc), None)
+            }
+            PrepareStep::Commit(committing, commits) => {
+                self.with(Doing::Commits(committing), commits, None)
+            }
+            PrepareStep::Ended(outcome) => self.ask_ends(tag, answer_of(outcome)),
+        }
+    }
+
+    /// And in one of Commits.
+    pub fn commits(self, committing: Committing, message: &Message) -> Moved
+        ensures { IsMoved (commit_turn (client_of self) committing.tag (commit_stepped committing message.now)) result }
+    {
+        let tag = committing.tag();
+        match committing.on_reply(message) {
+            CommitStep::Same(committing) => {
+                self.with(Doing::Commits(committing), Vec::new(self.alloc), None)
+            }
+            CommitStep::Ended(outcome) => self.ask_ends(tag, answer_of(outcome)),
+        }
+    }
+}
+
+/// The answer to an ask whose write is over.
+fn answer_of(outcome: Outcome) -> Answer
+    ensures { result ≡ answer_of outcome }
+{
+    match outcome {
+        Outcome::Committed(stamp) => Answer::Committed(stamp),
+        Outcome::Aborted(stamp) => Answer::Aborted(stamp),
+        Outcome::Full(stamp) => Answer::Unsettled(stamp, Refusal::Full),
+    }
+}
