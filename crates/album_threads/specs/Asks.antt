@@ -4,21 +4,12 @@ use Rattle.album_stamps.specs.Stamps.{counter_of}
 use Rattle.album_stamps.specs.declared.limits.TheConstants.{MOST_READ_ITEMS, MOST_READS}
 use Rattle.album_audit.specs.Totals.{totals_of, plus}
 use Rattle.album_audit.specs.declared.totals.Totals.{Totals}
-use Rattle.album_passes.specs.Cuts.{Cut, IsPromisedSomewhere, Extends, IsSound}
-use Rattle.album_permits.specs.Permits.{PermitState}
-use Rattle.album_permits.specs.Serving.{IsServed}
-use Rattle.album_permits.specs.declared.findings.Finding.{Finding}
-use Rattle.album_permits.specs.declared.findings.Finding.TheVariants as finding
+use Rattle.album_passes.specs.Cuts.{Cut, Extends, IsSound}
 use Rattle.album_permits.specs.declared.notes.Note.{Note}
 use Rattle.album_reader.specs.Answers.{Answer as Row}
 use Rattle.album_reader.specs.Snapshots.{items_read}
-use Rattle.album_threads.specs.Grounds.{Finds, IsKept, IsSeen, IsWide, AreInVain, IsOutOfReads, trims_in}
-use Rattle.album_threads.specs.Resting.{IsShared, IsAnnounced, IsUnsettledBy, IsRefusedBy}
+use Rattle.album_threads.specs.Grounds.{IsSeen, IsWide, AreInVain, IsOutOfReads, trims_in}
 use Rattle.album_threads.specs.Sessions.{SessionState}
-use Rattle.album_writer.specs.declared.answers.Answer.{Answer}
-use Rattle.album_writer.specs.declared.answers.Answer.TheVariants as answer
-use Rattle.album_threads.specs.declared.asks.Looked.{Looked}
-use Rattle.album_threads.specs.declared.asks.Looked.TheVariants as looked
 use Rattle.album_views.specs.Asks.{objects_of}
 use Rattle.album_views.specs.Checks.{flaw_of}
 use Rattle.album_views.specs.Naming.{names_of}
@@ -27,6 +18,7 @@ use Rattle.album_views.specs.Views.{ViewState, ViewingState, IsClosed, IsView}
 use Rattle.album_views.specs.declared.asks.Ask.{Ask}
 use Rattle.album_views.specs.declared.viewing.ViewStep.{ViewStep}
 use Rattle.album_views.specs.declared.viewing.ViewStep.TheVariants.{Again, Closed, Busy}
+use Rattle.album_views.specs.declared.viewing.Why.{Why}
 use Rattle.album_views.specs.declared.viewing.Why.TheVariants.{Rounds, Wide}
 
 -- the same client has seen more, and its clock went no way back

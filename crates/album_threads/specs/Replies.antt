@@ -7,14 +7,12 @@ use Rattle.album_partition.specs.declared.marks.Mark.{Mark}
 use Rattle.album_passes.specs.Cuts.{Cut, prefix_at, prefix_for, IsPrefix, Extends}
 use Rattle.album_passes.specs.Reads.{IsAnsweredBetween}
 use Rattle.album_reader.specs.Answers.{Answer, answers_there}
-use Rattle.album_reader.specs.Rounds.{RoundState, Step, IsOpen, next_asker, second_round, asked_stamps, gets_of, stepped}
+use Rattle.album_reader.specs.Rounds.{RoundState, Step, IsOpen, next_asker, second_round, asked_stamps, gets_of}
 use Rattle.album_reader.specs.Rounds.Step.{Same, Next, Done, Gone}
 use Rattle.album_reader.specs.Snapshots.{items_read}
 use Rattle.album_reader.specs.StampSets.{stamps_of}
 use Rattle.album_threads.specs.Grounds.{IsSeen, trims_in}
 use Rattle.album_threads.specs.Letters.{IsAnswered}
-use Rattle.album_threads.specs.declared.reads.Read.{Read}
-use Rattle.album_threads.specs.declared.reads.Read.TheVariants as read
 
 -- ---- a reply
 

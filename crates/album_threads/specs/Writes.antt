@@ -14,7 +14,7 @@ use Rattle.album_writer.specs.declared.answers.Answer.{Answer}
 use Rattle.album_writer.specs.declared.answers.Answer.TheVariants as answer
 use Rattle.album_writer.specs.Rounds.{WriteStep}
 use Rattle.album_writer.specs.Rounds.WriteStep.{Waits, Commits, Ends}
-use Rattle.album_writer.specs.Writing.{WritingState, writes_in, items_in, places_in, prepare_to, commit_round, commits_of}
+use Rattle.album_writer.specs.Writing.{WritingState, writes_in, items_in, places_in, commit_round, commits_of}
 use Rattle.album_writer.specs.declared.outcomes.Outcome.{Outcome}
 use Rattle.album_writer.specs.declared.outcomes.Outcome.TheVariants as outcome
 
