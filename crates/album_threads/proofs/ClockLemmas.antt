@@ -7,9 +7,9 @@ use Rattle.album_calls.specs.declared.messages.Message.{Message}
 use Rattle.album_client.specs.Askings.{Asking}
 use Rattle.album_client.specs.Clients.{Client}
 use Rattle.album_client.specs.Grants.{served_for}
-use Rattle.album_client.specs.Moves.{IsMoved, turn_of}
+use Rattle.album_client.specs.Moves.{IsMoved}
 use Rattle.album_client.specs.Terms.{Terms}
-use Rattle.album_client.specs.Turns.{Turn, writes_unless, draws_by, grants, rules_by, rules, views_by, read_turn, prepare_turn, commit_turn, clock_after_rows}
+use Rattle.album_client.specs.Turns.{Turn, turn_of, writes_unless, draws_by, grants, rules_by, rules, views_by, read_turn, prepare_turn, commit_turn, clock_after_rows}
 use Rattle.album_client.specs.declared.clients.Doing.{Doing}
 use Rattle.album_client.specs.declared.clients.Doing.TheVariants as doing
 use Rattle.album_client.specs.declared.moves.Moved.{Moved}

@@ -1,6 +1,6 @@
 -- What a reply has led to, once what was noted of it is in the share: `goes_plain` and `goes_sent` go on, and where
 -- nothing was noted the session is as it was (`heard_same`).
-use Rattle.std.proofs.Common.{◌≡◌, ℕ, ◌≤◌, IsTrue, List, [], All, Some, None, Err, refl, sym, ap, ◌∙◌, subst, arith}
+use Rattle.std.proofs.Common.{◌≡◌, ℕ, ◌≤◌, List, [], All, Some, None, Err, refl, sym, ap, ◌∙◌, subst, arith}
 use Rattle.album_calls.specs.declared.messages.Message.{Message}
 use Rattle.album_client.specs.Clients.{IsProper}
 use Rattle.album_client.specs.declared.moves.Moved.{Moved}
@@ -9,7 +9,6 @@ use Rattle.album_passes.specs.Cuts.{Cut, IsSound, Extends}
 use Rattle.album_passes.proofs.CutLemmas.{extends_trans}
 use Rattle.album_permits.specs.declared.notes.Note.{Note}
 use Rattle.album_stamps.specs.Clocks.{next_of}
-use Rattle.album_stamps.specs.Stamps.{is_client}
 use Rattle.album_stamps.specs.declared.limits.TheConstants.{GREATEST_COUNTER}
 use Rattle.album_stamps.specs.declared.refusals.Refusal.TheVariants.{StampsSpent}
 use Rattle.album_threads.specs.Asks.{IsOn, IsHeard, AreShared}
@@ -17,7 +16,7 @@ use Rattle.album_threads.specs.Letters.{Shows}
 use Rattle.album_threads.specs.Phases.{Outset, IsUnderWay}
 use Rattle.album_threads.specs.Resting.{RestsOn}
 use Rattle.album_threads.specs.Sending.{prepared_first, announced_with, announced_by, IsFreeFor, IsFree, IsAnnouncedBy, sent_last, sent_at}
-use Rattle.album_threads.specs.Sessions.{SessionState, IsAhead}
+use Rattle.album_threads.specs.Sessions.{SessionState}
 use Rattle.album_threads.proofs.NoteLemmas.{shared_none}
 use Rattle.album_threads.proofs.SendLemmas.{last_sent, last_at}
 use Rattle.album_views.specs.Checks.{refusal_of}
@@ -29,10 +28,6 @@ pub record IsNoted (o : Outset) (now next noted : SessionState) (moved : Moved) 
   pub on : IsOn o.session now
   pub sound_before : IsSound now.cut
   pub heard : IsHeard now next
-  pub sound : IsSound next.cut
-  pub ahead : IsAhead next.client next.counter next.cut
-  pub some : 1 ≤ next.cut.parts
-  pub own : IsTrue (is_client next.client)
   pub proper : IsProper moved.client.doing
   pub client : noted.client ≡ next.client
   pub counter : noted.counter ≡ moved.client.clock.counter

@@ -168,7 +168,7 @@ module _ (limit : ℕ) (policy : Policy) (o : Outset) (now next noted : SessionS
     waits asking round quiet is empty w =
         goes_plain limit policy o noted at sent moved quiet [] empty refl (λ k l e. absurd (omega arith))
         (subst (λ (z : SessionState × Doing). IsUnderWay policy o z.0 at sent z.1) (λ i. (sym same i, sym is i))
-        (record { taken = N.taken; on = on_next; sound = N.sound; phase = (w, share) }))
+        (record { taken = N.taken; on = on_next; sound = N.heard.sound; phase = (w, share) }))
 
     -- it sends these messages
     asks : (asking : Asking) (round : RoundState) (messages : List Message) → moved.answer ≡ None → moved.client.doing ≡ doing.Reads asking round → moved.sent.items ≡ messages → (messages ≡ [] → ⊥)
@@ -179,7 +179,7 @@ module _ (limit : ℕ) (policy : Policy) (o : Outset) (now next noted : SessionS
         (subst (λ (z : Cut × List Message). All (Shows z.0) z.1) (λ i. (sym N.cut i, sym w.asks i))
         (gets_shown d w.begun.asker (asked_stamps w.begun) w.begun.items))
         (subst (λ (z : SessionState × Doing). IsUnderWay policy o z.0 z.0.cut messages z.1) (λ i. (sym same i, sym is i))
-        (record { taken = N.taken; on = on_next; sound = N.sound; phase = (w, share) }))
+        (record { taken = N.taken; on = on_next; sound = N.heard.sound; phase = (w, share) }))
 
     -- there is no view
     busy : (why : Why) → moved.answer ≡ Some (answer.Busy why) → IsBusy a d o.ask why → After
@@ -208,13 +208,13 @@ module _ (limit : ℕ) (policy : Policy) (o : Outset) (now next noted : SessionS
         (gets_of (asker_at terms x (tag + 1)) [] names) is.answer does is.sent (some_gets round opens [])
         (reading_first o.principal o.ask a d terms x tag (record { viewing = viewing; principal = asking.principal }) names
         (ap (λ (v : ViewingState). v.ask) led.0 ∙ of) whom refl opens
-        (looking_next a start d asking.viewing items looking before since N.sound viewing names led) (extends_trans a start d before since))
+        (looking_next a start d asking.viewing items looking before since N.heard.sound viewing names led) (extends_trans a start d before since))
     views (Closed view) led is =
-        viewed_so tag view (looks_seen a start d asking.viewing items looking before since N.sound o.ask view of led)
+        viewed_so tag view (looks_seen a start d asking.viewing items looking before since N.heard.sound o.ask view of led)
         (subst (λ (p : Principal). IsMoved (rules terms x tag p view) moved) whom is)
     views (Busy why) led is =
         busy is.noted (ap (λ (z : Client). z.clock.counter) is.client) why is.answer
-        (looks_busy a start d asking.viewing items looking before since N.sound o.ask why of led)
+        (looks_busy a start d asking.viewing items looking before since N.heard.sound o.ask why of led)
 
   -- what a step of a round leads to
   steps : (tag : ℕ) (asking : Asking) (round : RoundState) (f : Step) (w : IsReading o.principal o.ask a at c sent asking round)
@@ -245,7 +245,7 @@ module _ (limit : ℕ) (policy : Policy) (o : Outset) (now next noted : SessionS
         asks = led.gets_are ∙ sym (ap (λ (r : RoundState). gets_of r.asker (asked_stamps r) r.items) led.next_is);
         parts = ap (λ (r : RoundState). r.asker.parts) led.next_is ∙ w.parts ∙ sym since.parts;
         under = under_first d other led.still_open (ap (λ (r : RoundState). answers_there r.answers) led.next_is ∙ none_yet w.begun.items);
-        sound = N.sound;
+        sound = N.heard.sound;
         before = w.before;
         on = extends_self d;
       })
@@ -271,10 +271,10 @@ module _ (limit : ℕ) (policy : Policy) (o : Outset) (now next noted : SessionS
       which : IsRound w.start at w.begun → After
       which (First none same) = absurd (let some = led.0 in let no = ap is_some none in cc)
       which (Second first gets y F) =
-          let found : IsReadOf w.start d first.items rows = read_so w.start at d first w.begun gets F rows w.looking.sound w.sound N.sound y since led.1 in
+          let found : IsReadOf w.start d first.items rows = read_so w.start at d first w.begun gets F rows w.looking.sound w.sound N.heard.sound y since led.1 in
           let items : w.begun.items ≡ first.items = ap (λ (r : RoundState). r.items) F.next_is in
           views w.start tag asking w.begun.items w.of w.whom w.looking w.before (extends_trans w.start at d y since) (viewed asking.viewing rows)
-          (done_so w.start d asking.viewing w.begun.items rows (viewed asking.viewing rows) N.sound w.looking.flawless
+          (done_so w.start d asking.viewing w.begun.items rows (viewed asking.viewing rows) N.heard.sound w.looking.flawless
           (subst (λ (is : List ℕ). IsReadOf w.start d is rows) (sym items) found) refl (readable_viewed asking.viewing rows w.looking.flawless))
           (record { client = is.client; noted = is.noted; sent = is.sent; answer = is.answer })
   steps tag asking round (Gone items) w led is = which w.which
@@ -285,7 +285,7 @@ module _ (limit : ℕ) (policy : Policy) (o : Outset) (now next noted : SessionS
       which : IsRound w.start at w.begun → After
       which (First none same) = absurd (let some = led.0 in let no = ap is_some none in cc)
       which (Second first gets y F) =
-          let found : IsOvertaken w.start d first.items items = overtaken w.start at d first w.begun gets F items w.looking.sound w.sound N.sound y since led.1 in
+          let found : IsOvertaken w.start d first.items items = overtaken w.start at d first w.begun gets F items w.looking.sound w.sound N.heard.sound y since led.1 in
           let same : w.begun.items ≡ items = ap (λ (r : RoundState). r.items) F.next_is ∙ sym found.items_are in
           let looking = subst (λ (is : List ℕ). IsLooking a w.start asking.viewing is) same w.looking in
           views w.start tag asking items w.of w.whom looking w.before (extends_trans w.start at d y since) (again asking.viewing items)

@@ -7,8 +7,6 @@ use Rattle.std.proofs.lemmas.Bool.Decides.{Decides-eqb}
 use Rattle.std.proofs.lemmas.List.Elements.{All-map, All-contains_itself, Contains-append_right}
 use Rattle.std.proofs.lemmas.List.Folds.{list_any_at}
 use Rattle.std.proofs.lemmas.Slice.Eq.{slice_eq-Decides}
-use Rattle.album_stamps.specs.Stamps.{client_number, counter_of}
-use Rattle.album_stamps.specs.declared.refusals.Refusal.{Refusal}
 use Rattle.album_items.specs.ItemIds.{place_of}
 use Rattle.album_items.specs.Openings.{Row}
 use Rattle.album_items.specs.Places.{places_of, rows_placed_at}
@@ -35,20 +33,15 @@ use Rattle.album_partition.specs.declared.marks.Mark.{Mark}
 use Rattle.album_partition.specs.declared.marks.Mark.TheVariants.{Prepared}
 use Rattle.album_partition.proofs.LawLemmas.{replies_are_true, to_the_sender, full_only}
 use Rattle.album_partition.proofs.StateLemmas.{same_stamp, committed_tells}
-use Rattle.album_passes.specs.Changes.{announced_cut}
 use Rattle.album_passes.specs.Cuts.{Cut, prefix_at, announced_for, IsPreparedFor, IsPreparedThroughout, IsPromisedSomewhere, IsSound, IsPrefix, Extends}
 use Rattle.album_passes.proofs.ClosedLemmas.{found_in, prepares_is, discarded_tells as promised_for}
-use Rattle.album_passes.proofs.CutLemmas.{extends_trans}
 use Rattle.album_passes.proofs.PrefixLemmas.{prefix_trans, any_more}
 use Rattle.album_permits.specs.Permits.{PermitState}
 use Rattle.album_reader.proofs.Others.{is_part-own}
 use Rattle.album_threads.specs.Grounds.{items_of, IsKept, IsWithoutRoom}
 use Rattle.album_threads.specs.Letters.{Shows}
 use Rattle.album_threads.specs.Replies.{IsReplied}
-use Rattle.album_threads.specs.Sessions.{CallerState, IsLater, IsAhead, IsNoWord}
-use Rattle.album_writer.specs.declared.answers.Answer.{Answer}
-use Rattle.album_writer.specs.declared.answers.Answer.TheVariants as answer
-use Rattle.album_threads.specs.Writes.{IsPreparedAt, IsCommittedAt, IsFurther, IsEndOf, TellsEnd, EndsSo, AreCommits, AreAllCommitted, PrepareTells, CommitTells, IsWritten}
+use Rattle.album_threads.specs.Writes.{IsPreparedAt, IsCommittedAt, IsFurther, IsEndOf, AreCommits, AreAllCommitted, PrepareTells, CommitTells}
 use Rattle.album_threads.proofs.GroundLemmas.{has_more}
 use Rattle.album_threads.proofs.LetterLemmas.{discarded_tells}
 use Rattle.album_writer.specs.Rounds.{answered_by, prepares_left, prepares_by, prepare_stepped, commits_left, commits_by, commit_stepped}

@@ -1,6 +1,6 @@
 -- What an ask leaves of a session as it goes on, and what is read for it.
-use Rattle.std.specs.Prelude.{◌≡◌, ◌⊎◌, ◌+◌, ◌<◌, ◌≤◌, ℕ, List, [], ◌∷◌, All, length, map, None}
-use Rattle.album_stamps.specs.Stamps.{counter_of}
+use Rattle.std.specs.Prelude.{◌≡◌, ◌⊎◌, ◌+◌, ◌<◌, ◌≤◌, ℕ, List, [], ◌∷◌, All, length, map, None, IsTrue}
+use Rattle.album_stamps.specs.Stamps.{is_client, counter_of}
 use Rattle.album_stamps.specs.declared.limits.TheConstants.{MOST_READ_ITEMS, MOST_READS}
 use Rattle.album_audit.specs.Totals.{totals_of, plus}
 use Rattle.album_audit.specs.declared.totals.Totals.{Totals}
@@ -9,7 +9,7 @@ use Rattle.album_permits.specs.declared.notes.Note.{Note}
 use Rattle.album_reader.specs.Answers.{Answer as Row}
 use Rattle.album_reader.specs.Snapshots.{items_read}
 use Rattle.album_threads.specs.Grounds.{IsSeen, IsWide, AreInVain, IsOutOfReads, trims_in}
-use Rattle.album_threads.specs.Sessions.{SessionState}
+use Rattle.album_threads.specs.Sessions.{SessionState, IsAhead}
 use Rattle.album_views.specs.Asks.{objects_of}
 use Rattle.album_views.specs.Checks.{flaw_of}
 use Rattle.album_views.specs.Naming.{names_of}
@@ -31,12 +31,17 @@ pub record IsOn (old new : SessionState) : Type 0 where
 abbrev pub AreSeenBy : ℕ → List Row → Type 0
 AreSeenBy counter rows = All (λ row. counter_of row.stamp ≤ counter) rows
 
--- the same session has seen more, and nothing else is changed
+-- The same session has seen more, and nothing else is changed. And what is so of each session: what it has seen is
+-- sound, its clock is ahead of what is announced of it, and it is of a client.
 pub record IsHeard (old new : SessionState) : Type 0 where
   pub client : new.client ≡ old.client
   pub counter : new.counter ≡ old.counter
   pub share : new.share ≡ old.share
   pub grown : Extends old.cut new.cut
+  pub sound : IsSound new.cut
+  pub ahead : IsAhead new.client new.counter new.cut
+  pub some : 1 ≤ new.cut.parts
+  pub own : IsTrue (is_client new.client)
 
 -- the notes are in the share
 abbrev pub AreShared : ℕ → Totals → Totals → List Note → Type 0

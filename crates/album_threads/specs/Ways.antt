@@ -2,8 +2,9 @@
 use Rattle.std.specs.Prelude.{◌≡◌, ℕ, List, Option, Some, None}
 use Rattle.album_calls.specs.declared.messages.Message.{Message}
 use Rattle.album_client.specs.Clients.{Client, stamp_at_work}
-use Rattle.album_client.specs.Moves.{turn_of, IsMoved}
+use Rattle.album_client.specs.Moves.{IsMoved}
 use Rattle.album_client.specs.Terms.{Terms}
+use Rattle.album_client.specs.Turns.{turn_of}
 use Rattle.album_client.specs.declared.clients.Doing.{Doing}
 use Rattle.album_client.specs.declared.clients.Doing.TheVariants.{Idle}
 use Rattle.album_client.specs.declared.moves.Moved.{Moved}

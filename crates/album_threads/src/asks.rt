@@ -1,9 +1,11 @@
 // Asks: a session's client, driven by what the partitions reply.
-ghost use Rattle.std.specs.Prelude.{◌≡◌, ◌≢◌, ◌≤◌, ◌⊎◌, [], Some, None, Err, All, IfOk, IfErr, IfSome, IfNone, OnOk, OnErr, IsOkUnless};
+ghost use Rattle.std.specs.Prelude.{◌≡◌, ◌≢◌, ◌≤◌, ◌⊎◌, [], Some, None, Err, All, IsTrue, IfOk, IfErr, IfSome, IfNone, OnOk, OnErr, IsOkAnd, IsOkUnless};
 ghost use Rattle.album_client.specs.Clients.{stamp_at_work, IsProper};
-ghost use Rattle.album_client.specs.Moves.{client_of, turn_of, IsMoved};
-ghost use Rattle.album_passes.specs.Cuts.{Extends, IsSound};
+ghost use Rattle.album_client.specs.Moves.{client_of, IsMoved};
+ghost use Rattle.album_client.specs.Turns.{turn_of};
+ghost use Rattle.album_passes.specs.Cuts.{Extends};
 ghost use Rattle.album_stamps.specs.Clocks.{next_of};
+ghost use Rattle.album_stamps.specs.Stamps.{is_client};
 ghost use Rattle.album_stamps.specs.declared.limits.TheConstants.{GREATEST_COUNTER};
 ghost use Rattle.album_views.specs.Checks.{refusal_of};
 ghost use Rattle.album_threads.specs.Asks.{IsOn, IsHeard, AreShared};
@@ -11,7 +13,7 @@ ghost use Rattle.album_threads.specs.Letters.{Shows};
 ghost use Rattle.album_threads.specs.Phases.{Outset, IsUnderWay, IsSomehowUnderWay};
 ghost use Rattle.album_threads.specs.Resting.{RestsOn};
 ghost use Rattle.album_threads.specs.Sending.{announced_by, IsFree, IsAnnouncedBy};
-ghost use Rattle.album_threads.specs.Sessions.{IsAhead, IsNoWord};
+ghost use Rattle.album_threads.specs.Sessions.{IsNoWord};
 ghost use Rattle.album_threads.specs.Ways.{actor_in, terms_in, IsTaken, IsTurned, IsSent, IsLed};
 
 use crate::asked::Asked;
@@ -109,11 +111,17 @@ impl<J: Naming> Session<J> {
     fn actor(&self) -> Actor
         ensures client { client_of result ≡ actor_in self.now }
         ensures terms { result.terms ≡ terms_in J.policy self.now }
+        ensures some { 1 ≤ self.now.cut.parts }
+        ensures own { IsTrue (is_client self.now.client) }
     {
+        let number = self.caller.client();
+
+        // What is true of each client's number is known once it is looked at.
+        let _number = number.number();
         Actor {
             alloc: self.alloc,
             terms: Terms::new(self.caller.parts(), self.policy),
-            number: self.caller.client(),
+            number,
             clock: self.clock,
         }
     }
@@ -163,8 +171,6 @@ impl<J: Naming> Session<J> {
         ensures proper { IfOk result (λ moved. IsProper moved.client.doing) }
         ensures refused { IfErr result IsNoWord }
         ensures heard { IsHeard self.old self.new }
-        ensures sound { IsSound self.new.cut }
-        ensures ahead { IsAhead self.new.client self.new.counter self.new.cut }
     {
         let heard = self.caller.hear(rt, asked);
         self.caller.is_sound();
@@ -256,7 +262,8 @@ impl<J: Naming> Session<J> {
 
 /// What comes of the reply, which is let go.
 fn taken(actor: Actor, doing: Doing, heard: Result<Message, Refusal>) -> Result<Moved, Refusal>
-    ensures moved { IfOk result (λ moved. IfOk heard (λ reply.
+    requires { IsOkUnless heard Refusal.Closed }
+    ensures moved { IfOk result (λ moved. IsOkAnd heard (λ reply.
         IsMoved (turn_of actor.terms (client_of actor) reply doing) moved)) }
     ensures refused { IfErr result IsNoWord }
 {

@@ -1,6 +1,6 @@
 use Rattle.std.proofs.Common.{◌≡◌, take}
 use Rattle.album_threads.specs.Asks.{AreShared}
-use Rattle.album_threads.proofs.noting.Session.note_all.Given as goal
+use Rattle.album_threads.proofs.session.Session.note_all.Given as goal
 
 abbrev pub invariant-loop-note : goal.invariant-loop-note
 invariant-loop-note g l = record {
