@@ -103,8 +103,8 @@ reading_first principal ask old now terms x tag asking items of whom parts opens
 module _ (policy : Policy) (principal : Principal) (ask : Ask) (now : SessionState) (terms : Terms) (x : Client) (tag : ℕ) (moved : Moved)
     (is : IsMoved (read_begins terms x tag (record { viewing = record { ask = ask; reads = 0 }; principal = principal }) (objects_of ask)) moved)
     (proper : IsProper moved.client.doing) where
-  abbrev asking : Asking
-  asking = record { viewing = record { ask = ask; reads = 0 }; principal = principal }
+  abbrev first_asking : Asking
+  first_asking = record { viewing = record { ask = ask; reads = 0 }; principal = principal }
 
   opens : IsOpen (first_round (asker_at terms x (tag + 1)) (objects_of ask))
   opens = subst IsProper (ap (λ (z : Client). z.doing) is.client) proper
@@ -119,8 +119,8 @@ module _ (policy : Policy) (principal : Principal) (ask : Ask) (now : SessionSta
         on = on_self now;
         sound = s;
         phase = (
-          reading_first principal ask now.cut now.cut terms x tag asking (objects_of ask) refl refl parts opens
-          (looking_first now.cut asking.viewing (objects_of ask) ask refl refl (readable_open _ opens) (taken_flawless ask principal taken) s)
+          reading_first principal ask now.cut now.cut terms x tag first_asking (objects_of ask) refl refl parts opens
+          (looking_first now.cut first_asking.viewing (objects_of ask) ask refl refl (readable_open _ opens) (taken_flawless ask principal taken) s)
           (extends_self now.cut),
           refl,
         );

@@ -1,0 +1,29 @@
+use Rattle.std.proofs.Common.{subst}
+use Rattle.album_passes.proofs.CutLemmas.{extends_trans}
+use Rattle.album_threads.specs.Phases.{Outset}
+use Rattle.album_threads.specs.Ways.{IsLed}
+use Rattle.album_threads.proofs.session.Session.ask.Goals as goal
+
+-- it goes on
+pub loop-preserved : goal.loop-preserved
+loop-preserved g c =
+    let outset : Outset = record { principal = c.args.principal.now; ask = c.args.ask; session = c.args.self.now } in
+    record {
+      way = subst (IsLed g.J.Naming.terms.limit g.J.Naming.policy outset c.goes_on.new.self) c.in-Awaits.is
+          (c.in_ok-answer.ensures.way outset c.loop.invariant.way);
+    }
+
+pub returns-in_err-answer-clause-grown : goal.returns-in_err-answer-clause-grown
+returns-in_err-answer-clause-grown g c =
+    extends_trans c.args.self.now.cut c.loop.self.cut c.goes_on.new.self.cut c.loop.invariant.way.on.grown c.goes_on.ensures.on.grown
+
+-- it is answered
+pub returns-in-Answered-clause-rests : goal.returns-in-Answered-clause-rests
+returns-in-Answered-clause-rests g c =
+    let outset : Outset = record { principal = c.args.principal.now; ask = c.args.ask; session = c.args.self.now } in
+    subst (IsLed g.J.Naming.terms.limit g.J.Naming.policy outset c.goes_on.new.self) c.in-Answered.is
+    (c.in_ok-answer.ensures.way outset c.loop.invariant.way)
+
+pub returns-in-Answered-clause-grown : goal.returns-in-Answered-clause-grown
+returns-in-Answered-clause-grown g c =
+    extends_trans c.args.self.now.cut c.loop.self.cut c.goes_on.new.self.cut c.loop.invariant.way.on.grown c.goes_on.ensures.on.grown
