@@ -1,11 +1,10 @@
--- How a read of two rounds ends. `Caller::read` cites `result_so`, which is by `read_so` and `overtaken`.
-use Rattle.std.proofs.Common.{◌≡◌, ℕ, zero, suc, ◌<◌, true, List, [], ◌∷◌, get_or, map, All, Contains, Option, Result, Ok, Err, refl, sym, ap, ◌∙◌, subst, arith}
-use Rattle.std.specs.Prelude.{IfOk, OnOk}
+-- How a read of two rounds ends: `read_so`, where it is done, and `overtaken`, where an item was gone. ReadingLemmas
+-- cites both.
+use Rattle.std.proofs.Common.{◌≡◌, ℕ, zero, suc, ◌<◌, true, List, [], ◌∷◌, get_or, map, All, Contains, Option, refl, sym, ap, ◌∙◌, subst, arith}
 use Rattle.std.specs.Option.{unwrap_or}
 use Rattle.std.specs.List.{count_by}
 use Rattle.std.proofs.lemmas.List.Elements.{All-contains, Contains-get_or}
 use Rattle.album_items.specs.ItemIds.{place_of}
-use Rattle.album_stamps.specs.declared.refusals.Refusal.{Refusal}
 use Rattle.album_calls.specs.declared.messages.Message.{Message}
 use Rattle.album_partition.specs.Laws.{IsLatest}
 use Rattle.album_partition.specs.Marks.{is_legal}
@@ -22,9 +21,7 @@ use Rattle.album_reader.specs.Snapshots.{items_read}
 use Rattle.album_reader.specs.StampSets.{stamps_of}
 use Rattle.album_reader.proofs.StampSets.{stamps_of-Contains}
 use Rattle.album_threads.specs.Grounds.{is_trim}
-use Rattle.album_threads.specs.Replies.{AreOf, IsFirstOver, IsGoneFrom, IsReadOf, IsOvertaken, EndsWith, Reads}
-use Rattle.album_threads.specs.declared.reads.Read.{Read}
-use Rattle.album_threads.specs.declared.reads.Read.TheVariants as read
+use Rattle.album_threads.specs.Replies.{AreOf, IsFirstOver, IsGoneFrom, IsReadOf, IsOvertaken}
 use Rattle.album_threads.proofs.TrimLemmas.{prefix_trims, trimmed_since, trims_rise}
 
 -- ---- what a list of answers has
@@ -73,7 +70,7 @@ module _ (b m c : Cut) (begun next : RoundState) (gets : List Message) (F : IsFi
   }
 
   -- what the second round has read is read atomic and fresh
-  read_so : (rows : List Answer) → IsSound b → IsSound m → IsSound c → Extends b m → Extends m c → AreOf m c next rows
+  pub read_so : (rows : List Answer) → IsSound b → IsSound m → IsSound c → Extends b m → Extends m c → AreOf m c next rows
       → IsReadOf b c begun.items rows
   read_so rows s r t x y a =
       let R = in_two_rounds rows s r t x y a in
@@ -89,7 +86,7 @@ module _ (b m c : Cut) (begun next : RoundState) (gets : List Message) (F : IsFi
       }
 
   -- where the second round finds an item gone, a trim has overtaken the read
-  overtaken : (all : List ℕ) → IsSound b → IsSound m → IsSound c → Extends b m → Extends m c → IsGoneFrom m c next all
+  pub overtaken : (all : List ℕ) → IsSound b → IsSound m → IsSound c → Extends b m → Extends m c → IsGoneFrom m c next all
       → IsOvertaken b c begun.items all
   overtaken all s r t x y g =
       let gone = g.gone in
@@ -114,12 +111,3 @@ module _ (b m c : Cut) (begun next : RoundState) (gets : List Message) (F : IsFi
         items_are = g.items_are ∙ ap (λ (z : RoundState). z.items) F.next_is;
         trimmed = trims_rise b c (place_of b.parts i) s t along there;
       }
-
-  ends_so : (r : Read) → IsSound b → IsSound m → IsSound c → Extends b m → Extends m c → EndsWith m c next r → Reads b c begun.items r
-  ends_so (read.Done rows) s r t x y h = read_so rows s r t x y h
-  ends_so (read.Gone all) s r t x y h = overtaken all s r t x y h
-
-  pub result_so : (r : Result Read Refusal) → IsSound b → OnOk r (IsSound m) → OnOk r (IsSound c) → Extends b m → Extends m c
-      → IfOk r (EndsWith m c next) → IfOk r (Reads b c begun.items)
-  result_so (Ok found) s r t x y h = ends_so found s r t x y h
-  result_so (Err why) s r t x y h = tt

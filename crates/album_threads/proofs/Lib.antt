@@ -8,7 +8,14 @@ pub mod SessionLemmas
 pub mod RoundLemmas
 pub mod TrimLemmas
 pub mod EndLemmas
-pub mod WriteLemmas
-pub mod AskLemmas
-pub mod RestLemmas
 pub mod LookLemmas
+pub mod WriteLemmas
+pub mod NoteLemmas
+pub mod ClockLemmas
+pub mod SendLemmas
+pub mod BegunLemmas
+pub mod MovedLemmas
+pub mod RuledLemmas
+pub mod ReadingLemmas
+pub mod CarryLemmas
+pub mod WayLemmas

@@ -1,9 +1,8 @@
--- What comes of one read more for an ask. `Session::look_once` cites `done_result` and `gone_so`, and `Session::look`
--- `looking_first`, `looking_next`, `looks_seen`, `looks_busy` and `on_trans`.
-use Rattle.std.proofs.Common.{◌≡◌, inl, inr, ℕ, ◌+◌, ◌<◌, ◌≤◌, Bool, true, false, None, List, [], ◌∷◌, ◌++◌, length, length-append, nat_le, nat_lt, if◌then◌else◌, Result, Ok, Err, IfOk, refl, sym, ◌∙◌, subst, arith}
+-- What comes of one read more for an ask: `done_so` and `gone_so`. And of all reads so far: `looking_first`,
+-- `looking_next`, `looks_seen` and `looks_busy`.
+use Rattle.std.proofs.Common.{◌≡◌, inl, inr, ℕ, ◌+◌, ◌<◌, ◌≤◌, Bool, true, false, None, List, [], ◌∷◌, ◌++◌, length, length-append, nat_le, nat_lt, if◌then◌else◌, refl, sym, ◌∙◌, subst, arith}
 use Rattle.std.proofs.lemmas.Bool.{ltb-true, ltb-false, leb-true}
 use Rattle.album_stamps.specs.declared.limits.TheConstants.{MOST_READ_ITEMS, MOST_READS}
-use Rattle.album_stamps.specs.declared.refusals.Refusal.{Refusal}
 use Rattle.album_reader.specs.Answers.{Answer as Row}
 use Rattle.album_reader.specs.Snapshots.{items_read}
 use Rattle.album_passes.specs.Cuts.{Cut, IsSound, Extends}
@@ -20,12 +19,11 @@ use Rattle.album_views.specs.declared.viewing.ViewStep.TheVariants.{Again, Close
 use Rattle.album_views.specs.declared.viewing.Why.{Why}
 use Rattle.album_views.specs.declared.viewing.Why.TheVariants.{Rounds, Wide}
 use Rattle.album_views.proofs.Closing.{closed-is, not-closed}
-use Rattle.album_threads.specs.Asks.{IsOn, IsViewOf, IsVain, LooksOnce, IsLooking, Looks, items_next}
+use Rattle.album_threads.specs.Asks.{IsOn, IsViewOf, IsVain, LooksOnce, IsLooking, IsBusy, items_next}
 use Rattle.album_threads.specs.Grounds.{IsSeen, AreInVain, IsOutOfReads, trims_in}
 use Rattle.album_threads.specs.Grounds.AreInVain.{NoRead, OneMore}
 use Rattle.album_threads.specs.Replies.{IsReadOf}
 use Rattle.album_threads.specs.Sessions.{SessionState}
-use Rattle.album_threads.specs.declared.asks.Looked.TheVariants as looked
 use Rattle.album_threads.proofs.GroundLemmas.{seen_more}
 use Rattle.album_threads.proofs.TrimLemmas.{trims_stay}
 
@@ -44,7 +42,7 @@ module _ (b c : Cut) (viewing : ViewingState) (items : List ℕ) where
       else Again next (names_of rows viewing.ask)
 
   -- it is done, and closed, names too many items, is the last one, or is read anew
-  done_so : (rows : List Row) (step : ViewStep) → IsSound c → flaw_of viewing.ask ≡ None → IsReadOf b c items rows
+  pub done_so : (rows : List Row) (step : ViewStep) → IsSound c → flaw_of viewing.ask ≡ None → IsReadOf b c items rows
       → step ≡ stepped viewing rows → AsksReadable step → LooksOnce b c viewing items step
   done_so rows step s flawless read is readable =
       go (is_closed viewing.ask rows) (nat_lt MOST_READ_ITEMS (length names)) (nat_le MOST_READS (viewing.reads + 1)) refl refl refl is
@@ -79,12 +77,6 @@ module _ (b c : Cut) (viewing : ViewingState) (items : List ℕ) where
       go false false true e f g h = subst (LooksOnce b c viewing items) (sym h) (leb-true _ _ g, inl (rows, vain e f))
       go false false false e f g h =
           subst (LooksOnce b c viewing items) (sym h) (refl, subst AsksReadable h readable, inl (rows, vain e f, refl))
-
-  pub done_result : (rows : List Row) (result : Result ViewStep Refusal) → IsSound c → flaw_of viewing.ask ≡ None
-      → IsReadOf b c items rows → IfOk result (λ step. step ≡ stepped viewing rows) → IfOk result AsksReadable
-      → IfOk result (LooksOnce b c viewing items)
-  done_result rows (Ok step) s flawless read is readable = done_so rows step s flawless read is readable
-  done_result rows (Err why) s flawless read is readable = tt
 
   -- a trim has overtaken it
   pub gone_so : (step : ViewStep) → trims_in b < trims_in c → AreReadable items → step ≡ again viewing items
@@ -215,7 +207,7 @@ module _ (a b c : Cut) (viewing : ViewingState) (items : List ℕ) (h : IsLookin
         sound = s;
       })
 
-  busy_so : (why : Why) → LooksOnce b c viewing items (Busy why) → Looks a c viewing.ask (looked.Busy why)
+  busy_so : (why : Why) → LooksOnce b c viewing items (Busy why) → IsBusy a c viewing.ask why
   busy_so Wide is = record {
     rows = is.rows;
     seen = seen_from a b c is.rows s x y is.seen;
@@ -224,5 +216,5 @@ module _ (a b c : Cut) (viewing : ViewingState) (items : List ℕ) (h : IsLookin
   }
   busy_so Rounds is = out_of_reads is
 
-  pub looks_busy : (ask : Ask) (why : Why) → viewing.ask ≡ ask → LooksOnce b c viewing items (Busy why) → Looks a c ask (looked.Busy why)
-  looks_busy ask why of is = subst (λ (k : Ask). Looks a c k (looked.Busy why)) of (busy_so why is)
+  pub looks_busy : (ask : Ask) (why : Why) → viewing.ask ≡ ask → LooksOnce b c viewing items (Busy why) → IsBusy a c ask why
+  looks_busy ask why of is = subst (λ (k : Ask). IsBusy a c k why) of (busy_so why is)

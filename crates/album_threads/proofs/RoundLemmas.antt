@@ -1,4 +1,5 @@
--- What a reply brings to a round of a read. `Caller::read_round` cites the lemmas that are `pub`; the main one is `leads`.
+-- What a reply brings to a round of a read. ReadingLemmas cites the lemmas that are `pub`;
+-- the main one is `leads`.
 use Rattle.std.proofs.Common.{◌≡◌, ℕ, zero, suc, ◌≤◌, Bool, true, false, cond, ◌==◌, List, [], ◌∷◌, ◌++◌, length, append-nil, map, All, Contains, Option, Some, None, is_some, option_map, option_and_then, option_to_list, refl, sym, ap, ◌∙◌, subst, arith, get_or, if◌then◌else◌}
 use Rattle.std.specs.Option.{option_map_or, unwrap_or}
 use Rattle.std.proofs.lemmas.List.Elements.{All-cons, All-head, All-tail, All-map}
@@ -33,12 +34,8 @@ use Rattle.album_reader.specs.StampSets.{stamps_of}
 use Rattle.album_reader.specs.Others.{IsGone}
 use Rattle.album_reader.proofs.Others.{is_part-own, IsGone-is_gone}
 use Rattle.album_reader.proofs.Rounds.{items_read-in_order, stepped-open, with_answer-in_order}
-use Rattle.album_reader.specs.declared.reading.Step.{Step as TakenStep}
-use Rattle.album_reader.specs.declared.reading.Step.TheVariants as step
-use Rattle.album_reader.specs.Steps.{step_of}
-use Rattle.album_passes.proofs.CutLemmas.{extends_trans}
 use Rattle.album_threads.specs.Letters.{Shows}
-use Rattle.album_threads.specs.Replies.{IsReplied, IsUnder, AreOf, IsStepped, IsGoneBetween, Leads, IsEnd}
+use Rattle.album_threads.specs.Replies.{IsReplied, IsUnder, AreOf, IsGoneBetween, Leads}
 
 -- ---- what a message answers
 
@@ -283,7 +280,7 @@ outcome_leads b c begun round asker items stamps order all = go (are_there round
     go false e stays = record { asker = asker; items = items; stamps = stamps; still_open = stays; between = all }
 
 -- What comes of a reply to one of the round's Gets.
-leads : (limit : ℕ) (b c d : Cut) (begun round : RoundState) (m : Message) → Extends b c → Extends c d → Extends b d → begun.asker.parts ≡ b.parts
+pub leads : (limit : ℕ) (b c d : Cut) (begun round : RoundState) (m : Message) → Extends b c → Extends c d → Extends b d → begun.asker.parts ≡ b.parts
     → IsReplied limit b d (gets_of begun.asker (asked_stamps begun) begun.items) m → IsUnder b c begun round → Leads b d begun (stepped round m)
 leads limit b c d begun round m first on both parts r u = by (is_gone round m) refl (stepped-open round m u.still_open)
   where
@@ -313,15 +310,6 @@ leads limit b c d begun round m first on both parts r u = by (is_gone round m) r
     by true e stays = (ap is_some (sym u.stamps) ∙ second true e refl, record { items_are = u.items; gone = gone (IsGone-is_gone round m e) })
     by false e stays = go (new_answer round m) refl stays
 
--- the same of a step, where the messages are those that the round asks and are asked from a cut that is the old one
-pub step_leads : (limit : ℕ) (a b c d : Cut) (begun round : RoundState) (sent : List Message) (taken : Step)
-    → a ≡ b → sent ≡ gets_of begun.asker (asked_stamps begun) begun.items → begun.asker.parts ≡ b.parts
-    → Extends b c → Extends c d → IsUnder b c begun round → IsStepped limit a d sent round taken → Leads b d begun taken
-step_leads limit a b c d begun round sent taken same asks parts first on u h =
-    subst (Leads b d begun) (sym h.is)
-    (leads limit b c d begun round h.reply first on (extends_trans b c d first on) parts
-    (subst (λ (y : Cut × List Message). IsReplied limit y.0 d y.1 h.reply) (λ i. (same i, asks i)) h.replied) u)
-
 -- ---- how a round begins, and goes on
 
 -- beside a Get nothing has to be shown
@@ -340,9 +328,3 @@ under_first c begun o none = record {
   still_open = o;
   between = subst (All (IsAnsweredBetween c c (asked_stamps begun))) (sym none) (λ k d l. absurd (omega arith));
 }
-
-pub ended : (s : TakenStep) → ((round : RoundState) → s ≡ step.Same round → ⊥) → IsEnd (step_of s)
-ended (step.Same round) other = other round refl
-ended (step.Next round gets) other = tt
-ended (step.Done rows) other = tt
-ended (step.Gone items) other = tt

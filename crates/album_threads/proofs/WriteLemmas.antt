@@ -1,5 +1,5 @@
--- What the replies to a write's Prepares and Commits bring. `Caller::prepare` cites `prepare_tells`, `Caller::commit`
--- `commit_tells`, `Caller::settle` `shows_prepares`, `shows_commits` and `kept_end`, and `Caller::write` `written_later`.
+-- What the replies to a write's Prepares and Commits bring: `prepare_tells` and `commit_tells`. What its messages show:
+-- `shows_prepares`, and `shows_commits` by `prepared_all`. And how it ends: `end_all`.
 use Rattle.std.proofs.Common.{◌≡◌, ◌≢◌, ℕ, zero, suc, ◌<◌, ◌≤◌, Bool, true, false, not, ◌==◌, ◌&&◌, ◌⊎◌, inl, inr, ⊎_elim, List, [], ◌∷◌, ◌++◌, append-nil, filter, map, All, Contains, Option, Some, None, Result, Ok, Err, IfOk, IfErr, option_map, option_to_list, if◌then◌else◌, refl, sym, ap, ◌∙◌, subst, arith, get_or}
 use Rattle.std.specs.List.{list_any, find, slice_get}
 use Rattle.std.proofs.lemmas.Bool.{and_parts, ne_eqb}
@@ -7,8 +7,6 @@ use Rattle.std.proofs.lemmas.Bool.Decides.{Decides-eqb}
 use Rattle.std.proofs.lemmas.List.Elements.{All-map, All-contains_itself, Contains-append_right}
 use Rattle.std.proofs.lemmas.List.Folds.{list_any_at}
 use Rattle.std.proofs.lemmas.Slice.Eq.{slice_eq-Decides}
-use Rattle.album_stamps.specs.Stamps.{client_number, counter_of}
-use Rattle.album_stamps.specs.declared.refusals.Refusal.{Refusal}
 use Rattle.album_items.specs.ItemIds.{place_of}
 use Rattle.album_items.specs.Openings.{Row}
 use Rattle.album_items.specs.Places.{places_of, rows_placed_at}
@@ -35,20 +33,15 @@ use Rattle.album_partition.specs.declared.marks.Mark.{Mark}
 use Rattle.album_partition.specs.declared.marks.Mark.TheVariants.{Prepared}
 use Rattle.album_partition.proofs.LawLemmas.{replies_are_true, to_the_sender, full_only}
 use Rattle.album_partition.proofs.StateLemmas.{same_stamp, committed_tells}
-use Rattle.album_passes.specs.Changes.{announced_cut}
 use Rattle.album_passes.specs.Cuts.{Cut, prefix_at, announced_for, IsPreparedFor, IsPreparedThroughout, IsPromisedSomewhere, IsSound, IsPrefix, Extends}
 use Rattle.album_passes.proofs.ClosedLemmas.{found_in, prepares_is, discarded_tells as promised_for}
-use Rattle.album_passes.proofs.CutLemmas.{extends_trans}
 use Rattle.album_passes.proofs.PrefixLemmas.{prefix_trans, any_more}
 use Rattle.album_permits.specs.Permits.{PermitState}
 use Rattle.album_reader.proofs.Others.{is_part-own}
 use Rattle.album_threads.specs.Grounds.{items_of, IsKept, IsWithoutRoom}
 use Rattle.album_threads.specs.Letters.{Shows}
 use Rattle.album_threads.specs.Replies.{IsReplied}
-use Rattle.album_threads.specs.Sessions.{CallerState, IsLater, IsAhead, IsNoWord}
-use Rattle.album_writer.specs.declared.answers.Answer.{Answer}
-use Rattle.album_writer.specs.declared.answers.Answer.TheVariants as answer
-use Rattle.album_threads.specs.Writes.{IsPreparedAt, IsCommittedAt, IsFurther, IsEndOf, TellsEnd, EndsSo, AreCommits, AreAllCommitted, PrepareTells, CommitTells, IsWritten}
+use Rattle.album_threads.specs.Writes.{IsPreparedAt, IsCommittedAt, IsFurther, IsEndOf, AreCommits, AreAllCommitted, PrepareTells, CommitTells}
 use Rattle.album_threads.proofs.GroundLemmas.{has_more}
 use Rattle.album_threads.proofs.LetterLemmas.{discarded_tells}
 use Rattle.album_writer.specs.Rounds.{answered_by, prepares_left, prepares_by, prepare_stepped, commits_left, commits_by, commit_stepped}
@@ -352,27 +345,6 @@ kept_end c d w x parts prepared committed = λ place of.
       committed = committed place own;
     }
 
--- ---- what is announced
-
-pub written_later : (t : ℕ) (is : List ℕ) (a b c : CallerState) → b.client ≡ a.client → b.cut ≡ announced_cut a.cut t is → Extends a.cut b.cut
-    → IsLater b c → IsWritten t a c
-written_later t is a b c client cut x y = record {
-  client = y.client ∙ client;
-  grown = extends_trans a.cut b.cut c.cut x y.grown;
-  others = λ u own other.
-      y.own b.client u refl (own ∙ sym client)
-      ∙ ap (λ (e : Cut). announced_for e u) cut
-      ∙ ap (λ (z : Bool). if z then Some is else announced_for a.cut u) (ne_eqb t u (λ same. other (sym same)));
-}
-
-pub ahead_written : (t counter : ℕ) (a b : CallerState) → IsWritten t a b → counter ≤ counter_of t → IsAhead a.client counter a.cut
-    → IsAhead b.client (counter_of t) b.cut
-ahead_written t counter a b x l h = λ u own above.
-    let mine : client_number u ≡ a.client = own ∙ x.client in
-    let higher : counter < counter_of u = omega (arith, l, above) in
-    x.others u mine (λ same. absurd (let now = subst (λ (n : ℕ). counter_of t < counter_of n) same above in omega (arith, now)))
-    ∙ h u mine higher
-
 -- ---- the end of the round of Commits
 
 pub end_all : (limit : ℕ) (c d : Cut) (begun next : WritingState) → AreCommits c begun next (commits_of (commit_round begun)) → Extends c d → begun.parts ≡ c.parts
@@ -383,24 +355,3 @@ end_all limit c d begun next are x parts o h = go o (subst (λ (w : WritingState
     go (outcome.Committed t) (same, all) = (same, kept_end c d begun x parts are.prepared all)
     go (outcome.Aborted t) none = absurd none
     go (outcome.Full t) none = absurd none
-
-pub if_ok : {X E : Type 0} (P Q : X → Type 0) → ((x : X) → P x → Q x) → (r : Result X E) → IfOk r P → IfOk r Q
-if_ok P Q f (Ok x) h = f x h
-if_ok P Q f (Err e) h = tt
-
--- ---- a write, as its answer tells
-
-pub first_prepare : (w : WritingState) (ms : List Message) (o : Option Message) → o ≡ slice_get ms 0 → ms ≡ prepares_of w → places_in w ≢ []
-    → (n : ℕ) × (o ≡ Some (prepare_to w n))
-first_prepare w ms o at are some = go (places_in w) some (at ∙ ap (λ (ns : List Message). slice_get ns 0) are)
-  where
-    go : (ns : List ℕ) → ns ≢ [] → o ≡ slice_get (map (prepare_to w) ns) 0 → (n : ℕ) × (o ≡ Some (prepare_to w n))
-    go [] h e = absurd (h refl)
-    go (n ∷ ns) h e = (n, e)
-
-pub end_told : (limit : ℕ) (d : Cut) (w : WritingState) (r : Result Outcome Refusal) → IfOk r (IsEndOf limit d w) → IfErr r IsNoWord
-    → (a : Answer) → IfOk r (TellsEnd w.stamp a) → IfErr r (λ why. a ≡ answer.Unsettled w.stamp why) → EndsSo limit d w a
-end_told limit d w (Ok (outcome.Committed t)) ends none a is off = subst (EndsSo limit d w) (sym is) (refl, ends.1)
-end_told limit d w (Ok (outcome.Aborted t)) ends none a is off = subst (EndsSo limit d w) (sym is) (refl, ends.1)
-end_told limit d w (Ok (outcome.Full t)) ends none a is off = subst (EndsSo limit d w) (sym is) (inl (refl, (refl, ends.1)))
-end_told limit d w (Err why) ends none a is off = subst (EndsSo limit d w) (sym off) (inr (refl, none))

@@ -9,3 +9,7 @@ pub mod Replies
 pub mod Resting
 pub mod Writes
 pub mod Asks
+pub mod Sending
+pub mod Phases
+pub mod Ruled
+pub mod Ways

@@ -7,14 +7,12 @@ use Rattle.album_partition.specs.declared.marks.Mark.{Mark}
 use Rattle.album_passes.specs.Cuts.{Cut, prefix_at, prefix_for, IsPrefix, Extends}
 use Rattle.album_passes.specs.Reads.{IsAnsweredBetween}
 use Rattle.album_reader.specs.Answers.{Answer, answers_there}
-use Rattle.album_reader.specs.Rounds.{RoundState, Step, IsOpen, next_asker, second_round, asked_stamps, gets_of, stepped}
+use Rattle.album_reader.specs.Rounds.{RoundState, Step, IsOpen, next_asker, second_round, asked_stamps, gets_of}
 use Rattle.album_reader.specs.Rounds.Step.{Same, Next, Done, Gone}
 use Rattle.album_reader.specs.Snapshots.{items_read}
 use Rattle.album_reader.specs.StampSets.{stamps_of}
 use Rattle.album_threads.specs.Grounds.{IsSeen, trims_in}
 use Rattle.album_threads.specs.Letters.{IsAnswered}
-use Rattle.album_threads.specs.declared.reads.Read.{Read}
-use Rattle.album_threads.specs.declared.reads.Read.TheVariants as read
 
 -- ---- a reply
 
@@ -34,13 +32,6 @@ pub record IsReplied (limit : ℕ) (old new : Cut) (sent : List Message) (reply 
   pub late : IsLate old heard reply
 
 -- ---- a round of a read
-
--- such a reply has led to the step
-pub record IsStepped
-    (limit : ℕ) (old new : Cut) (sent : List Message) (round : RoundState) (step : Step) : Type 0 where
-  pub reply : Message
-  pub replied : IsReplied limit old new sent reply
-  pub is : step ≡ stepped round reply
 
 -- The round asks the same as it did when it began, and each answer that it has was given between the two cuts.
 pub record IsUnder (old new : Cut) (begun round : RoundState) : Type 0 where
@@ -87,13 +78,6 @@ Leads old new begun (Next next gets) = IsFirstOver old new begun next gets
 Leads old new begun (Done answers) = (is_some begun.stamps ≡ true) × AreOf old new begun answers
 Leads old new begun (Gone items) = (is_some begun.stamps ≡ true) × IsGoneFrom old new begun items
 
--- the step is not one that waits
-abbrev pub IsEnd : Step → Type 0
-IsEnd (Same round) = ⊥
-IsEnd (Next next gets) = Unit {0}
-IsEnd (Done answers) = Unit {0}
-IsEnd (Gone items) = Unit {0}
-
 -- ---- a read
 
 -- what was read is of these items, read atomic and fresh
@@ -101,17 +85,7 @@ pub record IsReadOf (begun now : Cut) (items : List ℕ) (rows : List Answer) : 
   pub items_are : items_read rows ≡ items
   pub seen : IsSeen begun now rows
 
--- how a second round ends: with the answers of all its items, or with the items again, since one of them is gone
-abbrev pub EndsWith : Cut → Cut → RoundState → Read → Type 0
-EndsWith old new begun (read.Done rows) = AreOf old new begun rows
-EndsWith old new begun (read.Gone items) = IsGoneFrom old new begun items
-
 -- A trim has overtaken the read of these items, which are handed back: the cut has gained it.
 pub record IsOvertaken (begun now : Cut) (items all : List ℕ) : Type 0 where
   pub items_are : all ≡ items
   pub trimmed : trims_in begun < trims_in now
-
--- how a read ends: with what was read, or with its items again, since one of them is gone
-abbrev pub Reads : Cut → Cut → List ℕ → Read → Type 0
-Reads begun now items (read.Done rows) = IsReadOf begun now items rows
-Reads begun now items (read.Gone all) = IsOvertaken begun now items all

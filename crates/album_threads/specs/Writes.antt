@@ -14,7 +14,7 @@ use Rattle.album_writer.specs.declared.answers.Answer.{Answer}
 use Rattle.album_writer.specs.declared.answers.Answer.TheVariants as answer
 use Rattle.album_writer.specs.Rounds.{WriteStep}
 use Rattle.album_writer.specs.Rounds.WriteStep.{Waits, Commits, Ends}
-use Rattle.album_writer.specs.Writing.{WritingState, writes_in, items_in, places_in, prepare_to, commit_round, commits_of}
+use Rattle.album_writer.specs.Writing.{WritingState, writes_in, items_in, places_in, commit_round, commits_of}
 use Rattle.album_writer.specs.declared.outcomes.Outcome.{Outcome}
 use Rattle.album_writer.specs.declared.outcomes.Outcome.TheVariants as outcome
 
@@ -42,18 +42,7 @@ pub record IsBegunOn (cut : Cut) (begun : WritingState) : Type 0 where
   pub some : places_in begun ≢ []
   pub all : begun.awaited ≡ places_in begun
 
--- the message is one of the write's Prepares
-pub record IsPrepareOf (begun : WritingState) (message : Message) : Type 0 where
-  pub place : ℕ
-  pub is : message ≡ prepare_to begun place
-
 -- ---- how it ends
-
--- the answer tells that a write at the stamp ended so
-abbrev pub TellsEnd : ℕ → Answer → Outcome → Type 0
-TellsEnd stamp told (outcome.Committed of) = told ≡ answer.Committed stamp
-TellsEnd stamp told (outcome.Aborted of) = told ≡ answer.Aborted stamp
-TellsEnd stamp told (outcome.Full of) = told ≡ answer.Unsettled stamp Full
 
 -- what the cut shows of a write that has ended so
 abbrev pub IsEndOf : ℕ → Cut → WritingState → Outcome → Type 0
@@ -101,18 +90,3 @@ abbrev pub CommitTells : Cut → WritingState → WriteStep → Type 0
 CommitTells cut begun (Waits writing) = IsFurther begun (IsCommittedAt cut begun) writing
 CommitTells cut begun (Commits next messages) = ⊥
 CommitTells cut begun (Ends outcome) = AreAllCommitted cut begun outcome
-
--- the step is not one that waits
-abbrev pub IsOver : WriteStep → Type 0
-IsOver (Waits writing) = ⊥
-IsOver (Commits next messages) = Unit {0}
-IsOver (Ends outcome) = Unit {0}
-
--- ---- what is announced
-
--- the same client has seen more, and of its stamps just that is announced which was before, but for this stamp
-pub record IsWritten (stamp : ℕ) (old new : CallerState) : Type 0 where
-  pub client : new.client ≡ old.client
-  pub grown : Extends old.cut new.cut
-  pub others : (other : ℕ) → client_number other ≡ old.client → other ≢ stamp
-      → announced_for new.cut other ≡ announced_for old.cut other

@@ -110,6 +110,20 @@ impl<J: Naming> Caller<J> {
         let _ = self.pass.length(0);
     }
 
+    /// That no mailbox was found gone.
+    ///
+    /// # Errors
+    ///
+    /// `Closed`.
+    pub(crate) fn is_open(&self) -> Result<(), Refusal>
+        ensures { IsOkUnless result Refusal.Closed }
+    {
+        if self.closed {
+            return Err(Refusal::Closed);
+        }
+        Ok(())
+    }
+
     /// Tells each partition where the session takes what it is told.
     pub(crate) fn register<R: Wait>(&self, rt: &R, end: Sender<Word<J>>) -> Result<(), AllocError> {
         for mailbox in &self.to {

@@ -12,13 +12,12 @@ mod laws;
 mod letters;
 mod mailbox;
 mod naming;
+mod noting;
 mod opened;
-mod reads;
 mod rounds;
 mod service;
 mod session;
 mod starting;
-mod writes;
 
 pub use gate::{Gate, Open};
 pub use inquiries::{Inquiry, Notice, Question};

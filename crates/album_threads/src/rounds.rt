@@ -1,8 +1,9 @@
 // Rounds: messages that a session sends, and the replies to them.
 ghost use Rattle.std.specs.Prelude.{◌≡◌, All, IfOk, IfErr, OnOk, IfSome, IfNone, IsOkUnless};
-ghost use Rattle.album_passes.specs.Cuts.{IsSound};
+ghost use Rattle.album_passes.specs.Cuts.{Extends, IsSound};
 ghost use Rattle.album_threads.specs.Letters.{Shows};
 ghost use Rattle.album_threads.specs.Replies.{IsReplied};
+ghost use Rattle.album_threads.specs.Sending.{announced_with, prepared_in, sent_at, sent_last, IsUnused};
 ghost use Rattle.album_threads.specs.Sessions.{IsLater, IsNoWord};
 
 use crate::asked::Asked;
@@ -10,7 +11,7 @@ use crate::caller::Caller;
 use crate::letters::{Letter, Response};
 use crate::mailbox::Mail;
 use crate::naming::Naming;
-use album_calls::Message;
+use album_calls::{Body, Message, Request};
 use album_stamps::Refusal;
 use std::sync::Wait;
 use std::time;
@@ -37,6 +38,44 @@ impl<J: Naming> Caller<J> {
             sent: messages,
             begun,
         })
+    }
+
+    /// Sends the messages, if there are any. Then the replies to them are awaited, and no more those to what was asked.
+    ///
+    /// # Errors
+    ///
+    /// `Closed` or `OutOfMemory`.
+    pub(crate) fn ask_more<R: Wait>(
+        &mut self,
+        rt: &R,
+        asked: Asked,
+        sent: Vec<Message>,
+    ) -> Result<Asked, Refusal>
+        requires shown { All (Shows self.old.cut) sent.items }
+        ensures sent { IfOk result (λ more. more.sent.items ≡ sent_last asked.sent.items sent.items) }
+        ensures begun { IfOk result (λ more. more.begun.cut ≡ sent_at asked.begun.cut self.old.cut sent.items) }
+        ensures refused { IfErr result IsNoWord }
+        ensures same { self.new ≡ self.old }
+    {
+        if sent.is_empty() {
+            return Ok(asked);
+        }
+        self.ask(rt, sent)
+    }
+
+    /// Announces what the message prepares, if it prepares anything.
+    pub(crate) fn announce(&mut self, message: &Message)
+        requires unused { IsUnused self.old (prepared_in message.now.body) }
+        ensures cut { self.new.cut ≡ announced_with self.old.cut (prepared_in message.now.body) }
+        ensures grown { Extends self.old.cut self.new.cut }
+        ensures client { self.new.client ≡ self.old.client }
+    {
+        match message.body() {
+            Body::Request(Request::Prepare(stamp, _, items)) => {
+                self.announce_items(*stamp, items.as_slice());
+            }
+            Body::Request(_) | Body::Reply(_) => {}
+        }
     }
 
     /// Sends those of the messages that go to the partition, as one mail.

@@ -1,24 +1,29 @@
-use Rattle.std.proofs.Common.{rules, subst}
+use Rattle.std.proofs.Common.{subst}
 use Rattle.album_passes.proofs.CutLemmas.{extends_trans}
-use Rattle.album_threads.specs.Asks.{IsViewOf, Looks}
-use Rattle.album_threads.specs.Resting.{RestsOn}
-use Rattle.album_threads.specs.declared.asks.Looked.{Looked}
-use Rattle.album_threads.proofs.RestLemmas.{rests_on}
+use Rattle.album_threads.specs.Phases.{Outset}
+use Rattle.album_threads.specs.Ways.{IsLed}
 use Rattle.album_threads.proofs.session.Session.ask.Goals as goal
-use Rattle.album_views.specs.declared.asks.Ask.{Ask}
 
-pub returns-in_err-told-in-Seen-clause-grown : goal.returns-in_err-told-in-Seen-clause-grown
-returns-in_err-told-in-Seen-clause-grown g c =
-    extends_trans c.args.self.now.cut c.look.new.self.cut c.rule.new.self.cut c.look.ensures.on.grown c.rule.ensures.on.grown
+-- it goes on
+pub loop-preserved : goal.loop-preserved
+loop-preserved g c =
+    let outset : Outset = record { principal = c.args.principal.now; ask = c.args.ask; session = c.args.self.now } in
+    record {
+      way = subst (IsLed g.J.Naming.terms.limit g.J.Naming.policy outset c.goes_on.new.self) c.in-Awaits.is
+          (c.in_ok-answer.ensures.way outset c.loop.invariant.way);
+    }
 
-pub returns-in_ok-told-in-Seen-clause-grown : goal.returns-in_ok-told-in-Seen-clause-grown
-returns-in_ok-told-in-Seen-clause-grown g c =
-    extends_trans c.args.self.now.cut c.look.new.self.cut c.rule.new.self.cut c.look.ensures.on.grown c.rule.ensures.on.grown
+pub returns-in_err-answer-clause-grown : goal.returns-in_err-answer-clause-grown
+returns-in_err-answer-clause-grown g c =
+    extends_trans c.args.self.now.cut c.loop.self.cut c.goes_on.new.self.cut c.loop.invariant.way.on.grown c.goes_on.ensures.on.grown
 
-pub returns-in_ok-told-in-Seen-clause-rests : goal.returns-in_ok-told-in-Seen-clause-rests
-returns-in_ok-told-in-Seen-clause-rests g c =
-    let of : IsViewOf c.args.self.now.cut c.look.new.self.cut c.args.ask c.in-Seen.view =
-    subst (λ (l : Looked). Looks c.args.self.now.cut c.look.new.self.cut c.args.ask l) c.in-Seen.is c.in_ok-view.ensures.looks in
-    subst (λ (a : Ask). RestsOn g.J.Naming.terms.limit g.J.Naming.policy c.args.principal.now a c.args.self.now c.rule.new.self c.in_ok-told-in-Seen.told) of.of
-    (rests_on g.J.Naming.terms.limit g.J.Naming.policy c.args.principal.now c.args.self.now c.look.new.self c.rule.new.self c.in-Seen.view c.look.ensures.on c.look.ensures.share
-    of.is of.seen of.sound (search rules) c.rule.ensures.on.grown c.in_ok-told-in-Seen.told c.in_ok-told-in-Seen.ensures.ruled)
+-- it is answered
+pub returns-in-Answered-clause-rests : goal.returns-in-Answered-clause-rests
+returns-in-Answered-clause-rests g c =
+    let outset : Outset = record { principal = c.args.principal.now; ask = c.args.ask; session = c.args.self.now } in
+    subst (IsLed g.J.Naming.terms.limit g.J.Naming.policy outset c.goes_on.new.self) c.in-Answered.is
+    (c.in_ok-answer.ensures.way outset c.loop.invariant.way)
+
+pub returns-in-Answered-clause-grown : goal.returns-in-Answered-clause-grown
+returns-in-Answered-clause-grown g c =
+    extends_trans c.args.self.now.cut c.loop.self.cut c.goes_on.new.self.cut c.loop.invariant.way.on.grown c.goes_on.ensures.on.grown

@@ -1,0 +1,140 @@
+-- A write that is granted on a view and begun at its stamp: how it begins (`begun_on`), stays so as more is seen
+-- (`found_more`, `begun_more`), and on what its answer rests, where it ends (`ends_rest`) or is cut off (`cut_rests`).
+use Rattle.std.proofs.Common.{◌≡◌, ℕ, ◌≤◌, true, inl, inr, List, Option, Some, None, refl, sym, ap, ◌∙◌, subst}
+use Rattle.album_calls.specs.declared.messages.Message.{Message}
+use Rattle.album_client.specs.Clients.{stamp_at_work}
+use Rattle.album_client.specs.declared.clients.Doing.{Doing}
+use Rattle.album_client.specs.declared.clients.Doing.TheVariants as doing
+use Rattle.album_eval.specs.declared.policies.Policy.{Policy}
+use Rattle.album_items.specs.Transactions.{items_written, are_items}
+use Rattle.album_passes.specs.Cuts.{Cut, announced_for, IsPromisedSomewhere, IsSound, Extends}
+use Rattle.album_permits.specs.Effects.{effect_of}
+use Rattle.album_permits.specs.Permits.{PermitState, permit_on}
+use Rattle.album_permits.specs.declared.findings.Finding.{Finding}
+use Rattle.album_permits.specs.declared.findings.Finding.TheVariants as finding
+use Rattle.album_stamps.specs.declared.refusals.Refusal.{Refusal}
+use Rattle.album_threads.specs.Grounds.{IsKept}
+use Rattle.album_threads.specs.Phases.{Outset, IsWriting, IsCarried, IsUnderWay}
+use Rattle.album_threads.specs.Resting.{IsAnnounced, IsFoundOnView, IsBegun, IsUnsettledBy, RestsOn}
+use Rattle.album_threads.specs.Sessions.{SessionState, IsNoWord}
+use Rattle.album_threads.specs.Writes.{IsBegunOn, EndsSo}
+use Rattle.album_threads.proofs.GroundLemmas.{seen_more}
+use Rattle.album_writer.specs.Writing.{WritingState, prepare_round, commit_round}
+use Rattle.album_writer.specs.declared.answers.Answer.{Answer}
+use Rattle.album_writer.specs.declared.answers.Answer.TheVariants as answer
+use Rattle.album_writer.proofs.Placing.{some-place}
+
+pub begun_on : (permit : PermitState) (stamp client tag parts : ℕ) (c : Cut) → parts ≡ c.parts → 1 ≤ parts
+    → are_items (items_written (effect_of permit stamp)) ≡ true → IsBegunOn c (prepare_round permit stamp client tag parts)
+begun_on permit stamp client tag parts c same some items = record {
+  parts = same;
+  some_parts = some;
+  some = some-place parts (items_written (effect_of permit stamp)) some items;
+  all = refl;
+}
+
+-- what isn't announced wasn't before
+pub none_before : (c d : Cut) (t : ℕ) → Extends c d → announced_for d t ≡ None → announced_for c t ≡ None
+none_before c d t x none = go (announced_for c t) refl
+  where
+    go : (o : Option (List ℕ)) → announced_for c t ≡ o → announced_for c t ≡ None
+    go None e = e
+    go (Some items) e = absurd (let now : announced_for d t ≡ Some items = x.announced t items e in let both : None ≡ Some items = sym none ∙ now in cc)
+
+module _ (policy : Policy) (o : Outset) where
+  -- what is found on a view stays so as more is seen
+  pub found_more : (a b : SessionState) (f : Finding) (P Q : PermitState → Type 0) → b.share ≡ a.share → Extends o.session.cut a.cut
+      → Extends a.cut b.cut → IsSound a.cut → IsSound b.cut → ((case : PermitState) → P case → Q case)
+      → IsFoundOnView policy o.principal o.ask o.session a f P → IsFoundOnView policy o.principal o.ask o.session b f Q
+  found_more a b f P Q share before grown s r on h = record {
+    rows = h.rows;
+    seen = seen_more o.session.cut a.cut b.cut h.rows s r before grown h.seen;
+    view = h.view;
+    holds = (
+      h.holds.0,
+      record { notes = h.holds.1.notes; noted = h.holds.1.noted; added = share ∙ h.holds.1.added },
+      on (permit_on policy o.principal o.ask h.rows) h.holds.2,
+    );
+  }
+
+  pub begun_more : (a b : SessionState) (t : ℕ) (H : PermitState → Type 0) → b.share ≡ a.share → b.counter ≡ a.counter
+      → Extends o.session.cut a.cut → Extends a.cut b.cut → IsSound a.cut → IsSound b.cut
+      → IsBegun policy o.principal o.ask o.session a t H → IsBegun policy o.principal o.ask o.session b t H
+  begun_more a b t H share counter before grown s r h =
+      found_more a b finding.Granted (λ permit. IsAnnounced o.session a permit t × H permit) (λ permit. IsAnnounced o.session b permit t × H permit)
+      share before grown s r
+      (λ case y. (
+        record {
+          own = y.0.own;
+          above = y.0.above;
+          risen = y.0.risen;
+          last = y.0.last ∙ sym counter;
+          unused = y.0.unused;
+          announced = grown.announced _ _ y.0.announced;
+        },
+        y.1,
+      )) h
+
+  module _ (now : SessionState) where
+    -- it was begun for this permit, and that holds of it
+    begun_as : (w : WritingState) (t : ℕ) → t ≡ w.stamp → (H : PermitState → Type 0) → H w.permit
+        → IsBegun policy o.principal o.ask o.session now w.stamp (λ permit. permit ≡ w.permit)
+        → IsBegun policy o.principal o.ask o.session now t H
+    begun_as w t same H holds h =
+        subst (λ (u : ℕ). IsBegun policy o.principal o.ask o.session now u H) (sym same) (record {
+          rows = h.rows;
+          seen = h.seen;
+          view = h.view;
+          holds = (h.holds.0, h.holds.1, (h.holds.2.0, subst H (sym h.holds.2.1) holds));
+        })
+
+    -- the write has ended, as the answer tells
+    pub ends_rest : (limit : ℕ) (w : WritingState) → IsBegun policy o.principal o.ask o.session now w.stamp (λ permit. permit ≡ w.permit)
+        → (told : Answer) → EndsSo limit now.cut w told → RestsOn limit policy o.principal o.ask o.session now told
+    ends_rest limit w h (answer.Committed t) (same, kept) =
+        begun_as w t same (λ permit. IsKept now.cut permit t) (subst (IsKept now.cut w.permit) (sym same) kept) h
+    ends_rest limit w h (answer.Aborted t) (same, promised) =
+        begun_as w t same (λ permit. IsPromisedSomewhere now.cut t) (subst (IsPromisedSomewhere now.cut) (sym same) promised) h
+    ends_rest limit w h (answer.Unsettled t why) (inl (full, (same, without))) =
+        begun_as w t same (IsUnsettledBy limit now t why)
+        (subst (λ (u : ℕ). IsUnsettledBy limit now u why w.permit) (sym same) (inl (full, without))) h
+    ends_rest limit w h (answer.Unsettled t why) (inr (same, none)) =
+        begun_as w t same (IsUnsettledBy limit now t why) (inr none) h
+    ends_rest limit w h (answer.Served served) e = absurd e
+    ends_rest limit w h (answer.Denied denial) e = absurd e
+    ends_rest limit w h (answer.Missing object) e = absurd e
+    ends_rest limit w h (answer.Busy why) e = absurd e
+    ends_rest limit w h (answer.Refused why) e = absurd e
+
+  -- the write that is under way, and that it was begun at its stamp
+  record IsAtWork (now : SessionState) (t : ℕ) : Type 0 where
+    begun : WritingState
+    granted : IsBegun policy o.principal o.ask o.session now begun.stamp (λ permit. permit ≡ begun.permit)
+    same : t ≡ begun.stamp
+
+  at_work : (now : SessionState) (at : Cut) (sent : List Message) (d : Doing) (t : ℕ) → IsUnderWay policy o now at sent d
+      → stamp_at_work d ≡ Some t → IsAtWork now t
+  at_work now at sent (doing.Idle tag) t w e = absurd w.phase
+  at_work now at sent (doing.Reads asking round) t w e = absurd (cc)
+  at_work now at sent (doing.Prepares writing) t w e = record {
+    begun = w.phase.begun;
+    granted = w.phase.granted;
+    same = (let is : writing.stamp ≡ t = cc in sym is ∙ ap (λ (v : WritingState). v.stamp) w.phase.carried.further.same);
+  }
+  at_work now at sent (doing.Commits writing) t w e = record {
+    begun = w.phase.begun;
+    granted = w.phase.granted;
+    same = (let is : writing.stamp ≡ t = cc in
+        sym is ∙ ap (λ (v : WritingState). v.stamp) w.phase.carried.further.same
+        ∙ ap (λ (v : WritingState). v.stamp) w.phase.carried.prepared.next_is);
+  }
+
+  -- it is cut off, once more was seen
+  pub cut_rests : (limit : ℕ) (a b : SessionState) (at : Cut) (sent : List Message) (d : Doing) (t : ℕ) (why : Refusal)
+      → IsUnderWay policy o a at sent d → stamp_at_work d ≡ Some t → IsNoWord why
+      → b.share ≡ a.share → b.counter ≡ a.counter → Extends a.cut b.cut → IsSound b.cut
+      → RestsOn limit policy o.principal o.ask o.session b (answer.Unsettled t why)
+  cut_rests limit a b at sent d t why w e none share counter grown s =
+      let u = at_work a at sent d t w e in
+      begun_as b u.begun t u.same (IsUnsettledBy limit b t why) (inr none)
+      (begun_more a b u.begun.stamp (λ permit. permit ≡ u.begun.permit) share counter w.on.grown grown w.sound s u.granted)

@@ -1,0 +1,123 @@
+-- What comes of a reply to a session's client, by the phase that it is in: `moved_on`. `Session::goes_on` cites what
+-- follows of it. `Session::hears` cites `taken_so`.
+use Rattle.std.proofs.Common.{◌≡◌, ℕ, ◌≤◌, List, Option, Some, None, Result, Ok, Err, IfOk, refl, sym, ◌∙◌, subst, arith}
+use Rattle.std.specs.Prelude.{IsOkAnd, IfSome, IfNone}
+use Rattle.album_calls.specs.declared.messages.Message.{Message}
+use Rattle.album_client.specs.Clients.{Client, IsProper, stamp_at_work}
+use Rattle.album_client.specs.Moves.{IsMoved}
+use Rattle.album_client.specs.Terms.{Terms}
+use Rattle.album_client.specs.Turns.{turn_of}
+use Rattle.album_client.specs.declared.clients.Doing.{Doing}
+use Rattle.album_client.specs.declared.clients.Doing.TheVariants as doing
+use Rattle.album_client.specs.declared.moves.Moved.{Moved}
+use Rattle.album_eval.specs.declared.policies.Policy.{Policy}
+use Rattle.album_passes.specs.Cuts.{Cut, Extends}
+use Rattle.album_passes.proofs.CutLemmas.{extends_self}
+use Rattle.album_stamps.specs.Clocks.{next_of}
+use Rattle.album_stamps.specs.declared.limits.TheConstants.{GREATEST_COUNTER}
+use Rattle.album_stamps.specs.declared.refusals.Refusal.{Refusal}
+use Rattle.album_stamps.specs.declared.refusals.Refusal.TheVariants.{StampsSpent}
+use Rattle.album_threads.specs.Asks.{IsOn, IsHeard, AreShared}
+use Rattle.album_threads.specs.Phases.{Outset, IsPhase, IsUnderWay}
+use Rattle.album_threads.specs.Replies.{IsReplied}
+use Rattle.album_threads.specs.Resting.{RestsOn}
+use Rattle.album_threads.specs.Sending.{IsAnnouncedBy, sent_at, sent_last}
+use Rattle.album_threads.specs.Sessions.{SessionState, IsNoWord}
+use Rattle.album_threads.specs.Ways.{actor_in, terms_in, IsTaken, IsSent, IsLed}
+use Rattle.album_threads.specs.declared.asked.Asked.{Asked}
+use Rattle.album_threads.specs.declared.asks.Way.{Way}
+use Rattle.album_threads.specs.declared.asks.Way.TheVariants.{Answered, Awaits}
+use Rattle.album_threads.proofs.BegunLemmas.{cut_rests}
+use Rattle.album_threads.proofs.CarryLemmas.{prepared_on, committed_on}
+use Rattle.album_threads.proofs.ClockLemmas.{moved_clock}
+use Rattle.album_threads.proofs.MovedLemmas.{IsNoted, IsMovedOn}
+use Rattle.album_threads.proofs.ReadingLemmas.{read_on}
+use Rattle.album_writer.specs.declared.answers.Answer.{Answer}
+use Rattle.album_writer.specs.declared.answers.Answer.TheVariants as answer
+
+moved_on : (limit : ℕ) (policy : Policy) (o : Outset) (now next noted : SessionState) (at : Cut) (sent : List Message) (moved : Moved)
+    (d : Doing) (m : Message) → IsNoted o now next noted moved → IsPhase policy o now at sent d → IsReplied limit at next.cut sent m
+    → IsMoved (turn_of (terms_in policy next) (actor_in next) m d) moved → IsMovedOn limit policy o noted at sent moved
+moved_on limit policy o now next noted at sent moved (doing.Idle tag) m N w r is = absurd w
+moved_on limit policy o now next noted at sent moved (doing.Reads asking round) m N w r is =
+    read_on limit policy o now next noted at sent moved N w.1 asking round m w.0 r is
+moved_on limit policy o now next noted at sent moved (doing.Prepares writing) m N w r is =
+    prepared_on limit policy o now next noted at sent moved N w.since w.begun w.granted writing m w.carried r is
+moved_on limit policy o now next noted at sent moved (doing.Commits writing) m N w r is =
+    committed_on limit policy o now next noted at sent moved N w.since w.begun w.granted writing m w.carried r is
+
+-- ---- a reply
+
+-- it was heard, and has led to this
+pub taken_so : (limit : ℕ) (at now : Cut) (sent : List Message) (terms : Terms) (x : Client) (d : Doing) (heard : Result Message Refusal) (moved : Moved)
+    → IfOk heard (IsReplied limit at now sent) → IsOkAnd heard (λ reply. IsMoved (turn_of terms x reply d) moved)
+    → IsTaken limit at now sent terms x d moved
+taken_so limit at now sent terms x d (Ok reply) moved replied is = record { reply = reply; replied = replied; is = is }
+taken_so limit at now sent terms x d (Err why) moved replied is = absurd is
+
+-- ---- what a session has come to by it
+
+module _ (limit : ℕ) (policy : Policy) (o : Outset) (now next noted : SessionState) (at : Cut) (sent : List Message) (d : Doing) (moved : Moved)
+    (h : IsHeard now next) (t : IsTaken limit at next.cut sent (terms_in policy next) (actor_in next) d moved)
+    (client : noted.client ≡ next.client) (cut : noted.cut ≡ next.cut) (counter : noted.counter ≡ moved.client.clock.counter) where
+  pub on_noted : IsOn now noted
+  on_noted = record {
+    client = client ∙ h.client;
+    grown = subst (Extends now.cut) (sym cut) h.grown;
+    risen = (let k = moved_clock (terms_in policy next) (actor_in next) t.reply d moved t.is in
+        let rises : next.counter ≤ moved.client.clock.counter = k.1 in let same : next.counter ≡ now.counter = h.counter in omega (arith, counter, rises, same));
+  }
+
+  -- the ask is answered, or goes on
+  pub led_on : IsUnderWay policy o now at sent d → IsProper moved.client.doing
+      → AreShared next.client next.share noted.share moved.notes.items
+      → (next_of moved.client.clock ≡ Err StampsSpent → moved.client.clock.counter ≡ GREATEST_COUNTER)
+      → IsMovedOn limit policy o noted at sent moved
+  led_on w proper shared spent =
+      moved_on limit policy o now next noted at sent moved d t.reply (record {
+        taken = w.taken;
+        on = w.on;
+        sound_before = w.sound;
+        heard = h;
+        proper = proper;
+        client = client;
+        counter = counter;
+        cut = cut;
+        shared = shared;
+        spent = spent;
+      }) w.phase t.replied t.is
+
+-- it announces and sends
+pub on_announced : (a b : SessionState) (messages : List Message) → IsAnnouncedBy a b messages → IsOn a b
+on_announced a b messages x = record {
+  client = x.client;
+  grown = x.grown;
+  risen = let n : b.counter ≡ a.counter = x.counter in omega (arith, n);
+}
+
+module _ (limit : ℕ) (policy : Policy) (o : Outset) where
+  -- no word comes to what was under way
+  pub cut_led : (now next : SessionState) (at : Cut) (sent : List Message) (d : Doing) (why : Refusal) (r : Result Way Refusal) → IsUnderWay policy o now at sent d
+      → IsHeard now next → IsNoWord why → (stamp : Option ℕ) → stamp ≡ stamp_at_work d
+      → IfSome stamp (λ t. r ≡ Ok (Answered (answer.Unsettled t why))) → IfNone stamp (r ≡ Err why) → IfOk r (IsLed limit policy o next)
+  cut_led now next at sent d why r w h none (Some t) is begun before =
+      subst (λ (z : Result Way Refusal). IfOk z (IsLed limit policy o next)) (sym begun)
+      (cut_rests policy o limit now next at sent d t why w (sym is) none h.share h.counter h.grown h.sound)
+  cut_led now next at sent d why r w h none None is begun before =
+      subst (λ (z : Result Way Refusal). IfOk z (IsLed limit policy o next)) (sym before) tt
+
+  sent_led : (asked : Asked) (d : Doing) (messages : List Message) (new : SessionState)
+      → IsUnderWay policy o new (sent_at asked.begun.cut new.cut messages) (sent_last asked.sent.items messages) d
+      → (way : Way) → IsSent asked d messages new.cut way → IsLed limit policy o new way
+  sent_led asked d messages new w (Answered told) cut =
+      subst (λ (a : Answer). RestsOn limit policy o.principal o.ask o.session new a) (sym cut.is)
+      (cut_rests policy o limit new new (sent_at asked.begun.cut new.cut messages) (sent_last asked.sent.items messages) d cut.stamp cut.why w cut.of cut.none
+      refl refl (extends_self new.cut) w.sound)
+  sent_led asked d messages new w (Awaits more next) (is, sends, from) =
+      subst (λ (z : Cut × List Message × Doing). IsUnderWay policy o new z.0 z.1 z.2) (λ i. (sym from i, sym sends i, sym is i)) w
+
+  pub all_led : (asked : Asked) (d : Doing) (messages : List Message) (new : SessionState)
+      → IsUnderWay policy o new (sent_at asked.begun.cut new.cut messages) (sent_last asked.sent.items messages) d
+      → (r : Result Way Refusal) → IfOk r (IsSent asked d messages new.cut) → IfOk r (IsLed limit policy o new)
+  all_led asked d messages new w (Ok way) h = sent_led asked d messages new w way h
+  all_led asked d messages new w (Err why) h = tt

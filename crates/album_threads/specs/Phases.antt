@@ -1,0 +1,105 @@
+-- What is under way for an ask between two replies, a case for each phase of its client.
+use Rattle.std.specs.Prelude.{◌≡◌, ℕ, List, None}
+use Rattle.album_calls.specs.declared.messages.Message.{Message}
+use Rattle.album_client.specs.Askings.{Asking}
+use Rattle.album_client.specs.declared.clients.Doing.{Doing}
+use Rattle.album_client.specs.declared.clients.Doing.TheVariants.{Idle, Reads, Prepares, Commits}
+use Rattle.album_eval.specs.declared.facts.Principal.{Principal}
+use Rattle.album_eval.specs.declared.policies.Policy.{Policy}
+use Rattle.album_passes.specs.Cuts.{Cut, IsSound, Extends}
+use Rattle.album_reader.specs.Rounds.{RoundState, asked_stamps, gets_of}
+use Rattle.album_threads.specs.Asks.{IsLooking, IsOn}
+use Rattle.album_threads.specs.Replies.{IsUnder, IsFirstOver}
+use Rattle.album_threads.specs.Resting.{IsBegun}
+use Rattle.album_threads.specs.Sessions.{SessionState}
+use Rattle.album_threads.specs.Writes.{IsBegunOn, IsFurther, IsPreparedAt, IsCommittedAt, AreCommits}
+use Rattle.album_views.specs.Checks.{refusal_of}
+use Rattle.album_views.specs.declared.asks.Ask.{Ask}
+use Rattle.album_writer.specs.Writing.{WritingState, prepares_of, commits_of, commit_round}
+
+-- an ask as it began: who asks what, and what the session was then
+pub record Outset : Type 0 where
+  pub principal : Principal
+  pub ask : Ask
+  pub session : SessionState
+
+-- ---- a read
+
+-- which round of a read began so: the first one, with which the read began; or the second one, when the first was over
+pub data IsRound (start at : Cut) (begun : RoundState) : Type 0 where
+  First : begun.stamps ≡ None → at ≡ start → IsRound start at begun
+  Second : (first : RoundState) (gets : List Message) → Extends start at → IsFirstOver start at first begun gets → IsRound start at begun
+
+-- It reads for the ask: what was read before led to no view, and this round began at a cut, where it sent its messages.
+pub record IsReading
+    (principal : Principal) (ask : Ask) (old at now : Cut) (sent : List Message) (asking : Asking) (round : RoundState)
+    : Type 0 where
+  pub of : asking.viewing.ask ≡ ask
+  pub whom : asking.principal ≡ principal
+  pub start : Cut
+  pub begun : RoundState
+  pub looking : IsLooking old start asking.viewing begun.items
+  pub which : IsRound start at begun
+  pub asks : sent ≡ gets_of begun.asker (asked_stamps begun) begun.items
+  pub parts : begun.asker.parts ≡ at.parts
+  pub under : IsUnder at now begun round
+  pub sound : IsSound at
+  pub before : Extends old start
+  pub on : Extends at now
+
+-- ---- a write
+
+-- the Prepares of the write are sent, and of each partition the answer is awaited, or it has prepared
+pub record IsPreparing (at now : Cut) (sent : List Message) (begun writing : WritingState) : Type 0 where
+  pub over : IsBegunOn at begun
+  pub asks : sent ≡ prepares_of begun
+  pub further : IsFurther begun (IsPreparedAt now begun) writing
+
+-- each has prepared, the Commits are sent, and of each the answer is awaited, or it has committed
+pub record IsCommitting (at now : Cut) (sent : List Message) (begun writing : WritingState) : Type 0 where
+  pub next : WritingState
+  pub prepared : AreCommits at begun next (commits_of (commit_round begun))
+  pub parts : begun.parts ≡ at.parts
+  pub asks : sent ≡ commits_of next
+  pub further : IsFurther next (IsCommittedAt now next) writing
+
+-- what is under way of the write, by the phase
+abbrev pub IsCarried : Cut → Cut → List Message → WritingState → Doing → Type 0
+IsCarried at now sent begun (Idle tag) = ⊥
+IsCarried at now sent begun (Reads asking round) = ⊥
+IsCarried at now sent begun (Prepares writing) = IsPreparing at now sent begun writing
+IsCarried at now sent begun (Commits writing) = IsCommitting at now sent begun writing
+
+-- It is granted on a view, and was begun at its stamp, which is announced; and that is under way of it.
+pub record IsWriting
+    (policy : Policy) (outset : Outset) (now : SessionState) (at : Cut) (sent : List Message) (doing : Doing)
+    : Type 0 where
+  pub begun : WritingState
+  pub granted : IsBegun policy outset.principal outset.ask outset.session now begun.stamp (λ permit. permit ≡ begun.permit)
+  pub since : Extends at now.cut
+  pub carried : IsCarried at now.cut sent begun doing
+
+-- ---- an ask
+
+-- It reads, and has noted nothing; or it writes.
+abbrev pub IsPhase : Policy → Outset → SessionState → Cut → List Message → Doing → Type 0
+IsPhase policy outset now at sent (Idle tag) = ⊥
+IsPhase policy outset now at sent (Reads asking round) =
+    IsReading outset.principal outset.ask outset.session.cut at now.cut sent asking round
+    × (now.share ≡ outset.session.share)
+IsPhase policy outset now at sent (Prepares writing) = IsWriting policy outset now at sent (Prepares writing)
+IsPhase policy outset now at sent (Commits writing) = IsWriting policy outset now at sent (Commits writing)
+
+-- The principal may ask it, the session goes on from what it was, and is at this phase: replies to the messages are
+-- awaited, which were sent with that cut.
+pub record IsUnderWay
+    (policy : Policy) (outset : Outset) (now : SessionState) (at : Cut) (sent : List Message) (doing : Doing)
+    : Type 0 where
+  pub taken : refusal_of outset.ask outset.principal ≡ None
+  pub on : IsOn outset.session now
+  pub sound : IsSound now.cut
+  pub phase : IsPhase policy outset now at sent doing
+
+-- some ask is under way so
+abbrev pub IsSomehowUnderWay : Policy → SessionState → Cut → List Message → Doing → Type 0
+IsSomehowUnderWay policy now at sent doing = (outset : Outset) × IsUnderWay policy outset now at sent doing
