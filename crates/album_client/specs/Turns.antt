@@ -38,8 +38,8 @@ use Rattle.album_client.specs.Grants.{served_for}
 use Rattle.album_writer.specs.declared.answers.Answer.{Answer}
 use Rattle.album_writer.specs.declared.answers.Answer.TheVariants as answer
 
--- a write that a client begins: who does, under which tag it sends its Prepares, at which stamp, by which permit, and all
--- that it writes
+-- a write that a client begins: who does, under which tag it sends its Prepares, at which stamp, by which permit, and
+-- all that it writes
 pub record Transaction : Type 0 where
   pub client : ℕ
   pub tag : ℕ

@@ -1,6 +1,6 @@
--- What a client does at an event is what the model has of it: what it sends is as much as there is room for
--- (`few_prepared`, `none_committed`), and by its asks (`asked_done`), its reads and its writes (`taken_done`) it has had
--- its turn, and is still the client of its number (`number_turn`).
+-- What a client does at an event is what the model has of it. What it sends is as much as there is room for
+-- (`few_prepared`, `none_committed`). By an ask (`asked_done`) and by a message (`taken_done`) it has had its turn, and
+-- it is still the client of its number (`number_turn`).
 use Rattle.std.proofs.Common.{◌≡◌, ℕ, ◌≤◌, Bool, true, false, List, [], ◌∷◌, length, map, Option, Some, None, Result, Ok, Err, refl, sym, ap, ◌∙◌, subst, arith, option_map, option_to_list, ◌++◌, IsOkAnd}
 use Rattle.album_stamps.specs.Clocks.{ClockState, clock_after_next, next_of}
 use Rattle.album_stamps.specs.declared.refusals.Refusal.{Refusal}

@@ -33,4 +33,5 @@ returns-clause-number c =
     let is =
     moved_so c.args.terms x (client_of c.actor-actor.result) (doing.Idle 0) c.replace-doing.result c.args.message.now
     c.written-next.result c.actor-actor.ensures.client does moved in
-    ap (λ (y : Client). y.number) (c.becomes.ensures ∙ is.client) ∙ number_turn c.args.terms x c.args.message.now x.doing
+    ap (λ (y : Client). y.number) (c.becomes.ensures ∙ is.client)
+    ∙ number_turn c.args.terms x c.args.message.now x.doing
