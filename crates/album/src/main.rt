@@ -44,7 +44,7 @@ fn main(rt: HostRuntime) -> ExitCode {
         ),
         Some("serve") => served(
             &rt,
-            serve_port(rt, rt.alloc(), &mut rt.stdin(), &mut rt.stdout(), &matches),
+            serve_port(rt, rt.alloc(), rt.stdin(), &mut rt.stdout(), &matches),
         ),
         // No other command line has matched.
         _ => ExitCode::from(2),
@@ -133,10 +133,10 @@ fn replay_lines<R: Read, W: Write>(
 }
 
 /// Serves the port that the command line names.
-fn serve_port<T, R: Read + Send, W: Write>(
+fn serve_port<T, R: Read + Send + Drop, W: Write>(
     rt: T,
     alloc: Global,
-    reader: &mut R,
+    mut reader: R,
     writer: &mut W,
     matches: &ArgMatches<'_>,
 ) -> Result<Served, Fault>
@@ -166,7 +166,7 @@ where
     if matches.is_some_and(|m| m.get_flag("until-eof")) {
         return serve_until(rt, alloc, reader, writer, serving);
     }
-    serve_for(rt, alloc, reader, writer, serving)
+    serve_for(rt, alloc, &mut reader, writer, serving)
 }
 
 /// The status of a service that has ended.

@@ -5,12 +5,13 @@
 //! defined in specs/Replay.antt; `scripts` is its engine, and `replays` has laws of it.
 #![tactic(auto)]
 
-mod answers;
 mod accepting;
+mod answers;
 mod connections;
 mod engine;
 mod events;
 mod fault;
+mod faults;
 mod judged;
 mod openings;
 mod replays;
@@ -19,7 +20,6 @@ mod serving;
 mod stages;
 mod talk_answers;
 mod talks;
-mod telling;
 mod writing;
 
 pub use engine::judge;

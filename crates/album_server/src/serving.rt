@@ -8,7 +8,7 @@ use crate::connections::Connections;
 use crate::engine::PIECE;
 use crate::fault::Fault;
 use crate::openings::{SoFar, first_line, later_line, opening_of};
-use crate::telling::Teller;
+use crate::faults::Teller;
 use crate::writing::{write_refused, write_text};
 use album_audit::Totals;
 use album_items::Opening;
@@ -194,10 +194,10 @@ where
 
 /// The same, to the end of the input behind the opening: then no connection begins any more, and each line that has
 /// come is answered still. Connections beyond the last that counts are told `Closed` until then.
-pub fn serve_until<T, R: Read + Send, W: Write>(
+pub fn serve_until<T, R: Read + Send + Drop, W: Write>(
     rt: T,
     alloc: Global,
-    reader: &mut R,
+    mut reader: R,
     writer: &mut W,
     serving: Serving,
 ) -> Result<Served, Fault>
@@ -212,7 +212,7 @@ where
         + Sync
         + 'static,
 {
-    let (opened, listener) = match begin(&rt, alloc, reader, writer, serving)? {
+    let (opened, listener) = match begin(&rt, alloc, &mut reader, writer, serving)? {
         Ok(begun) => begun,
         Err(served) => return Ok(served),
     };
@@ -262,14 +262,14 @@ fn serve_at<J, T, R, W>(
     alloc: Global,
     opened: Opened,
     listener: &TcpListener,
-    input: Option<&mut R>,
+    input: Option<R>,
     writer: &mut W,
     serving: Serving,
 ) -> Result<(), Fault>
 where
     J: Naming + Send + Sync + 'static,
     T: Threads + Wait + time::Clock + Eprint + Copy + Send + Sync + 'static,
-    R: Read + Send,
+    R: Read + Send + Drop,
     W: Write,
     requires named { opened ≡ opened_as J.table J.terms J.policy J.audit_ok J.audit_failed J.alarm_ok J.alarm_failed }
 {
@@ -296,13 +296,13 @@ fn attend_all<J, T, R>(
     service: &Service<J>,
     listener: &TcpListener,
     connections: &Connections,
-    input: Option<&mut R>,
+    input: Option<R>,
     serving: Serving,
 )
 where
     J: Naming + Send + Sync,
     T: Threads + Wait + time::Clock + Copy + Send + Sync,
-    R: Read + Send,
+    R: Read + Send + Drop,
 {
     let limits = Limits {
         conns: serving.conns,
@@ -330,7 +330,12 @@ fn idle_of(seconds: u32) -> Option<Duration> {
 }
 
 /// Reads to the end, and closes the connections then, or where reading fails.
-fn read_to_end<T: Wait, R: Read>(rt: &T, reader: &mut R, connections: &Connections, turns: u64) {
+fn read_to_end<T: Wait, R: Read + Drop>(
+    rt: &T,
+    mut reader: R,
+    connections: &Connections,
+    turns: u64,
+) {
     let mut piece = [0u8; PIECE];
     for _turn in 0..turns {
         match reader.read(&mut piece) {
