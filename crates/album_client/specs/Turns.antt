@@ -1,12 +1,12 @@
 -- What a client does at one event: it asks, or a message comes to it.
-use Rattle.std.specs.Prelude.{ℕ, ◌+◌, Bool, true, false, List, [], ◌∷◌, Option, Some, None, Result, Ok, Err}
+use Rattle.std.specs.Prelude.{◌≡◌, ℕ, ◌+◌, Bool, true, false, not, List, [], ◌∷◌, Option, Some, None, Result, Ok, Err}
 use Rattle.album_stamps.specs.Clocks.{ClockState, clock_after_see, clock_after_next, next_of}
 use Rattle.album_stamps.specs.declared.refusals.Refusal.{Refusal}
 use Rattle.album_stamps.specs.declared.refusals.Refusal.TheVariants.{AlbumFull, Full}
 use Rattle.album_calls.specs.declared.messages.Message.{Message}
 use Rattle.album_eval.specs.declared.facts.Principal.{Principal}
 use Rattle.album_reader.specs.Answers.{Asker, Answer as Row}
-use Rattle.album_reader.specs.Rounds.{first_round, gets_of}
+use Rattle.album_reader.specs.Rounds.{first_round, gets_of, is_end}
 use Rattle.album_reader.specs.Rounds.{Step as ReadStep, stepped as read_stepped}
 use Rattle.album_reader.specs.Rounds.Step.{Same, Next, Done, Gone}
 use Rattle.album_views.specs.Steps.{stepped, again}
@@ -211,3 +211,15 @@ turn_of terms client message (Reads asking round) =
 turn_of terms client message (Prepares writing) =
     prepare_turn client writing.tag (prepare_stepped writing message)
 turn_of terms client message (Commits writing) = commit_turn client writing.tag (commit_stepped writing message)
+
+-- it reads, and the message ends no round of that
+abbrev pub is_waiting : Doing → Message → Bool
+is_waiting (Idle tag) message = false
+is_waiting (Reads asking round) message = not (is_end (read_stepped round message))
+is_waiting (Prepares writing) message = false
+is_waiting (Commits writing) message = false
+
+-- nothing comes of the message but that this is done from then on
+abbrev pub IsTakenBy : Doing → Message → Doing → Type 0
+IsTakenBy old message new =
+    (terms : Terms) (client : Client) → turn_of terms client message old ≡ still (record client { doing = new })

@@ -1,9 +1,11 @@
 // What a client does between two events.
-ghost use Rattle.std.specs.Prelude.{◌≡◌};
+ghost use Rattle.std.specs.Prelude.{◌≡◌, false, true, IfOk, IsOkUnless, OnErr};
+ghost use Rattle.album_client.specs.Turns.{is_waiting, IsTakenBy};
 
 use crate::askings::Asking;
+use album_calls::Message;
 use album_reader::Reading;
-use album_stamps::{ClientNo, Clock, Stamp};
+use album_stamps::{ClientNo, Clock, Refusal, Stamp};
 use album_writer::{Committing, Preparing};
 use std::marker::Model;
 
@@ -88,6 +90,27 @@ impl Doing {
             Doing::Reads(_, reading) => reading.tag(),
             Doing::Prepares(preparing) => preparing.tag(),
             Doing::Commits(committing) => committing.tag(),
+        }
+    }
+}
+
+impl Doing {
+    /// Takes a message that ends no round of a read, in place, since nothing else comes of it, and most messages are
+    /// such. Tells whether it was one: any other is left to `Actor::takes`.
+    ///
+    /// # Errors
+    ///
+    /// `OutOfMemory`. Nothing is changed then.
+    pub fn waits(&mut self, message: &Message) -> Result<bool, Refusal>
+        ensures test { IfOk result (λ waits. waits ≡ is_waiting self.old message.now) }
+        ensures taken { IfOk result (λ waits. waits ≡ true → IsTakenBy self.old message.now self.new) }
+        ensures left { IfOk result (λ waits. waits ≡ false → self.new ≡ self.old) }
+        ensures memory { IsOkUnless result Refusal.OutOfMemory }
+        ensures unchanged { OnErr result (self.new ≡ self.old) }
+    {
+        match self {
+            Doing::Reads(_, reading) => reading.waits(message),
+            Doing::Idle(_) | Doing::Prepares(_) | Doing::Commits(_) => Ok(false),
         }
     }
 }

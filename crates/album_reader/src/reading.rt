@@ -1,5 +1,5 @@
 // A read of items under way.
-ghost use Rattle.std.specs.Prelude.{◌≡◌, ◌≢◌, ℕ, ◌+◌, ◌<◌, ◌≤◌, ◌^◌, ◌++◌, nat_lt, IsTrue, List, [], ◌∷◌, IsOkAnd, IfOk, IfErr, IsOkUnless, length, if◌then◌else◌};
+ghost use Rattle.std.specs.Prelude.{◌≡◌, ◌≢◌, ℕ, ◌+◌, ◌<◌, ◌≤◌, ◌^◌, ◌++◌, nat_lt, not, true, false, IsTrue, OnErr, List, [], ◌∷◌, IsOkAnd, IfOk, IfErr, IsOkUnless, length, if◌then◌else◌};
 ghost use Rattle.album_stamps.specs.Distinct.{are_single};
 ghost use Rattle.album_reader.specs.Ends.{step_by};
 ghost use Rattle.album_reader.specs.Rounds.{IsOpen, StaysOpen, is_end};
@@ -131,6 +131,26 @@ impl Reading {
                 given: Reading { round },
             }),
         }
+    }
+
+    /// Takes a message that doesn't end the round, in place. Tells whether it is one: any other is left to `on_reply`.
+    ///
+    /// # Errors
+    ///
+    /// `OutOfMemory`. Nothing is changed then.
+    pub fn waits(&mut self, message: &Message) -> Result<bool, Refusal>
+        ensures test { IfOk result (λ waits. waits ≡ not (is_end (stepped self.old message.now))) }
+        ensures taken { IfOk result (λ waits. waits ≡ true → stepped self.old message.now ≡ Same self.new) }
+        ensures left { IfOk result (λ waits. waits ≡ false → self.new ≡ self.old) }
+        ensures memory { IsOkUnless result Refusal.OutOfMemory }
+        ensures unchanged { OnErr result (self.new ≡ self.old) }
+    {
+        if self.is_ended_by(message) {
+            return Ok(false);
+        }
+        // The round has no end by it, as is told above.
+        let _end = self.round.take(message)?;
+        Ok(true)
     }
 
     /// Whether the message ends the round, and with the second round the read. It takes no memory, and copies no

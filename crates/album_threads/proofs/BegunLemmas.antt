@@ -3,6 +3,7 @@
 use Rattle.std.proofs.Common.{◌≡◌, ℕ, ◌≤◌, true, inl, inr, List, Option, Some, None, refl, sym, ap, ◌∙◌, subst}
 use Rattle.album_calls.specs.declared.messages.Message.{Message}
 use Rattle.album_client.specs.Clients.{stamp_at_work}
+use Rattle.album_client.specs.Turns.{answer_of}
 use Rattle.album_client.specs.declared.clients.Doing.{Doing}
 use Rattle.album_client.specs.declared.clients.Doing.TheVariants as doing
 use Rattle.album_eval.specs.declared.policies.Policy.{Policy}
@@ -13,19 +14,22 @@ use Rattle.album_permits.specs.Permits.{PermitState, permit_on}
 use Rattle.album_permits.specs.declared.findings.Finding.{Finding}
 use Rattle.album_permits.specs.declared.findings.Finding.TheVariants as finding
 use Rattle.album_stamps.specs.declared.refusals.Refusal.{Refusal}
+use Rattle.album_stamps.specs.declared.refusals.Refusal.TheVariants.{Full}
 use Rattle.album_threads.specs.Grounds.{IsKept}
-use Rattle.album_threads.specs.Phases.{Outset, IsWriting, IsCarried, IsUnderWay}
+use Rattle.album_threads.specs.Phases.{Outset, IsUnderWay}
 use Rattle.album_threads.specs.Resting.{IsAnnounced, IsFoundOnView, IsBegun, IsUnsettledBy, RestsOn}
 use Rattle.album_threads.specs.Sessions.{SessionState, IsNoWord}
-use Rattle.album_threads.specs.Writes.{IsBegunOn, EndsSo}
+use Rattle.album_threads.specs.Writes.{IsBegunOn, IsEndOf}
 use Rattle.album_threads.proofs.GroundLemmas.{seen_more}
-use Rattle.album_writer.specs.Writing.{WritingState, prepare_round, commit_round}
-use Rattle.album_writer.specs.declared.answers.Answer.{Answer}
+use Rattle.album_writer.specs.Writing.{WritingState, prepare_round}
 use Rattle.album_writer.specs.declared.answers.Answer.TheVariants as answer
+use Rattle.album_writer.specs.declared.outcomes.Outcome.{Outcome}
+use Rattle.album_writer.specs.declared.outcomes.Outcome.TheVariants as outcome
 use Rattle.album_writer.proofs.Placing.{some-place}
 
 pub begun_on : (permit : PermitState) (stamp client tag parts : ℕ) (c : Cut) → parts ≡ c.parts → 1 ≤ parts
-    → are_items (items_written (effect_of permit stamp)) ≡ true → IsBegunOn c (prepare_round permit stamp client tag parts)
+    → are_items (items_written (effect_of permit stamp)) ≡ true
+    → IsBegunOn c (prepare_round permit stamp client tag parts)
 begun_on permit stamp client tag parts c same some items = record {
   parts = same;
   some_parts = some;
@@ -39,11 +43,13 @@ none_before c d t x none = go (announced_for c t) refl
   where
     go : (o : Option (List ℕ)) → announced_for c t ≡ o → announced_for c t ≡ None
     go None e = e
-    go (Some items) e = absurd (let now : announced_for d t ≡ Some items = x.announced t items e in let both : None ≡ Some items = sym none ∙ now in cc)
+    go (Some items) e = absurd (let now : announced_for d t ≡ Some items = x.announced t items e in let both : None ≡
+        Some items = sym none ∙ now in cc)
 
 module _ (policy : Policy) (o : Outset) where
   -- what is found on a view stays so as more is seen
-  pub found_more : (a b : SessionState) (f : Finding) (P Q : PermitState → Type 0) → b.share ≡ a.share → Extends o.session.cut a.cut
+  pub found_more : (a b : SessionState) (f : Finding) (P Q : PermitState → Type 0) → b.share ≡ a.share
+      → Extends o.session.cut a.cut
       → Extends a.cut b.cut → IsSound a.cut → IsSound b.cut → ((case : PermitState) → P case → Q case)
       → IsFoundOnView policy o.principal o.ask o.session a f P → IsFoundOnView policy o.principal o.ask o.session b f Q
   found_more a b f P Q share before grown s r on h = record {
@@ -61,7 +67,8 @@ module _ (policy : Policy) (o : Outset) where
       → Extends o.session.cut a.cut → Extends a.cut b.cut → IsSound a.cut → IsSound b.cut
       → IsBegun policy o.principal o.ask o.session a t H → IsBegun policy o.principal o.ask o.session b t H
   begun_more a b t H share counter before grown s r h =
-      found_more a b finding.Granted (λ permit. IsAnnounced o.session a permit t × H permit) (λ permit. IsAnnounced o.session b permit t × H permit)
+      found_more a b finding.Granted (λ permit. IsAnnounced o.session a permit t × H permit)
+      (λ permit. IsAnnounced o.session b permit t × H permit)
       share before grown s r
       (λ case y. (
         record {
@@ -88,23 +95,19 @@ module _ (policy : Policy) (o : Outset) where
           holds = (h.holds.0, h.holds.1, (h.holds.2.0, subst H (sym h.holds.2.1) holds));
         })
 
-    -- the write has ended, as the answer tells
-    pub ends_rest : (limit : ℕ) (w : WritingState) → IsBegun policy o.principal o.ask o.session now w.stamp (λ permit. permit ≡ w.permit)
-        → (told : Answer) → EndsSo limit now.cut w told → RestsOn limit policy o.principal o.ask o.session now told
-    ends_rest limit w h (answer.Committed t) (same, kept) =
+    -- the write has ended so
+    pub ends_rest : (limit : ℕ) (w : WritingState)
+        → IsBegun policy o.principal o.ask o.session now w.stamp (λ permit. permit ≡ w.permit)
+        → (out : Outcome) → IsEndOf limit now.cut w out
+        → RestsOn limit policy o.principal o.ask o.session now (answer_of out)
+    ends_rest limit w h (outcome.Committed t) (same, kept) =
         begun_as w t same (λ permit. IsKept now.cut permit t) (subst (IsKept now.cut w.permit) (sym same) kept) h
-    ends_rest limit w h (answer.Aborted t) (same, promised) =
-        begun_as w t same (λ permit. IsPromisedSomewhere now.cut t) (subst (IsPromisedSomewhere now.cut) (sym same) promised) h
-    ends_rest limit w h (answer.Unsettled t why) (inl (full, (same, without))) =
-        begun_as w t same (IsUnsettledBy limit now t why)
-        (subst (λ (u : ℕ). IsUnsettledBy limit now u why w.permit) (sym same) (inl (full, without))) h
-    ends_rest limit w h (answer.Unsettled t why) (inr (same, none)) =
-        begun_as w t same (IsUnsettledBy limit now t why) (inr none) h
-    ends_rest limit w h (answer.Served served) e = absurd e
-    ends_rest limit w h (answer.Denied denial) e = absurd e
-    ends_rest limit w h (answer.Missing object) e = absurd e
-    ends_rest limit w h (answer.Busy why) e = absurd e
-    ends_rest limit w h (answer.Refused why) e = absurd e
+    ends_rest limit w h (outcome.Aborted t) (same, promised) =
+        begun_as w t same (λ permit. IsPromisedSomewhere now.cut t)
+        (subst (IsPromisedSomewhere now.cut) (sym same) promised) h
+    ends_rest limit w h (outcome.Full t) (same, without) =
+        begun_as w t same (IsUnsettledBy limit now t Full)
+        (subst (λ (u : ℕ). IsUnsettledBy limit now u Full w.permit) (sym same) (inl (refl, without))) h
 
   -- the write that is under way, and that it was begun at its stamp
   record IsAtWork (now : SessionState) (t : ℕ) : Type 0 where
@@ -112,14 +115,16 @@ module _ (policy : Policy) (o : Outset) where
     granted : IsBegun policy o.principal o.ask o.session now begun.stamp (λ permit. permit ≡ begun.permit)
     same : t ≡ begun.stamp
 
-  at_work : (now : SessionState) (at : Cut) (sent : List Message) (d : Doing) (t : ℕ) → IsUnderWay policy o now at sent d
+  at_work : (now : SessionState) (at : Cut) (sent : List Message) (d : Doing) (t : ℕ)
+      → IsUnderWay policy o now at sent d
       → stamp_at_work d ≡ Some t → IsAtWork now t
   at_work now at sent (doing.Idle tag) t w e = absurd w.phase
   at_work now at sent (doing.Reads asking round) t w e = absurd (cc)
   at_work now at sent (doing.Prepares writing) t w e = record {
     begun = w.phase.begun;
     granted = w.phase.granted;
-    same = (let is : writing.stamp ≡ t = cc in sym is ∙ ap (λ (v : WritingState). v.stamp) w.phase.carried.further.same);
+    same = (let is : writing.stamp ≡ t = cc in sym is ∙ ap (λ (v : WritingState). v.stamp)
+        w.phase.carried.further.same);
   }
   at_work now at sent (doing.Commits writing) t w e = record {
     begun = w.phase.begun;
@@ -137,4 +142,5 @@ module _ (policy : Policy) (o : Outset) where
   cut_rests limit a b at sent d t why w e none share counter grown s =
       let u = at_work a at sent d t w e in
       begun_as b u.begun t u.same (IsUnsettledBy limit b t why) (inr none)
-      (begun_more a b u.begun.stamp (λ permit. permit ≡ u.begun.permit) share counter w.on.grown grown w.sound s u.granted)
+      (begun_more a b u.begun.stamp (λ permit. permit ≡ u.begun.permit) share counter w.on.grown grown w.sound s
+      u.granted)

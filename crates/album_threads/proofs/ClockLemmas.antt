@@ -1,6 +1,6 @@
 -- The clock of a session's client: it goes no way back at a turn (`moved_clock`), has seen what was read (`rows_seen`),
 -- and what it draws is the client's own and new (`number_own`, `number_counter`, `number_above`).
-use Rattle.std.proofs.Common.{◌≡◌, ℕ, ◌+◌, ◌<◌, ◌≤◌, Bool, true, false, IsTrue, List, [], ◌∷◌, All, Option, Some, None, Result, Ok, Err, nat_lt, if◌then◌else◌, refl, sym, ap, ◌∙◌, subst, arith, le_refl, le_trans, le_of_eq}
+use Rattle.std.proofs.Common.{◌≡◌, ℕ, ◌+◌, ◌<◌, ◌≤◌, Bool, true, false, IsTrue, List, [], ◌∷◌, Option, Some, None, Result, Ok, Err, nat_lt, if◌then◌else◌, refl, sym, ap, ◌∙◌, subst, arith, le_refl, le_trans, le_of_eq}
 use Rattle.std.proofs.lemmas.Bool.Decides.{nat_tests}
 use Rattle.std.proofs.lemmas.List.Elements.{All-nil, All-cons}
 use Rattle.album_calls.specs.declared.messages.Message.{Message}
@@ -14,7 +14,6 @@ use Rattle.album_client.specs.declared.clients.Doing.{Doing}
 use Rattle.album_client.specs.declared.clients.Doing.TheVariants as doing
 use Rattle.album_client.specs.declared.moves.Moved.{Moved}
 use Rattle.album_eval.specs.declared.facts.Principal.{Principal}
-use Rattle.album_eval.specs.declared.policies.Policy.{Policy}
 use Rattle.album_listing.specs.GroupsFound.{basis_on}
 use Rattle.album_permits.specs.Effects.{is_full_for}
 use Rattle.album_permits.specs.Findings.{ruling_of}
@@ -30,7 +29,6 @@ use Rattle.album_stamps.specs.Stamps.{is_client, client_number, counter_of, stam
 use Rattle.album_stamps.specs.declared.limits.TheConstants.{GREATEST_COUNTER}
 use Rattle.album_stamps.specs.declared.refusals.Refusal.{Refusal}
 use Rattle.album_threads.specs.Asks.{AreSeenBy}
-use Rattle.album_threads.specs.Sessions.{CallerState, IsSession}
 use Rattle.album_views.specs.Steps.{again}
 use Rattle.album_views.specs.Steps.{stepped as viewed}
 use Rattle.album_views.specs.Views.{ViewState}
@@ -83,21 +81,25 @@ module _ (terms : Terms) (x : Client) where
     risen = le_of_eq (ap (λ (k : ClockState). k.counter) (sym is));
   }
 
-  module _ (y : Client) (own : y.clock.client ≡ x.clock.client) (risen : x.clock.counter ≤ y.clock.counter) (tag : ℕ) (permit : PermitState) where
+  module _ (y : Client) (own : y.clock.client ≡ x.clock.client) (risen : x.clock.counter ≤ y.clock.counter) (tag : ℕ)
+      (permit : PermitState) where
     abbrev drawn : Client
     drawn = record y { clock = clock_after_next y.clock }
 
     drawn_clock : (turn : Turn) → turn.client.clock ≡ clock_after_next y.clock → IsClockOn x.clock turn
     drawn_clock turn is = go (nat_lt y.clock.counter GREATEST_COUNTER) is
       where
-        go : (b : Bool) → turn.client.clock ≡ (if b then record y.clock { counter = y.clock.counter + 1 } else y.clock) → IsClockOn x.clock turn
+        go : (b : Bool) → turn.client.clock ≡ (if b then record y.clock { counter = y.clock.counter + 1 } else y.clock)
+            → IsClockOn x.clock turn
         go true e = record {
           own = ap (λ (k : ClockState). k.client) e ∙ own;
-          risen = let n : turn.client.clock.counter ≡ y.clock.counter + 1 = ap (λ (k : ClockState). k.counter) e in omega (arith, n, risen);
+          risen = let n : turn.client.clock.counter ≡ y.clock.counter + 1 = ap (λ (k : ClockState). k.counter) e in
+              omega (arith, n, risen);
         }
         go false e = record {
           own = ap (λ (k : ClockState). k.client) e ∙ own;
-          risen = let n : turn.client.clock.counter ≡ y.clock.counter = ap (λ (k : ClockState). k.counter) e in omega (arith, n, risen);
+          risen = let n : turn.client.clock.counter ≡ y.clock.counter = ap (λ (k : ClockState). k.counter) e in omega
+              (arith, n, risen);
         }
 
     unless_clock : (stamp : ℕ) (full : Bool) → IsClockOn x.clock (writes_unless terms drawn tag permit stamp full)
@@ -119,8 +121,10 @@ module _ (terms : Terms) (x : Client) where
 
   viewed_clock : (tag : ℕ) (who : Principal) (view : ViewState) → IsClockOn x.clock (rules terms x tag who view)
   viewed_clock tag who view =
-      let c = rules_clock (record x { clock = clock_after_rows x.clock view.rows }) (rows_client x.clock view.rows) (rows_rise x.clock view.rows) tag
-      (record { view = view; principal = who; policy = terms.policy }) (ruling_of (basis_on terms.policy who view.rows) view.ask) in
+      let c = rules_clock (record x { clock = clock_after_rows x.clock view.rows }) (rows_client x.clock view.rows)
+      (rows_rise x.clock view.rows) tag
+      (record { view = view; principal = who; policy = terms.policy })
+      (ruling_of (basis_on terms.policy who view.rows) view.ask) in
       record { own = c.own; risen = c.risen }
 
   views_clock : (tag : ℕ) (who : Principal) (step : ViewStep) → IsClockOn x.clock (views_by terms x tag who step)
@@ -159,13 +163,3 @@ module _ (terms : Terms) (x : Client) where
         ap (λ (z : Client). z.clock.client) is.client ∙ c.own,
         subst (λ (z : Client). x.clock.counter ≤ z.clock.counter) (sym is.client) c.risen,
       )
-
--- ---- what a session knows of it
-
-pub session_risen : (named policy : Policy) (k l : ClockState) (a : CallerState) → IsSession named policy k a → l.client ≡ k.client → k.counter ≤ l.counter
-    → IsSession named policy l a
-session_risen named policy k l a s client risen = record {
-  policy_is = s.policy_is;
-  own = client ∙ s.own;
-  ahead = λ t own above. s.ahead t own (omega (arith, risen, above));
-}

@@ -10,7 +10,6 @@ pub mod TrimLemmas
 pub mod EndLemmas
 pub mod LookLemmas
 pub mod WriteLemmas
-pub mod NoteLemmas
 pub mod ClockLemmas
 pub mod SendLemmas
 pub mod BegunLemmas
@@ -18,4 +17,5 @@ pub mod MovedLemmas
 pub mod RuledLemmas
 pub mod ReadingLemmas
 pub mod CarryLemmas
-pub mod WayLemmas
+pub mod WaitLemmas
+pub mod TurnLemmas

@@ -1,13 +1,13 @@
 -- What a reply has led to, once what was noted of it is in the share: `goes_plain` and `goes_sent` go on, and where
 -- nothing was noted the session is as it was (`heard_same`).
-use Rattle.std.proofs.Common.{◌≡◌, ℕ, ◌≤◌, List, [], All, Some, None, Err, refl, sym, ap, ◌∙◌, subst, arith}
+use Rattle.std.proofs.Common.{◌≡◌, ℕ, ◌+◌, List, [], All, Some, None, Err, sym, ap, ◌∙◌, subst, arith}
 use Rattle.album_calls.specs.declared.messages.Message.{Message}
 use Rattle.album_client.specs.Clients.{IsProper}
 use Rattle.album_client.specs.declared.moves.Moved.{Moved}
 use Rattle.album_eval.specs.declared.policies.Policy.{Policy}
-use Rattle.album_passes.specs.Cuts.{Cut, IsSound, Extends}
+use Rattle.album_passes.specs.Cuts.{Cut, IsSound}
 use Rattle.album_passes.proofs.CutLemmas.{extends_trans}
-use Rattle.album_permits.specs.declared.notes.Note.{Note}
+use Rattle.album_audit.specs.declared.totals.Totals.{Totals}
 use Rattle.album_stamps.specs.Clocks.{next_of}
 use Rattle.album_stamps.specs.declared.limits.TheConstants.{GREATEST_COUNTER}
 use Rattle.album_stamps.specs.declared.refusals.Refusal.TheVariants.{StampsSpent}
@@ -17,7 +17,6 @@ use Rattle.album_threads.specs.Phases.{Outset, IsUnderWay}
 use Rattle.album_threads.specs.Resting.{RestsOn}
 use Rattle.album_threads.specs.Sending.{prepared_first, announced_with, announced_by, IsFreeFor, IsFree, IsAnnouncedBy, sent_last, sent_at}
 use Rattle.album_threads.specs.Sessions.{SessionState}
-use Rattle.album_threads.proofs.NoteLemmas.{shared_none}
 use Rattle.album_threads.proofs.SendLemmas.{last_sent, last_at}
 use Rattle.album_views.specs.Checks.{refusal_of}
 use Rattle.album_writer.specs.declared.answers.Answer.{Answer}
@@ -41,9 +40,11 @@ pub data IsMovedOn
     : Type 0 where
   Told : (told : Answer) → moved.answer ≡ Some told → RestsOn limit policy o.principal o.ask o.session noted told
       → IsMovedOn limit policy o noted at sent moved
-  Goes : moved.answer ≡ None → IsFree noted moved.sent.items → All (Shows (announced_by noted.cut moved.sent.items)) moved.sent.items
+  Goes : moved.answer ≡ None → IsFree noted moved.sent.items
+      → All (Shows (announced_by noted.cut moved.sent.items)) moved.sent.items
       → ((new : SessionState) → IsAnnouncedBy noted new moved.sent.items
-      → IsUnderWay policy o new (sent_at at new.cut moved.sent.items) (sent_last sent moved.sent.items) moved.client.doing)
+      → IsUnderWay policy o new (sent_at at new.cut moved.sent.items) (sent_last sent moved.sent.items)
+      moved.client.doing)
       → IsMovedOn limit policy o noted at sent moved
 
 -- it has seen more, and nothing else
@@ -53,6 +54,18 @@ on_heard a b c x h = record {
   grown = extends_trans a.cut b.cut c.cut x.grown h.grown;
   risen = let n : c.counter ≡ b.counter = h.counter in omega (arith, n, x.risen);
 }
+
+-- a share stays where nothing is noted
+shared_none : (client : ℕ) (a : Totals) → AreShared client a a []
+shared_none client a = λ i. record {
+  audit_ok = none a.audit_ok i;
+  audit_failed = none a.audit_failed i;
+  alarm_ok = none a.alarm_ok i;
+  alarm_failed = none a.alarm_failed i;
+}
+  where
+    none : (n : ℕ) → n ≡ n + 0
+    none n = omega arith
 
 -- nothing is noted, and the clock stays
 pub heard_same : (o : Outset) (now next noted : SessionState) (moved : Moved) → IsNoted o now next noted moved
@@ -65,12 +78,15 @@ heard_same o now next noted moved n none same = λ i. record {
 }
   where
     share : noted.share ≡ next.share
-    share = subst (AreShared next.client next.share noted.share) none n.shared ∙ sym (shared_none next.client next.share)
+    share = subst (AreShared next.client next.share noted.share) none n.shared ∙ sym
+        (shared_none next.client next.share)
 
-module _ (limit : ℕ) (policy : Policy) (o : Outset) (noted : SessionState) (at : Cut) (sent : List Message) (moved : Moved)
+module _ (limit : ℕ) (policy : Policy) (o : Outset) (noted : SessionState) (at : Cut) (sent : List Message)
+    (moved : Moved)
     (quiet : moved.answer ≡ None) where
   -- these are sent, none of which prepares anything
-  pub goes_plain : (messages : List Message) → moved.sent.items ≡ messages → prepared_first messages ≡ None → All (Shows noted.cut) messages
+  pub goes_plain : (messages : List Message) → moved.sent.items ≡ messages → prepared_first messages ≡ None
+      → All (Shows noted.cut) messages
       → IsUnderWay policy o noted (sent_at at noted.cut messages) (sent_last sent messages) moved.client.doing
       → IsMovedOn limit policy o noted at sent moved
   goes_plain messages e plain shown w = Goes quiet free shows goes
@@ -82,17 +98,27 @@ module _ (limit : ℕ) (policy : Policy) (o : Outset) (noted : SessionState) (at
       free = subst (IsFreeFor noted) (sym none) (record { unused = tt; reached = tt })
 
       shows : All (Shows (announced_by noted.cut moved.sent.items)) moved.sent.items
-      shows = subst (λ (y : Cut × List Message). All (Shows y.0) y.1) (λ i. (announced_with noted.cut (sym none i), sym e i)) shown
+      shows = subst (λ (y : Cut × List Message). All (Shows y.0) y.1)
+          (λ i. (announced_with noted.cut (sym none i), sym e i)) shown
 
       goes : (new : SessionState) → IsAnnouncedBy noted new moved.sent.items
-          → IsUnderWay policy o new (sent_at at new.cut moved.sent.items) (sent_last sent moved.sent.items) moved.client.doing
+          → IsUnderWay policy o new (sent_at at new.cut moved.sent.items) (sent_last sent moved.sent.items)
+          moved.client.doing
       goes new a =
           let cut : new.cut ≡ noted.cut = a.cut ∙ ap (announced_with noted.cut) none in
-          let same : new ≡ noted = λ i. record { client = a.client i; counter = a.counter i; cut = cut i; share = a.share i } in
-          subst (λ (y : SessionState × List Message). IsUnderWay policy o y.0 (sent_at at y.0.cut y.1) (sent_last sent y.1) moved.client.doing)
+          let same : new ≡ noted = λ i. record {
+            client = a.client i;
+            counter = a.counter i;
+            cut = cut i;
+            share =
+                a.share i;
+          } in
+          subst (λ (y : SessionState × List Message). IsUnderWay policy o y.0 (sent_at at y.0.cut y.1)
+          (sent_last sent y.1) moved.client.doing)
           (λ i. (sym same i, sym e i)) w
 
-  pub goes_sent : (messages : List Message) → moved.sent.items ≡ messages → (messages ≡ [] → ⊥) → prepared_first messages ≡ None
+  pub goes_sent : (messages : List Message) → moved.sent.items ≡ messages → (messages ≡ [] → ⊥)
+      → prepared_first messages ≡ None
       → All (Shows noted.cut) messages → IsUnderWay policy o noted noted.cut messages moved.client.doing
       → IsMovedOn limit policy o noted at sent moved
   goes_sent messages e some plain shown w =
@@ -102,7 +128,8 @@ module _ (limit : ℕ) (policy : Policy) (o : Outset) (noted : SessionState) (at
 
 -- ---- by what the client has come to
 
-module _ (limit : ℕ) (policy : Policy) (o : Outset) (noted : SessionState) (at : Cut) (sent : List Message) (moved : Moved) where
+module _ (limit : ℕ) (policy : Policy) (o : Outset) (noted : SessionState) (at : Cut) (sent : List Message)
+    (moved : Moved) where
   pub told_rests : (told : Answer) → moved.answer ≡ Some told → IsMovedOn limit policy o noted at sent moved
       → RestsOn limit policy o.principal o.ask o.session noted told
   told_rests told is (Told other same h) =
@@ -122,6 +149,7 @@ module _ (limit : ℕ) (policy : Policy) (o : Outset) (noted : SessionState) (at
 
   pub goes_of : moved.answer ≡ None → IsMovedOn limit policy o noted at sent moved
       → (new : SessionState) → IsAnnouncedBy noted new moved.sent.items
-      → IsUnderWay policy o new (sent_at at new.cut moved.sent.items) (sent_last sent moved.sent.items) moved.client.doing
+      → IsUnderWay policy o new (sent_at at new.cut moved.sent.items) (sent_last sent moved.sent.items)
+      moved.client.doing
   goes_of is (Told other same h) new a = absurd (cc)
   goes_of is (Goes none free shown goes) new a = goes new a

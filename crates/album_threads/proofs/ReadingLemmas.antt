@@ -1,6 +1,6 @@
 -- What comes of a reply in a read: `read_on`. And how an ask begins, with a read of its objects: `reads_begin`, whose
 -- messages need nothing shown (`shown_first`).
-use Rattle.std.proofs.Common.{◌≡◌, ℕ, ◌+◌, Bool, true, false, List, [], ◌∷◌, map, length, Option, Some, None, is_some, All, refl, sym, ap, ◌∙◌, subst, arith, nat_lt, nat_le, if◌then◌else◌}
+use Rattle.std.proofs.Common.{◌≡◌, ℕ, ◌+◌, Bool, true, false, List, [], ◌∷◌, map, length, Some, None, is_some, All, refl, sym, ap, ◌∙◌, subst, arith, nat_lt, nat_le, if◌then◌else◌}
 use Rattle.std.proofs.lemmas.Bool.{ltb-false}
 use Rattle.album_calls.specs.declared.messages.Message.{Message}
 use Rattle.album_client.specs.Askings.{Asking}
@@ -23,13 +23,13 @@ use Rattle.album_reader.specs.Rounds.Step.{Same, Next, Done, Gone}
 use Rattle.album_stamps.specs.declared.limits.TheConstants.{MOST_READ_ITEMS, MOST_READS}
 use Rattle.album_threads.specs.Asks.{IsOn, IsViewOf, IsBusy, IsLooking, LooksOnce}
 use Rattle.album_threads.specs.Letters.{Shows}
-use Rattle.album_threads.specs.Phases.{Outset, IsRound, IsReading, IsPhase, IsUnderWay}
+use Rattle.album_threads.specs.Phases.{Outset, IsRound, IsReading, IsUnderWay}
 use Rattle.album_threads.specs.Phases.IsRound.{First, Second}
 use Rattle.album_threads.specs.Replies.{IsReplied, IsFirstOver, IsReadOf, IsOvertaken, Leads}
 use Rattle.album_threads.specs.Resting.{RestsOn}
 use Rattle.album_threads.specs.Sending.{prepared_first}
-use Rattle.album_threads.specs.Sessions.{SessionState}
-use Rattle.album_threads.specs.Ways.{actor_in, terms_in}
+use Rattle.album_threads.specs.Sessions.{SessionState, AnnouncesNothing}
+use Rattle.album_threads.specs.Turns.{actor_in, terms_in}
 use Rattle.album_threads.proofs.EndLemmas.{read_so, overtaken}
 use Rattle.album_threads.proofs.LookLemmas.{done_so, gone_so, looking_first, looking_next, looks_seen, looks_busy, on_self}
 use Rattle.album_threads.proofs.MovedLemmas.{IsNoted, IsMovedOn, on_heard, heard_same, goes_plain, goes_sent}
@@ -61,7 +61,8 @@ some_gets round is ts e = (readable_open round is).some (none round.items e)
     none (i ∷ items) f = absurd (cc)
 
 -- what was read can be read again
-readable_viewed : (viewing : ViewingState) (rows : List Row) → flaw_of viewing.ask ≡ None → AsksReadable (viewed viewing rows)
+readable_viewed : (viewing : ViewingState) (rows : List Row) → flaw_of viewing.ask ≡ None
+    → AsksReadable (viewed viewing rows)
 readable_viewed viewing rows flawless = go (is_closed viewing.ask rows)
   where
     last : (items : List ℕ) → AreReadable items → (b : Bool)
@@ -72,17 +73,22 @@ readable_viewed viewing rows flawless = go (is_closed viewing.ask rows)
     wide : (b : Bool) → nat_lt MOST_READ_ITEMS (length (names_of rows viewing.ask)) ≡ b
         → AsksReadable (if b then Busy Wide else again viewing (names_of rows viewing.ask))
     wide true e = tt
-    wide false e = last (names_of rows viewing.ask) (names-readable rows viewing.ask flawless (ltb-false _ _ e)) (nat_le MOST_READS (viewing.reads + 1))
+    wide false e = last (names_of rows viewing.ask) (names-readable rows viewing.ask flawless (ltb-false _ _ e))
+        (nat_le MOST_READS (viewing.reads + 1))
 
-    go : (b : Bool) → AsksReadable (if b then Closed (record { ask = viewing.ask; rows = rows }) else unclosed viewing (names_of rows viewing.ask))
+    go : (b : Bool) → AsksReadable (if b then Closed (record { ask = viewing.ask; rows = rows }) else unclosed viewing
+        (names_of rows viewing.ask))
     go true = tt
     go false = wide (nat_lt MOST_READ_ITEMS (length (names_of rows viewing.ask))) refl
 
 -- a read that begins
-reading_first : (principal : Principal) (ask : Ask) (old now : Cut) (terms : Terms) (x : Client) (tag : ℕ) (asking : Asking) (items : List ℕ)
-    → asking.viewing.ask ≡ ask → asking.principal ≡ principal → terms.parts ≡ now.parts → IsOpen (first_round (asker_at terms x (tag + 1)) items)
+reading_first : (principal : Principal) (ask : Ask) (old now : Cut) (terms : Terms) (x : Client) (tag : ℕ)
+    (asking : Asking) (items : List ℕ)
+    → asking.viewing.ask ≡ ask → asking.principal ≡ principal → terms.parts ≡ now.parts
+    → IsOpen (first_round (asker_at terms x (tag + 1)) items)
     → IsLooking old now asking.viewing items → Extends old now
-    → IsReading principal ask old now now (gets_of (asker_at terms x (tag + 1)) [] items) asking (first_round (asker_at terms x (tag + 1)) items)
+    → IsReading principal ask old now now (gets_of (asker_at terms x (tag + 1)) [] items) asking
+    (first_round (asker_at terms x (tag + 1)) items)
 reading_first principal ask old now terms x tag asking items of whom parts opens looking before = record {
   of = of;
   whom = whom;
@@ -100,8 +106,12 @@ reading_first principal ask old now terms x tag asking items of whom parts opens
 
 -- ---- how an ask begins
 
-module _ (policy : Policy) (principal : Principal) (ask : Ask) (now : SessionState) (terms : Terms) (x : Client) (tag : ℕ) (moved : Moved)
-    (is : IsMoved (read_begins terms x tag (record { viewing = record { ask = ask; reads = 0 }; principal = principal }) (objects_of ask)) moved)
+module _ (policy : Policy) (principal : Principal) (ask : Ask) (now : SessionState) (terms : Terms) (x : Client)
+    (tag : ℕ) (moved : Moved)
+    (is : IsMoved (read_begins terms x tag (record {
+      viewing = record { ask = ask; reads = 0 };
+      principal = principal;
+    }) (objects_of ask)) moved)
     (proper : IsProper moved.client.doing) where
   abbrev first_asking : Asking
   first_asking = record { viewing = record { ask = ask; reads = 0 }; principal = principal }
@@ -110,9 +120,11 @@ module _ (policy : Policy) (principal : Principal) (ask : Ask) (now : SessionSta
   opens = subst IsProper (ap (λ (z : Client). z.doing) is.client) proper
 
   pub reads_begin : terms.parts ≡ now.cut.parts → refusal_of ask principal ≡ None → IsSound now.cut
-      → IsUnderWay policy (record { principal = principal; ask = ask; session = now }) now now.cut moved.sent.items moved.client.doing
+      → IsUnderWay policy (record { principal = principal; ask = ask; session = now }) now now.cut moved.sent.items
+      moved.client.doing
   reads_begin parts taken s =
-      subst (λ (z : List Message × Doing). IsUnderWay policy (record { principal = principal; ask = ask; session = now }) now now.cut z.0 z.1)
+      subst (λ (z : List Message × Doing). IsUnderWay policy
+      (record { principal = principal; ask = ask; session = now }) now now.cut z.0 z.1)
       (λ i. (sym is.sent i, ap (λ (z : Client). z.doing) (sym is.client) i))
       (record {
         taken = taken;
@@ -120,19 +132,24 @@ module _ (policy : Policy) (principal : Principal) (ask : Ask) (now : SessionSta
         sound = s;
         phase = (
           reading_first principal ask now.cut now.cut terms x tag first_asking (objects_of ask) refl refl parts opens
-          (looking_first now.cut first_asking.viewing (objects_of ask) ask refl refl (readable_open _ opens) (taken_flawless ask principal taken) s)
-          (extends_self now.cut),
+              (looking_first now.cut first_asking.viewing (objects_of ask) ask refl refl (readable_open _ opens)
+              (taken_flawless ask principal taken) s)
+              (extends_self now.cut),
           refl,
+          λ t own. refl,
         );
       })
 
   pub shown_first : All (Shows now.cut) moved.sent.items
-  shown_first = subst (All (Shows now.cut)) (sym is.sent) (gets_shown now.cut (asker_at terms x (tag + 1)) [] (objects_of ask))
+  shown_first = subst (All (Shows now.cut)) (sym is.sent)
+      (gets_shown now.cut (asker_at terms x (tag + 1)) [] (objects_of ask))
 
 -- ---- what comes of a reply
 
-module _ (limit : ℕ) (policy : Policy) (o : Outset) (now next noted : SessionState) (at : Cut) (sent : List Message) (moved : Moved)
-    (N : IsNoted o now next noted moved) (same_share : now.share ≡ o.session.share) where
+module _ (limit : ℕ) (policy : Policy) (o : Outset) (now next noted : SessionState) (at : Cut) (sent : List Message)
+    (moved : Moved)
+    (N : IsNoted o now next noted moved) (same_share : now.share ≡ o.session.share)
+    (silent_before : AnnouncesNothing o.session now) where
   abbrev After : Type 0
   After = IsMovedOn limit policy o noted at sent moved
 
@@ -154,6 +171,9 @@ module _ (limit : ℕ) (policy : Policy) (o : Outset) (now next noted : SessionS
   share : next.share ≡ o.session.share
   share = N.heard.share ∙ same_share
 
+  silent : AnnouncesNothing o.session next
+  silent = λ t own. N.heard.silent t (own ∙ sym N.on.client) ∙ silent_before t own
+
   on_next : IsOn o.session next
   on_next = on_heard o.session now next N.on N.heard
 
@@ -163,64 +183,81 @@ module _ (limit : ℕ) (policy : Policy) (o : Outset) (now next noted : SessionS
     same = heard_same o now next noted moved N none clock
 
     -- it reads on
-    waits : (asking : Asking) (round : RoundState) → moved.answer ≡ None → moved.client.doing ≡ doing.Reads asking round → moved.sent.items ≡ []
+    waits : (asking : Asking) (round : RoundState) → moved.answer ≡ None
+        → moved.client.doing ≡ doing.Reads asking round → moved.sent.items ≡ []
         → IsReading o.principal o.ask a at d sent asking round → After
     waits asking round quiet is empty w =
         goes_plain limit policy o noted at sent moved quiet [] empty refl (λ k l e. absurd (omega arith))
         (subst (λ (z : SessionState × Doing). IsUnderWay policy o z.0 at sent z.1) (λ i. (sym same i, sym is i))
-        (record { taken = N.taken; on = on_next; sound = N.heard.sound; phase = (w, share) }))
+        (record { taken = N.taken; on = on_next; sound = N.heard.sound; phase = (w, share, silent) }))
 
     -- it sends these messages
-    asks : (asking : Asking) (round : RoundState) (messages : List Message) → moved.answer ≡ None → moved.client.doing ≡ doing.Reads asking round → moved.sent.items ≡ messages → (messages ≡ [] → ⊥)
+    asks : (asking : Asking) (round : RoundState) (messages : List Message) → moved.answer ≡ None
+        → moved.client.doing ≡ doing.Reads asking round → moved.sent.items ≡ messages → (messages ≡ [] → ⊥)
         → IsReading o.principal o.ask a d d messages asking round → After
     asks asking round messages quiet is sends some w =
         goes_sent limit policy o noted at sent moved quiet messages sends some
-        (subst (λ (ms : List Message). prepared_first ms ≡ None) (sym w.asks) (gets_plain w.begun.asker (asked_stamps w.begun) w.begun.items))
+        (subst (λ (ms : List Message). prepared_first ms ≡ None) (sym w.asks)
+        (gets_plain w.begun.asker (asked_stamps w.begun) w.begun.items))
         (subst (λ (z : Cut × List Message). All (Shows z.0) z.1) (λ i. (sym N.cut i, sym w.asks i))
         (gets_shown d w.begun.asker (asked_stamps w.begun) w.begun.items))
-        (subst (λ (z : SessionState × Doing). IsUnderWay policy o z.0 z.0.cut messages z.1) (λ i. (sym same i, sym is i))
-        (record { taken = N.taken; on = on_next; sound = N.heard.sound; phase = (w, share) }))
+        (subst (λ (z : SessionState × Doing). IsUnderWay policy o z.0 z.0.cut messages z.1)
+        (λ i. (sym same i, sym is i))
+        (record { taken = N.taken; on = on_next; sound = N.heard.sound; phase = (w, share, silent) }))
 
     -- there is no view
     busy : (why : Why) → moved.answer ≡ Some (answer.Busy why) → IsBusy a d o.ask why → After
-    busy why told h = Told (answer.Busy why) told (subst (λ (s : SessionState). RestsOn limit policy o.principal o.ask o.session s (answer.Busy why)) (sym same) (rests why h))
+    busy why told h = Told (answer.Busy why) told (subst
+        (λ (s : SessionState). RestsOn limit policy o.principal o.ask o.session s (answer.Busy why)) (sym same)
+        (rests why h))
       where
-        rests : (why : Why) → IsBusy a d o.ask why → RestsOn limit policy o.principal o.ask o.session next (answer.Busy why)
+        rests : (why : Why) → IsBusy a d o.ask why
+            → RestsOn limit policy o.principal o.ask o.session next (answer.Busy why)
         rests Wide h = (h, share)
         rests Rounds h = (h, share)
 
   -- there is a view
-  viewed_so : (tag : ℕ) (view : ViewState) → IsViewOf a d o.ask view → IsMoved (rules terms x tag o.principal view) moved → After
+  viewed_so : (tag : ℕ) (view : ViewState) → IsViewOf a d o.ask view
+      → IsMoved (rules terms x tag o.principal view) moved → After
   viewed_so tag view h is =
       let same : view ≡ record { ask = o.ask; rows = view.rows } = λ i. record { ask = h.of i; rows = view.rows } in
       ruled_on limit policy o now next noted at sent moved N share tag view.rows
-      (subst (IsViewOf a d o.ask) same h) (subst (λ (v : ViewState). IsMoved (rules terms x tag o.principal v) moved) same is)
+      (subst (IsViewOf a d o.ask) same h) (subst (λ (v : ViewState). IsMoved (rules terms x tag o.principal v) moved)
+      same is)
 
   -- a read has led to this
-  module _ (start : Cut) (tag : ℕ) (asking : Asking) (items : List ℕ) (of : asking.viewing.ask ≡ o.ask) (whom : asking.principal ≡ o.principal)
+  module _ (start : Cut) (tag : ℕ) (asking : Asking) (items : List ℕ) (of : asking.viewing.ask ≡ o.ask)
+      (whom : asking.principal ≡ o.principal)
       (looking : IsLooking a start asking.viewing items) (before : Extends a start) (since : Extends start d) where
-    views : (f : ViewStep) → LooksOnce start d asking.viewing items f → IsMoved (views_by terms x tag asking.principal f) moved → After
+    views : (f : ViewStep) → LooksOnce start d asking.viewing items f
+        → IsMoved (views_by terms x tag asking.principal f) moved → After
     views (Again viewing names) led is =
         let round = first_round (asker_at terms x (tag + 1)) names in
         let does = ap (λ (z : Client). z.doing) is.client in
         let opens : IsOpen round = subst IsProper does N.proper in
-        asks is.noted (ap (λ (z : Client). z.clock.counter) is.client) (record { viewing = viewing; principal = asking.principal }) round
+        asks is.noted (ap (λ (z : Client). z.clock.counter) is.client)
+        (record { viewing = viewing; principal = asking.principal }) round
         (gets_of (asker_at terms x (tag + 1)) [] names) is.answer does is.sent (some_gets round opens [])
-        (reading_first o.principal o.ask a d terms x tag (record { viewing = viewing; principal = asking.principal }) names
+        (reading_first o.principal o.ask a d terms x tag (record { viewing = viewing; principal = asking.principal })
+        names
         (ap (λ (v : ViewingState). v.ask) led.0 ∙ of) whom refl opens
-        (looking_next a start d asking.viewing items looking before since N.heard.sound viewing names led) (extends_trans a start d before since))
+        (looking_next a start d asking.viewing items looking before since N.heard.sound viewing names led)
+        (extends_trans a start d before since))
     views (Closed view) led is =
-        viewed_so tag view (looks_seen a start d asking.viewing items looking before since N.heard.sound o.ask view of led)
+        viewed_so tag view (looks_seen a start d asking.viewing items looking before since N.heard.sound o.ask view of
+        led)
         (subst (λ (p : Principal). IsMoved (rules terms x tag p view) moved) whom is)
     views (Busy why) led is =
         busy is.noted (ap (λ (z : Client). z.clock.counter) is.client) why is.answer
         (looks_busy a start d asking.viewing items looking before since N.heard.sound o.ask why of led)
 
   -- what a step of a round leads to
-  steps : (tag : ℕ) (asking : Asking) (round : RoundState) (f : Step) (w : IsReading o.principal o.ask a at c sent asking round)
+  steps : (tag : ℕ) (asking : Asking) (round : RoundState) (f : Step)
+      (w : IsReading o.principal o.ask a at c sent asking round)
       → Leads at d w.begun f → IsMoved (read_turn terms x tag asking f) moved → After
   steps tag asking round (Same other) w led is =
-      waits is.noted (ap (λ (z : Client). z.clock.counter) is.client) asking other is.answer (ap (λ (z : Client). z.doing) is.client) is.sent (record {
+      waits is.noted (ap (λ (z : Client). z.clock.counter) is.client) asking other is.answer
+      (ap (λ (z : Client). z.doing) is.client) is.sent (record {
         of = w.of;
         whom = w.whom;
         start = w.start;
@@ -235,16 +272,19 @@ module _ (limit : ℕ) (policy : Policy) (o : Outset) (now next noted : SessionS
         on = extends_trans at c d w.on N.heard.grown;
       })
   steps tag asking round (Next other gets) w led is =
-      asks is.noted (ap (λ (z : Client). z.clock.counter) is.client) asking other gets is.answer (ap (λ (z : Client). z.doing) is.client) is.sent some (record {
+      asks is.noted (ap (λ (z : Client). z.clock.counter) is.client) asking other gets is.answer
+      (ap (λ (z : Client). z.doing) is.client) is.sent some (record {
         of = w.of;
         whom = w.whom;
         start = w.start;
         begun = other;
-        looking = subst (λ (items : List ℕ). IsLooking a w.start asking.viewing items) (sym (ap (λ (r : RoundState). r.items) led.next_is)) w.looking;
+        looking = subst (λ (items : List ℕ). IsLooking a w.start asking.viewing items)
+            (sym (ap (λ (r : RoundState). r.items) led.next_is)) w.looking;
         which = which w.which;
         asks = led.gets_are ∙ sym (ap (λ (r : RoundState). gets_of r.asker (asked_stamps r) r.items) led.next_is);
         parts = ap (λ (r : RoundState). r.asker.parts) led.next_is ∙ w.parts ∙ sym since.parts;
-        under = under_first d other led.still_open (ap (λ (r : RoundState). answers_there r.answers) led.next_is ∙ none_yet w.begun.items);
+        under = under_first d other led.still_open (ap (λ (r : RoundState). answers_there r.answers) led.next_is ∙
+            none_yet w.begun.items);
         sound = N.heard.sound;
         before = w.before;
         on = extends_self d;
@@ -258,7 +298,8 @@ module _ (limit : ℕ) (policy : Policy) (o : Outset) (now next noted : SessionS
           (ap (λ (r : RoundState). gets_of r.asker (asked_stamps r) r.items) led.next_is ∙ sym led.gets_are ∙ e)
 
       which : IsRound w.start at w.begun → IsRound w.start d other
-      which (First none same) = Second w.begun gets (subst (λ (e : Cut). Extends e d) same since) (subst (λ (e : Cut). IsFirstOver e d w.begun other gets) same led)
+      which (First none same) = Second w.begun gets (subst (λ (e : Cut). Extends e d) same since)
+          (subst (λ (e : Cut). IsFirstOver e d w.begun other gets) same led)
       which (Second first earlier y F) =
           let none = led.first in
           let some = ap (λ (r : RoundState). r.stamps) F.next_is in
@@ -271,11 +312,15 @@ module _ (limit : ℕ) (policy : Policy) (o : Outset) (now next noted : SessionS
       which : IsRound w.start at w.begun → After
       which (First none same) = absurd (let some = led.0 in let no = ap is_some none in cc)
       which (Second first gets y F) =
-          let found : IsReadOf w.start d first.items rows = read_so w.start at d first w.begun gets F rows w.looking.sound w.sound N.heard.sound y since led.1 in
+          let found : IsReadOf w.start d first.items rows = read_so w.start at d first w.begun gets F rows
+          w.looking.sound w.sound N.heard.sound y since led.1 in
           let items : w.begun.items ≡ first.items = ap (λ (r : RoundState). r.items) F.next_is in
-          views w.start tag asking w.begun.items w.of w.whom w.looking w.before (extends_trans w.start at d y since) (viewed asking.viewing rows)
-          (done_so w.start d asking.viewing w.begun.items rows (viewed asking.viewing rows) N.heard.sound w.looking.flawless
-          (subst (λ (is : List ℕ). IsReadOf w.start d is rows) (sym items) found) refl (readable_viewed asking.viewing rows w.looking.flawless))
+          views w.start tag asking w.begun.items w.of w.whom w.looking w.before (extends_trans w.start at d y since)
+          (viewed asking.viewing rows)
+          (done_so w.start d asking.viewing w.begun.items rows (viewed asking.viewing rows) N.heard.sound
+          w.looking.flawless
+          (subst (λ (is : List ℕ). IsReadOf w.start d is rows) (sym items) found) refl
+          (readable_viewed asking.viewing rows w.looking.flawless))
           (record { client = is.client; noted = is.noted; sent = is.sent; answer = is.answer })
   steps tag asking round (Gone items) w led is = which w.which
     where
@@ -285,15 +330,18 @@ module _ (limit : ℕ) (policy : Policy) (o : Outset) (now next noted : SessionS
       which : IsRound w.start at w.begun → After
       which (First none same) = absurd (let some = led.0 in let no = ap is_some none in cc)
       which (Second first gets y F) =
-          let found : IsOvertaken w.start d first.items items = overtaken w.start at d first w.begun gets F items w.looking.sound w.sound N.heard.sound y since led.1 in
+          let found : IsOvertaken w.start d first.items items = overtaken w.start at d first w.begun gets F items
+          w.looking.sound w.sound N.heard.sound y since led.1 in
           let same : w.begun.items ≡ items = ap (λ (r : RoundState). r.items) F.next_is ∙ sym found.items_are in
           let looking = subst (λ (is : List ℕ). IsLooking a w.start asking.viewing is) same w.looking in
-          views w.start tag asking items w.of w.whom looking w.before (extends_trans w.start at d y since) (again asking.viewing items)
+          views w.start tag asking items w.of w.whom looking w.before (extends_trans w.start at d y since)
+          (again asking.viewing items)
           (gone_so w.start d asking.viewing items (again asking.viewing items) found.trimmed looking.readable refl)
           (record { client = is.client; noted = is.noted; sent = is.sent; answer = is.answer })
 
   -- what a reply leads to
-  pub read_on : (asking : Asking) (round : RoundState) (m : Message) → IsReading o.principal o.ask a at c sent asking round
+  pub read_on : (asking : Asking) (round : RoundState) (m : Message)
+      → IsReading o.principal o.ask a at c sent asking round
       → IsReplied limit at d sent m → IsMoved (read_turn terms x round.asker.tag asking (stepped round m)) moved → After
   read_on asking round m w r is =
       steps round.asker.tag asking round (stepped round m) w

@@ -28,7 +28,7 @@ use Rattle.album_passes.specs.Reads.{IsAnsweredBetween}
 use Rattle.album_passes.proofs.CutLemmas.{prefix_for_more}
 use Rattle.album_passes.proofs.PrefixLemmas.{prefix_trans, prefix_shorter}
 use Rattle.album_reader.specs.Answers.{Asker, Answer, reply_version, body_version, is_answer, if_answer, answer_in, answers_there, are_there}
-use Rattle.album_reader.specs.Rounds.{RoundState, Step, IsOpen, StaysOpen, no_answers, next_asker, second_round, asked_stamps, get_of, gets_of, if_lacking, new_answer, put_answer, with_answer, lacks, end_by, end_of, outcome, is_gone, taken, stepped, are_in_order}
+use Rattle.album_reader.specs.Rounds.{RoundState, IsOpen, StaysOpen, no_answers, next_asker, second_round, asked_stamps, get_of, gets_of, if_lacking, new_answer, put_answer, with_answer, lacks, end_by, end_of, outcome, is_gone, taken, stepped, are_in_order}
 use Rattle.album_reader.specs.Rounds.Step.{Same, Gone}
 use Rattle.album_reader.specs.StampSets.{stamps_of}
 use Rattle.album_reader.specs.Others.{IsGone}

@@ -1,17 +1,13 @@
 -- What is announced before messages are sent: the first of a write's Prepares prepares its stamp (`prepares_first`), and
--- other messages prepare nothing (`gets_plain`, `commits_plain`). The clock stays ahead of it (`session_announced`).
-use Rattle.std.proofs.Common.{◌≡◌, ◌≢◌, ℕ, ◌<◌, ◌==◌, Bool, true, List, [], ◌∷◌, map, Option, Some, None, if◌then◌else◌, refl, sym, ap, ◌∙◌, subst, arith}
-use Rattle.std.proofs.lemmas.Bool.{ne_eqb, eq-eqb}
+-- other messages prepare nothing (`gets_plain`, `commits_plain`).
+use Rattle.std.proofs.Common.{◌≡◌, ◌≢◌, ℕ, Bool, List, [], ◌∷◌, map, Some, None, if◌then◌else◌, refl, ap}
+use Rattle.std.proofs.lemmas.Bool.{eq-eqb}
 use Rattle.album_calls.specs.declared.messages.Message.{Message}
-use Rattle.album_eval.specs.declared.policies.Policy.{Policy}
 use Rattle.album_passes.specs.Changes.{announced_cut}
-use Rattle.album_passes.specs.Cuts.{Cut, Announcement, announced_for}
+use Rattle.album_passes.specs.Cuts.{Cut, announced_for}
 use Rattle.album_reader.specs.Answers.{Asker}
 use Rattle.album_reader.specs.Rounds.{gets_of}
-use Rattle.album_stamps.specs.Clocks.{ClockState}
-use Rattle.album_stamps.specs.Stamps.{client_number, counter_of}
-use Rattle.album_threads.specs.Sending.{prepared_first, announced_with, IsReached, sent_last, sent_at}
-use Rattle.album_threads.specs.Sessions.{CallerState, IsAhead, IsSession}
+use Rattle.album_threads.specs.Sending.{prepared_first, sent_last, sent_at}
 use Rattle.album_writer.specs.Writing.{WritingState, items_in, places_in, prepare_to, prepares_of, commit_to, commits_of}
 
 -- ---- what messages prepare
@@ -59,21 +55,3 @@ last_at b c (m ∷ ms) some = refl
 
 pub announced_here : (c : Cut) (t : ℕ) (is : List ℕ) → announced_for (announced_cut c t is) t ≡ Some is
 announced_here c t is = ap (λ (b : Bool). if b then Some is else announced_for c t) (eq-eqb t t refl)
-
-announced_else : (c : Cut) (t u : ℕ) (is : List ℕ) → u ≢ t → announced_for (announced_cut c t is) u ≡ announced_for c u
-announced_else c t u is other =
-    ap (λ (b : Bool). if b then Some is else announced_for c u) (ne_eqb t u (λ same. other (sym same)))
-
-pub session_announced : (named policy : Policy) (k : ClockState) (a b : CallerState) (o : Option Announcement) → IsSession named policy k a
-    → b.client ≡ a.client → b.cut ≡ announced_with a.cut o → IsReached k.counter o → IsSession named policy k b
-session_announced named policy k a b o s client cut reached = record {
-  policy_is = s.policy_is;
-  own = s.own ∙ sym client;
-  ahead = λ u own above. ap (λ (c : Cut). announced_for c u) cut ∙ go o reached u above ∙ s.ahead u (own ∙ client) above;
-}
-  where
-    go : (o : Option Announcement) → IsReached k.counter o → (u : ℕ) → k.counter < counter_of u → announced_for (announced_with a.cut o) u ≡ announced_for a.cut u
-    go None low u above = refl
-    go (Some (t, is)) low u above =
-        announced_else a.cut t u is
-        (λ same. absurd (let now : k.counter < counter_of t = subst (λ (n : ℕ). k.counter < counter_of n) same above in omega (arith, now, low)))

@@ -10,7 +10,7 @@ use Rattle.album_partition.proofs.GrowthLemmas.{latest_rises}
 use Rattle.album_passes.specs.Changes.{merged, KeepsOwn, IsUnheard}
 use Rattle.album_passes.specs.Cuts.{Cut, prefix_at, IsPrefix, IsSound, Extends}
 use Rattle.album_passes.specs.Pass.{PassState}
-use Rattle.album_passes.proofs.CutLemmas.{extends_self, extends_trans, longer_at}
+use Rattle.album_passes.proofs.CutLemmas.{extends_self, longer_at}
 use Rattle.album_passes.proofs.PrefixLemmas.{longer_cases}
 use Rattle.album_threads.specs.Inquiries.{IsUntrimmed, Tells}
 use Rattle.album_threads.specs.Inquiries.IsUntrimmed.{Elsewhere, NoRoom}
@@ -59,18 +59,11 @@ tells_joined limit b c d p is x l q told h =
 
 -- ---- what was seen later
 
-pub later_self : (a : CallerState) → IsLater a a
+later_self : (a : CallerState) → IsLater a a
 later_self a = record { client = refl; grown = extends_self a.cut; own = λ n t is own. refl }
 
 pub later_same : (a b : CallerState) → b ≡ a → IsLater a b
 later_same a b e = subst (λ (c : CallerState). IsLater a c) (sym e) (later_self a)
-
-pub later_trans : (a b c : CallerState) → IsLater a b → IsLater b c → IsLater a c
-later_trans a b c x y = record {
-  client = y.client ∙ x.client;
-  grown = extends_trans a.cut b.cut c.cut x.grown y.grown;
-  own = λ n t is own. y.own n t (ap Some x.client ∙ is) own ∙ x.own n t is own;
-}
 
 -- who has this client and this pass has seen more with another pass, which goes on from it
 pub later_joined : (a : CallerState) (n : ℕ) (p q : PassState) → record { client = n; cut = p.cut } ≡ a → p.number ≡ Some n

@@ -1,8 +1,8 @@
 -- What the replies to a write's Prepares and Commits bring: `prepare_tells` and `commit_tells`. What its messages show:
 -- `shows_prepares`, and `shows_commits` by `prepared_all`. And how it ends: `end_all`.
-use Rattle.std.proofs.Common.{◌≡◌, ◌≢◌, ℕ, zero, suc, ◌<◌, ◌≤◌, Bool, true, false, not, ◌==◌, ◌&&◌, ◌⊎◌, inl, inr, ⊎_elim, List, [], ◌∷◌, ◌++◌, append-nil, filter, map, All, Contains, Option, Some, None, Result, Ok, Err, IfOk, IfErr, option_map, option_to_list, if◌then◌else◌, refl, sym, ap, ◌∙◌, subst, arith, get_or}
-use Rattle.std.specs.List.{list_any, find, slice_get}
-use Rattle.std.proofs.lemmas.Bool.{and_parts, ne_eqb}
+use Rattle.std.proofs.Common.{◌≡◌, ℕ, zero, suc, ◌≤◌, Bool, true, false, not, ◌==◌, ◌&&◌, ◌⊎◌, inl, inr, ⊎_elim, List, [], ◌∷◌, ◌++◌, append-nil, filter, map, All, Contains, Option, Some, None, option_map, option_to_list, if◌then◌else◌, refl, sym, ap, ◌∙◌, subst, arith, get_or}
+use Rattle.std.specs.List.{list_any, find}
+use Rattle.std.proofs.lemmas.Bool.{and_parts}
 use Rattle.std.proofs.lemmas.Bool.Decides.{Decides-eqb}
 use Rattle.std.proofs.lemmas.List.Elements.{All-map, All-contains_itself, Contains-append_right}
 use Rattle.std.proofs.lemmas.List.Folds.{list_any_at}
@@ -333,7 +333,7 @@ shows_commits c w h = All-map (Shows c) (commit_to w) (places_in w) (λ k e l. h
 -- ---- how a write ends
 
 -- what is prepared and committed at each partition concerned is kept
-pub kept_end : (c d : Cut) (w : WritingState) → Extends c d → w.parts ≡ c.parts
+kept_end : (c d : Cut) (w : WritingState) → Extends c d → w.parts ≡ c.parts
     → ((n : ℕ) → Contains (places_in w) n → IsPreparedAt c w n)
     → ((n : ℕ) → Contains (places_in w) n → IsCommittedAt d w n) → IsKept d w.permit w.stamp
 kept_end c d w x parts prepared committed = λ place of.

@@ -9,7 +9,7 @@ use Rattle.album_permits.specs.declared.notes.Note.{Note}
 use Rattle.album_reader.specs.Answers.{Answer as Row}
 use Rattle.album_reader.specs.Snapshots.{items_read}
 use Rattle.album_threads.specs.Grounds.{IsSeen, IsWide, AreInVain, IsOutOfReads, trims_in}
-use Rattle.album_threads.specs.Sessions.{SessionState, IsAhead}
+use Rattle.album_threads.specs.Sessions.{SessionState, IsAhead, AnnouncesNothing}
 use Rattle.album_views.specs.Asks.{objects_of}
 use Rattle.album_views.specs.Checks.{flaw_of}
 use Rattle.album_views.specs.Naming.{names_of}
@@ -31,13 +31,14 @@ pub record IsOn (old new : SessionState) : Type 0 where
 abbrev pub AreSeenBy : ℕ → List Row → Type 0
 AreSeenBy counter rows = All (λ row. counter_of row.stamp ≤ counter) rows
 
--- The same session has seen more, and nothing else is changed. And what is so of each session: what it has seen is
--- sound, its clock is ahead of what is announced of it, and it is of a client.
+-- The same session has seen more, and nothing else is changed or announced. And what is so of each session: what it has
+-- seen is sound, its clock is ahead of what is announced of it, and it is of a client.
 pub record IsHeard (old new : SessionState) : Type 0 where
   pub client : new.client ≡ old.client
   pub counter : new.counter ≡ old.counter
   pub share : new.share ≡ old.share
   pub grown : Extends old.cut new.cut
+  pub silent : AnnouncesNothing old new
   pub sound : IsSound new.cut
   pub ahead : IsAhead new.client new.counter new.cut
   pub some : 1 ≤ new.cut.parts

@@ -11,5 +11,4 @@ pub mod Writes
 pub mod Asks
 pub mod Sending
 pub mod Phases
-pub mod Ruled
-pub mod Ways
+pub mod Turns

@@ -1,5 +1,5 @@
 -- What is under way for an ask between two replies, a case for each phase of its client.
-use Rattle.std.specs.Prelude.{◌≡◌, ℕ, List, None}
+use Rattle.std.specs.Prelude.{◌≡◌, List, None}
 use Rattle.album_calls.specs.declared.messages.Message.{Message}
 use Rattle.album_client.specs.Askings.{Asking}
 use Rattle.album_client.specs.declared.clients.Doing.{Doing}
@@ -11,7 +11,7 @@ use Rattle.album_reader.specs.Rounds.{RoundState, asked_stamps, gets_of}
 use Rattle.album_threads.specs.Asks.{IsLooking, IsOn}
 use Rattle.album_threads.specs.Replies.{IsUnder, IsFirstOver}
 use Rattle.album_threads.specs.Resting.{IsBegun}
-use Rattle.album_threads.specs.Sessions.{SessionState}
+use Rattle.album_threads.specs.Sessions.{SessionState, AnnouncesNothing}
 use Rattle.album_threads.specs.Writes.{IsBegunOn, IsFurther, IsPreparedAt, IsCommittedAt, AreCommits}
 use Rattle.album_views.specs.Checks.{refusal_of}
 use Rattle.album_views.specs.declared.asks.Ask.{Ask}
@@ -28,7 +28,8 @@ pub record Outset : Type 0 where
 -- which round of a read began so: the first one, with which the read began; or the second one, when the first was over
 pub data IsRound (start at : Cut) (begun : RoundState) : Type 0 where
   First : begun.stamps ≡ None → at ≡ start → IsRound start at begun
-  Second : (first : RoundState) (gets : List Message) → Extends start at → IsFirstOver start at first begun gets → IsRound start at begun
+  Second : (first : RoundState) (gets : List Message) → Extends start at → IsFirstOver start at first begun gets
+      → IsRound start at begun
 
 -- It reads for the ask: what was read before led to no view, and this round began at a cut, where it sent its messages.
 pub record IsReading
@@ -75,18 +76,20 @@ pub record IsWriting
     (policy : Policy) (outset : Outset) (now : SessionState) (at : Cut) (sent : List Message) (doing : Doing)
     : Type 0 where
   pub begun : WritingState
-  pub granted : IsBegun policy outset.principal outset.ask outset.session now begun.stamp (λ permit. permit ≡ begun.permit)
+  pub granted : IsBegun policy outset.principal outset.ask outset.session now begun.stamp
+      (λ permit. permit ≡ begun.permit)
   pub since : Extends at now.cut
   pub carried : IsCarried at now.cut sent begun doing
 
 -- ---- an ask
 
--- It reads, and has noted nothing; or it writes.
+-- It reads, and has noted and announced nothing; or it writes.
 abbrev pub IsPhase : Policy → Outset → SessionState → Cut → List Message → Doing → Type 0
 IsPhase policy outset now at sent (Idle tag) = ⊥
 IsPhase policy outset now at sent (Reads asking round) =
     IsReading outset.principal outset.ask outset.session.cut at now.cut sent asking round
     × (now.share ≡ outset.session.share)
+    × AnnouncesNothing outset.session now
 IsPhase policy outset now at sent (Prepares writing) = IsWriting policy outset now at sent (Prepares writing)
 IsPhase policy outset now at sent (Commits writing) = IsWriting policy outset now at sent (Commits writing)
 
@@ -99,7 +102,3 @@ pub record IsUnderWay
   pub on : IsOn outset.session now
   pub sound : IsSound now.cut
   pub phase : IsPhase policy outset now at sent doing
-
--- some ask is under way so
-abbrev pub IsSomehowUnderWay : Policy → SessionState → Cut → List Message → Doing → Type 0
-IsSomehowUnderWay policy now at sent doing = (outset : Outset) × IsUnderWay policy outset now at sent doing

@@ -51,6 +51,11 @@ abbrev pub IsAhead : ℕ → ℕ → Cut → Type 0
 IsAhead client counter cut = (stamp : ℕ) → client_number stamp ≡ client → counter < counter_of stamp
     → announced_for cut stamp ≡ None
 
+-- nothing more is announced of the session's own stamps
+abbrev pub AnnouncesNothing : SessionState → SessionState → Type 0
+AnnouncesNothing old new = (stamp : ℕ) → client_number stamp ≡ old.client
+    → announced_for new.cut stamp ≡ announced_for old.cut stamp
+
 -- the policy is this one, and the clock is the client's, and ahead of what is announced of it
 pub record IsSession (named policy : Policy) (clock : ClockState) (caller : CallerState) : Type 0 where
   pub policy_is : policy ≡ named

@@ -1,17 +1,12 @@
 -- What a session hears as it carries a write out.
 use Rattle.std.specs.Prelude.{◌≡◌, ◌≢◌, ℕ, ◌≤◌, ◌⊎◌, true, List, [], Contains}
 use Rattle.std.specs.List.{list_any}
-use Rattle.album_stamps.specs.Stamps.{client_number}
-use Rattle.album_stamps.specs.declared.refusals.Refusal.TheVariants.{Full}
 use Rattle.album_calls.specs.declared.messages.Message.{Message}
 use Rattle.album_items.specs.Places.{rows_placed_at}
 use Rattle.album_partition.specs.Marks.{commits}
 use Rattle.album_partition.specs.declared.marks.Mark.TheVariants.{Prepared}
-use Rattle.album_passes.specs.Cuts.{Cut, prefix_at, announced_for, Extends, IsPromisedSomewhere}
+use Rattle.album_passes.specs.Cuts.{Cut, prefix_at, IsPromisedSomewhere}
 use Rattle.album_threads.specs.Grounds.{IsKept, IsWithoutRoom}
-use Rattle.album_threads.specs.Sessions.{CallerState, IsNoWord}
-use Rattle.album_writer.specs.declared.answers.Answer.{Answer}
-use Rattle.album_writer.specs.declared.answers.Answer.TheVariants as answer
 use Rattle.album_writer.specs.Rounds.{WriteStep}
 use Rattle.album_writer.specs.Rounds.WriteStep.{Waits, Commits, Ends}
 use Rattle.album_writer.specs.Writing.{WritingState, writes_in, items_in, places_in, commit_round, commits_of}
@@ -52,19 +47,6 @@ IsEndOf limit cut writing (outcome.Aborted stamp) =
     (stamp ≡ writing.stamp) × IsPromisedSomewhere cut writing.stamp
 IsEndOf limit cut writing (outcome.Full stamp) =
     (stamp ≡ writing.stamp) × IsWithoutRoom limit cut writing.permit writing.stamp
-
--- the answer tells the write's stamp and how it ended: where it isn't settled, for want of room, or since no word comes
-abbrev pub EndsSo : ℕ → Cut → WritingState → Answer → Type 0
-EndsSo limit cut writing (answer.Committed stamp) = IsEndOf limit cut writing (outcome.Committed stamp)
-EndsSo limit cut writing (answer.Aborted stamp) = IsEndOf limit cut writing (outcome.Aborted stamp)
-EndsSo limit cut writing (answer.Unsettled stamp why) =
-    ((why ≡ Full) × IsEndOf limit cut writing (outcome.Full stamp))
-    ⊎ ((stamp ≡ writing.stamp) × IsNoWord why)
-EndsSo limit cut writing (answer.Served served) = ⊥
-EndsSo limit cut writing (answer.Denied denial) = ⊥
-EndsSo limit cut writing (answer.Missing object) = ⊥
-EndsSo limit cut writing (answer.Busy why) = ⊥
-EndsSo limit cut writing (answer.Refused why) = ⊥
 
 -- each partition concerned has prepared what is written there, and these are the Commits
 pub record AreCommits (cut : Cut) (begun next : WritingState) (messages : List Message) : Type 0 where

@@ -18,6 +18,7 @@ mod rounds;
 mod service;
 mod session;
 mod starting;
+mod turns;
 
 pub use gate::{Gate, Open};
 pub use inquiries::{Inquiry, Notice, Question};

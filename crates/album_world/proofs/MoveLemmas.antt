@@ -37,7 +37,7 @@ use Rattle.album_client.specs.Terms.{Terms}
 use Rattle.album_client.specs.Askings.{Asking}
 use Rattle.album_client.specs.Clients.{Client}
 use Rattle.album_client.specs.Grants.{served_for}
-use Rattle.album_client.specs.Turns.{turn_of, Turn, read_begins, writes_unless, draws_by, grants, rules_by, clock_after_rows, views_by, read_turn, prepare_turn, commit_turn}
+use Rattle.album_client.specs.Turns.{turn_of, is_waiting, IsTakenBy, Turn, read_begins, writes_unless, draws_by, grants, rules_by, clock_after_rows, views_by, read_turn, prepare_turn, commit_turn}
 use Rattle.album_client.specs.Moves.{IsMoved}
 use Rattle.album_client.proofs.MoveLemmas.{just_commits}
 use Rattle.album_world.specs.declared.outs.Out.{Out}
@@ -286,3 +286,18 @@ taken_done before terms x new message sent outs busy turned = go x.doing busy tu
     go (doing.Reads asking round) e is = (refl, is)
     go (doing.Prepares writing) e is = (refl, is)
     go (doing.Commits writing) e is = (refl, is)
+
+-- a message that ends no round, where nothing comes of it but that this is done
+pub waits_done : (terms : Terms) (before : ℕ) (x : Client) (new : Doing) (message : Message)
+    → is_waiting x.doing message ≡ true → IsTakenBy x.doing message new
+    → IsChangedBy before x (client_takes_by terms x.number x message x.doing) (record x { doing = new }) [] []
+waits_done terms before x new message waiting taken =
+    taken_done before terms x (record x { doing = new }) message [] [] (busy x.doing waiting)
+    (subst (λ (t : Turn). IsTurned before x.number t (record x { doing = new }) [] []) (sym (taken terms x))
+    (record { client = refl; sent_is = refl; told = refl }))
+  where
+    busy : (f : Doing) → is_waiting f message ≡ true → idle_tag f ≡ None
+    busy (doing.Idle tag) e = absurd (cc)
+    busy (doing.Reads asking round) e = refl
+    busy (doing.Prepares writing) e = absurd (cc)
+    busy (doing.Commits writing) e = absurd (cc)

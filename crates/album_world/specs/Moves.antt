@@ -1,7 +1,6 @@
 -- A client at an event: what it does, what it has become, and what is told of that.
-use Rattle.std.specs.Prelude.{◌≡◌, ℕ, Bool, true, false, not, List, [], length, Option, Some, None}
+use Rattle.std.specs.Prelude.{◌≡◌, ℕ, Bool, true, false, List, [], length, Option, Some, None}
 use Rattle.album_calls.specs.declared.messages.Message.{Message}
-use Rattle.album_reader.specs.Rounds.{stepped, is_end}
 use Rattle.album_writer.specs.Writing.{places_in}
 use Rattle.album_client.specs.declared.clients.Doing.{Doing}
 use Rattle.album_client.specs.declared.clients.Doing.TheVariants.{Idle, Reads, Prepares, Commits}
@@ -20,13 +19,6 @@ idle_tag (Idle tag) = Some tag
 idle_tag (Reads asking round) = None
 idle_tag (Prepares writing) = None
 idle_tag (Commits writing) = None
-
--- it reads, and the message doesn't end the round
-abbrev pub is_waiting : Doing → Message → Bool
-is_waiting (Idle tag) message = false
-is_waiting (Reads asking round) message = not (is_end (stepped round message))
-is_waiting (Prepares writing) message = false
-is_waiting (Commits writing) message = false
 
 -- it writes
 abbrev pub is_writing : Doing → Bool

@@ -4,9 +4,9 @@ ghost use Rattle.std.specs.Prelude.{◌≡◌, ◌≢◌, ◌<◌, ◌≤◌, �
 ghost use Rattle.album_stamps.specs.declared.limits.TheConstants.{MOST_PARTS, MOST_READ_ITEMS};
 ghost use Rattle.album_client.specs.Moves.{client_of, IsMoved};
 ghost use Rattle.album_client.specs.Terms.{Terms as TheTerms};
-ghost use Rattle.album_client.specs.Turns.{Turn, turn_of};
+ghost use Rattle.album_client.specs.Turns.{is_waiting, Turn, turn_of};
 ghost use Rattle.album_world.specs.Changes.{client_takes_by};
-ghost use Rattle.album_world.specs.Moves.{idle_tag, room_of, is_waiting, is_writing, IsChangedBy, IsTurned};
+ghost use Rattle.album_world.specs.Moves.{idle_tag, room_of, is_writing, IsChangedBy, IsTurned};
 ghost use Rattle.album_world.specs.Registers.{asks_of};
 
 use crate::outs::Out;
@@ -14,8 +14,7 @@ use crate::telling::{outs_of, tell};
 use album_calls::Message;
 use album_client::{Actor, Client, Doing, Moved, Terms};
 use album_eval::Principal;
-use album_reader::Step;
-use album_stamps::{Refusal, Refused};
+use album_stamps::Refusal;
 use album_views::Ask;
 use std::alloc::Global;
 use std::mem;
@@ -168,20 +167,8 @@ fn reads_on(client: &mut Client, message: &Message) -> Result<(), Refusal>
     ensures memory { IsOkUnless result Refusal.OutOfMemory }
     ensures unchanged { OnErr result (client.new ≡ client.old) }
 {
-    match mem::replace(&mut client.doing, Doing::Idle(0)) {
-        Doing::Reads(asking, reading) => match reading.on_reply(message) {
-            Ok(Step::Same(reading)) => {
-                client.doing = Doing::Reads(asking, reading);
-                Ok(())
-            }
-            Ok(Step::Next(_, _)) | Ok(Step::Done(_)) | Ok(Step::Gone(_)) => unreachable!(),
-            Err(Refused { refusal, given }) => {
-                client.doing = Doing::Reads(asking, given);
-                Err(refusal)
-            }
-        },
-        Doing::Idle(_) | Doing::Prepares(_) | Doing::Commits(_) => unreachable!(),
-    }
+    client.doing.waits(message)?;
+    Ok(())
 }
 
 /// A message comes in a write. A write can't be copied, so there is room for all that is told before it takes the

@@ -1,4 +1,4 @@
-use Rattle.std.proofs.Common.{◌≡◌, ◌≤◌, ap, ◌∙◌, subst}
+use Rattle.std.proofs.Common.{◌≤◌, ap, ◌∙◌, subst}
 use Rattle.album_stamps.specs.declared.limits.TheConstants.{MOST_PARTS}
 use Rattle.album_passes.specs.Knowledge.{Terms}
 use Rattle.album_threads.specs.Opened.{OpenedState}

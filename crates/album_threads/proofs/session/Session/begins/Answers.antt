@@ -20,7 +20,8 @@ ask-requires g c =
     record {
       shown = subst (All (Shows c.self.inside.caller.cut)) (sym c.work_of-doing.ensures.sent)
           (subst (λ (s : SessionState). All (Shows s.cut) moved.sent.items) (sym c.self.view_is)
-          (shown_first g.J.Naming.policy c.in_ok-copy.field-0 c.args.ask c.args.self.now c.actor.result.terms (client_of c.actor.result) c.self.inside.tag
+          (shown_first g.J.Naming.policy c.in_ok-copy.field-0 c.args.ask c.args.self.now c.actor.result.terms
+          (client_of c.actor.result) c.self.inside.tag
           moved c.in_ok-moved.ensures.moved proper));
     }
 
@@ -32,16 +33,25 @@ returns-clause-way g c =
     let copied = c.in_ok-copy.ensures.copy in
     let parts = ap (λ (t : Terms). t.parts) c.actor.ensures.terms in
     let begins =
-    reads_begin g.J.Naming.policy c.in_ok-copy.field-0 c.args.ask now c.actor.result.terms (client_of c.actor.result) c.self.inside.tag moved
-    c.in_ok-moved.ensures.moved proper parts (subst (λ (p : Principal). refusal_of c.args.ask p ≡ None) (sym copied) c.requires.taken)
+    reads_begin g.J.Naming.policy c.in_ok-copy.field-0 c.args.ask now c.actor.result.terms (client_of c.actor.result)
+    c.self.inside.tag moved
+    c.in_ok-moved.ensures.moved proper parts (subst (λ (p : Principal). refusal_of c.args.ask p ≡ None) (sym copied)
+    c.requires.taken)
     (subst (λ (s : SessionState). IsSound s.cut) c.self.view_is c.is_sound.ensures) in
     let w =
-    subst (λ (p : Principal). IsUnderWay g.J.Naming.policy (record { principal = p; ask = c.args.ask; session = now }) now now.cut moved.sent.items moved.client.doing)
+    subst (λ (p : Principal). IsUnderWay g.J.Naming.policy (record { principal = p; ask = c.args.ask; session = now })
+    now now.cut moved.sent.items moved.client.doing)
     copied begins in
-    let with : CallerState → SessionState = λ caller. record { client = caller.client; counter = c.self.inside.clock.counter; cut = caller.cut; share = c.self.inside.share } in
+    let with : CallerState → SessionState = λ caller. record {
+      client = caller.client;
+      counter = c.self.inside.clock.counter;
+      cut = caller.cut;
+      share = c.self.inside.share;
+    } in
     let same = ap with c.ask-2.ensures.same ∙ c.self.view_is in
     subst
-    (λ (y : SessionState × Cut × List Message × Doing). IsUnderWay g.J.Naming.policy (record { principal = c.args.principal.now; ask = c.args.ask; session = now }) y.0 y.1 y.2 y.3)
+    (λ (y : SessionState × Cut × List Message × Doing). IsUnderWay g.J.Naming.policy
+    (record { principal = c.args.principal.now; ask = c.args.ask; session = now }) y.0 y.1 y.2 y.3)
     (λ i. (
       sym same i,
       sym (c.in_ok-asked.ensures.begun ∙ ap (λ (s : SessionState). s.cut) c.self.view_is) i,

@@ -1,17 +1,18 @@
 -- What comes of a reply to a session's client, by the phase that it is in: `moved_on`. `Session::goes_on` cites what
--- follows of it. `Session::hears` cites `taken_so`.
-use Rattle.std.proofs.Common.{◌≡◌, ℕ, ◌≤◌, List, Option, Some, None, Result, Ok, Err, IfOk, refl, sym, ◌∙◌, subst, arith}
-use Rattle.std.specs.Prelude.{IsOkAnd, IfSome, IfNone}
+-- follows of it. `Session::gives` cites `taken_so`.
+use Rattle.std.proofs.Common.{◌≡◌, ℕ, ◌≤◌, List, [], Option, Some, None, Result, Ok, Err, IfOk, refl, sym, ap, ◌∙◌, subst, arith}
+use Rattle.std.specs.Option.{unwrap_or}
+use Rattle.std.specs.Prelude.{IsOkAnd, IfSome, IfNone, OnErr}
 use Rattle.album_calls.specs.declared.messages.Message.{Message}
 use Rattle.album_client.specs.Clients.{Client, IsProper, stamp_at_work}
 use Rattle.album_client.specs.Moves.{IsMoved}
 use Rattle.album_client.specs.Terms.{Terms}
-use Rattle.album_client.specs.Turns.{turn_of}
+use Rattle.album_client.specs.Turns.{turn_of, prepare_turn, commit_turn}
 use Rattle.album_client.specs.declared.clients.Doing.{Doing}
 use Rattle.album_client.specs.declared.clients.Doing.TheVariants as doing
 use Rattle.album_client.specs.declared.moves.Moved.{Moved}
 use Rattle.album_eval.specs.declared.policies.Policy.{Policy}
-use Rattle.album_passes.specs.Cuts.{Cut, Extends}
+use Rattle.album_passes.specs.Cuts.{Cut, announced_for, Extends}
 use Rattle.album_passes.proofs.CutLemmas.{extends_self}
 use Rattle.album_stamps.specs.Clocks.{next_of}
 use Rattle.album_stamps.specs.declared.limits.TheConstants.{GREATEST_COUNTER}
@@ -22,8 +23,8 @@ use Rattle.album_threads.specs.Phases.{Outset, IsPhase, IsUnderWay}
 use Rattle.album_threads.specs.Replies.{IsReplied}
 use Rattle.album_threads.specs.Resting.{RestsOn}
 use Rattle.album_threads.specs.Sending.{IsAnnouncedBy, sent_at, sent_last}
-use Rattle.album_threads.specs.Sessions.{SessionState, IsNoWord}
-use Rattle.album_threads.specs.Ways.{actor_in, terms_in, IsTaken, IsSent, IsLed}
+use Rattle.album_threads.specs.Sessions.{SessionState, IsNoWord, AnnouncesNothing}
+use Rattle.album_threads.specs.Turns.{actor_in, terms_in, IsTaken, IsSent, IsLed}
 use Rattle.album_threads.specs.declared.asked.Asked.{Asked}
 use Rattle.album_threads.specs.declared.asks.Way.{Way}
 use Rattle.album_threads.specs.declared.asks.Way.TheVariants.{Answered, Awaits}
@@ -32,6 +33,8 @@ use Rattle.album_threads.proofs.CarryLemmas.{prepared_on, committed_on}
 use Rattle.album_threads.proofs.ClockLemmas.{moved_clock}
 use Rattle.album_threads.proofs.MovedLemmas.{IsNoted, IsMovedOn}
 use Rattle.album_threads.proofs.ReadingLemmas.{read_on}
+use Rattle.album_writer.specs.Rounds.{WriteStep, prepare_stepped, commit_stepped}
+use Rattle.album_writer.specs.Rounds.WriteStep.{Waits, Commits as Decides, Ends}
 use Rattle.album_writer.specs.declared.answers.Answer.{Answer}
 use Rattle.album_writer.specs.declared.answers.Answer.TheVariants as answer
 
@@ -40,7 +43,7 @@ moved_on : (limit : ℕ) (policy : Policy) (o : Outset) (now next noted : Sessio
     → IsMoved (turn_of (terms_in policy next) (actor_in next) m d) moved → IsMovedOn limit policy o noted at sent moved
 moved_on limit policy o now next noted at sent moved (doing.Idle tag) m N w r is = absurd w
 moved_on limit policy o now next noted at sent moved (doing.Reads asking round) m N w r is =
-    read_on limit policy o now next noted at sent moved N w.1 asking round m w.0 r is
+    read_on limit policy o now next noted at sent moved N w.1 w.2 asking round m w.0 r is
 moved_on limit policy o now next noted at sent moved (doing.Prepares writing) m N w r is =
     prepared_on limit policy o now next noted at sent moved N w.since w.begun w.granted writing m w.carried r is
 moved_on limit policy o now next noted at sent moved (doing.Commits writing) m N w r is =
@@ -60,14 +63,6 @@ taken_so limit at now sent terms x d (Err why) moved replied is = absurd is
 module _ (limit : ℕ) (policy : Policy) (o : Outset) (now next noted : SessionState) (at : Cut) (sent : List Message) (d : Doing) (moved : Moved)
     (h : IsHeard now next) (t : IsTaken limit at next.cut sent (terms_in policy next) (actor_in next) d moved)
     (client : noted.client ≡ next.client) (cut : noted.cut ≡ next.cut) (counter : noted.counter ≡ moved.client.clock.counter) where
-  pub on_noted : IsOn now noted
-  on_noted = record {
-    client = client ∙ h.client;
-    grown = subst (Extends now.cut) (sym cut) h.grown;
-    risen = (let k = moved_clock (terms_in policy next) (actor_in next) t.reply d moved t.is in
-        let rises : next.counter ≤ moved.client.clock.counter = k.1 in let same : next.counter ≡ now.counter = h.counter in omega (arith, counter, rises, same));
-  }
-
   -- the ask is answered, or goes on
   pub led_on : IsUnderWay policy o now at sent d → IsProper moved.client.doing
       → AreShared next.client next.share noted.share moved.notes.items
@@ -87,6 +82,17 @@ module _ (limit : ℕ) (policy : Policy) (o : Outset) (now next noted : SessionS
         spent = spent;
       }) w.phase t.replied t.is
 
+-- a session is on from what it was as the reply was heard
+pub on_moved : (limit : ℕ) (policy : Policy) (next noted : SessionState) (at : Cut) (sent : List Message) (d : Doing) (moved : Moved)
+    → IsTaken limit at next.cut sent (terms_in policy next) (actor_in next) d moved
+    → noted.client ≡ next.client → noted.cut ≡ next.cut → noted.counter ≡ moved.client.clock.counter → IsOn next noted
+on_moved limit policy next noted at sent d moved t client cut counter = record {
+  client = client;
+  grown = subst (Extends next.cut) (sym cut) (extends_self next.cut);
+  risen = (let k = moved_clock (terms_in policy next) (actor_in next) t.reply d moved t.is in
+      let rises : next.counter ≤ moved.client.clock.counter = k.1 in omega (arith, counter, rises));
+}
+
 -- it announces and sends
 pub on_announced : (a b : SessionState) (messages : List Message) → IsAnnouncedBy a b messages → IsOn a b
 on_announced a b messages x = record {
@@ -94,6 +100,11 @@ on_announced a b messages x = record {
   grown = x.grown;
   risen = let n : b.counter ≡ a.counter = x.counter in omega (arith, n);
 }
+
+-- what holds anyway holds of a refusal
+pub on_refusal : {T E : Type 0} (r : Result T E) (P : Type 0) → P → OnErr r P
+on_refusal (Ok x) P h = tt
+on_refusal (Err e) P h = h
 
 module _ (limit : ℕ) (policy : Policy) (o : Outset) where
   -- no word comes to what was under way
@@ -115,6 +126,53 @@ module _ (limit : ℕ) (policy : Policy) (o : Outset) where
       refl refl (extends_self new.cut) w.sound)
   sent_led asked d messages new w (Awaits more next) (is, sends, from) =
       subst (λ (z : Cut × List Message × Doing). IsUnderWay policy o new z.0 z.1 z.2) (λ i. (sym from i, sym sends i, sym is i)) w
+
+  -- ---- where it is refused, nothing was announced
+
+  pub unbegun_now : (now : SessionState) (at : Cut) (sent : List Message) (d : Doing) → IsUnderWay policy o now at sent d → stamp_at_work d ≡ None
+      → AnnouncesNothing o.session now
+  unbegun_now now at sent (doing.Idle tag) w e = absurd w.phase
+  unbegun_now now at sent (doing.Reads asking round) w e = w.phase.2
+  unbegun_now now at sent (doing.Prepares writing) w e = absurd (cc)
+  unbegun_now now at sent (doing.Commits writing) w e = absurd (cc)
+
+  unbegun_next : (now next : SessionState) → IsOn o.session now → IsHeard now next → AnnouncesNothing o.session now → AnnouncesNothing o.session next
+  unbegun_next now next on h silent = λ t own. h.silent t (own ∙ sym on.client) ∙ silent t own
+
+  pub unbegun_cut : (now next : SessionState) (at : Cut) (sent : List Message) (d : Doing) (r : Result Way Refusal) → IsUnderWay policy o now at sent d
+      → IsHeard now next → (stamp : Option ℕ) → stamp ≡ stamp_at_work d → OnErr r (stamp ≡ None) → OnErr r (AnnouncesNothing o.session next)
+  unbegun_cut now next at sent d (Ok way) w h stamp is none = tt
+  unbegun_cut now next at sent d (Err why) w h stamp is none =
+      unbegun_next now next w.on h (unbegun_now now at sent d w (sym is ∙ none))
+
+  -- of a write nothing is noted
+  pub unbegun_noted : (now next noted : SessionState) (at : Cut) (sent : List Message) (d : Doing) (moved : Moved) → IsUnderWay policy o now at sent d
+      → IsHeard now next → noted.cut ≡ next.cut → IsTaken limit at next.cut sent (terms_in policy next) (actor_in next) d moved
+      → (moved.notes.items ≡ [] → ⊥) → AnnouncesNothing o.session noted
+  unbegun_noted now next noted at sent (doing.Idle tag) moved w h cut t some = absurd w.phase
+  unbegun_noted now next noted at sent (doing.Reads asking round) moved w h cut t some = λ u own.
+      ap (λ (c : Cut). announced_for c u) cut ∙ unbegun_next now next w.on h w.phase.2 u own
+  unbegun_noted now next noted at sent (doing.Prepares writing) moved w h cut t some =
+      absurd (some (t.is.noted ∙ none (prepare_stepped writing t.reply)))
+    where
+      none : (f : WriteStep) → unwrap_or (prepare_turn (actor_in next) writing.tag f).noted [] ≡ []
+      none (Waits other) = refl
+      none (Decides other messages) = refl
+      none (Ends out) = refl
+  unbegun_noted now next noted at sent (doing.Commits writing) moved w h cut t some =
+      absurd (some (t.is.noted ∙ none (commit_stepped writing t.reply)))
+    where
+      none : (f : WriteStep) → unwrap_or (commit_turn (actor_in next) writing.tag f).noted [] ≡ []
+      none (Waits other) = refl
+      none (Decides other messages) = refl
+      none (Ends out) = refl
+
+  pub unbegun_sent : (new : SessionState) (at : Cut) (sent : List Message) (d : Doing) (r : Result Way Refusal) → IsUnderWay policy o new at sent d
+      → OnErr r (stamp_at_work d ≡ None) → OnErr r (AnnouncesNothing o.session new)
+  unbegun_sent new at sent d (Ok way) w none = tt
+  unbegun_sent new at sent d (Err why) w none = unbegun_now new at sent d w none
+
+  -- ---- where it is sent, it goes on
 
   pub all_led : (asked : Asked) (d : Doing) (messages : List Message) (new : SessionState)
       → IsUnderWay policy o new (sent_at asked.begun.cut new.cut messages) (sent_last asked.sent.items messages) d

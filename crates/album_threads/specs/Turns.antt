@@ -11,14 +11,15 @@ use Rattle.album_client.specs.declared.moves.Moved.{Moved}
 use Rattle.album_eval.specs.declared.policies.Policy.{Policy}
 use Rattle.album_passes.specs.Cuts.{Cut}
 use Rattle.album_stamps.specs.declared.refusals.Refusal.{Refusal}
+use Rattle.album_threads.specs.Asks.{IsHeard}
 use Rattle.album_threads.specs.Phases.{Outset, IsUnderWay}
 use Rattle.album_threads.specs.Replies.{IsReplied}
 use Rattle.album_threads.specs.Resting.{RestsOn}
 use Rattle.album_threads.specs.Sending.{sent_at, sent_last}
 use Rattle.album_threads.specs.Sessions.{SessionState, IsNoWord}
 use Rattle.album_threads.specs.declared.asked.Asked.{Asked}
-use Rattle.album_threads.specs.declared.asks.Turned.{Turned}
-use Rattle.album_threads.specs.declared.asks.Turned.TheVariants.{Answers, Sends}
+use Rattle.album_threads.specs.declared.turns.Turned.{Turned}
+use Rattle.album_threads.specs.declared.turns.Turned.TheVariants.{Answers, Sends}
 use Rattle.album_threads.specs.declared.asks.Way.{Way}
 use Rattle.album_threads.specs.declared.asks.Way.TheVariants.{Answered, Awaits}
 use Rattle.album_writer.specs.declared.answers.Answer.{Answer}
@@ -34,6 +35,17 @@ actor_in session = record {
 
 abbrev pub terms_in : Policy → SessionState → Terms
 terms_in policy session = record { parts = session.cut.parts; policy = policy }
+
+-- an ask is under way so, but for the reply that was heard last
+pub record IsWaited
+    (policy : Policy) (outset : Outset) (new : SessionState) (at : Cut) (sent : List Message) (doing : Doing) : Type 0 where
+  pub before : SessionState
+  pub way : IsUnderWay policy outset before at sent doing
+  pub heard : IsHeard before new
+
+-- some ask is
+abbrev pub IsSomehowWaited : Policy → SessionState → Cut → List Message → Doing → Type 0
+IsSomehowWaited policy new at sent doing = (outset : Outset) × IsWaited policy outset new at sent doing
 
 -- a reply has come to one of the messages that were sent, and led to this
 pub record IsTaken

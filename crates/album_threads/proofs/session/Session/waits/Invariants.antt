@@ -1,0 +1,10 @@
+use Rattle.album_threads.specs.Asks.{IsOn}
+use Rattle.album_threads.specs.Phases.{Outset, IsUnderWay}
+use Rattle.album_threads.proofs.session.Session.waits.Given as goal
+
+abbrev pub invariant-loop : goal.invariant-loop
+invariant-loop g l = record {
+  way : (outset : Outset) → IsUnderWay g.J.Naming.policy outset l.fn.self l.fn.asked.begun.cut l.fn.asked.sent.items l.fn.doing
+      → IsUnderWay g.J.Naming.policy outset l.self l.fn.asked.begun.cut l.fn.asked.sent.items l.doing;
+  on : IsOn l.fn.self l.self;
+}

@@ -1,0 +1,19 @@
+use Rattle.std.proofs.Common.{◌≡◌, [], true, sym, ap, subst, ◌∙◌}
+use Rattle.album_client.specs.Clients.{Client}
+use Rattle.album_client.specs.Turns.{is_waiting}
+use Rattle.album_world.specs.Changes.{client_takes_by}
+use Rattle.album_world.specs.Moves.{IsChangedBy}
+use Rattle.album_world.proofs.MoveLemmas.{waits_done}
+use Rattle.album_world.proofs.turns.reads_on.Goals as goal
+
+-- nothing comes of the message but that the client does this now
+pub returns-clause-done : goal.returns-clause-done
+returns-clause-done c = λ terms before.
+    let m = c.args.message.now in
+    let inside : Client = record { number = c.client.inside.number; clock = c.client.inside.clock; doing = c.client.inside.doing } in
+    let new : Client = record { number = c.client.inside.number; clock = c.client.inside.clock; doing = c.waits.new.self } in
+    let waiting : is_waiting c.client.inside.doing m ≡ true =
+    ap (λ (y : Client). is_waiting y.doing m) c.client.view_is ∙ c.requires in
+    subst (λ (y : Client). IsChangedBy before y (client_takes_by terms y.number y m y.doing) new [] []) c.client.view_is
+    (waits_done terms before inside c.waits.new.self m waiting
+    (c.in_ok-waits.ensures.taken (c.in_ok-waits.ensures.test ∙ waiting)))
