@@ -188,8 +188,7 @@ where
         Ok(begun) => begun,
         Err(served) => return Ok(served),
     };
-    serve_at::<Brand, T, &[u8], W>(rt, alloc, opened, &listener, None, writer, serving)?;
-    Ok(Served::Done)
+    serve_opened::<T, &[u8], W>(rt, alloc, opened, &listener, None, writer, serving)
 }
 
 /// The same, to the end of the input behind the opening: then no connection begins any more, and each line that has
@@ -216,8 +215,7 @@ where
         Ok(begun) => begun,
         Err(served) => return Ok(served),
     };
-    serve_at::<Brand, T, R, W>(rt, alloc, opened, &listener, Some(reader), writer, serving)?;
-    Ok(Served::Done)
+    serve_opened(rt, alloc, opened, &listener, Some(reader), writer, serving)
 }
 
 /// The opening is read and opened, and the port is had; or else it is told why not.
@@ -255,6 +253,25 @@ where
             Ok(Err(Served::NoPort))
         }
     }
+}
+
+/// Serves what was opened, under names of its own.
+fn serve_opened<T, R, W>(
+    rt: T,
+    alloc: Global,
+    opened: Opened,
+    listener: &TcpListener,
+    input: Option<R>,
+    writer: &mut W,
+    serving: Serving,
+) -> Result<Served, Fault>
+where
+    T: Threads + Wait + time::Clock + Eprint + Copy + Send + Sync + 'static,
+    R: Read + Send + Drop,
+    W: Write,
+{
+    serve_at::<Brand, T, R, W>(rt, alloc, opened, listener, input, writer, serving)?;
+    Ok(Served::Done)
 }
 
 fn serve_at<J, T, R, W>(

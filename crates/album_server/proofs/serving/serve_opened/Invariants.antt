@@ -1,4 +1,4 @@
-use Rattle.album_server.proofs.serving.serve.Given as goal
+use Rattle.album_server.proofs.serving.serve_opened.Given as goal
 
 -- the desk, the policy and the ledgers that were opened here
 abbrev pub ghosts-serve_at-J-Naming : goal.ghosts-serve_at-J-Naming
