@@ -47,11 +47,7 @@ fn note_of(noted: &Noted) -> Result<Note, Refusal> {
 }
 
 /// The totals, once two sessions noted the one and the other and handed their shares back.
-fn totals_in<J: Books>(
-    blanks: Blanks,
-    one: &[Noted],
-    other: &[Noted],
-) -> Result<Totals, Refusal>
+fn totals_in<J: Books>(blanks: Blanks, one: &[Noted], other: &[Noted]) -> Result<Totals, Refusal>
     requires names { blanks ≡ record {
       audit_ok = J.audit_ok;
       audit_failed = J.audit_failed;
@@ -127,8 +123,5 @@ fn each_note_counts_in_its_kind(rt: HostRuntime) {
 #[test]
 fn a_share_for_each_client_number(rt: HostRuntime) {
     assert_eq!(rt; next_share(MOST_SHARES - 1), Ok(()));
-    assert_eq!(rt;
-        next_share(MOST_SHARES),
-        Err(Refusal::SessionsSpent)
-    );
+    assert_eq!(rt; next_share(MOST_SHARES), Err(Refusal::SessionsSpent));
 }

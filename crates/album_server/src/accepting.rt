@@ -127,7 +127,15 @@ where
     let Ok(stream) = Arc::new(alloc, stream) else {
         return;
     };
-    if let Err(why) = begin(rt, alloc, scope, service, connections, limits.turns, &stream) {
+    if let Err(why) = begin(
+        rt,
+        alloc,
+        scope,
+        service,
+        connections,
+        limits.turns,
+        &stream,
+    ) {
         turn_away(alloc, &stream, why);
     }
 }

@@ -51,20 +51,24 @@ module _ (limit : ℕ) (policy : Policy) (o : Outset) (now next : SessionState) 
             taken = w.taken;
             on = on_heard o.session now next w.on h;
             sound = h.sound;
-            phase = (record {
-              of = read.of;
-              whom = read.whom;
-              start = read.start;
-              begun = read.begun;
-              looking = read.looking;
-              which = read.which;
-              asks = read.asks;
-              parts = read.parts;
-              under = led;
-              sound = read.sound;
-              before = read.before;
-              on = since;
-            }, h.share ∙ w.phase.1, λ t own. h.silent t (own ∙ sym w.on.client) ∙ w.phase.2 t own);
+            phase = (
+              record {
+                of = read.of;
+                whom = read.whom;
+                start = read.start;
+                begun = read.begun;
+                looking = read.looking;
+                which = read.which;
+                asks = read.asks;
+                parts = read.parts;
+                under = led;
+                sound = read.sound;
+                before = read.before;
+                on = since;
+              },
+              h.share ∙ w.phase.1,
+              λ t own. h.silent t (own ∙ sym w.on.client) ∙ w.phase.2 t own,
+            );
           })
       go (Next other gets) led e t = absurd (cc)
       go (Done rows) led e t = absurd (cc)
