@@ -130,8 +130,8 @@ impl<J: Books> AuditBook<J> {
     ///
     /// # Errors
     ///
-    /// `OutOfMemory` exactly where a total has come to the end of its numbers, after 2^64 - 1 notes of one kind; book and
-    /// share stay as they are. It takes no memory.
+    /// `OutOfMemory` exactly where a total has come to the end of its numbers, after 2^64 - 1 notes of one kind. The
+    /// book and the share stay as they are then. It takes no memory.
     pub fn note(
         &mut self,
         share: &mut Share<J>,

@@ -38,7 +38,8 @@ terms_in policy session = record { parts = session.cut.parts; policy = policy }
 
 -- an ask is under way so, but for the reply that was heard last
 pub record IsWaited
-    (policy : Policy) (outset : Outset) (new : SessionState) (at : Cut) (sent : List Message) (doing : Doing) : Type 0 where
+    (policy : Policy) (outset : Outset) (new : SessionState) (at : Cut) (sent : List Message) (doing : Doing)
+    : Type 0 where
   pub before : SessionState
   pub way : IsUnderWay policy outset before at sent doing
   pub heard : IsHeard before new

@@ -118,6 +118,7 @@ impl<J: Naming> Session<J> {
         ensures proper { IfOk result (λ moved. IsProper moved.client.doing) }
         ensures refused { IfErr result IsNoWord }
     {
+        // What was asked is for the contract alone.
         let _asked = asked;
         let moved = taken(self.actor(), doing, heard)?;
         let _reads = moved.client.doing.reads();

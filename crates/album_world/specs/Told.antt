@@ -55,8 +55,8 @@ all_notes world = flat_map notes_of world.past.noted
 abbrev pub all_numbers : World → List ℕ
 all_numbers world = range_with_len 1 (length world.now.messages)
 
--- What is told between two worlds is, in its order, just what the later one has more of each kind. So no answer, no note
--- and no message is told twice, and none is kept back.
+-- What is told between two worlds is, in its order, just what the later one has more of each kind. So no answer, no
+-- note and no message is told twice, and none is kept back.
 pub record IsToldOnce (old new : World) (outs : List Out) : Type 0 where
   pub answers : all_answers new ≡ all_answers old ++ filter_map answer_told outs
   pub notes : all_notes new ≡ all_notes old ++ filter_map note_told outs
