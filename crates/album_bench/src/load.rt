@@ -6,7 +6,7 @@ use crate::values::value_of;
 use album_calls::{Body, Message, Node, Reply, Request, Stamps, Vote};
 use album_items::{ItemId, ItemValues, Items, Kind, Value};
 use album_partition::Partition;
-use album_stamps::{ClientNo, GREATEST_COUNTER, Refusal, Stamp};
+use album_stamps::{ClientNo, MAX_COUNTER, Refusal, Stamp};
 use std::alloc::Global;
 
 /// The sorts of which the mixed messages are: half of them read.
@@ -135,7 +135,7 @@ impl Load {
 
     fn prepare_late(&mut self, part: u16) -> Result<(), Refusal> {
         self.late = self.late.wrapping_add(1);
-        let stamp = self.stamp(GREATEST_COUNTER.wrapping_sub(self.late))?;
+        let stamp = self.stamp(MAX_COUNTER.wrapping_sub(self.late))?;
         let items = self.items_of(self.late, 1)?;
         self.ask_prepare(part, stamp, items)
     }

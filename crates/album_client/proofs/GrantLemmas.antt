@@ -3,7 +3,7 @@ use Rattle.std.proofs.Common.{◌≡◌, ℕ, ◌≤◌, ◌+◌, Bool, true, fa
 use Rattle.std.proofs.lemmas.Option.{same_Some, none-some}
 use Rattle.album_stamps.specs.Clocks.{ClockState, next_of}
 use Rattle.album_stamps.specs.Stamps.{stamp_number}
-use Rattle.album_stamps.specs.declared.limits.TheConstants.{GREATEST_COUNTER}
+use Rattle.album_stamps.specs.declared.limits.TheConstants.{MAX_COUNTER}
 use Rattle.album_stamps.specs.declared.refusals.Refusal.{Refusal}
 use Rattle.album_stamps.specs.declared.refusals.Refusal.TheVariants as refusal
 use Rattle.album_lists.specs.Whos.{or_else}
@@ -78,11 +78,11 @@ err_same e = cc
 
 -- a clock refuses where it is spent
 pub spent_is : (clock : ClockState) (why : Refusal) → next_of clock ≡ Err why
-    → (why ≡ refusal.StampsSpent) × (GREATEST_COUNTER ≤ clock.counter)
-spent_is clock why h = go (nat_lt clock.counter GREATEST_COUNTER) refl h
+    → (why ≡ refusal.StampsSpent) × (MAX_COUNTER ≤ clock.counter)
+spent_is clock why h = go (nat_lt clock.counter MAX_COUNTER) refl h
   where
-    go : (b : Bool) → nat_lt clock.counter GREATEST_COUNTER ≡ b
+    go : (b : Bool) → nat_lt clock.counter MAX_COUNTER ≡ b
         → (if b then Ok (stamp_number (clock.counter + 1) clock.client) else Err refusal.StampsSpent) ≡ Err why
-        → (why ≡ refusal.StampsSpent) × (GREATEST_COUNTER ≤ clock.counter)
+        → (why ≡ refusal.StampsSpent) × (MAX_COUNTER ≤ clock.counter)
     go true e q = absurd (cc)
-    go false e q = (sym (err_same q), ltb-false clock.counter GREATEST_COUNTER e)
+    go false e q = (sym (err_same q), ltb-false clock.counter MAX_COUNTER e)

@@ -3,13 +3,13 @@
 use Rattle.std.proofs.Common.{◌≡◌, ℕ, ◌≤◌, ◌+◌, Bool, true, false, nat_le, nat_lt, List, [], ◌∷◌, length, Option, Some, None, refl, sym, ap, ◌∙◌, subst, arith, true≢false, if◌then◌else◌}
 use Rattle.std.specs.Option.{option_map_or}
 use Rattle.std.proofs.lemmas.List.{length-map}
-use Rattle.album_stamps.specs.declared.limits.TheConstants.{MOST_PARTS, MOST_READ_ITEMS, MOST_READS}
+use Rattle.album_stamps.specs.declared.limits.TheConstants.{MAX_PARTS, MAX_READ_ITEMS, MAX_READS}
 use Rattle.album_stamps.specs.declared.refusals.Refusal.{Refusal}
 use Rattle.album_stamps.specs.declared.refusals.Refusal.TheVariants as refusal
 use Rattle.album_calls.specs.declared.messages.Message.{Message}
 use Rattle.album_eval.specs.declared.facts.Principal.{Principal}
 use Rattle.album_eval.specs.declared.policies.Policy.{Policy}
-use Rattle.album_reader.specs.Answers.{Asker, Answer as Row, answers_there, are_there}
+use Rattle.album_reader.specs.Answers.{Asker, ReadVersion, answers_there, are_there}
 use Rattle.album_reader.specs.Rounds.{RoundState, next_asker, get_of, gets_of, new_answer, with_answer, end_by, end_of, outcome, taken, is_gone, stepped, IsOpen}
 use Rattle.album_reader.specs.Rounds.{Step as ReadStep}
 use Rattle.album_reader.specs.Rounds.Step.{Same, Next, Done, Gone}
@@ -18,7 +18,7 @@ use Rattle.album_reader.proofs.Rounds.{some_items}
 use Rattle.album_reader.proofs.TwoRounds.{gone-is_told}
 use Rattle.album_views.specs.Asks.{is_write}
 use Rattle.album_views.specs.Checks.{refusal_of}
-use Rattle.album_views.specs.Naming.{names_of}
+use Rattle.album_views.specs.ReadSets.{names_of}
 use Rattle.album_views.specs.Steps.{again, unclosed, AreReadable, AsksReadable}
 use Rattle.album_views.specs.Steps.{stepped as viewed}
 use Rattle.album_views.specs.Views.{ViewingState, ViewState, is_closed}
@@ -42,12 +42,12 @@ use Rattle.album_writer.specs.Told.{told_of}
 use Rattle.album_writer.specs.declared.told.Told.{Told}
 use Rattle.album_writer.specs.declared.told.Told.TheVariants as told
 use Rattle.album_writer.proofs.Placing.{few_places}
-use Rattle.album_client.specs.declared.moves.Moved.{Moved}
+use Rattle.album_client.specs.declared.transitions.Transition.{Transition}
 use Rattle.album_client.specs.Terms.{Terms}
 use Rattle.album_client.specs.Clients.{Client}
 use Rattle.album_client.specs.Grants.{served_for}
 use Rattle.album_client.specs.Turns.{rules_by, rules, clock_after_rows}
-use Rattle.album_client.specs.Moves.{IsMoved, IsTakenOf}
+use Rattle.album_client.specs.Transitions.{IsMoved, IsTakenOf}
 use Rattle.album_client.proofs.GrantLemmas.{served_is, unserved_writes}
 
 -- ---- a read that is over
@@ -56,7 +56,7 @@ module _ (viewing : ViewingState) (principal : Principal) where
   -- the same is asked of the same
   pub taken_again : (items : List ℕ) → refusal_of viewing.ask principal ≡ None
       → IsTakenOf principal (again viewing items)
-  taken_again items taken = go (nat_le MOST_READS (viewing.reads + 1))
+  taken_again items taken = go (nat_le MAX_READS (viewing.reads + 1))
     where
       go :
           (b : Bool)
@@ -64,7 +64,7 @@ module _ (viewing : ViewingState) (principal : Principal) where
       go true = tt
       go false = taken
 
-  pub taken_stepped : (rows : List Row) → refusal_of viewing.ask principal ≡ None
+  pub taken_stepped : (rows : List ReadVersion) → refusal_of viewing.ask principal ≡ None
       → IsTakenOf principal (viewed viewing rows)
   taken_stepped rows taken = go (is_closed viewing.ask rows)
     where
@@ -81,11 +81,11 @@ module _ (viewing : ViewingState) (principal : Principal) where
           then Closed (record { ask = viewing.ask; rows = rows })
           else unclosed viewing (names_of rows viewing.ask))
       go true = taken
-      go false = by (nat_lt MOST_READ_ITEMS (length (names_of rows viewing.ask)))
+      go false = by (nat_lt MAX_READ_ITEMS (length (names_of rows viewing.ask)))
 
 -- what is read again can be read
 pub readable_again : (viewing : ViewingState) (items : List ℕ) → AreReadable items → AsksReadable (again viewing items)
-readable_again viewing items readable = go (nat_le MOST_READS (viewing.reads + 1))
+readable_again viewing items readable = go (nat_le MAX_READS (viewing.reads + 1))
   where
     go : (b : Bool)
         → AsksReadable (if b then Busy Rounds else Again (record viewing { reads = viewing.reads + 1 }) items)
@@ -107,8 +107,8 @@ readable_gone viewing round message items is gone =
 
 -- ---- how many messages
 
-pub few_gets : (asker : Asker) (stamps items : List ℕ) → length items ≤ MOST_READ_ITEMS
-    → length (gets_of asker stamps items) ≤ MOST_READ_ITEMS
+pub few_gets : (asker : Asker) (stamps items : List ℕ) → length items ≤ MAX_READ_ITEMS
+    → length (gets_of asker stamps items) ≤ MAX_READ_ITEMS
 few_gets asker stamps items few = omega (arith, few, length-map items (get_of asker stamps))
 
 abbrev AreFew : ℕ → ReadStep → Type 0
@@ -117,38 +117,38 @@ AreFew most (Next round messages) = length messages ≤ most
 AreFew most (Done rows) = Unit {0}
 AreFew most (Gone items) = Unit {0}
 
-pub few_stepped : (round : RoundState) (message : Message) → length round.items ≤ MOST_READ_ITEMS
-    → AreFew MOST_READ_ITEMS (stepped round message)
+pub few_stepped : (round : RoundState) (message : Message) → length round.items ≤ MAX_READ_ITEMS
+    → AreFew MAX_READ_ITEMS (stepped round message)
 few_stepped round message few = go (is_gone round message)
   where
-    ends : (put : RoundState) (answers : List Row) → length put.items ≤ MOST_READ_ITEMS → (f : Option (List ℕ))
-        → AreFew MOST_READ_ITEMS (end_by f put answers)
+    ends : (put : RoundState) (answers : List ReadVersion) → length put.items ≤ MAX_READ_ITEMS → (f : Option (List ℕ))
+        → AreFew MAX_READ_ITEMS (end_by f put answers)
     ends put answers n None = few_gets (next_asker put.asker) (stamps_of answers) put.items n
     ends put answers n (Some stamps) = tt
 
-    over : (put : RoundState) → length put.items ≤ MOST_READ_ITEMS → (b : Bool)
-        → AreFew MOST_READ_ITEMS
+    over : (put : RoundState) → length put.items ≤ MAX_READ_ITEMS → (b : Bool)
+        → AreFew MAX_READ_ITEMS
         (option_map_or (end_of put) (if b then Some (answers_there put.answers) else None) (Same put))
     over put n true = ends put (answers_there put.answers) n put.stamps
     over put n false = tt
 
-    by : (f : Option Row)
-        → AreFew MOST_READ_ITEMS (option_map_or (λ answer. outcome (with_answer round answer)) f (Same round))
+    by : (f : Option ReadVersion)
+        → AreFew MAX_READ_ITEMS (option_map_or (λ answer. outcome (with_answer round answer)) f (Same round))
     by None = tt
     by (Some answer) = over (with_answer round answer) few (are_there (with_answer round answer).answers)
 
-    go : (b : Bool) → AreFew MOST_READ_ITEMS (if b then Gone round.items else taken round message)
+    go : (b : Bool) → AreFew MAX_READ_ITEMS (if b then Gone round.items else taken round message)
     go true = tt
     go false = by (new_answer round message)
 
 pub few_next : (round next : RoundState) (message : Message) (messages : List Message) → IsOpen round
-    → stepped round message ≡ Next next messages → length messages ≤ MOST_READ_ITEMS
-few_next round next message messages is e = subst (AreFew MOST_READ_ITEMS) e (few_stepped round message is.few)
+    → stepped round message ≡ Next next messages → length messages ≤ MAX_READ_ITEMS
+few_next round next message messages is e = subst (AreFew MAX_READ_ITEMS) e (few_stepped round message is.few)
 
-pub few_prepares : (writing : WritingState) → writing.parts ≤ MOST_PARTS
-    → length (prepares_of writing) ≤ MOST_READ_ITEMS
+pub few_prepares : (writing : WritingState) → writing.parts ≤ MAX_PARTS
+    → length (prepares_of writing) ≤ MAX_READ_ITEMS
 few_prepares writing few =
-    let places : length (places_in writing) ≤ MOST_PARTS = few_places writing.parts _ few in
+    let places : length (places_in writing) ≤ MAX_PARTS = few_places writing.parts _ few in
     omega (arith, places, length-map (places_in writing) (prepare_to writing))
 
 abbrev AreJust : ℕ → WriteStep → Type 0
@@ -213,7 +213,7 @@ memory_told false why e other = e
 
 -- the ask of a view is ruled on
 pub rules_done : (terms : Terms) (x y : Client) (tag : ℕ) (who : Principal) (view : ViewState) (ruled : Ruled)
-    (moved : Moved) → IsRuled terms.policy who view ruled
+    (moved : Transition) → IsRuled terms.policy who view ruled
     → y ≡ record x { clock = clock_after_rows x.clock view.rows }
     → IsMoved (record (rules_by terms y tag (record { view = view; principal = who; policy = terms.policy })
     (told_by ruled.ruling)) { noted = Some ruled.notes.items }) moved

@@ -5,7 +5,7 @@ use Rattle.album_stamps.specs.declared.refusals.Refusal.{Refusal}
 use Rattle.album_stamps.specs.declared.refusals.Refusal.TheVariants.{AlbumFull, Full}
 use Rattle.album_calls.specs.declared.messages.Message.{Message}
 use Rattle.album_eval.specs.declared.facts.Principal.{Principal}
-use Rattle.album_reader.specs.Answers.{Asker, Answer as Row}
+use Rattle.album_reader.specs.Answers.{Asker, ReadVersion}
 use Rattle.album_reader.specs.Rounds.{first_round, gets_of, is_end}
 use Rattle.album_reader.specs.Rounds.{Step as ReadStep, stepped as read_stepped}
 use Rattle.album_reader.specs.Rounds.Step.{Same, Next, Done, Gone}
@@ -30,10 +30,10 @@ use Rattle.album_writer.specs.Writing.{WritingState, prepare_round, prepares_of}
 use Rattle.album_writer.specs.declared.outcomes.Outcome.{Outcome}
 use Rattle.album_writer.specs.declared.outcomes.Outcome.TheVariants as outcome
 use Rattle.album_client.specs.Terms.{Terms}
-use Rattle.album_client.specs.Askings.{Asking}
+use Rattle.album_client.specs.Askings.{PendingAsk}
 use Rattle.album_client.specs.Clients.{Client}
-use Rattle.album_client.specs.declared.clients.Doing.{Doing}
-use Rattle.album_client.specs.declared.clients.Doing.TheVariants.{Idle, Reads, Prepares, Commits}
+use Rattle.album_client.specs.declared.clients.Phase.{Phase}
+use Rattle.album_client.specs.declared.clients.Phase.TheVariants.{Idle, Reads, Prepares, Commits}
 use Rattle.album_client.specs.Grants.{served_for}
 use Rattle.album_writer.specs.declared.answers.Answer.{Answer}
 use Rattle.album_writer.specs.declared.answers.Answer.TheVariants as answer
@@ -51,7 +51,7 @@ pub record Transaction : Type 0 where
 pub record Ended : Type 0 where
   pub ask : Ask
   pub principal : Principal
-  pub rows : Option (List Row)
+  pub rows : Option (List ReadVersion)
 
 -- What a client has become, and what it tells: what is noted of a ruling, messages, and the answer to its ask. And what
 -- the past has of it: the read that is over, the write that begins, and whether a read begins.
@@ -80,16 +80,16 @@ abbrev pub asker_at : Terms → Client → ℕ → Asker
 asker_at terms client tag = record { client = client.number; tag = tag; parts = terms.parts }
 
 -- a read of the items begins, in the round behind that of the tag
-abbrev pub read_begins : Terms → Client → ℕ → Asking → List ℕ → Turn
+abbrev pub read_begins : Terms → Client → ℕ → PendingAsk → List ℕ → Turn
 read_begins terms client tag asking items =
-    record (still (record client { doing = Reads asking (first_round (asker_at terms client (tag + 1)) items) })) {
+    record (still (record client { phase = Reads asking (first_round (asker_at terms client (tag + 1)) items) })) {
       sent = gets_of (asker_at terms client (tag + 1)) [] items;
       reads = true;
     }
 
 -- the ask is answered
 abbrev pub ask_ends : Client → ℕ → Answer → Turn
-ask_ends client tag answer = record (still (record client { doing = Idle tag })) { answer = Some answer }
+ask_ends client tag answer = record (still (record client { phase = Idle tag })) { answer = Some answer }
 
 -- ---- a write
 
@@ -100,7 +100,7 @@ round_for terms client tag permit stamp = prepare_round permit stamp client.numb
 -- it begins, and writes the effect of its permit
 abbrev pub write_begins : Terms → Client → ℕ → PermitState → ℕ → Turn
 write_begins terms client tag permit stamp =
-    record (still (record client { doing = Prepares (round_for terms client tag permit stamp) })) {
+    record (still (record client { phase = Prepares (round_for terms client tag permit stamp) })) {
       sent = prepares_of (round_for terms client tag permit stamp);
       writes = Some (record {
         client = client.number;
@@ -147,7 +147,7 @@ rules_on terms client tag permit basis =
     }
 
 -- a clock that has seen all stamps of a snapshot
-abbrev pub clock_after_rows : ClockState → List Row → ClockState
+abbrev pub clock_after_rows : ClockState → List ReadVersion → ClockState
 clock_after_rows clock [] = clock
 clock_after_rows clock (row ∷ rows) = clock_after_rows (clock_after_see clock row.stamp) rows
 
@@ -169,17 +169,17 @@ views_by terms client tag principal (Busy why) = ask_ends client tag (answer.Bus
 -- ---- messages
 
 -- a read is over
-abbrev pub read_ends : Terms → Client → ℕ → Asking → Option (List Row) → ViewStep → Turn
+abbrev pub read_ends : Terms → Client → ℕ → PendingAsk → Option (List ReadVersion) → ViewStep → Turn
 read_ends terms client tag asking rows step =
     record (views_by terms client tag asking.principal step) {
       over = Some (record { ask = asking.viewing.ask; principal = asking.principal; rows = rows });
     }
 
 -- what a message does in a read
-abbrev pub read_turn : Terms → Client → ℕ → Asking → ReadStep → Turn
-read_turn terms client tag asking (Same round) = still (record client { doing = Reads asking round })
+abbrev pub read_turn : Terms → Client → ℕ → PendingAsk → ReadStep → Turn
+read_turn terms client tag asking (Same round) = still (record client { phase = Reads asking round })
 read_turn terms client tag asking (Next round messages) =
-    sends (record client { doing = Reads asking round }) messages
+    sends (record client { phase = Reads asking round }) messages
 read_turn terms client tag asking (Done rows) =
     read_ends terms client tag asking (Some rows) (stepped asking.viewing rows)
 read_turn terms client tag asking (Gone items) =
@@ -193,19 +193,19 @@ answer_of (outcome.Full stamp) = answer.Unsettled stamp Full
 
 -- what a message does in a round of Prepares
 abbrev pub prepare_turn : Client → ℕ → WriteStep → Turn
-prepare_turn client tag (Waits writing) = still (record client { doing = Prepares writing })
-prepare_turn client tag (Decides writing messages) = sends (record client { doing = Commits writing }) messages
+prepare_turn client tag (Waits writing) = still (record client { phase = Prepares writing })
+prepare_turn client tag (Decides writing messages) = sends (record client { phase = Commits writing }) messages
 prepare_turn client tag (Ends outcome) = ask_ends client tag (answer_of outcome)
 
 -- and in one of Commits
 abbrev pub commit_turn : Client → ℕ → WriteStep → Turn
-commit_turn client tag (Waits writing) = still (record client { doing = Commits writing })
-commit_turn client tag (Decides writing messages) = sends (record client { doing = Commits writing }) messages
+commit_turn client tag (Waits writing) = still (record client { phase = Commits writing })
+commit_turn client tag (Decides writing messages) = sends (record client { phase = Commits writing }) messages
 commit_turn client tag (Ends outcome) = ask_ends client tag (answer_of outcome)
 
 -- what comes of a message to a client that does this; to an idle one it does nothing
-abbrev pub turn_of : Terms → Client → Message → Doing → Turn
-turn_of terms client message (Idle tag) = still (record client { doing = Idle tag })
+abbrev pub turn_of : Terms → Client → Message → Phase → Turn
+turn_of terms client message (Idle tag) = still (record client { phase = Idle tag })
 turn_of terms client message (Reads asking round) =
     read_turn terms client round.asker.tag asking (read_stepped round message)
 turn_of terms client message (Prepares writing) =
@@ -213,13 +213,13 @@ turn_of terms client message (Prepares writing) =
 turn_of terms client message (Commits writing) = commit_turn client writing.tag (commit_stepped writing message)
 
 -- it reads, and the message ends no round of that
-abbrev pub is_waiting : Doing → Message → Bool
+abbrev pub is_waiting : Phase → Message → Bool
 is_waiting (Idle tag) message = false
 is_waiting (Reads asking round) message = not (is_end (read_stepped round message))
 is_waiting (Prepares writing) message = false
 is_waiting (Commits writing) message = false
 
 -- nothing comes of the message but that this is done from then on
-abbrev pub IsTakenBy : Doing → Message → Doing → Type 0
+abbrev pub IsTakenBy : Phase → Message → Phase → Type 0
 IsTakenBy old message new =
-    (terms : Terms) (client : Client) → turn_of terms client message old ≡ still (record client { doing = new })
+    (terms : Terms) (client : Client) → turn_of terms client message old ≡ still (record client { phase = new })

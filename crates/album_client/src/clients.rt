@@ -2,7 +2,7 @@
 ghost use Rattle.std.specs.Prelude.{◌≡◌, false, true, IfOk, IsOkUnless, OnErr};
 ghost use Rattle.album_client.specs.Turns.{is_waiting, IsTakenBy};
 
-use crate::askings::Asking;
+use crate::pending_asks::PendingAsk;
 use album_calls::Message;
 use album_reader::Reading;
 use album_stamps::{ClientNo, Clock, Refusal, Stamp};
@@ -11,10 +11,10 @@ use std::marker::Model;
 
 /// What a client does. One that is idle keeps the tag of its last round.
 #[derive(Drop)]
-pub enum Doing {
+pub enum Phase {
     Idle(u64),
     /// It reads for an ask.
-    Reads(Asking, Reading),
+    Reads(PendingAsk, Reading),
     Prepares(Preparing),
     Commits(Committing),
 }
@@ -24,7 +24,7 @@ pub enum Doing {
 pub struct Client {
     pub number: ClientNo,
     pub clock: Clock,
-    pub doing: Doing,
+    pub phase: Phase,
 }
 
 impl Model for Client {
@@ -32,9 +32,9 @@ impl Model for Client {
 
     ghost Value = { State };
 
-    ghost view = { λ c. record { number = c.number; clock = c.clock; doing = c.doing } };
+    ghost view = { λ c. record { number = c.number; clock = c.clock; phase = c.phase } };
 
-    ghost invariant = { λ c. HasOwnClock (record { number = c.number; clock = c.clock; doing = c.doing }) };
+    ghost invariant = { λ c. HasOwnClock (record { number = c.number; clock = c.clock; phase = c.phase }) };
 }
 
 impl Client {
@@ -47,12 +47,12 @@ impl Client {
         Client {
             number,
             clock: Clock::new(number),
-            doing: Doing::Idle(0),
+            phase: Phase::Idle(0),
         }
     }
 }
 
-impl Doing {
+impl Phase {
     ghost use Rattle.album_client.specs.Clients.{is_reading, stamp_at_work, tag_of, IsProper};
 
     /// Whether it reads.
@@ -61,12 +61,12 @@ impl Doing {
         ensures proper { IsProper self.now }
     {
         match self {
-            Doing::Reads(_, reading) => {
+            Phase::Reads(_, reading) => {
                 // What is true of each reading is known once it is looked at.
                 let _tag = reading.tag();
                 true
             }
-            Doing::Idle(_) | Doing::Prepares(_) | Doing::Commits(_) => false,
+            Phase::Idle(_) | Phase::Prepares(_) | Phase::Commits(_) => false,
         }
     }
 
@@ -75,9 +75,9 @@ impl Doing {
         ensures { result ≡ stamp_at_work self.now }
     {
         match self {
-            Doing::Idle(_) | Doing::Reads(_, _) => None,
-            Doing::Prepares(preparing) => Some(preparing.stamp()),
-            Doing::Commits(committing) => Some(committing.stamp()),
+            Phase::Idle(_) | Phase::Reads(_, _) => None,
+            Phase::Prepares(preparing) => Some(preparing.stamp()),
+            Phase::Commits(committing) => Some(committing.stamp()),
         }
     }
 
@@ -86,17 +86,17 @@ impl Doing {
         ensures { result ≡ tag_of self.now }
     {
         match self {
-            Doing::Idle(tag) => *tag,
-            Doing::Reads(_, reading) => reading.tag(),
-            Doing::Prepares(preparing) => preparing.tag(),
-            Doing::Commits(committing) => committing.tag(),
+            Phase::Idle(tag) => *tag,
+            Phase::Reads(_, reading) => reading.tag(),
+            Phase::Prepares(preparing) => preparing.tag(),
+            Phase::Commits(committing) => committing.tag(),
         }
     }
 }
 
-impl Doing {
+impl Phase {
     /// Takes a message that ends no round of a read, in place, since nothing else comes of it, and most messages are
-    /// such. Tells whether it was one: any other is left to `Actor::takes`.
+    /// such. Tells whether it was one: any other is left to `ClientStep::takes`.
     ///
     /// # Errors
     ///
@@ -109,8 +109,8 @@ impl Doing {
         ensures unchanged { OnErr result (self.new ≡ self.old) }
     {
         match self {
-            Doing::Reads(_, reading) => reading.waits(message),
-            Doing::Idle(_) | Doing::Prepares(_) | Doing::Commits(_) => Ok(false),
+            Phase::Reads(_, reading) => reading.waits(message),
+            Phase::Idle(_) | Phase::Prepares(_) | Phase::Commits(_) => Ok(false),
         }
     }
 }

@@ -5,22 +5,22 @@
 //! client waits for nothing: who drives it carries the messages, be it a simulated world or a session of a running
 //! service.
 //!
-//! Read `clients` and `moves` first, then specs/Turns.antt, the table of what a client does at one event: `Actor::asks`
-//! and `Actor::takes` do what it says.
+//! Read `clients` and `moves` first, then specs/Turns.antt, the table of what a client does at one event: `ClientStep::asks`
+//! and `ClientStep::takes` do what it says.
 #![tactic(auto)]
 
 // What a client is.
-mod askings;
 mod clients;
+mod pending_asks;
 mod terms;
 
 // What it does at one event.
-mod moves;
 mod reads;
 mod rulings;
+mod transitions;
 mod writes;
 
-pub use askings::Asking;
-pub use clients::{Client, Doing};
-pub use moves::{Actor, Moved};
+pub use clients::{Client, Phase};
+pub use pending_asks::PendingAsk;
 pub use terms::Terms;
+pub use transitions::{ClientStep, Transition};

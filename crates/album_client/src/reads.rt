@@ -4,12 +4,12 @@ ghost use Rattle.album_reader.specs.Rounds.{stepped};
 ghost use Rattle.album_views.specs.Asks.{objects_of};
 ghost use Rattle.album_views.specs.Checks.{refusal_of};
 ghost use Rattle.album_views.specs.Steps.{AreReadable, AsksReadable};
-ghost use Rattle.album_client.specs.Moves.{client_of, IsMoved, IsTakenOf};
+ghost use Rattle.album_client.specs.Transitions.{client_of, IsMoved, IsTakenOf};
 ghost use Rattle.album_client.specs.Turns.{read_begins, read_turn, turn_of, views_by};
 
-use crate::askings::Asking;
-use crate::clients::Doing;
-use crate::moves::{Actor, Moved};
+use crate::clients::Phase;
+use crate::pending_asks::PendingAsk;
+use crate::transitions::{ClientStep, Transition};
 use album_calls::Message;
 use album_eval::Principal;
 use album_items::Items;
@@ -18,9 +18,9 @@ use album_stamps::Refusal;
 use album_views::{Ask, ViewStep, Viewing};
 use album_writer::Answer;
 
-impl Actor {
+impl ClientStep {
     /// An ask that the principal may ask begins, with a read of its objects.
-    pub fn asks(self, tag: u64, principal: Principal, ask: Ask) -> Result<Moved, Refusal>
+    pub fn asks(self, tag: u64, principal: Principal, ask: Ask) -> Result<Transition, Refusal>
         requires taken { refusal_of ask principal ≡ None }
         ensures moved { IfOk result (IsMoved (read_begins self.terms (client_of self) tag
             (record { viewing = record { ask = ask; reads = 0 }; principal = principal }) (objects_of ask))) }
@@ -28,11 +28,11 @@ impl Actor {
     {
         check_tag(tag)?;
         let (viewing, objects) = Viewing::start(self.alloc, ask)?;
-        self.read_begins(tag, Asking::of(viewing, principal), objects)
+        self.read_begins(tag, PendingAsk::of(viewing, principal), objects)
     }
 
     /// A read of the items begins.
-    fn read_begins(self, tag: u64, asking: Asking, items: Items) -> Result<Moved, Refusal>
+    fn read_begins(self, tag: u64, asking: PendingAsk, items: Items) -> Result<Transition, Refusal>
         requires fits { tag + 2 < 2 ^ 64 }
         requires readable { AreReadable items }
         ensures moved { IfOk result (IsMoved (read_begins self.terms (client_of self) tag asking items)) }
@@ -40,25 +40,30 @@ impl Actor {
     {
         let parts = self.terms.parts();
         let (reading, gets) = Reading::start(self.alloc, items, self.number, tag + 1, parts)?;
-        Ok(self.with(Doing::Reads(asking, reading), gets, None))
+        Ok(self.with(Phase::Reads(asking, reading), gets, None))
     }
 
     /// A message comes to a client that does this. Where memory is wanting, what it did is lost: whoever is to go on
     /// from there keeps a copy.
-    pub fn takes(self, doing: Doing, message: &Message) -> Result<Moved, Refusal>
-        ensures moved { IfOk result (IsMoved (turn_of self.terms (client_of self) message.now doing)) }
+    pub fn takes(self, phase: Phase, message: &Message) -> Result<Transition, Refusal>
+        ensures moved { IfOk result (IsMoved (turn_of self.terms (client_of self) message.now phase)) }
         ensures memory { IsOkUnless result Refusal.OutOfMemory }
     {
-        match doing {
-            Doing::Idle(tag) => Ok(self.with(Doing::Idle(tag), Vec::new(self.alloc), None)),
-            Doing::Reads(asking, reading) => self.reads(asking, reading, message),
-            Doing::Prepares(preparing) => Ok(self.prepares(preparing, message)),
-            Doing::Commits(committing) => Ok(self.commits(committing, message)),
+        match phase {
+            Phase::Idle(tag) => Ok(self.with(Phase::Idle(tag), Vec::new(self.alloc), None)),
+            Phase::Reads(asking, reading) => self.reads(asking, reading, message),
+            Phase::Prepares(preparing) => Ok(self.prepares(preparing, message)),
+            Phase::Commits(committing) => Ok(self.commits(committing, message)),
         }
     }
 
     /// What a message does in a read.
-    fn reads(self, asking: Asking, reading: Reading, message: &Message) -> Result<Moved, Refusal>
+    fn reads(
+        self,
+        asking: PendingAsk,
+        reading: Reading,
+        message: &Message,
+    ) -> Result<Transition, Refusal>
         ensures moved { IfOk result (IsMoved (read_turn self.terms (client_of self) reading.asker.tag asking
             (stepped reading message.now))) }
         ensures memory { IsOkUnless result Refusal.OutOfMemory }
@@ -67,9 +72,9 @@ impl Actor {
         check_tag(tag)?;
         match reading.on_reply(message)? {
             Step::Same(reading) => {
-                Ok(self.with(Doing::Reads(asking, reading), Vec::new(self.alloc), None))
+                Ok(self.with(Phase::Reads(asking, reading), Vec::new(self.alloc), None))
             }
-            Step::Next(reading, gets) => Ok(self.with(Doing::Reads(asking, reading), gets, None)),
+            Step::Next(reading, gets) => Ok(self.with(Phase::Reads(asking, reading), gets, None)),
             Step::Done(snapshot) => {
                 let (viewing, principal) = asking.into_parts();
                 let step = viewing.on_snapshot(self.alloc, snapshot)?;
@@ -83,7 +88,7 @@ impl Actor {
     }
 
     /// What comes of a read that was made for the ask of the principal.
-    fn views(self, tag: u64, principal: Principal, step: ViewStep) -> Result<Moved, Refusal>
+    fn views(self, tag: u64, principal: Principal, step: ViewStep) -> Result<Transition, Refusal>
         requires fits { tag + 2 < 2 ^ 64 }
         requires readable { AsksReadable step }
         requires taken { IsTakenOf principal step }
@@ -92,7 +97,7 @@ impl Actor {
     {
         match step {
             ViewStep::Again(viewing, items) => {
-                self.read_begins(tag, Asking::of(viewing, principal), items)
+                self.read_begins(tag, PendingAsk::of(viewing, principal), items)
             }
             ViewStep::Closed(view) => self.rules(tag, &principal, view),
             ViewStep::Busy(why) => Ok(self.ask_ends(tag, Answer::Busy(why))),

@@ -4,20 +4,25 @@ ghost use Rattle.album_permits.specs.Permits.{PermitState};
 ghost use Rattle.album_permits.specs.Rulings.{told_by, Keeps};
 ghost use Rattle.album_views.specs.Checks.{refusal_of};
 ghost use Rattle.album_client.specs.Grants.{served_for};
-ghost use Rattle.album_client.specs.Moves.{client_of, IsMoved};
+ghost use Rattle.album_client.specs.Transitions.{client_of, IsMoved};
 ghost use Rattle.album_client.specs.Turns.{clock_after_rows, grants, rules, rules_by};
 
-use crate::moves::{Actor, Moved};
+use crate::transitions::{ClientStep, Transition};
 use album_eval::Principal;
 use album_permits::{Permit, Ruled, Ruling, rule_on};
-use album_reader::Answer as Row;
+use album_reader::ReadVersion;
 use album_stamps::{Clock, Refusal, Refused};
 use album_views::View;
 use album_writer::Answer;
 
-impl Actor {
+impl ClientStep {
     /// The ask of the view is ruled on, once the clock has seen the view's stamps.
-    pub(crate) fn rules(self, tag: u64, principal: &Principal, view: View) -> Result<Moved, Refusal>
+    pub(crate) fn rules(
+        self,
+        tag: u64,
+        principal: &Principal,
+        view: View,
+    ) -> Result<Transition, Refusal>
         requires fits { tag + 2 < 2 ^ 64 }
         requires taken { refusal_of view.ask principal.now ≡ None }
         ensures moved { IfOk result (IsMoved (rules self.terms (client_of self) tag principal.now view)) }
@@ -31,13 +36,13 @@ impl Actor {
     }
 
     /// The same actor once its clock has seen the view's stamps.
-    fn after(self, view: &View) -> Actor
+    fn after(self, view: &View) -> ClientStep
         ensures client { client_of result ≡ record (client_of self) {
           clock = clock_after_rows self.clock view.now.rows;
         } }
         ensures terms { result.terms ≡ self.terms }
     {
-        Actor {
+        ClientStep {
             alloc: self.alloc,
             terms: self.terms,
             number: self.number,
@@ -46,7 +51,7 @@ impl Actor {
     }
 
     /// The ruling is told by its notes, and leads on.
-    fn tells(self, tag: u64, ruled: Ruled) -> Result<Moved, Refusal>
+    fn tells(self, tag: u64, ruled: Ruled) -> Result<Transition, Refusal>
         requires fits { tag + 2 < 2 ^ 64 }
         ensures moved { (permit : PermitState) → Keeps permit.policy permit.principal permit.view ruled.ruling
             → IfOk result (IsMoved (record (rules_by self.terms (client_of self) tag permit (told_by ruled.ruling)) {
@@ -60,7 +65,7 @@ impl Actor {
     }
 
     /// What the ruling leads to.
-    fn ruled(self, tag: u64, ruling: Ruling) -> Result<Moved, Refusal>
+    fn ruled(self, tag: u64, ruling: Ruling) -> Result<Transition, Refusal>
         requires fits { tag + 2 < 2 ^ 64 }
         ensures moved { (permit : PermitState) → Keeps permit.policy permit.principal permit.view ruling
             → IfOk result (IsMoved (rules_by self.terms (client_of self) tag permit (told_by ruling))) }
@@ -74,7 +79,7 @@ impl Actor {
     }
 
     /// What is granted is served, or is written.
-    fn grants(self, tag: u64, permit: Permit) -> Result<Moved, Refusal>
+    fn grants(self, tag: u64, permit: Permit) -> Result<Transition, Refusal>
         requires fits { tag + 2 < 2 ^ 64 }
         ensures moved { IfOk result
             (IsMoved (grants self.terms (client_of self) tag permit (served_for permit permit.view.ask))) }
@@ -94,7 +99,7 @@ impl Actor {
 }
 
 /// The clock once it has seen all the stamps.
-fn clock_after(mut clock: Clock, rows: &[Row]) -> Clock
+fn clock_after(mut clock: Clock, rows: &[ReadVersion]) -> Clock
     ensures seen { result ≡ clock_after_rows clock rows.now }
     ensures own { result.client ≡ clock.client }
 {

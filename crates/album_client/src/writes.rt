@@ -3,20 +3,20 @@ ghost use Rattle.std.specs.Prelude.{◌≡◌, ◌+◌, ◌<◌, ◌^◌, IfOk, 
 ghost use Rattle.album_permits.specs.Effects.{is_full_for};
 ghost use Rattle.album_stamps.specs.Stamps.{client_of as drawer_of};
 ghost use Rattle.album_views.specs.Asks.{is_write};
-ghost use Rattle.album_client.specs.Moves.{client_of, IsMoved};
+ghost use Rattle.album_client.specs.Transitions.{client_of, IsMoved};
 ghost use Rattle.album_client.specs.Turns.{answer_of, commit_turn, draws, prepare_turn, writes_unless};
 ghost use Rattle.album_writer.specs.Rounds.{commit_stepped, prepare_stepped};
 
-use crate::clients::Doing;
-use crate::moves::{Actor, Moved};
+use crate::clients::Phase;
+use crate::transitions::{ClientStep, Transition};
 use album_calls::Message;
 use album_permits::Permit;
 use album_stamps::{Refusal, Refused, Stamp};
 use album_writer::{Answer, CommitStep, Committing, Outcome, PrepareStep, Preparing};
 
-impl Actor {
+impl ClientStep {
     /// A stamp is drawn for the write of the permit's ask.
-    pub(crate) fn draws(mut self, tag: u64, permit: Permit) -> Result<Moved, Refusal>
+    pub(crate) fn draws(mut self, tag: u64, permit: Permit) -> Result<Transition, Refusal>
         requires fits { tag + 2 < 2 ^ 64 }
         requires change { IsTrue (is_write permit.view.ask) }
         ensures moved { IfOk result (IsMoved (draws self.terms (client_of self) tag permit)) }
@@ -32,7 +32,7 @@ impl Actor {
     }
 
     /// The write begins, unless the album that gets a child is full.
-    fn write_begins(self, tag: u64, permit: Permit, stamp: Stamp) -> Result<Moved, Refusal>
+    fn write_begins(self, tag: u64, permit: Permit, stamp: Stamp) -> Result<Transition, Refusal>
         requires fits { tag + 2 < 2 ^ 64 }
         requires change { IsTrue (is_write permit.view.ask) }
         requires own { drawer_of stamp ≡ Some self.number }
@@ -43,7 +43,7 @@ impl Actor {
         let parts = self.terms.parts();
         match Preparing::begin(self.alloc, permit, stamp, self.number, tag + 1, parts) {
             Ok((preparing, prepares)) => {
-                Ok(self.with(Doing::Prepares(preparing), prepares, None))
+                Ok(self.with(Phase::Prepares(preparing), prepares, None))
             }
             Err(Refused { refusal, given }) => {
                 drop(given.give_back());
@@ -56,30 +56,30 @@ impl Actor {
     }
 
     /// What one does in a round of Prepares.
-    pub fn prepares(self, preparing: Preparing, message: &Message) -> Moved
+    pub fn prepares(self, preparing: Preparing, message: &Message) -> Transition
         ensures { IsMoved (prepare_turn (client_of self) preparing.tag (prepare_stepped preparing message.now)) result }
     {
         let tag = preparing.tag();
         let _few = preparing.count();
         match preparing.on_reply(message) {
             PrepareStep::Same(preparing) => {
-                self.with(Doing::Prepares(preparing), Vec::new(self.alloc), None)
+                self.with(Phase::Prepares(preparing), Vec::new(self.alloc), None)
             }
             PrepareStep::Commit(committing, commits) => {
-                self.with(Doing::Commits(committing), commits, None)
+                self.with(Phase::Commits(committing), commits, None)
             }
             PrepareStep::Ended(outcome) => self.ask_ends(tag, answer_of(outcome)),
         }
     }
 
     /// And in one of Commits.
-    pub fn commits(self, committing: Committing, message: &Message) -> Moved
+    pub fn commits(self, committing: Committing, message: &Message) -> Transition
         ensures { IsMoved (commit_turn (client_of self) committing.tag (commit_stepped committing message.now)) result }
     {
         let tag = committing.tag();
         match committing.on_reply(message) {
             CommitStep::Same(committing) => {
-                self.with(Doing::Commits(committing), Vec::new(self.alloc), None)
+                self.with(Phase::Commits(committing), Vec::new(self.alloc), None)
             }
             CommitStep::Ended(outcome) => self.ask_ends(tag, answer_of(outcome)),
         }

@@ -5,9 +5,9 @@ use Rattle.std.specs.Option.{option_map_or}
 use Rattle.album_lists.specs.Entries.{fits}
 use Rattle.album_lists.specs.declared.lists.Holder.{Holder}
 use Rattle.album_lists.specs.declared.lists.Holder.TheVariants.{Plain, Folder}
-use Rattle.album_stamps.specs.declared.limits.TheConstants.{MOST_PARTS, LEAST_MARKS, MOST_MARKS, MOST_CHILDREN, MOST_OPENING_ITEMS, MOST_OPENING_NUMBER}
+use Rattle.album_stamps.specs.declared.limits.TheConstants.{MAX_PARTS, MIN_MARKS, MAX_MARKS, MAX_CHILDREN, MAX_OPENING_ITEMS, MAX_OPENING_NUMBER}
 use Rattle.album_items.specs.ItemIds.{list, kind_of, number_of}
-use Rattle.album_stamps.specs.Distinct.{no_two, are_single}
+use Rattle.album_stamps.specs.Distinct.{no_two, are_distinct}
 use Rattle.album_items.specs.Values.{is_of, is_there, head_of, children_of}
 use Rattle.album_items.specs.declared.values.Value.{Value}
 use Rattle.album_items.specs.declared.values.Value.TheVariants as value
@@ -25,7 +25,7 @@ has_own_value row = is_there row.1 && is_of row.1 (kind_of row.0)
 
 -- a number that an opening may use
 abbrev pub is_low : ℕ → Bool
-is_low number = nat_le number MOST_OPENING_NUMBER
+is_low number = nat_le number MAX_OPENING_NUMBER
 
 -- the number of each item is low
 abbrev pub are_low : List ℕ → Bool
@@ -46,11 +46,11 @@ is_low_row row = is_low (number_of row.0) && has_low_numbers row.1
 
 -- an album has at most 128 children
 abbrev pub has_few_children : Row → Bool
-has_few_children row = nat_le (length (children_of row.1)) MOST_CHILDREN
+has_few_children row = nat_le (length (children_of row.1)) MAX_CHILDREN
 
 -- no child stands twice in one album
 abbrev pub has_single_children : Row → Bool
-has_single_children row = are_single (children_of row.1)
+has_single_children row = are_distinct (children_of row.1)
 
 -- a row is right by itself
 abbrev pub is_right_row : Row → Bool
@@ -103,11 +103,11 @@ suits a b =
 
 -- 1 to 16 partitions
 abbrev pub has_parts : ℕ → Bool
-has_parts parts = nat_le 1 parts && nat_le parts MOST_PARTS
+has_parts parts = nat_le 1 parts && nat_le parts MAX_PARTS
 
 -- the history of a partition has room for 2 to 1,000,000 marks
 abbrev pub has_limit : ℕ → Bool
-has_limit limit = nat_le LEAST_MARKS limit && nat_le limit MOST_MARKS
+has_limit limit = nat_le MIN_MARKS limit && nat_le limit MAX_MARKS
 
 -- lists are judged by policy 1 or by policy 2
 abbrev pub has_policy : ℕ → Bool
@@ -115,7 +115,7 @@ has_policy policy = policy == 1 || policy == 2
 
 -- at most 4,096 items
 abbrev pub has_few_items : List Row → Bool
-has_few_items rows = nat_le (length rows) MOST_OPENING_ITEMS
+has_few_items rows = nat_le (length rows) MAX_OPENING_ITEMS
 
 -- no item has two values
 abbrev pub has_single_rows : List Row → Bool

@@ -1,7 +1,7 @@
 -- Which bytes are titles.
 use Rattle.std.specs.Prelude.{ℕ, List, Bool, ◌&&◌, ◌==◌, not, nat_le, length, if◌then◌else◌, Option, Some, None}
 use Rattle.std.specs.List.{list_all}
-use Rattle.album_stamps.specs.declared.limits.TheConstants.{MOST_TITLE}
+use Rattle.album_stamps.specs.declared.limits.TheConstants.{MAX_TITLE}
 
 -- none of U+0000 to U+001F, and not U+007F; a longer character has no such byte
 abbrev pub is_title_byte : ℕ → Bool
@@ -9,7 +9,7 @@ is_title_byte b = nat_le 32 b && not (b == 127)
 
 -- at most 200 such bytes
 abbrev pub is_title : List ℕ → Bool
-is_title text = nat_le (length text) MOST_TITLE && list_all is_title_byte text
+is_title text = nat_le (length text) MAX_TITLE && list_all is_title_byte text
 
 -- the title that the text is
 abbrev pub title_of : List ℕ → Option (List ℕ)

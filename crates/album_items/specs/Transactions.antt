@@ -1,8 +1,8 @@
 -- What one transaction may write.
 use Rattle.std.specs.Prelude.{ℕ, Bool, ◌==◌, ◌&&◌, not, nat_le, List, map, length}
 use Rattle.std.specs.List.{list_all}
-use Rattle.album_stamps.specs.declared.limits.TheConstants.{MOST_TRANSACTION_ITEMS}
-use Rattle.album_stamps.specs.Distinct.{are_single}
+use Rattle.album_stamps.specs.declared.limits.TheConstants.{MAX_TRANSACTION_ITEMS}
+use Rattle.album_stamps.specs.Distinct.{are_distinct}
 use Rattle.album_items.specs.ItemIds.{kind_of}
 use Rattle.album_items.specs.Openings.{Row}
 use Rattle.album_items.specs.Values.{is_of}
@@ -14,7 +14,7 @@ items_written writes = map (λ write. write.0) writes
 -- some items, none twice, and not too many
 abbrev pub are_items : List ℕ → Bool
 are_items items =
-    not (length items == 0) && nat_le (length items) MOST_TRANSACTION_ITEMS && are_single items
+    not (length items == 0) && nat_le (length items) MAX_TRANSACTION_ITEMS && are_distinct items
 
 -- the value is of its item's kind, or is missing
 abbrev pub has_right_kind : Row → Bool

@@ -50,11 +50,11 @@ impl Items {
     }
 
     /// Lets the copies that are made from now on share the items.
-    pub fn share(&mut self) -> Result<(), Refusal>
+    pub fn make_shared(&mut self) -> Result<(), Refusal>
         ensures same { self.new ≡ self.old }
         ensures memory { IsOkUnless result Refusal.OutOfMemory }
     {
-        Ok(self.items.share()?)
+        Ok(self.items.make_shared()?)
     }
 
     /// The same items once more.
@@ -109,11 +109,11 @@ impl Members {
     }
 
     /// Lets the copies that are made from now on share the members.
-    pub fn share(&mut self) -> Result<(), Refusal>
+    pub fn make_shared(&mut self) -> Result<(), Refusal>
         ensures same { self.new ≡ self.old }
         ensures memory { IsOkUnless result Refusal.OutOfMemory }
     {
-        Ok(self.members.share()?)
+        Ok(self.members.make_shared()?)
     }
 
     /// The same members once more.
@@ -162,8 +162,8 @@ impl ItemValues {
         self.rows
     }
 
-    /// Lets the copies that are made from now on share what each value holds, as `Value::share` does.
-    pub fn share(&mut self) -> Result<(), Refusal>
+    /// Lets the copies that are made from now on share what each value holds, as `Value::make_shared` does.
+    pub fn make_shared(&mut self) -> Result<(), Refusal>
         ensures same { self.new ≡ self.old }
         ensures memory { IsOkUnless result Refusal.OutOfMemory }
     {
@@ -184,7 +184,7 @@ fn share_each(rows: &mut [(ItemId, Value)]) -> Result<(), Refusal>
     ensures memory { IsOkUnless result Refusal.OutOfMemory }
 {
     for index in 0..rows.len() {
-        rows[index].1.share()?;
+        rows[index].1.make_shared()?;
     }
     Ok(())
 }

@@ -8,7 +8,7 @@ ghost use Rattle.std.proofs.Common.{rules};
 ghost use Rattle.album_items.specs.ItemIds.{code_of, item, kind_of, number_of, place_of, IsItemText, word_of, text_of, code_named, item_of};
 
 use album_lists::whole_number;
-use album_stamps::{MOST_OPENING_NUMBER, MOST_PARTS, Refusal};
+use album_stamps::{MAX_OPENING_NUMBER, MAX_PARTS, Refusal};
 use std::alloc::Global;
 use std::cmp::Ordering;
 use std::hash::{Hash, Hasher};
@@ -109,7 +109,7 @@ impl ItemId {
 
     /// The item's code: four times its number, and the code of its kind.
     pub(crate) fn code(self) -> usize
-        requires low { number_of self ≤ MOST_OPENING_NUMBER }
+        requires low { number_of self ≤ MAX_OPENING_NUMBER }
         ensures { result ≡ self }
     {
         4 * self.number as usize + self.kind.code() as usize
@@ -134,7 +134,7 @@ impl ItemId {
 /// The partition that keeps the item, of so many partitions: (number + code of the kind) mod parts.
 pub fn place(item: ItemId, parts: u16) -> u16
     requires low { 1 ≤ parts }
-    requires high { parts ≤ MOST_PARTS }
+    requires high { parts ≤ MAX_PARTS }
     ensures place { result ≡ place_of parts item }
     ensures below { result < parts }
 {

@@ -14,7 +14,7 @@ mod values;
 
 pub use collections::{ItemValues, Items, Members};
 pub use item_ids::{ItemId, Kind, items_by_text, place, read_item};
-pub use openings::{Opening, are_single, has_own_value, has_single_rows};
+pub use openings::{Opening, are_distinct, has_own_value, has_single_rows};
 pub use places::{lies_at, places_of};
 pub use shared_values::SharedValue;
 pub use texts::{Content, Title};

@@ -2,7 +2,7 @@
 ghost use Rattle.std.specs.Prelude.{◌≡◌, ◌==◌, ◌&&◌, true, false, MatchResult};
 ghost use Rattle.std.specs.List.{list_all, list_any};
 ghost use Rattle.album_stamps.specs.declared.refusals.Refusal.TheVariants.{BadOpening};
-ghost use Rattle.album_stamps.specs.Distinct.{are_single};
+ghost use Rattle.album_stamps.specs.Distinct.{are_distinct};
 ghost use Rattle.album_items.specs.Values.{children_of};
 ghost use Rattle.album_items.specs.Openings.{has_own_value, is_low, are_low, has_low_numbers, is_low_row, has_single_children, has_few_children, same_item, is_right_row, has_parts, has_limit, has_policy, has_few_items, has_single_rows, has_own_lists, has_fit_lists, is_opening};
 
@@ -11,8 +11,7 @@ use crate::item_ids::ItemId;
 use crate::pairs;
 use crate::values::Value;
 use album_stamps::{
-    LEAST_MARKS, MOST_CHILDREN, MOST_MARKS, MOST_OPENING_ITEMS, MOST_OPENING_NUMBER, MOST_PARTS,
-    Refusal,
+    MAX_CHILDREN, MAX_MARKS, MAX_OPENING_ITEMS, MAX_OPENING_NUMBER, MAX_PARTS, MIN_MARKS, Refusal,
 };
 
 /// The state that the service opens with: how many partitions there are, how many marks the
@@ -53,10 +52,10 @@ impl Opening {
         ensures { result ≡ (has_parts self.now.parts && has_limit self.now.limit && has_policy self.now.policy
             && has_few_items self.now.items) }
     {
-        (1..=u64::from(MOST_PARTS)).contains(&self.parts)
-            && (LEAST_MARKS..=MOST_MARKS).contains(&self.limit)
+        (1..=u64::from(MAX_PARTS)).contains(&self.parts)
+            && (MIN_MARKS..=MAX_MARKS).contains(&self.limit)
             && matches!(self.policy, 1 | 2)
-            && self.items.as_slice().len() <= MOST_OPENING_ITEMS
+            && self.items.as_slice().len() <= MAX_OPENING_ITEMS
     }
 }
 
@@ -89,7 +88,7 @@ pub fn has_own_value(row: &(ItemId, Value)) -> bool
 fn is_low(number: u64) -> bool
     ensures { result ≡ is_low number }
 {
-    number <= MOST_OPENING_NUMBER
+    number <= MAX_OPENING_NUMBER
 }
 
 fn are_low(children: &Items) -> bool
@@ -123,18 +122,18 @@ fn is_low_row(row: &(ItemId, Value)) -> bool
 fn has_few_children(row: &(ItemId, Value)) -> bool
     ensures { result ≡ has_few_children row.now }
 {
-    row.1.children().len() <= MOST_CHILDREN
+    row.1.children().len() <= MAX_CHILDREN
 }
 
 fn has_single_children(row: &(ItemId, Value)) -> bool
     ensures { result ≡ has_single_children row.now }
 {
-    are_single(row.1.children())
+    are_distinct(row.1.children())
 }
 
 /// Whether no item stands twice.
-pub fn are_single(items: &[ItemId]) -> bool
-    ensures { result ≡ are_single items.now }
+pub fn are_distinct(items: &[ItemId]) -> bool
+    ensures { result ≡ are_distinct items.now }
 {
     for index in 0..items.len() {
         if holds(&items[index + 1..], items[index]) {

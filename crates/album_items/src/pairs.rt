@@ -8,11 +8,11 @@ ghost use Rattle.album_items.specs.Openings.{is_right_row, has_single_rows, has_
 use crate::item_ids::ItemId;
 use crate::values::Value;
 use album_lists::Holder;
-use album_stamps::MOST_OPENING_NUMBER;
+use album_stamps::MAX_OPENING_NUMBER;
 use std::mem;
 
 /// How many numbers, and how many items, an opening may use.
-const NUMBERS: usize = MOST_OPENING_NUMBER as usize + 1;
+const NUMBERS: usize = MAX_OPENING_NUMBER as usize + 1;
 
 const CODES: usize = 4 * NUMBERS;
 

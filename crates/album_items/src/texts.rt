@@ -6,13 +6,13 @@ ghost use Rattle.album_stamps.specs.Outcome.{Makes};
 ghost use Rattle.album_stamps.specs.declared.refusals.Refusal.TheVariants.{BadText};
 ghost use Rattle.album_items.specs.Texts.{is_title, is_title_byte, title_of};
 
-use album_stamps::{MOST_CONTENT, MOST_TITLE, Refusal, Refused};
+use album_stamps::{MAX_CONTENT, MAX_TITLE, Refusal, Refused};
 use bytes::Bytes;
 use std::alloc::Global;
 use std::marker::Model;
 use std::sync::ArcStr;
 
-/// A title: at most `MOST_TITLE` bytes of UTF-8, with none of U+0000 to U+001F and U+007F, which its
+/// A title: at most `MAX_TITLE` bytes of UTF-8, with none of U+0000 to U+001F and U+007F, which its
 /// copies share. Contracts see its bytes.
 #[derive(Clone, Debug, Drop)]
 pub struct Title {
@@ -63,7 +63,7 @@ impl Title {
 fn is_title(text: &str) -> bool
     ensures { result ≡ is_title text.now }
 {
-    text.len() <= MOST_TITLE && has_title_bytes(text)
+    text.len() <= MAX_TITLE && has_title_bytes(text)
 }
 
 fn has_title_bytes(text: &str) -> bool
@@ -78,7 +78,7 @@ fn is_title_byte(byte: u8) -> bool
     byte >= 32 && byte != 127
 }
 
-/// What a picture shows: at most `MOST_CONTENT` bytes, which its copies share. Contracts see them.
+/// What a picture shows: at most `MAX_CONTENT` bytes, which its copies share. Contracts see them.
 #[derive(Clone, Debug, Drop)]
 pub struct Content {
     bytes: Bytes,
@@ -86,25 +86,25 @@ pub struct Content {
 
 impl Model for Content {
     ghost use Rattle.std.specs.Prelude.{List, ℕ, ◌≤◌, length};
-    ghost use Rattle.album_stamps.specs.declared.limits.TheConstants.{MOST_CONTENT};
+    ghost use Rattle.album_stamps.specs.declared.limits.TheConstants.{MAX_CONTENT};
 
     ghost Value = { List ℕ };
 
     ghost view = { λ c. c.bytes };
 
-    ghost invariant = { λ c. length c.bytes ≤ MOST_CONTENT };
+    ghost invariant = { λ c. length c.bytes ≤ MAX_CONTENT };
 }
 
 impl Content {
-    /// The content of these bytes, or `BadText` where they are more than `MOST_CONTENT`. Refused bytes are
+    /// The content of these bytes, or `BadText` where they are more than `MAX_CONTENT`. Refused bytes are
     /// handed back.
     pub fn of(bytes: Bytes) -> Result<Content, Refused<Bytes>>
         ensures taken { IfOk result (λ content. content ≡ bytes) }
-        ensures short { IsOk result ↔ (length bytes ≤ MOST_CONTENT) }
+        ensures short { IsOk result ↔ (length bytes ≤ MAX_CONTENT) }
         ensures refused { IfErr result (λ e. e.refusal ≡ BadText) }
         ensures given { IfErr result (λ e. e.given ≡ bytes) }
     {
-        if bytes.len() > MOST_CONTENT {
+        if bytes.len() > MAX_CONTENT {
             return Err(Refused {
                 refusal: Refusal::BadText,
                 given: bytes,
@@ -116,7 +116,7 @@ impl Content {
     /// The bytes.
     pub fn as_slice(&self) -> &[u8]
         ensures bytes { result.now ≡ self.now }
-        ensures short { length self.now ≤ MOST_CONTENT }
+        ensures short { length self.now ≤ MAX_CONTENT }
     {
         &self.bytes
     }

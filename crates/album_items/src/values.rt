@@ -173,15 +173,15 @@ impl Value {
     /// # Errors
     ///
     /// `OutOfMemory`, and then the copies may cost what they did. The value stays what it is.
-    pub fn share(&mut self) -> Result<(), Refusal>
+    pub fn make_shared(&mut self) -> Result<(), Refusal>
         ensures same { self.new ≡ self.old }
         ensures memory { IsOkUnless result Refusal.OutOfMemory }
     {
         match self {
             Value::Missing | Value::Picture(_) => Ok(()),
-            Value::Album(album) => album.children.share(),
-            Value::List(list) => list.share(),
-            Value::Group(group) => group.members.share(),
+            Value::Album(album) => album.children.make_shared(),
+            Value::List(list) => list.make_shared(),
+            Value::Group(group) => group.members.make_shared(),
         }
     }
 

@@ -20,11 +20,11 @@ use Rattle.album_items.specs.Values.{head_of, home_of, children_of, entries_of, 
 use Rattle.album_items.specs.declared.values.Head.{Head}
 use Rattle.album_items.specs.declared.values.Value.{Value}
 use Rattle.album_items.specs.declared.values.Value.TheVariants as value
-use Rattle.album_reader.specs.Answers.{Answer}
+use Rattle.album_reader.specs.Answers.{ReadVersion}
 use Rattle.album_reader.specs.Rounds.{has_item}
 use Rattle.album_reader.specs.Snapshots.{version_of, version_read}
-use Rattle.album_views.specs.Naming.{IsNamed, subjects_of}
-use Rattle.album_views.specs.Naming.IsNamed.{Subject, ListOf, HeadGroupOf, GroupInListOf, GroupInGroup}
+use Rattle.album_views.specs.ReadSets.{IsNamed, subjects_of}
+use Rattle.album_views.specs.ReadSets.IsNamed.{Subject, ListOf, HeadGroupOf, GroupInListOf, GroupInGroup}
 use Rattle.album_views.specs.Seen.{seen}
 use Rattle.album_views.specs.declared.asks.Ask.{Ask}
 use Rattle.album_views.specs.declared.asks.Ask.TheVariants as ask
@@ -111,11 +111,11 @@ inner-bare (value.Group x) = refl
 -- ---- a snapshot
 
 -- the snapshot without titles, contents, children and stamps
-abbrev pub bared : List Answer → List Answer
+abbrev pub bared : List ReadVersion → List ReadVersion
 bared rows = map (λ answer. record { item = answer.item; stamp = 0; value = bare answer.value }) rows
 
 read-bared :
-    (rows : List Answer) (item : ℕ)
+    (rows : List ReadVersion) (item : ℕ)
     → version_read (bared rows) item ≡ option_map (λ (v : Value). (0, v)) (bare_read rows item)
 read-bared [] item = refl
 read-bared (row ∷ rows) item = go (row.item == item) (read-bared rows item)
@@ -131,7 +131,7 @@ read-bared (row ∷ rows) item = go (row.item == item) (read-bared rows item)
     go true rest = refl
     go false rest = rest
 
-pub seen-bared : (rows : List Answer) (item : ℕ) → seen (bared rows) item ≡ bare (seen rows item)
+pub seen-bared : (rows : List ReadVersion) (item : ℕ) → seen (bared rows) item ≡ bare (seen rows item)
 unfolding seen
 seen-bared rows item =
     ap (λ (o : Option (ℕ × Value)). option_map_or (λ version. version.1) o value.Missing) (read-bared rows item)
@@ -147,42 +147,42 @@ seen-bared rows item =
 
 -- ---- what is named
 
-module _ (sight : ℕ → Value) (asked inner : Ask) (within : (item : ℕ) → Contains (subjects_of (λ i. bare (sight i)) inner) item → Contains (subjects_of sight asked) item) where
-  named-back : (item : ℕ) → IsNamed (λ i. bare (sight i)) inner item → IsNamed sight asked item
+module _ (lookup : ℕ → Value) (asked inner : Ask) (within : (item : ℕ) → Contains (subjects_of (λ i. bare (lookup i)) inner) item → Contains (subjects_of lookup asked) item) where
+  named-back : (item : ℕ) → IsNamed (λ i. bare (lookup i)) inner item → IsNamed lookup asked item
   named-back item (Subject i s) = Subject i (within i s)
   named-back item (ListOf s i subject c) =
-      ListOf s i (within s subject) (subst (λ (xs : List ℕ). Contains xs i) (list-bare (sight s)) c)
+      ListOf s i (within s subject) (subst (λ (xs : List ℕ). Contains xs i) (list-bare (lookup s)) c)
   named-back item (HeadGroupOf s i subject c) =
-      HeadGroupOf s i (within s subject) (subst (λ (xs : List ℕ). Contains xs i) (head_group-bare (sight s)) c)
+      HeadGroupOf s i (within s subject) (subst (λ (xs : List ℕ). Contains xs i) (head_group-bare (lookup s)) c)
   named-back item (GroupInListOf s l i subject c d) =
-      GroupInListOf s l i (within s subject) (subst (λ (xs : List ℕ). Contains xs l) (list-bare (sight s)) c)
-      (subst (λ (xs : List ℕ). Contains xs i) (groups-bare (sight l)) d)
+      GroupInListOf s l i (within s subject) (subst (λ (xs : List ℕ). Contains xs l) (list-bare (lookup s)) c)
+      (subst (λ (xs : List ℕ). Contains xs i) (groups-bare (lookup l)) d)
   named-back item (GroupInGroup g i named c) =
-      GroupInGroup g i (named-back g named) (subst (λ (xs : List ℕ). Contains xs i) (inner-bare (sight g)) c)
+      GroupInGroup g i (named-back g named) (subst (λ (xs : List ℕ). Contains xs i) (inner-bare (lookup g)) c)
 
 -- the subjects of a bared snapshot are subjects
 pub subjects-back :
-    (sight : ℕ → Value) (asked : Ask) (item : ℕ) → Contains (subjects_of (λ i. bare (sight i)) asked) item
-    → Contains (subjects_of sight asked) item
-subjects-back sight (ask.Read object) item c = c
-subjects-back sight (ask.List album) item c =
-    Contains-append_left (album ∷ []) (children_of (sight album)) item
-    (subst (λ (xs : List ℕ). Contains (album ∷ xs) item) (children-bare (sight album)) c)
-subjects-back sight (ask.GetList object) item c = c
-subjects-back sight (ask.AddPicture album title content) item c = c
-subjects-back sight (ask.AddAlbum album title) item c = c
-subjects-back sight (ask.Retitle object title) item c = c
-subjects-back sight (ask.Replace object content) item c = c
-subjects-back sight (ask.Delete object) item c =
-    subst (λ (xs : List ℕ). Contains (object ∷ xs) item) (home-bare (sight object)) c
-subjects-back sight (ask.Move object to) item c =
-    subst (λ (xs : List ℕ). Contains (object ∷ to ∷ xs) item) (home-bare (sight object)) c
-subjects-back sight (ask.SetLists lists) item c = c
-subjects-back sight (ask.SetOwner object owner number) item c = c
-subjects-back sight (ask.SetMembers object members) item c = c
+    (lookup : ℕ → Value) (asked : Ask) (item : ℕ) → Contains (subjects_of (λ i. bare (lookup i)) asked) item
+    → Contains (subjects_of lookup asked) item
+subjects-back lookup (ask.Read object) item c = c
+subjects-back lookup (ask.List album) item c =
+    Contains-append_left (album ∷ []) (children_of (lookup album)) item
+    (subst (λ (xs : List ℕ). Contains (album ∷ xs) item) (children-bare (lookup album)) c)
+subjects-back lookup (ask.GetList object) item c = c
+subjects-back lookup (ask.AddPicture album title content) item c = c
+subjects-back lookup (ask.AddAlbum album title) item c = c
+subjects-back lookup (ask.Retitle object title) item c = c
+subjects-back lookup (ask.Replace object content) item c = c
+subjects-back lookup (ask.Delete object) item c =
+    subst (λ (xs : List ℕ). Contains (object ∷ xs) item) (home-bare (lookup object)) c
+subjects-back lookup (ask.Move object to) item c =
+    subst (λ (xs : List ℕ). Contains (object ∷ to ∷ xs) item) (home-bare (lookup object)) c
+subjects-back lookup (ask.SetLists lists) item c = c
+subjects-back lookup (ask.SetOwner object owner number) item c = c
+subjects-back lookup (ask.SetMembers object members) item c = c
 
 pub agree-bared :
-    (asked inner : Ask) (one other : List Answer)
+    (asked inner : Ask) (one other : List ReadVersion)
     → ((item : ℕ) → Contains (subjects_of (λ i. bare (seen one i)) inner) item → Contains (subjects_of (seen one) asked) item)
     → AreRuledAlike asked one other → AgreeOn inner (bared one) (bared other)
 agree-bared asked inner one other within alike =
@@ -190,7 +190,7 @@ agree-bared asked inner one other within alike =
       same = λ item named.
           let sights : seen (bared one) ≡ (λ i. bare (seen one i)) = λ k i. seen-bared one i k in
           let here : IsNamed (λ i. bare (seen one i)) inner item =
-          subst (λ (sight : ℕ → Value). IsNamed sight inner item) sights named in
+          subst (λ (lookup : ℕ → Value). IsNamed lookup inner item) sights named in
           read-bared one item
           ∙ ap (option_map (λ (v : Value). (0, v))) (alike.bared item (named-back (seen one) asked inner within item here))
           ∙ sym (read-bared other item);
@@ -199,7 +199,7 @@ agree-bared asked inner one other within alike =
 -- ---- the basis
 
 pub groups-bared :
-    (me : Principal) (rows : List Answer) (i : ℕ → Bool) → AreGroups (seen rows) me i → AreGroups (seen (bared rows)) me i
+    (me : Principal) (rows : List ReadVersion) (i : ℕ → Bool) → AreGroups (seen rows) me i → AreGroups (seen (bared rows)) me i
 groups-bared me rows i groups =
     let members : members_seen (seen rows) ≡ members_seen (seen (bared rows)) =
     λ k number. (sym (ap members_of (seen-bared rows (group number)) ∙ members-bare (seen rows (group number)))) k in
@@ -211,7 +211,7 @@ groups-bared me rows i groups =
     }
 
 pub basis-bared :
-    (policy : Policy) (me : Principal) (rows : List Answer) (basis : Basis) → IsBasis policy me rows basis
+    (policy : Policy) (me : Principal) (rows : List ReadVersion) (basis : Basis) → IsBasis policy me rows basis
     → IsBasis policy me (bared rows) (made policy me (bared rows) basis.is_in)
 basis-bared policy me rows basis based =
     record {
@@ -227,7 +227,7 @@ bare_basis basis = record basis { seen = λ item. bare (basis.seen item) }
 
 -- it is that of the bared snapshot
 pub made-bared :
-    (policy : Policy) (me : Principal) (rows : List Answer) (i : ℕ → Bool)
+    (policy : Policy) (me : Principal) (rows : List ReadVersion) (i : ℕ → Bool)
     → made policy me (bared rows) i ≡ bare_basis (made policy me rows i)
 made-bared policy me rows i =
     λ k. record { policy = policy; principal = me; is_in = i; seen = λ item. seen-bared rows item k }
@@ -240,7 +240,7 @@ reason-bare basis a =
     (head-bare (basis.seen a.object) k)
 
 reason-bared :
-    (policy : Policy) (me : Principal) (rows : List Answer) (i : ℕ → Bool) (a : Alternative)
+    (policy : Policy) (me : Principal) (rows : List ReadVersion) (i : ℕ → Bool) (a : Alternative)
     → reason_of (made policy me (bared rows) i) a ≡ reason_of (made policy me rows i) a
 reason-bared policy me rows i a =
     ap (λ (b : Basis). reason_of b a) (made-bared policy me rows i) ∙ reason-bare (made policy me rows i) a
@@ -248,7 +248,7 @@ reason-bared policy me rows i a =
 -- ---- reasons on both
 
 reason-both :
-    (asked : Ask) (one other : List Answer) (policy : Policy) (me : Principal) (i j : ℕ → Bool)
+    (asked : Ask) (one other : List ReadVersion) (policy : Policy) (me : Principal) (i j : ℕ → Bool)
     → AreRuledAlike asked one other → AreGroups (seen one) me i → AreGroups (seen other) me j
     → (object : ℕ) (mask : Mask) → Contains (subjects_of (seen one) asked) object
     → reason_of (made policy me one i) (on object mask) ≡ reason_of (made policy me other j) (on object mask)
@@ -285,14 +285,14 @@ title-bare home (value.Group x) = refl
 
 -- what is seen of an item of one version
 pub seen-same :
-    (one other : List Answer) (item : ℕ) → version_read one item ≡ version_read other item
+    (one other : List ReadVersion) (item : ℕ) → version_read one item ≡ version_read other item
     → seen one item ≡ seen other item
 unfolding seen
 seen-same one other item e =
     ap (λ (o : Option (ℕ × Value)). option_map_or (λ version. version.1) o value.Missing) e
 
 bare-alike :
-    (asked : Ask) (one other : List Answer) (item : ℕ) → AreRuledAlike asked one other → IsNamed (seen one) asked item
+    (asked : Ask) (one other : List ReadVersion) (item : ℕ) → AreRuledAlike asked one other → IsNamed (seen one) asked item
     → bare (seen one item) ≡ bare (seen other item)
 bare-alike asked one other item alike named =
     sym (seen-bared one item)
@@ -306,7 +306,7 @@ bare-alike asked one other item alike named =
 
 -- READ_ATTRIBUTES is granted alike by both policies, and by all bases of one snapshot
 granted-both :
-    (policy : Policy) (me : Principal) (rows : List Answer) (i : ℕ → Bool) (child : ℕ) → AreGroups (seen rows) me i
+    (policy : Policy) (me : Principal) (rows : List ReadVersion) (i : ℕ → Bool) (child : ℕ) → AreGroups (seen rows) me i
     → is_granted_on (made One me rows i) child READ_ATTRIBUTES
     ≡ is_granted_on (basis_on policy me rows) child READ_ATTRIBUTES
 granted-both policy me rows i child groups =
@@ -345,7 +345,7 @@ row-with album child reason title =
     (if option_map_or (λ (r : Reason). is_grant r.verdict) reason false then title else None)
 
 listed-both :
-    (policy : Policy) (me : Principal) (album : ℕ) (one other : List Answer) (i j : ℕ → Bool)
+    (policy : Policy) (me : Principal) (album : ℕ) (one other : List ReadVersion) (i j : ℕ → Bool)
     → AreAlikeFor policy me (ask.List album) one other → AreGroups (seen one) me i → AreGroups (seen other) me j
     → seen one album ≡ seen other album
     → listed (made One me one i) album ≡ listed (made One me other j) album
@@ -386,7 +386,7 @@ listed-both policy me album one other i j alike a b same =
         (reason-both (ask.List album) one other One me i j alike.ruled a b child READ_ATTRIBUTES subject)
 
 pub rows-alike :
-    (policy : Policy) (me : Principal) (album : ℕ) (one other : List Answer) (rows more : List Row)
+    (policy : Policy) (me : Principal) (album : ℕ) (one other : List ReadVersion) (rows more : List Row)
     → AreAlikeFor policy me (ask.List album) one other
     → IsTrue (is_granted_on (basis_on policy me one) album LIST_DIRECTORY)
     → IsListing (record { ask = ask.List album; rows = one }) me rows

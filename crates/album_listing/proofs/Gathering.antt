@@ -15,7 +15,7 @@ use Rattle.album_items.specs.ItemIds.{group, number_of, kind_of}
 use Rattle.album_items.specs.Values.{members_of}
 use Rattle.album_items.specs.declared.values.Value.{Value}
 use Rattle.album_items.specs.declared.values.Value.TheVariants.{Missing}
-use Rattle.album_reader.specs.Answers.{Answer}
+use Rattle.album_reader.specs.Answers.{ReadVersion}
 use Rattle.album_reader.specs.Snapshots.{items_read, version_read}
 use Rattle.album_views.specs.Seen.{seen}
 use Rattle.album_views.proofs.Sets.{has, in-right, in-here}
@@ -102,7 +102,7 @@ gathered-other seen items n listed l kind gathered number =
     ∙ has-other (take n items) (get_or items n 0) (group number) other))
 
 -- what was not read is missing
-unread : (rows : List Answer) (item : ℕ) → has (items_read rows) item ≡ false → seen rows item ≡ Missing
+unread : (rows : List ReadVersion) (item : ℕ) → has (items_read rows) item ≡ false → seen rows item ≡ Missing
 unfolding seen
 unread rows item e = go (version_read rows item) (read-has rows item ∙ e)
   where
@@ -111,7 +111,7 @@ unread rows item e = go (version_read rows item) (read-has rows item ∙ e)
     go (Some version) e = absurd (cc)
 
 pub gathered-all :
-    (rows : List Answer) (n : ℕ) (listed : ℕ → List Member) → length (items_read rows) ≤ n
+    (rows : List ReadVersion) (n : ℕ) (listed : ℕ → List Member) → length (items_read rows) ≤ n
     → IsGathered (seen rows) (take n (items_read rows)) listed
     → (number : ℕ) → listed number ≡ members_seen (seen rows) number
 gathered-all rows n listed l gathered number =
@@ -146,7 +146,7 @@ member-along a b (principal.User user) same number m = in-along a b user same nu
 
 -- the groups by lists that are those seen
 pub groups-are :
-    (rows : List Answer) (p : Principal) (listed : ℕ → List Member) (is_in : ℕ → Bool)
+    (rows : List ReadVersion) (p : Principal) (listed : ℕ → List Member) (is_in : ℕ → Bool)
     → ((number : ℕ) → listed number ≡ members_seen (seen rows) number)
     → ((number : ℕ) → IsTrue (is_in number) ↔ IsMember listed p number)
     → AreGroups (seen rows) p is_in

@@ -21,7 +21,7 @@ use Rattle.album_items.specs.ItemIds.{group, number_of, kind_of}
 use Rattle.album_items.specs.Values.{members_of}
 use Rattle.album_items.specs.declared.values.Value.{Value}
 use Rattle.album_items.specs.declared.values.Value.TheVariants.{Missing}
-use Rattle.album_reader.specs.Answers.{Answer}
+use Rattle.album_reader.specs.Answers.{ReadVersion}
 use Rattle.album_reader.specs.Snapshots.{items_read, version_read}
 use Rattle.album_reader.proofs.Snapshots.{length-items}
 use Rattle.album_views.specs.Seen.{seen}
@@ -128,7 +128,7 @@ any-more p q goes (x ∷ xs) h =
       | inr r ↦ or_right (q x) (list_any q xs) (any-more p q goes xs r)
     ]
 
-module _ (who : Principal) (rows : List Answer) where
+module _ (who : Principal) (rows : List ReadVersion) where
   abbrev listed : ℕ → List Member
   listed = members_seen (seen rows)
 
@@ -308,12 +308,12 @@ module _ (who : Principal) (rows : List Answer) where
       (subst (λ (p : Principal). is_user p user ≡ true) (sym is) ((bytes_eq-Decides user user).1 refl))
   in-found user is number (by_group n inner c h) = into-found number (member.Group inner) c (in-found user is inner h)
 
-member-found : (who : Principal) (rows : List Answer) (number : ℕ) → IsMember (members_seen (seen rows)) who number
+member-found : (who : Principal) (rows : List ReadVersion) (number : ℕ) → IsMember (members_seen (seen rows)) who number
     → has (groups_found who rows) number ≡ true
 member-found principal.Anonymous rows number m = absurd m
 member-found (principal.User user) rows number m = in-found (principal.User user) rows user refl number m
 
-pub basis-based : (policy : Policy) (who : Principal) (rows : List Answer)
+pub basis-based : (policy : Policy) (who : Principal) (rows : List ReadVersion)
     → IsBasis policy who rows (basis_on policy who rows)
 basis-based policy who rows =
     record {

@@ -22,9 +22,9 @@ use Rattle.album_items.specs.Values.{head_of, children_of, entries_of, members_o
 use Rattle.album_items.specs.declared.values.Head.{Head}
 use Rattle.album_items.specs.declared.values.Value.{Value}
 use Rattle.album_items.specs.declared.values.Value.TheVariants.{Missing}
-use Rattle.album_reader.specs.Answers.{Answer}
-use Rattle.album_views.specs.Naming.{IsNamed, subjects_of}
-use Rattle.album_views.specs.Naming.IsNamed.{Subject, ListOf, HeadGroupOf, GroupInListOf, GroupInGroup}
+use Rattle.album_reader.specs.Answers.{ReadVersion}
+use Rattle.album_views.specs.ReadSets.{IsNamed, subjects_of}
+use Rattle.album_views.specs.ReadSets.IsNamed.{Subject, ListOf, HeadGroupOf, GroupInListOf, GroupInGroup}
 use Rattle.album_views.specs.Seen.{seen}
 use Rattle.album_views.specs.declared.asks.Ask.{Ask}
 use Rattle.album_views.specs.declared.asks.Ask.TheVariants as ask
@@ -40,11 +40,11 @@ use Rattle.album_listing.proofs.Judging.{first-of, verdict-alike}
 -- ---- the basis
 
 -- a basis, made of its parts
-abbrev pub made : Policy → Principal → List Answer → (ℕ → Bool) → Basis
+abbrev pub made : Policy → Principal → List ReadVersion → (ℕ → Bool) → Basis
 made policy me rows is_in = record { policy = policy; principal = me; is_in = is_in; seen = seen rows }
 
 pub basis-made :
-    (policy : Policy) (me : Principal) (rows : List Answer) (basis : Basis) → IsBasis policy me rows basis
+    (policy : Policy) (me : Principal) (rows : List ReadVersion) (basis : Basis) → IsBasis policy me rows basis
     → basis ≡ made policy me rows basis.is_in
 basis-made policy me rows basis based =
     λ k. record {
@@ -77,7 +77,7 @@ inner-in (m ∷ ms) inner c = go (inner-in ms inner) c.0 c.1 c.2
     go rest (suc k) l e =
         Contains-append_right (group_of_member m) (flat_map group_of_member ms) (group inner) (rest (k, omega (arith, l), e))
 
-module _ (ask : Ask) (one other : List Answer) (agree : AgreeOn ask one other) where
+module _ (ask : Ask) (one other : List ReadVersion) (agree : AgreeOn ask one other) where
   -- what is named is seen the same
   pub seen-alike : (item : ℕ) → IsNamed (seen one) ask item → seen one item ≡ seen other item
   unfolding seen
@@ -171,7 +171,7 @@ row-by album child reason value =
     (if option_map_or (λ (r : Reason). is_grant r.verdict) reason false then title_in (number_of album) value else None)
 
 pub listed-alike :
-    (album : ℕ) (one other : List Answer) (me : Principal) (i j : ℕ → Bool) → AgreeOn (ask.List album) one other
+    (album : ℕ) (one other : List ReadVersion) (me : Principal) (i j : ℕ → Bool) → AgreeOn (ask.List album) one other
     → AreGroups (seen one) me i → AreGroups (seen other) me j
     → listed (made One me one i) album ≡ listed (made One me other j) album
 listed-alike album one other me i j agree a b =
@@ -192,7 +192,7 @@ listed-alike album one other me i j agree a b =
 
 -- the listings of two snapshots that agree are one
 pub listings-alike :
-    (asked : Ask) (one other : List Answer) (me : Principal) (rows more : List Row) → AgreeOn asked one other
+    (asked : Ask) (one other : List ReadVersion) (me : Principal) (rows more : List Row) → AgreeOn asked one other
     → IsListing (record { ask = asked; rows = one }) me rows → IsListing (record { ask = asked; rows = other }) me more
     → rows ≡ more
 listings-alike asked one other me rows more agree l m =

@@ -7,7 +7,7 @@ use Rattle.album_eval.specs.declared.policies.Policy.{Policy}
 use Rattle.album_items.specs.ItemIds.{group}
 use Rattle.album_items.specs.Values.{members_of}
 use Rattle.album_items.specs.declared.values.Value.{Value}
-use Rattle.album_reader.specs.Answers.{Answer}
+use Rattle.album_reader.specs.Answers.{ReadVersion}
 use Rattle.album_views.specs.Seen.{seen}
 
 -- by which policy it is ruled, for whom, whether that is in a group, and what is seen of each item
@@ -26,7 +26,7 @@ pub record AreGroups (seen : ℕ → Value) (principal : Principal) (is_in : ℕ
   pub tied : (number : ℕ) → IsTrue (is_in number) ↔ IsMember (members_seen seen) principal number
 
 -- the ruling is by this policy and for this principal, on what these answers show, its groups among it
-pub record IsBasis (policy : Policy) (principal : Principal) (rows : List Answer) (basis : Basis) : Type 0 where
+pub record IsBasis (policy : Policy) (principal : Principal) (rows : List ReadVersion) (basis : Basis) : Type 0 where
   pub ruled_by : basis.policy ≡ policy
   pub ruled_for : basis.principal ≡ principal
   pub shown : basis.seen ≡ seen rows

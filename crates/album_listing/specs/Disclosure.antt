@@ -4,15 +4,15 @@ use Rattle.album_eval.specs.declared.facts.Principal.{Principal}
 use Rattle.album_eval.specs.declared.policies.Policy.{Policy}
 use Rattle.album_items.specs.declared.values.Value.{Value}
 use Rattle.album_items.specs.declared.values.Value.TheVariants as value
-use Rattle.album_reader.specs.Answers.{Answer}
+use Rattle.album_reader.specs.Answers.{ReadVersion}
 use Rattle.album_reader.specs.Snapshots.{version_read}
-use Rattle.album_views.specs.Naming.{IsNamed}
+use Rattle.album_views.specs.ReadSets.{IsNamed}
 use Rattle.album_views.specs.Seen.{seen}
 use Rattle.album_views.specs.declared.asks.Ask.{Ask}
 use Rattle.album_listing.specs.GroupsFound.{basis_on}
 use Rattle.album_listing.specs.Masks.{READ_DATA, READ_ATTRIBUTES, READ_ACL}
 use Rattle.album_listing.specs.Reasons.{is_granted_on}
-use Rattle.album_listing.specs.Sights.{stamp_named}
+use Rattle.album_listing.specs.ViewLookups.{stamp_named}
 use Rattle.album_listing.specs.Told.{title_told}
 
 -- what a ruling looks at in a value: all of it but title, content and children
@@ -24,16 +24,16 @@ bare (value.List entries) = value.List entries
 bare (value.Group group) = value.Group group
 
 -- the same of an item, if it was read
-abbrev pub bare_read : List Answer → ℕ → Option Value
+abbrev pub bare_read : List ReadVersion → ℕ → Option Value
 bare_read rows item = option_map (λ version. bare version.1) (version_read rows item)
 
 -- Of each item that is named by the one, both show what a ruling looks at alike, or show nothing.
-pub record AreRuledAlike (ask : Ask) (one other : List Answer) : Type 0 where
+pub record AreRuledAlike (ask : Ask) (one other : List ReadVersion) : Type 0 where
   pub bared : (item : ℕ) → IsNamed (seen one) ask item → bare_read one item ≡ bare_read other item
 
 -- The principal can tell the two apart by nothing that it may read. What is not named differs as it will. Of what is
 -- named the stamps differ, and titles, contents and children, wherever these are not granted.
-pub record AreAlikeFor (policy : Policy) (principal : Principal) (ask : Ask) (one other : List Answer) : Type 0 where
+pub record AreAlikeFor (policy : Policy) (principal : Principal) (ask : Ask) (one other : List ReadVersion) : Type 0 where
   pub ruled : AreRuledAlike ask one other
   -- what it may read, or list, is the same with its stamp
   pub read :

@@ -2,8 +2,8 @@ pub mod Masks
 pub mod Basis
 pub mod GroupsFound
 pub mod Reasons
-pub mod Sights
-pub mod Hearings
+pub mod ViewLookups
+pub mod RulingContexts
 pub mod Listing
 pub mod Showing
 pub mod Told

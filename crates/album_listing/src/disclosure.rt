@@ -2,7 +2,7 @@
 ghost use Rattle.std.specs.Prelude.{◌≡◌, ℕ, List, IsTrue};
 ghost use Rattle.album_eval.specs.declared.facts.Principal.{Principal};
 ghost use Rattle.album_eval.specs.declared.policies.Policy.{Policy};
-ghost use Rattle.album_reader.specs.Answers.{Answer};
+ghost use Rattle.album_reader.specs.Answers.{ReadVersion};
 ghost use Rattle.album_views.specs.declared.asks.Ask.TheVariants as ask;
 ghost use Rattle.album_listing.specs.Disclosure.{AreAlikeFor};
 ghost use Rattle.album_listing.specs.GroupsFound.{basis_on};
@@ -14,7 +14,7 @@ ghost use Rattle.album_listing.specs.declared.rows.Row.{Row};
 /// A law: a listing discloses nothing that who asks may not read. Of an album that it may list, a principal is listed
 /// the same rows on two snapshots that are alike for it.
 pub fn listings_disclose_nothing()
-    ensures { (policy : Policy) (principal : Principal) (album : ℕ) (one other : List Answer) (rows more : List Row)
+    ensures { (policy : Policy) (principal : Principal) (album : ℕ) (one other : List ReadVersion) (rows more : List Row)
         → AreAlikeFor policy principal (ask.List album) one other
         → IsTrue (is_granted_on (basis_on policy principal one) album LIST_DIRECTORY)
         → IsListing (record { ask = ask.List album; rows = one }) principal rows

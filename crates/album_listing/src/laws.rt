@@ -2,7 +2,7 @@
 ghost use Rattle.std.specs.Prelude.{◌≡◌, ℕ, List};
 ghost use Rattle.album_eval.specs.declared.facts.Principal.{Principal};
 ghost use Rattle.album_eval.specs.declared.policies.Policy.TheVariants.{One, Two};
-ghost use Rattle.album_reader.specs.Answers.{Answer};
+ghost use Rattle.album_reader.specs.Answers.{ReadVersion};
 ghost use Rattle.album_views.specs.declared.asks.Ask.{Ask};
 ghost use Rattle.album_listing.specs.Agreement.{AgreeOn};
 ghost use Rattle.album_listing.specs.Basis.{Basis};
@@ -12,7 +12,7 @@ ghost use Rattle.album_listing.specs.declared.rows.Row.{Row};
 /// A law: a listing looks at nothing that is not named. Where two snapshots agree on all that is named for the
 /// ask by the one, a principal has the same rows on both; so on one snapshot there is one listing.
 pub fn listings_look_at_what_is_named()
-    ensures { (ask : Ask) (one other : List Answer) (principal : Principal) (rows more : List Row)
+    ensures { (ask : Ask) (one other : List ReadVersion) (principal : Principal) (rows more : List Row)
         → AgreeOn ask one other
         → IsListing (record { ask = ask; rows = one }) principal rows
         → IsListing (record { ask = ask; rows = other }) principal more

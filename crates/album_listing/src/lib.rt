@@ -6,9 +6,9 @@
 
 // What a ruling is based on.
 mod groups;
-mod hearings;
 mod reasons;
-mod sights;
+mod ruling_contexts;
+mod view_lookups;
 
 // The rows of an album.
 mod listing;
@@ -22,10 +22,10 @@ mod titles;
 
 pub use bases::a_ruling_has_a_basis;
 pub use disclosure::listings_disclose_nothing;
-pub use hearings::Hearing;
 pub use laws::{listings_are_alike, listings_look_at_what_is_named};
 pub use listing::list;
 pub use reasons::{Alternative, Reason};
 pub use rows::{Row, Rows};
-pub use sights::Sight;
+pub use ruling_contexts::RulingContext;
 pub use titles::titles_are_shown_where_granted;
+pub use view_lookups::ViewLookup;

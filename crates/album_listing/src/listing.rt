@@ -3,14 +3,14 @@ ghost use Rattle.std.specs.Prelude.{◌≡◌, ◌==◌, ◌++◌, ◌∷◌, []
 ghost use Rattle.std.specs.List.{filter_map};
 ghost use Rattle.std.specs.Option.{option_copied, option_map_or};
 ghost use Rattle.album_views.specs.Asks.{is_list};
-ghost use Rattle.album_listing.specs.Hearings.{basis_of};
+ghost use Rattle.album_listing.specs.RulingContexts.{basis_of};
 ghost use Rattle.album_listing.specs.Listing.{title_in, title_shown, row_for, listed, IsListing};
 ghost use Rattle.album_listing.specs.Masks.{READ_ATTRIBUTES};
 ghost use Rattle.album_listing.specs.Reasons.{is_granted_on};
 
-use crate::hearings::Hearing;
 use crate::reasons::Alternative;
 use crate::rows::{Row, Rows};
+use crate::ruling_contexts::RulingContext;
 use album_access::Mask;
 use album_eval::{Policy, Principal};
 use album_items::{ItemId, Title, Value};
@@ -30,22 +30,22 @@ pub fn list(alloc: Global, view: &View, principal: &Principal) -> Result<Rows, R
     ensures rows { IfOk result (λ rows. IsListing view.now principal.now rows) }
     ensures memory { IsOkUnless result Refusal.OutOfMemory }
 {
-    let hearing = Hearing::of(alloc, view, principal, Policy::One)?;
+    let context = RulingContext::of(alloc, view, principal, Policy::One)?;
     let Ask::List { album } = view.ask() else {
         unreachable!();
     };
-    let rows = listed(alloc, &hearing, *album)?;
+    let rows = listed(alloc, &context, *album)?;
     Ok(Rows::of(rows))
 }
 
 /// The rows of the children that have one.
-fn listed(alloc: Global, hearing: &Hearing, album: ItemId) -> Result<Vec<Row>, Refusal>
-    ensures rows { IfOk result (λ rows. rows.items ≡ listed (basis_of hearing.now) album) }
+fn listed(alloc: Global, context: &RulingContext, album: ItemId) -> Result<Vec<Row>, Refusal>
+    ensures rows { IfOk result (λ rows. rows.items ≡ listed (basis_of context.now) album) }
     ensures memory { IsOkUnless result Refusal.OutOfMemory }
 {
     let mut rows = Vec::new(alloc);
-    for child in hearing.sight().value(album).children() {
-        add_row(&mut rows, hearing, album, *child)?;
+    for child in context.lookup().value(album).children() {
+        add_row(&mut rows, context, album, *child)?;
     }
     Ok(rows)
 }
@@ -53,15 +53,15 @@ fn listed(alloc: Global, hearing: &Hearing, album: ItemId) -> Result<Vec<Row>, R
 /// Adds the row of the child, if its title is shown.
 fn add_row(
     rows: &mut Vec<Row>,
-    hearing: &Hearing,
+    context: &RulingContext,
     album: ItemId,
     child: ItemId,
 ) -> Result<(), Refusal>
     ensures row { OnOk result (rows.new.items
-        ≡ rows.old.items ++ filter_map (row_for (basis_of hearing.now) album) (child ∷ [])) }
+        ≡ rows.old.items ++ filter_map (row_for (basis_of context.now) album) (child ∷ [])) }
     ensures memory { IsOkUnless result Refusal.OutOfMemory }
 {
-    if let Some(title) = title_shown(hearing, album, child) {
+    if let Some(title) = title_shown(context, album, child) {
         rows.push(Row {
             item: child,
             title: title.copy()?,
@@ -71,24 +71,24 @@ fn add_row(
 }
 
 /// The title that is shown of the child.
-fn title_shown<'a>(hearing: &'a Hearing, album: ItemId, child: ItemId) -> Option<&'a Title>
-    ensures { option_copied result ≡ title_shown (basis_of hearing.now) album child }
+fn title_shown<'a>(context: &'a RulingContext, album: ItemId, child: ItemId) -> Option<&'a Title>
+    ensures { option_copied result ≡ title_shown (basis_of context.now) album child }
 {
-    if !may_see(hearing, child) {
+    if !may_see(context, child) {
         return None;
     }
-    title_in(album.number(), hearing.sight().value(child))
+    title_in(album.number(), context.lookup().value(child))
 }
 
 /// Whether READ_ATTRIBUTES is granted on the child.
-fn may_see(hearing: &Hearing, child: ItemId) -> bool
-    ensures { result ≡ is_granted_on (basis_of hearing.now) child READ_ATTRIBUTES }
+fn may_see(context: &RulingContext, child: ItemId) -> bool
+    ensures { result ≡ is_granted_on (basis_of context.now) child READ_ATTRIBUTES }
 {
     let alternative = Alternative {
         object: child,
         mask: Mask::READ_ATTRIBUTES,
     };
-    match hearing.reason(alternative) {
+    match context.reason(alternative) {
         Some(reason) => reason.is_grant(),
         None => false,
     }

@@ -9,7 +9,7 @@ use crate::inheritance::inherited;
 use crate::shared_lists::SharedList;
 use crate::whos::Who;
 use album_access::{AceFlags, AceType, Mask};
-use album_stamps::{MOST_ENTRIES, Refusal, Refused};
+use album_stamps::{MAX_ENTRIES, Refusal, Refused};
 use bitflags::Flags;
 use std::alloc::{AllocError, Global};
 use std::marker::Model;
@@ -40,7 +40,7 @@ pub enum Holder {
     Folder,
 }
 
-/// At most `MOST_ENTRIES` entries, each one that a line can spell, and with `INHERIT_ONLY` only where
+/// At most `MAX_ENTRIES` entries, each one that a line can spell, and with `INHERIT_ONLY` only where
 /// something inherits it. Contracts see the entries in order.
 #[derive(Debug, Drop)]
 pub struct AccessList {
@@ -51,14 +51,14 @@ impl Model for AccessList {
     ghost use Rattle.std.specs.Prelude.{List, length, ◌≤◌, IsTrue};
     ghost use Rattle.std.specs.List.{list_all};
     ghost use Rattle.album_lists.specs.declared.lists.Ace.{Ace};
-    ghost use Rattle.album_stamps.specs.declared.limits.TheConstants.{MOST_ENTRIES};
+    ghost use Rattle.album_stamps.specs.declared.limits.TheConstants.{MAX_ENTRIES};
     ghost use Rattle.album_lists.specs.Entries.{is_whole};
 
     ghost Value = { List Ace };
 
     ghost view = { λ l. l.entries };
 
-    ghost invariant = { λ l. (length l.entries ≤ MOST_ENTRIES) × IsTrue (list_all is_whole l.entries) };
+    ghost invariant = { λ l. (length l.entries ≤ MAX_ENTRIES) × IsTrue (list_all is_whole l.entries) };
 }
 
 // By hand, since the search doesn't find a derived clone of what holds a list equal.
@@ -76,7 +76,7 @@ impl AccessList {
     ///
     /// # Errors
     ///
-    /// `ListFull` where they are more than `MOST_ENTRIES`. Else `BadFlags` where one is only inherited and
+    /// `ListFull` where they are more than `MAX_ENTRIES`. Else `BadFlags` where one is only inherited and
     /// nothing inherits it, or is one that no line can spell: its mask is empty, its mask or its flags
     /// have a bit without a name, or its who does not go with its flags. The entries are handed back.
     #[tactic(auto, unfolding(crate::specs::Entries::access_list_of))]
@@ -85,7 +85,7 @@ impl AccessList {
         ensures refused { IfErr result (λ e. access_list_of entries.items ≡ Err e.refusal) }
         ensures given { IfErr result (λ e. e.given ≡ entries) }
     {
-        if entries.len() > MOST_ENTRIES {
+        if entries.len() > MAX_ENTRIES {
             return Err(Refused {
                 refusal: Refusal::ListFull,
                 given: entries,
@@ -105,7 +105,7 @@ impl AccessList {
     /// The entries, in order.
     pub fn entries(&self) -> &[Ace]
         ensures entries { result.now ≡ self.now }
-        ensures few { length self.now ≤ MOST_ENTRIES }
+        ensures few { length self.now ≤ MAX_ENTRIES }
         ensures whole { IsTrue (list_all is_whole self.now) }
     {
         self.entries.as_slice()
@@ -133,11 +133,11 @@ impl AccessList {
     }
 
     /// Lets the copies that are made from now on share the entries.
-    pub fn share(&mut self) -> Result<(), Refusal>
+    pub fn make_shared(&mut self) -> Result<(), Refusal>
         ensures same { self.new ≡ self.old }
         ensures memory { IsOkUnless result Refusal.OutOfMemory }
     {
-        Ok(self.entries.share()?)
+        Ok(self.entries.make_shared()?)
     }
 
     /// The same list once more.

@@ -6,7 +6,7 @@ ghost use Rattle.album_stamps.specs.Outcome.{Makes};
 ghost use Rattle.album_stamps.specs.declared.refusals.Refusal.TheVariants.{BadWho};
 ghost use Rattle.album_lists.specs.Names.{is_name, is_name_byte, name_of};
 
-use album_stamps::{MOST_NAME, Refusal};
+use album_stamps::{MAX_NAME, Refusal};
 use arrayvec::ArrayString;
 use std::alloc::Global;
 use std::marker::Model;
@@ -15,7 +15,7 @@ use std::marker::Model;
 /// value itself. Contracts see them.
 #[derive(Clone, Debug, Drop)]
 pub struct Name {
-    text: ArrayString<MOST_NAME>,
+    text: ArrayString<MAX_NAME>,
 }
 
 impl Model for Name {
@@ -63,7 +63,7 @@ fn is_name(text: &str) -> bool
     ensures { result ≡ is_name text.now }
 {
     match text.len() {
-        1..=MOST_NAME => has_name_bytes(text),
+        1..=MAX_NAME => has_name_bytes(text),
         _ => false,
     }
 }

@@ -56,7 +56,7 @@ impl<T: Drop> SharedList<T> {
     /// # Errors
     ///
     /// Where memory is refused, the list stays as it was.
-    pub fn share(&mut self) -> Result<(), AllocError>
+    pub fn make_shared(&mut self) -> Result<(), AllocError>
         ensures same { self.new ≡ self.old }
     {
         let Kept::Own(elements) = &mut self.kept else {

@@ -17,7 +17,7 @@ use Rattle.album_calls.specs.declared.replies.Reply.TheVariants as reply
 use Rattle.album_terminate.specs.declared.deciding.StampState.{StampState}
 use Rattle.album_terminate.specs.declared.deciding.StampState.TheVariants as state
 use Rattle.album_partition.specs.declared.marks.Mark.TheVariants.{Prepared, Committed, Discarded}
-use Rattle.album_partition.specs.Answers.{Action, nothing, says, marks, marks_and_says, is_same, prepare_by, to_prepare, commit_by, to_commit, check_by, to_check, get_by, to_get, to_part, to_prepared, to_vote, to_status, to_body, action_of}
+use Rattle.album_partition.specs.Answers.{Action, nothing, says, marks, marks_and_says, is_same, prepare_by, on_prepare, commit_by, on_commit, check_by, on_check, get_by, on_get, on_vote_of, on_prepared, on_vote, on_status, on_body, action_of}
 use Rattle.album_partition.specs.Laws.{IsClash}
 use Rattle.album_partition.specs.Marks.{state_of, is_pending, is_full, items_at}
 use Rattle.album_partition.specs.Partition.{PartitionState, value_at, stamp_for, read_at}
@@ -91,7 +91,7 @@ pub record IsVotedPrepared (p : PartitionState) (from : Node) (b : Body) (e : Ac
   pub part : ℕ
   pub sender : from ≡ Part part
   pub told : b ≡ body.Reply (reply.Status t vote.Prepared)
-  pub done : e ≡ to_part p part t
+  pub done : e ≡ on_vote_of p part t
   pub due : lies_at part p.parts (items_at p.marks t) ≡ true
   pub pending : state_of p.marks t ≡ state.Pending
 
@@ -123,7 +123,7 @@ prepare_acts p from t ws is proper full f false g state.Committed e = said reply
 prepare_acts p from t ws is proper full f same g state.Discarded e = said (reply.Discarded t) refl e
 
 to_prepare_acts : (p : PartitionState) (from : Node) (t : ℕ) (ws : List Row) (is : List ℕ)
-    → Acts p from (body.Request (Prepare t ws is)) (to_prepare p t ws is)
+    → Acts p from (body.Request (Prepare t ws is)) (on_prepare p t ws is)
 to_prepare_acts p from t ws is = go (is_proper p.number p.parts t ws is) refl
   where
     go : (b : Bool) → is_proper p.number p.parts t ws is ≡ b
@@ -139,7 +139,7 @@ commit_acts p from t some state.Pending e = committed (record { t = t; asked = r
 commit_acts p from t some state.Committed e = said (reply.Committed t) refl e
 commit_acts p from t some state.Discarded e = said (reply.Discarded t) refl e
 
-to_commit_acts : (p : PartitionState) (from : Node) (t : ℕ) → Acts p from (body.Request (Commit t)) (to_commit p t)
+to_commit_acts : (p : PartitionState) (from : Node) (t : ℕ) → Acts p from (body.Request (Commit t)) (on_commit p t)
 to_commit_acts p from t = go (t == 0) refl
   where
     go : (b : Bool) → (t == 0) ≡ b → Acts p from (body.Request (Commit t)) (if b then says reply.Clash else commit_by (state_of p.marks t) t)
@@ -155,7 +155,7 @@ check_acts p from t some full f state.Pending e = said (reply.Status t vote.Prep
 check_acts p from t some full f state.Committed e = said (reply.Status t vote.Committed) refl e
 check_acts p from t some full f state.Discarded e = said (reply.Status t vote.Never) refl e
 
-to_check_acts : (p : PartitionState) (from : Node) (t : ℕ) → Acts p from (body.Request (Check t)) (to_check p t)
+to_check_acts : (p : PartitionState) (from : Node) (t : ℕ) → Acts p from (body.Request (Check t)) (on_check p t)
 to_check_acts p from t = go (t == 0) refl
   where
     go : (b : Bool) → (t == 0) ≡ b
@@ -163,7 +163,7 @@ to_check_acts p from t = go (t == 0) refl
     go true e = said reply.Clash refl ((Decides-eqb t 0).0 e)
     go false e = check_acts p from t e (is_full p.limit p.marks) refl (state_of p.marks t) refl
 
-to_get_acts : (p : PartitionState) (from : Node) (item : ℕ) (stamps : List ℕ) → Acts p from (body.Request (Get item stamps)) (to_get p item stamps)
+to_get_acts : (p : PartitionState) (from : Node) (item : ℕ) (stamps : List ℕ) → Acts p from (body.Request (Get item stamps)) (on_get p item stamps)
 to_get_acts p from item stamps = go (is_placed p.number p.parts item) refl (read_at p.marks item stamps) refl
   where
     go : (b : Bool) → is_placed p.number p.parts item ≡ b → (o : Option ℕ) → read_at p.marks item stamps ≡ o
@@ -175,31 +175,31 @@ to_get_acts p from item stamps = go (is_placed p.number p.parts item) refl (read
         (λ (placed : place_of p.parts item ≡ p.number). absurd (let there = (Decides-eqb (place_of p.parts item) p.number).1 placed in cc))
 
 prepared_acts : (p : PartitionState) (from : Node) (t : ℕ) → state_of p.marks t ≡ state.Pending
-    → Acts p from (body.Reply (reply.Status t vote.Prepared)) (to_prepared p from t)
+    → Acts p from (body.Reply (reply.Status t vote.Prepared)) (on_prepared p from t)
 prepared_acts p (Client client) t pending = idle refl
 prepared_acts p (Part part) t pending = go (lies_at part p.parts (items_at p.marks t)) refl
   where
     go : (b : Bool) → lies_at part p.parts (items_at p.marks t) ≡ b
-        → Acts p (Part part) (body.Reply (reply.Status t vote.Prepared)) (if b then to_part p part t else nothing)
+        → Acts p (Part part) (body.Reply (reply.Status t vote.Prepared)) (if b then on_vote_of p part t else nothing)
     go true e = voted_prepared (record { t = t; part = part; sender = refl; told = refl; done = refl; due = e; pending = pending })
     go false e = idle refl
 
 vote_acts : (p : PartitionState) (from : Node) (t : ℕ) (v : Vote) → state_of p.marks t ≡ state.Pending
-    → Acts p from (body.Reply (reply.Status t v)) (to_vote p from t v)
+    → Acts p from (body.Reply (reply.Status t v)) (on_vote p from t v)
 vote_acts p from t vote.Prepared pending = prepared_acts p from t pending
 vote_acts p from t vote.Committed pending = voted_committed (record { t = t; told = refl; done = refl; pending = pending })
 vote_acts p from t vote.Never pending = voted_never (record { t = t; told = refl; done = refl; pending = pending })
 
-status_acts : (p : PartitionState) (from : Node) (t : ℕ) (v : Vote) → Acts p from (body.Reply (reply.Status t v)) (to_status p from t v)
+status_acts : (p : PartitionState) (from : Node) (t : ℕ) (v : Vote) → Acts p from (body.Reply (reply.Status t v)) (on_status p from t v)
 status_acts p from t v = go (is_pending (state_of p.marks t)) refl
   where
-    go : (b : Bool) → is_pending (state_of p.marks t) ≡ b → Acts p from (body.Reply (reply.Status t v)) (if b then to_vote p from t v else nothing)
+    go : (b : Bool) → is_pending (state_of p.marks t) ≡ b → Acts p from (body.Reply (reply.Status t v)) (if b then on_vote p from t v else nothing)
     go true e = vote_acts p from t v (is_pending_tells (state_of p.marks t) e)
     go false e = idle refl
 
 -- ---- the whole table
 
-pub acts : (p : PartitionState) (from : Node) (b : Body) → Acts p from b (to_body p from b)
+pub acts : (p : PartitionState) (from : Node) (b : Body) → Acts p from b (on_body p from b)
 acts p from (body.Request (Prepare t ws is)) = to_prepare_acts p from t ws is
 acts p from (body.Request (Commit t)) = to_commit_acts p from t
 acts p from (body.Request (Get item stamps)) = to_get_acts p from item stamps
@@ -218,13 +218,13 @@ acts p from (body.Reply (reply.Gone i)) = idle refl
 pub acts_here : (p : PartitionState) (message : Message) → Acts p message.from message.body (action_of p message)
 acts_here p message = go (is_part message.to p.number)
   where
-    go : (b : Bool) → Acts p message.from message.body (if b then to_body p message.from message.body else nothing)
+    go : (b : Bool) → Acts p message.from message.body (if b then on_body p message.from message.body else nothing)
     go true = acts p message.from message.body
     go false = idle refl
 
--- ---- a Prepare of an unknown stamp, for `Partition::to_prepare`
+-- ---- a Prepare of an unknown stamp, for `Partition::on_prepare`
 
 pub unknown_prepared : (p : PartitionState) (t : ℕ) (ws : List Row) (is : List ℕ)
     → is_proper p.number p.parts t ws is ≡ true → state_of p.marks t ≡ state.Unknown
-    → prepare_by (is_full p.limit p.marks) (is_same p.marks t ws is) state.Unknown t ws is ≡ to_prepare p t ws is
+    → prepare_by (is_full p.limit p.marks) (is_same p.marks t ws is) state.Unknown t ws is ≡ on_prepare p t ws is
 unknown_prepared p t ws is proper unknown = rw (proper, unknown) refl

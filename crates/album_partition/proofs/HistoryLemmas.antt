@@ -9,7 +9,7 @@ use Rattle.std.specs.Cmp.{nat_cmp_is, Equal-is}
 use Rattle.std.proofs.lemmas.Map.Lookups.{exact_unsigned}
 use Rattle.std.proofs.lemmas.Bool.Decides.{Decides-eqb, same_from_decides}
 use Rattle.std.proofs.lemmas.List.{length-append, append_assoc, append-nil}
-use Rattle.album_stamps.specs.declared.limits.TheConstants.{MOST_MARKS}
+use Rattle.album_stamps.specs.declared.limits.TheConstants.{MAX_MARKS}
 use Rattle.album_items.specs.Openings.{Row}
 use Rattle.album_terminate.specs.declared.deciding.StampState.{StampState}
 use Rattle.album_terminate.specs.declared.deciding.StampState.TheVariants as state
@@ -174,7 +174,7 @@ pub seen : {items marks : List Mark} {index : List (ℕ × Standing)} {count : �
 seen {index = index} {count = count} same h = subst (λ (ms : List Mark). IsHistory ms index count) same h
 
 -- how many stamps are pending then
-pub count_prepared : (marks : List Mark) (index : List (ℕ × Standing)) (count : ℕ) (mark : Mark) (t : ℕ) (ws : List Row) (is : List ℕ) → IsHistory marks index count → length marks < MOST_MARKS → may_follow marks mark ≡ true → mark ≡ Prepared t ws is → (count + 1 < 2 ^ 64) × (count + 1 ≡ length (pending_stamps (marks ++ mark ∷ [])))
+pub count_prepared : (marks : List Mark) (index : List (ℕ × Standing)) (count : ℕ) (mark : Mark) (t : ℕ) (ws : List Row) (is : List ℕ) → IsHistory marks index count → length marks < MAX_MARKS → may_follow marks mark ≡ true → mark ≡ Prepared t ws is → (count + 1 < 2 ^ 64) × (count + 1 ≡ length (pending_stamps (marks ++ mark ∷ [])))
 count_prepared marks index count mark t ws is h room may same =
     let counted : count ≡ length (pending_stamps marks) = h.count in
     let few : length (pending_stamps marks) ≤ length marks = pending_few marks in

@@ -29,7 +29,7 @@ use Rattle.album_versions.specs.Best.{best_of}
 use Rattle.album_versions.proofs.Greatest.{best_of-passes, Contains-best_of, All-best_of}
 use Rattle.album_partition.specs.declared.marks.Mark.{Mark}
 use Rattle.album_partition.specs.declared.marks.Mark.TheVariants.{Prepared, Committed, Discarded, Trimmed}
-use Rattle.album_partition.specs.Answers.{Action, nothing, says, get_by, marks, marks_and_says, mark_by, is_same, prepare_by, commit_by, check_by, to_prepare, to_check, to_part, to_vote, to_status, to_request, to_body, action_of, with_action, after, reply_to, answer}
+use Rattle.album_partition.specs.Answers.{Action, nothing, says, get_by, marks, marks_and_says, mark_by, is_same, prepare_by, commit_by, check_by, on_prepare, on_check, on_vote_of, on_vote, on_status, on_request, on_body, action_of, with_action, after, reply_to, answer}
 use Rattle.album_partition.specs.Laws.{IsTrueOf, IsClash, IsReplyTo, IsLatest, IsBest, IsReadAt, IsValueOf, IsReadOf, IsGoneFor, IsChecked, IsCause}
 use Rattle.album_partition.specs.Marks.{IsPromisedAgainst, is_mark_of, commits, state_of, is_pending, is_full, items_at, version, has_version, committed_stamps, latest}
 use Rattle.album_partition.specs.Partition.{PartitionState, IsPartition, value_at, stamp_for, read_at}
@@ -82,7 +82,7 @@ true_by p from b e (refused a) r f =
     (discarded_is_discarded p.marks a.t (unknown_tells _ _ _ a.unknown).0) f
 true_by p from b e (voted_committed a) r f = silent e (marks (Committed a.t)) r a.done refl f
 true_by p from b e (voted_never a) r f = silent e (marks (Discarded a.t)) r a.done refl f
-true_by p from b e (voted_prepared a) r f = silent e (to_part p a.part a.t) r a.done refl f
+true_by p from b e (voted_prepared a) r f = silent e (on_vote_of p a.part a.t) r a.done refl f
 
 -- what is answered is the reply, sent back
 answered_by : (p : PartitionState) (m told : Message) (o : Option Reply) → option_map (reply_to p m) o ≡ Some told
@@ -103,21 +103,21 @@ to_the_sender p m told e =
     let found = answered_by p m told (action_of p m).reply e in
     record { sender = ap (λ (x : Message). x.from) found.2; receiver = ap (λ (x : Message). x.to) found.2; tag = ap (λ (x : Message). x.tag) found.2 }
 
-status_silent : (p : PartitionState) (from : Node) (t : ℕ) (v : Vote) → (to_status p from t v).reply ≡ None
+status_silent : (p : PartitionState) (from : Node) (t : ℕ) (v : Vote) → (on_status p from t v).reply ≡ None
 status_silent p from t v = go (is_pending (state_of p.marks t)) from v
   where
-    part : (b : Bool) (q : ℕ) → (if b then to_part p q t else nothing).reply ≡ None
+    part : (b : Bool) (q : ℕ) → (if b then on_vote_of p q t else nothing).reply ≡ None
     part true q = refl
     part false q = refl
 
-    go : (b : Bool) (from : Node) (v : Vote) → (if b then to_vote p from t v else nothing).reply ≡ None
+    go : (b : Bool) (from : Node) (v : Vote) → (if b then on_vote p from t v else nothing).reply ≡ None
     go true (Part q) vote.Prepared = part (lies_at q p.parts (items_at p.marks t)) q
     go true (Client c) vote.Prepared = refl
     go true from vote.Committed = refl
     go true from vote.Never = refl
     go false from v = refl
 
-replies_silent : (p : PartitionState) (from : Node) (r : Reply) → (to_body p from (body.Reply r)).reply ≡ None
+replies_silent : (p : PartitionState) (from : Node) (r : Reply) → (on_body p from (body.Reply r)).reply ≡ None
 replies_silent p from (reply.Status t v) = status_silent p from t v
 replies_silent p from (reply.Prepared t) = refl
 replies_silent p from (reply.Committed t) = refl
@@ -129,28 +129,28 @@ replies_silent p from (reply.Full t) = refl
 replies_silent p from (reply.Gone i) = refl
 
 same_request : (p : PartitionState) (votes : List NotedVote) (from : Node) (q : Request)
-    → (to_body (record p { votes = votes }) from (body.Request q)).reply ≡ (to_body p from (body.Request q)).reply
+    → (on_body (record p { votes = votes }) from (body.Request q)).reply ≡ (on_body p from (body.Request q)).reply
 same_request p votes from (Prepare t ws is) = refl
 same_request p votes from (Commit t) = refl
 same_request p votes from (Get item stamps) = refl
 same_request p votes from (Check t) = refl
 
-same_reply : (p : PartitionState) (votes : List NotedVote) (from : Node) (b : Body) → (to_body (record p { votes = votes }) from b).reply ≡ (to_body p from b).reply
+same_reply : (p : PartitionState) (votes : List NotedVote) (from : Node) (b : Body) → (on_body (record p { votes = votes }) from b).reply ≡ (on_body p from b).reply
 same_reply p votes from (body.Request q) = same_request p votes from q
 same_reply p votes from (body.Reply r) = replies_silent (record p { votes = votes }) from r ∙ sym (replies_silent p from r)
 
 pub votes_do_not_matter : (p : PartitionState) (m : Message) (votes : List NotedVote) → answer (record p { votes = votes }) m ≡ answer p m
 votes_do_not_matter p m votes = ap (option_map (reply_to p m)) (go (is_part m.to p.number))
   where
-    go : (b : Bool) → (if b then to_body (record p { votes = votes }) m.from m.body else nothing).reply ≡ (if b then to_body p m.from m.body else nothing).reply
+    go : (b : Bool) → (if b then on_body (record p { votes = votes }) m.from m.body else nothing).reply ≡ (if b then on_body p m.from m.body else nothing).reply
     go true = same_reply p votes m.from m.body
     go false = refl
 
 pub replies_are_not_answered : (p : PartitionState) (m : Message) (r : Reply) → m.body ≡ body.Reply r → answer p m ≡ None
 replies_are_not_answered p m r e = ap (option_map (reply_to p m)) (go (is_part m.to p.number))
   where
-    go : (b : Bool) → (if b then to_body p m.from m.body else nothing).reply ≡ None
-    go true = ap (λ (x : Body). (to_body p m.from x).reply) e ∙ replies_silent p m.from r
+    go : (b : Bool) → (if b then on_body p m.from m.body else nothing).reply ≡ None
+    go true = ap (λ (x : Body). (on_body p m.from x).reply) e ∙ replies_silent p m.from r
     go false = refl
 
 pub others_do_nothing : (p : PartitionState) (m : Message) → is_part m.to p.number ≡ false → (after p m ≡ p) × (answer p m ≡ None)
@@ -230,7 +230,7 @@ promised_by p from b e t (refused a) unknown f =
     }
 promised_by p from b e t (voted_committed a) unknown f = silent e (marks (Committed a.t)) (reply.Status t vote.Never) a.done refl f
 promised_by p from b e t (voted_never a) unknown f = silent e (marks (Discarded a.t)) (reply.Status t vote.Never) a.done refl f
-promised_by p from b e t (voted_prepared a) unknown f = silent e (to_part p a.part a.t) (reply.Status t vote.Never) a.done refl f
+promised_by p from b e t (voted_prepared a) unknown f = silent e (on_vote_of p a.part a.t) (reply.Status t vote.Never) a.done refl f
 
 pub never_is_a_promise : (p : PartitionState) (m : Message) (t : ℕ) → state_of p.marks t ≡ state.Unknown
     → (action_of p m).reply ≡ Some (reply.Status t vote.Never) → IsPromisedAgainst (after p m).marks t
@@ -264,7 +264,7 @@ only_said p from b e r alone (refused a) f =
     let same : (reply.Status a.t vote.Never) ≡ r = (let g : Some (reply.Status a.t vote.Never) ≡ Some r = subst (λ (x : Action). x.reply ≡ Some r) a.done f in cc) in absurd (alone (subst ComesWithMark same tt))
 only_said p from b e r alone (voted_committed a) f = silent e (marks (Committed a.t)) r a.done refl f
 only_said p from b e r alone (voted_never a) f = silent e (marks (Discarded a.t)) r a.done refl f
-only_said p from b e r alone (voted_prepared a) f = silent e (to_part p a.part a.t) r a.done refl f
+only_said p from b e r alone (voted_prepared a) f = silent e (on_vote_of p a.part a.t) r a.done refl f
 
 said_here : (p : PartitionState) (m : Message) (r : Reply) → (ComesWithMark r → ⊥) → (action_of p m).reply ≡ Some r → IsSaid p m.body r
 said_here p m r alone f = only_said p m.from m.body (action_of p m) r alone (acts_here p m) f
@@ -281,12 +281,12 @@ other t h = go (t == 0) refl
     go false e = e
 
 pub full_check : (p : PartitionState) (t : ℕ) → t ≢ 0 → is_full p.limit p.marks ≡ true → state_of p.marks t ≡ state.Unknown
-    → to_check p t ≡ says (reply.Full t)
+    → on_check p t ≡ says (reply.Full t)
 full_check p t some full unknown = rw (other t some, full, unknown) refl
 
 pub full_prepare : (p : PartitionState) (t : ℕ) (ws : List Row) (is : List ℕ)
     → is_proper p.number p.parts t ws is ≡ true → is_full p.limit p.marks ≡ true → state_of p.marks t ≡ state.Unknown
-    → to_prepare p t ws is ≡ says (reply.Full t)
+    → on_prepare p t ws is ≡ says (reply.Full t)
 full_prepare p t ws is proper full unknown = rw (proper, full, unknown) refl
 
 -- it stays so
@@ -396,8 +396,8 @@ pub get_is_answered : (p : PartitionState) (m : Message) (item : ℕ) (stamps : 
     → m.body ≡ body.Request (Get item stamps) → is_part m.to p.number ≡ true → place_of p.parts item ≡ p.number
     → ((t : ℕ) × (v : Value) × ((action_of p m).reply ≡ Some (reply.Version item t v))) ⊎ ((action_of p m).reply ≡ Some (reply.Gone item))
 get_is_answered p m item stamps asked here placed = go (read_at p.marks item stamps) (
-    ap (λ (b : Bool). (if b then to_body p m.from m.body else nothing).reply) here
-    ∙ ap (λ (x : Body). (to_body p m.from x).reply) asked
+    ap (λ (b : Bool). (if b then on_body p m.from m.body else nothing).reply) here
+    ∙ ap (λ (x : Body). (on_body p m.from x).reply) asked
     ∙ ap (λ (b : Bool). (if b then get_by p item (read_at p.marks item stamps) else says reply.Clash).reply) ((Decides-eqb (place_of p.parts item) p.number).1 placed)
     )
   where
@@ -438,7 +438,7 @@ either : (b : Bool) (d e : Action) → is_some d.reply ≡ true → is_some e.re
 either true d e f g = f
 either false d e f g = g
 
-request_replies : (p : PartitionState) (q : Request) → is_some (to_request p q).reply ≡ true
+request_replies : (p : PartitionState) (q : Request) → is_some (on_request p q).reply ≡ true
 request_replies p (Prepare t ws is) =
     either (is_proper p.number p.parts t ws is) (prepare_by (is_full p.limit p.marks) (is_same p.marks t ws is) (state_of p.marks t) t ws is) (says reply.Clash)
     (prepare_replies (is_full p.limit p.marks) (is_same p.marks t ws is) (state_of p.marks t) t ws is) refl
@@ -455,8 +455,8 @@ request_replies p (Check t) =
 pub requests_are_answered : (p : PartitionState) (m : Message) (q : Request) → m.body ≡ body.Request q → is_part m.to p.number ≡ true → is_some (answer p m) ≡ true
 requests_are_answered p m q asked here =
     mapped (action_of p m).reply
-    ∙ ap (λ (b : Bool). is_some (if b then to_body p m.from m.body else nothing).reply) here
-    ∙ ap (λ (x : Body). is_some (to_body p m.from x).reply) asked
+    ∙ ap (λ (b : Bool). is_some (if b then on_body p m.from m.body else nothing).reply) here
+    ∙ ap (λ (x : Body). is_some (on_body p m.from x).reply) asked
     ∙ request_replies p q
   where
     mapped : (o : Option Reply) → is_some (option_map (reply_to p m) o) ≡ is_some o

@@ -1,11 +1,11 @@
 -- A partition opens as one and stays one, whatever message comes. `Partition::new` needs `opens`, `Partition::receive`
--- needs `stays` and `can_follow`, and `Partition::to_part` needs `heard_is_nothing`.
+-- needs `stays` and `can_follow`, and `Partition::on_vote_of` needs `heard_is_nothing`.
 use Rattle.std.proofs.Common.{◌≡◌, ℕ, ◌<◌, ◌≤◌, ◌+◌, Bool, true, false, ◌==◌, ◌&&◌, not, IfSome, List, [], ◌∷◌, ◌++◌, length, Option, Some, None, refl, sym, ap, ◌∙◌, subst, arith, if◌then◌else◌}
 use Rattle.std.specs.Prelude.{Ok, Err, nat_lt, nat_le}
 use Rattle.std.proofs.lemmas.Bool.{and_parts, not-true, leb-true, false≢true}
 use Rattle.std.proofs.lemmas.Bool.Decides.{Decides-ltb, Decides-eqb}
 use Rattle.std.proofs.lemmas.List.{append-nil, length-append}
-use Rattle.album_stamps.specs.declared.limits.TheConstants.{MOST_PARTS, LEAST_MARKS, MOST_MARKS}
+use Rattle.album_stamps.specs.declared.limits.TheConstants.{MAX_PARTS, MIN_MARKS, MAX_MARKS}
 use Rattle.album_stamps.specs.declared.refusals.Refusal.TheVariants.{BadOpening, NoSuchPart, Clash, Full}
 use Rattle.album_stamps.specs.Outcome.{◌>>=◌}
 use Rattle.album_items.specs.Openings.{Row, has_parts, has_limit, has_single_rows}
@@ -18,7 +18,7 @@ use Rattle.album_terminate.specs.declared.deciding.Decision.TheVariants as decis
 use Rattle.album_terminate.specs.declared.deciding.StampState.TheVariants as state
 use Rattle.album_partition.specs.declared.marks.Mark.{Mark}
 use Rattle.album_partition.specs.declared.marks.Mark.TheVariants.{Prepared, Committed, Discarded, Trimmed}
-use Rattle.album_partition.specs.Answers.{Action, mark_by, mark_with, nothing, marks, to_part, to_body, action_of, with_action, after}
+use Rattle.album_partition.specs.Answers.{Action, mark_by, mark_with, nothing, marks, on_vote_of, on_body, action_of, with_action, after}
 use Rattle.album_partition.specs.Marks.{is_mark_of, prepares, mark_writes, state_of, latest, floor, may_follow, is_full, load, pending_stamps, items_at}
 use Rattle.album_partition.specs.Partition.{PartitionState, IsPartition, opening_state, opened, may_open}
 use Rattle.album_items.specs.Places.{is_placed, lies_at, others_of, placed_at}
@@ -105,7 +105,7 @@ stays_with p mark h fits =
 -- and it can be stored
 can_store : (p : PartitionState) (mark : Mark) → IsPartition p → Fits p mark → CanFollow p.marks mark
 can_store p mark h fits =
-    let limit : p.limit ≤ MOST_MARKS = h.limit in
+    let limit : p.limit ≤ MAX_MARKS = h.limit in
     let room : load (p.marks ++ mark ∷ []) ≤ p.limit = fits.room in
     let one : length (p.marks ++ mark ∷ []) ≡ length p.marks + 1 = length-push p.marks mark in
     record { follows = fits.follows; room = omega arith; once = once mark fits.proper }
@@ -144,22 +144,22 @@ some_stamp p t h pending =
 
 -- one that was heard already does nothing
 pub heard_is_nothing : (p : PartitionState) (part t : ℕ) → IsPartition p → state_of p.marks t ≡ state.Pending
-    → has_vote p.votes t part ≡ true → nothing ≡ to_part p part t
+    → has_vote p.votes t part ≡ true → nothing ≡ on_vote_of p part t
 heard_is_nothing p part t h pending e =
     rw (e, heard_already p.number p.parts p.marks p.votes t part h.votes pending e) refl
 
 pub noted_is_nothing : (p : PartitionState) (part t : ℕ) → IsPartition p → state_of p.marks t ≡ state.Pending
-    → new_vote p.votes t part ≡ None → nothing ≡ to_part p part t
+    → new_vote p.votes t part ≡ None → nothing ≡ on_vote_of p part t
 noted_is_nothing p part t h pending old = go (has_vote p.votes t part) refl
   where
-    go : (b : Bool) → has_vote p.votes t part ≡ b → nothing ≡ to_part p part t
+    go : (b : Bool) → has_vote p.votes t part ≡ b → nothing ≡ on_vote_of p part t
     go true e = heard_is_nothing p part t h pending e
     go false e = absurd (let new : new_vote p.votes t part ≡ Some (record { stamp = t; part = part }) = rw e refl in cc)
 
 -- one that is new is noted
 pub new_is_noted : (p : PartitionState) (part t : ℕ) (mark : Option Mark) (noted : NotedVote)
     → mark ≡ mark_with p part t → new_vote p.votes t part ≡ Some noted
-    → record { mark = mark; vote = Some noted; reply = None } ≡ to_part p part t
+    → record { mark = mark; vote = Some noted; reply = None } ≡ on_vote_of p part t
 new_is_noted p part t mark noted marked new = rw (marked, new) refl
 
 -- nothing changes where there is neither mark nor vote
@@ -179,7 +179,7 @@ waits : (p : PartitionState) (part t : ℕ) → IsPartition p
     → lies_at part p.parts (items_at p.marks t) ≡ true
     → has_vote p.votes t part ≡ false
     → have_told (part ∷ heard p.votes t) (others_of p.number p.parts (items_at p.marks t)) ≡ false
-    → IsPartition (with_action p (to_part p part t))
+    → IsPartition (with_action p (on_vote_of p part t))
 waits p part t h due new not_all =
     rw (new, not_all) (rw (append-nil p.marks)
     (with_votes p (p.votes ++ record { stamp = t; part = part } ∷ []) h
@@ -190,7 +190,7 @@ settles : (p : PartitionState) (part t : ℕ) → IsPartition p → state_of p.m
     → lies_at part p.parts (items_at p.marks t) ≡ true
     → has_vote p.votes t part ≡ false
     → have_told (part ∷ heard p.votes t) (others_of p.number p.parts (items_at p.marks t)) ≡ true
-    → IsPartition (with_action p (to_part p part t))
+    → IsPartition (with_action p (on_vote_of p part t))
 settles p part t h pending due new all =
     let made = stays_with p (Committed t) h (fits_commit p t h (some_stamp p t h pending) pending) in
     let items : items_at (p.marks ++ Committed t ∷ []) t ≡ items_at p.marks t = items_stay p.marks (Committed t) t (pending_tells _ _ _ pending).2 in
@@ -203,12 +203,12 @@ settles p part t h pending due new all =
 
 with_vote : (p : PartitionState) (part t : ℕ) → IsPartition p → state_of p.marks t ≡ state.Pending
     → lies_at part p.parts (items_at p.marks t) ≡ true
-    → IsPartition (with_action p (to_part p part t))
+    → IsPartition (with_action p (on_vote_of p part t))
 with_vote p part t h pending due = go (has_vote p.votes t part) (have_told (part ∷ heard p.votes t) (others_of p.number p.parts (items_at p.marks t))) refl refl
   where
     go : (a b : Bool) → has_vote p.votes t part ≡ a
         → have_told (part ∷ heard p.votes t) (others_of p.number p.parts (items_at p.marks t)) ≡ b
-        → IsPartition (with_action p (to_part p part t))
+        → IsPartition (with_action p (on_vote_of p part t))
     go true b e f = subst (λ (action : Action). IsPartition (with_action p action)) (heard_is_nothing p part t h pending e) (unchanged p h)
     go false false e f = waits p part t h due e f
     go false true e f = settles p part t h pending due e f
@@ -239,8 +239,8 @@ stays_by p from b e h (voted_never a) =
 stays_by p from b e h (voted_prepared a) =
     subst (λ (action : Action). IsPartition (with_action p action)) (sym a.done) (with_vote p a.part a.t h a.pending a.due)
 
-pub stays : (p : PartitionState) (from : Node) (b : Body) → IsPartition p → IsPartition (with_action p (to_body p from b))
-stays p from b h = stays_by p from b (to_body p from b) h (acts p from b)
+pub stays : (p : PartitionState) (from : Node) (b : Body) → IsPartition p → IsPartition (with_action p (on_body p from b))
+stays p from b h = stays_by p from b (on_body p from b) h (acts p from b)
 
 pub stays_after : (p : PartitionState) (message : Message) → IsPartition p → IsPartition (after p message)
 stays_after p message h = stays_by p message.from message.body (action_of p message) h (acts_here p message)
@@ -261,8 +261,8 @@ follow_by p from b e h (voted_prepared a) = rw a.done (decided _)
     decided decision.Commit = can_store p (Committed a.t) h (fits_commit p a.t h (some_stamp p a.t h a.pending) a.pending)
     decided decision.Discard = can_store p (Discarded a.t) h (fits_discard p a.t h (some_stamp p a.t h a.pending) a.pending)
 
-pub can_follow : (p : PartitionState) (from : Node) (b : Body) → IsPartition p → IfSome (to_body p from b).mark (CanFollow p.marks)
-can_follow p from b h = follow_by p from b (to_body p from b) h (acts p from b)
+pub can_follow : (p : PartitionState) (from : Node) (b : Body) → IsPartition p → IfSome (on_body p from b).mark (CanFollow p.marks)
+can_follow p from b h = follow_by p from b (on_body p from b) h (acts p from b)
 
 -- ---- how it opens
 
@@ -271,10 +271,10 @@ pub opens : (number parts limit : ℕ) (items : List Row) → number < parts →
 opens number parts limit items here may =
     let counts = (and_parts (has_parts parts && has_limit limit) _ may).0 in
     let bounds = and_parts (has_parts parts) (has_limit limit) counts in
-    let few = leb-true parts MOST_PARTS (and_parts (nat_le 1 parts) _ bounds.0).1 in
-    let range = and_parts (nat_le LEAST_MARKS limit) (nat_le limit MOST_MARKS) bounds.1 in
-    let most = leb-true limit MOST_MARKS range.1 in
-    let least : LEAST_MARKS ≤ limit = leb-true LEAST_MARKS limit range.0 in
+    let few = leb-true parts MAX_PARTS (and_parts (nat_le 1 parts) _ bounds.0).1 in
+    let range = and_parts (nat_le MIN_MARKS limit) (nat_le limit MAX_MARKS) bounds.1 in
+    let most = leb-true limit MAX_MARKS range.1 in
+    let least : MIN_MARKS ≤ limit = leb-true MIN_MARKS limit range.0 in
     record {
       some = omega arith;
       few = few;

@@ -6,9 +6,9 @@ use Rattle.std.proofs.lemmas.Bool.{and_parts, and_from, or_parts, not-true}
 use Rattle.std.proofs.lemmas.Bool.Decides.{Decides-eqb, same_from_decides}
 use Rattle.std.specs.List.Sorted.{IsPermutation}
 use Rattle.std.proofs.lemmas.List.Sorted.{length_permutation, list_any-IsPermutation}
-use Rattle.album_stamps.specs.declared.limits.TheConstants.{MOST_TRANSACTION_ITEMS}
+use Rattle.album_stamps.specs.declared.limits.TheConstants.{MAX_TRANSACTION_ITEMS}
 use Rattle.album_items.specs.ItemIds.{place_of}
-use Rattle.album_stamps.specs.Distinct.{are_single}
+use Rattle.album_stamps.specs.Distinct.{are_distinct}
 use Rattle.album_items.specs.Openings.{Row, has_single_rows}
 use Rattle.album_partition.specs.Marks.{value_in}
 use Rattle.album_items.specs.Places.{is_placed, placed_at}
@@ -102,7 +102,7 @@ none-without x z (y ∷ ys) e other = go (y == x) refl e (λ (f : list_any (λ w
         none parts.0 (h parts.1)
 
 -- what stands once without a number that then is gone stood once with it
-single-without : (x : ℕ) (ys : List ℕ) → are_single (without x ys) ≡ true → among (without x ys) x ≡ false → are_single ys ≡ true
+single-without : (x : ℕ) (ys : List ℕ) → are_distinct (without x ys) ≡ true → among (without x ys) x ≡ false → are_distinct ys ≡ true
 single-without x [] e gone = refl
 single-without x (y ∷ ys) e gone = go (y == x) refl e gone (single-without x ys)
   where
@@ -110,16 +110,16 @@ single-without x (y ∷ ys) e gone = go (y == x) refl e gone (single-without x y
     turn [] = refl
     turn (z ∷ zs) = rw (turn zs, same_or_not z x (λ (f : z ≡ x). rw f refl) (λ (f : (z == x) ≡ false). f ∙ sym (turned z x f))) refl
 
-    go : (b : Bool) → (y == x) ≡ b → are_single (if b then ys else y ∷ without x ys) ≡ true → among (if b then ys else y ∷ without x ys) x ≡ false
-        → (are_single (without x ys) ≡ true → among (without x ys) x ≡ false → are_single ys ≡ true) → are_single (y ∷ ys) ≡ true
+    go : (b : Bool) → (y == x) ≡ b → are_distinct (if b then ys else y ∷ without x ys) ≡ true → among (if b then ys else y ∷ without x ys) x ≡ false
+        → (are_distinct (without x ys) ≡ true → among (without x ys) x ≡ false → are_distinct ys ≡ true) → are_distinct (y ∷ ys) ≡ true
     go true f e gone h =
-        and_from (not (list_any (λ w. y == w) ys)) (are_single ys)
+        and_from (not (list_any (λ w. y == w) ys)) (are_distinct ys)
         (ap not (subst (λ (w : ℕ). list_any (λ v. w == v) ys ≡ false) (sym ((Decides-eqb y x).0 f)) (sym (turn ys) ∙ gone)))
         e
     go false f e gone h =
-        let parts = and_parts (not (list_any (λ w. y == w) (without x ys))) (are_single (without x ys)) e in
+        let parts = and_parts (not (list_any (λ w. y == w) (without x ys))) (are_distinct (without x ys)) e in
         let g = or_parts (y == x) (among (without x ys) x) gone in
-        and_from (not (list_any (λ w. y == w) ys)) (are_single ys)
+        and_from (not (list_any (λ w. y == w) ys)) (are_distinct ys)
         (ap not (none-without x y ys (not-true (list_any (λ w. y == w) (without x ys)) parts.0) f))
         (h parts.1 g.1)
 
@@ -142,12 +142,12 @@ gone x xs (y ∷ ys) none all =
 
 -- Numbers that stand once and are all among others are at most as many; if they are as many, the others stand once
 -- too, and are all among them.
-counted : (xs ys : List ℕ) → are_single xs ≡ true → all_among ys xs ≡ true
-    → (length xs ≤ length ys) × (length ys ≡ length xs → (are_single ys ≡ true) × (all_among xs ys ≡ true))
+counted : (xs ys : List ℕ) → are_distinct xs ≡ true → all_among ys xs ≡ true
+    → (length xs ≤ length ys) × (length ys ≡ length xs → (are_distinct ys ≡ true) × (all_among xs ys ≡ true))
 counted [] [] single all = (omega arith, λ same. (refl, refl))
 counted [] (y ∷ ys) single all = (omega arith, λ same. absurd (omega (arith, same)))
 counted (x ∷ xs) ys single all =
-    let s = and_parts (not (list_any (λ z. x == z) xs)) (are_single xs) single in
+    let s = and_parts (not (list_any (λ z. x == z) xs)) (are_distinct xs) single in
     let a = and_parts (among ys x) (all_among ys xs) all in
     let none = not-true (list_any (λ z. x == z) xs) s.0 in
     let more = length-without x ys a.0 in
@@ -172,7 +172,7 @@ all_rows : (p : ℕ → Bool) (rows : List Row) → list_all (λ row. p row.0) r
 all_rows p [] = refl
 all_rows p (row ∷ rows) = ap (λ (b : Bool). p row.0 && b) (all_rows p rows)
 
-single_rows : (rows : List Row) → has_single_rows rows ≡ are_single (items_of_rows rows)
+single_rows : (rows : List Row) → has_single_rows rows ≡ are_distinct (items_of_rows rows)
 single_rows [] = refl
 single_rows (row ∷ rows) = rw (any_row (λ item. row.0 == item) rows, single_rows rows) refl
 
@@ -197,22 +197,22 @@ none_chosen test pass (n ∷ ns) e =
     go false e h = h
 
 -- those that are chosen of numbers that stand once stand once
-single_chosen : (pass : ℕ → Bool) (ns : List ℕ) → are_single ns ≡ true → are_single (filter pass ns) ≡ true
+single_chosen : (pass : ℕ → Bool) (ns : List ℕ) → are_distinct ns ≡ true → are_distinct (filter pass ns) ≡ true
 single_chosen pass [] e = refl
 single_chosen pass (n ∷ ns) e =
-    let parts = and_parts (not (list_any (λ m. n == m) ns)) (are_single ns) e in
+    let parts = and_parts (not (list_any (λ m. n == m) ns)) (are_distinct ns) e in
     go (pass n)
     (none_chosen (λ m. n == m) pass ns (not-true (list_any (λ m. n == m) ns) parts.0))
     (single_chosen pass ns parts.1)
   where
-    go : (b : Bool) → list_any (λ m. n == m) (filter pass ns) ≡ false → are_single (filter pass ns) ≡ true → are_single (cond b (n ∷ filter pass ns) (filter pass ns)) ≡ true
+    go : (b : Bool) → list_any (λ m. n == m) (filter pass ns) ≡ false → are_distinct (filter pass ns) ≡ true → are_distinct (cond b (n ∷ filter pass ns) (filter pass ns)) ≡ true
     go true none h = rw (none, h) refl
     go false none h = h
 
 -- ---- the rows of some items
 
 -- it is enough to count them, and to look for each item's row
-rows_by_count : (items : List ℕ) (rows : List Row) → are_single items ≡ true
+rows_by_count : (items : List ℕ) (rows : List Row) → are_distinct items ≡ true
     → (length rows == length items && list_all (has_row rows) items) ≡ are_rows_of items rows
 rows_by_count items rows single =
     same_from_decides {P = are_rows_of items rows ≡ true} (length rows == length items && list_all (has_row rows) items) (are_rows_of items rows)
@@ -237,7 +237,7 @@ rows_by_count items rows single =
         let same : length rows ≡ length items = omega arith in
         and_from (length rows == length items) (list_all (has_row rows) items) ((Decides-eqb (length rows) (length items)).1 same) parts.1
 
-pub rows_counted : (number parts : ℕ) (items : List ℕ) (rows : List Row) → are_single items ≡ true
+pub rows_counted : (number parts : ℕ) (items : List ℕ) (rows : List Row) → are_distinct items ≡ true
     → (length rows == length (placed_at number parts items) && list_all (has_row rows) (placed_at number parts items))
     ≡ are_rows_of (placed_at number parts items) rows
 rows_counted number parts items rows single =
@@ -302,7 +302,7 @@ have_in_any_order ws vs [] moved = refl
 have_in_any_order ws vs (item ∷ items) moved =
     rw (list_any-IsPermutation (λ row. row.0 == item) ws vs moved, have_in_any_order ws vs items moved) refl
 
-rows_in_any_order : (number parts : ℕ) (items : List ℕ) (ws vs : List Row) → are_single items ≡ true → IsPermutation ws vs
+rows_in_any_order : (number parts : ℕ) (items : List ℕ) (ws vs : List Row) → are_distinct items ≡ true → IsPermutation ws vs
     → are_rows_of (placed_at number parts items) ws ≡ are_rows_of (placed_at number parts items) vs
 rows_in_any_order number parts items ws vs single moved =
     sym (rows_counted number parts items ws single)
@@ -315,7 +315,7 @@ proper_in_any_order number parts t ws vs is moved = go (are_items is) refl
   where
     own : are_items is ≡ true → are_own_writes number parts ws is ≡ are_own_writes number parts vs is
     own e =
-        let single = (and_parts (not (length is == 0) && nat_le (length is) MOST_TRANSACTION_ITEMS) (are_single is) e).1 in
+        let single = (and_parts (not (length is == 0) && nat_le (length is) MAX_TRANSACTION_ITEMS) (are_distinct is) e).1 in
         rw (rows_in_any_order number parts is ws vs single moved, all_in_any_order has_right_kind ws vs moved) refl
 
     go : (b : Bool) → are_items is ≡ b → is_proper number parts t ws is ≡ is_proper number parts t vs is

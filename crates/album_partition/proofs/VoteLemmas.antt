@@ -1,5 +1,5 @@
 -- The votes stay as they have to be, as one mark or one vote more is kept. PartitionLemmas needs `votes_with_mark` and
--- `votes_with_vote`; `Partition::to_part` needs `heard_already`.
+-- `votes_with_vote`; `Partition::on_vote_of` needs `heard_already`.
 use Rattle.std.proofs.Common.{◌≡◌, ℕ, Bool, true, false, ◌==◌, ◌&&◌, ◌||◌, cond, List, [], ◌∷◌, ◌++◌, map, filter, Option, Some, refl, sym, ap, ◌∙◌, subst}
 use Rattle.std.specs.List.{list_any, list_all, find}
 use Rattle.std.specs.Option.{option_or}

@@ -64,8 +64,8 @@ prepare_by full same state.Committed stamp writes items =
     if same then says (reply.Prepared stamp) else says reply.Clash
 prepare_by full same state.Discarded stamp writes items = says (reply.Discarded stamp)
 
-abbrev pub to_prepare : PartitionState → ℕ → List Row → List ℕ → Action
-to_prepare partition stamp writes items =
+abbrev pub on_prepare : PartitionState → ℕ → List Row → List ℕ → Action
+on_prepare partition stamp writes items =
     if is_proper partition.number partition.parts stamp writes items
     then prepare_by
     (is_full partition.limit partition.marks)
@@ -81,8 +81,8 @@ commit_by state.Pending stamp = marks_and_says (mark.Committed stamp) (reply.Com
 commit_by state.Committed stamp = says (reply.Committed stamp)
 commit_by state.Discarded stamp = says (reply.Discarded stamp)
 
-abbrev pub to_commit : PartitionState → ℕ → Action
-to_commit partition stamp =
+abbrev pub on_commit : PartitionState → ℕ → Action
+on_commit partition stamp =
     if stamp == 0 then says reply.Clash else commit_by (state_of partition.marks stamp) stamp
 
 -- ---- a Check
@@ -95,8 +95,8 @@ check_by full state.Pending stamp = says (reply.Status stamp vote.Prepared)
 check_by full state.Committed stamp = says (reply.Status stamp vote.Committed)
 check_by full state.Discarded stamp = says (reply.Status stamp vote.Never)
 
-abbrev pub to_check : PartitionState → ℕ → Action
-to_check partition stamp =
+abbrev pub on_check : PartitionState → ℕ → Action
+on_check partition stamp =
     if stamp == 0 then says reply.Clash
     else check_by (is_full partition.limit partition.marks) (state_of partition.marks stamp) stamp
 
@@ -111,8 +111,8 @@ abbrev pub get_by : PartitionState → ℕ → Option ℕ → Action
 get_by partition item None = says (reply.Gone item)
 get_by partition item (Some stamp) = says_version partition item stamp
 
-abbrev pub to_get : PartitionState → ℕ → List ℕ → Action
-to_get partition item stamps =
+abbrev pub on_get : PartitionState → ℕ → List ℕ → Action
+on_get partition item stamps =
     if is_placed partition.number partition.parts item
     then get_by partition item (read_at partition.marks item stamps)
     else says reply.Clash
@@ -135,54 +135,54 @@ mark_with partition part stamp =
     stamp
 
 -- a vote Prepared, which one of the partitions of the items has told
-abbrev pub to_part : PartitionState → ℕ → ℕ → Action
-to_part partition part stamp =
+abbrev pub on_vote_of : PartitionState → ℕ → ℕ → Action
+on_vote_of partition part stamp =
     record { mark = mark_with partition part stamp; vote = new_vote partition.votes stamp part; reply = None }
 
-abbrev pub to_prepared : PartitionState → Node → ℕ → Action
-to_prepared partition (Part part) stamp =
+abbrev pub on_prepared : PartitionState → Node → ℕ → Action
+on_prepared partition (Part part) stamp =
     if lies_at part partition.parts (items_at partition.marks stamp)
-    then to_part partition part stamp
+    then on_vote_of partition part stamp
     else nothing
-to_prepared partition (Client client) stamp = nothing
+on_prepared partition (Client client) stamp = nothing
 
-abbrev pub to_vote : PartitionState → Node → ℕ → Vote → Action
-to_vote partition from stamp vote.Prepared = to_prepared partition from stamp
-to_vote partition from stamp vote.Committed = marks (mark.Committed stamp)
-to_vote partition from stamp vote.Never = marks (mark.Discarded stamp)
+abbrev pub on_vote : PartitionState → Node → ℕ → Vote → Action
+on_vote partition from stamp vote.Prepared = on_prepared partition from stamp
+on_vote partition from stamp vote.Committed = marks (mark.Committed stamp)
+on_vote partition from stamp vote.Never = marks (mark.Discarded stamp)
 
 -- a vote counts where the stamp is pending
-abbrev pub to_status : PartitionState → Node → ℕ → Vote → Action
-to_status partition from stamp vote =
-    if is_pending (state_of partition.marks stamp) then to_vote partition from stamp vote else nothing
+abbrev pub on_status : PartitionState → Node → ℕ → Vote → Action
+on_status partition from stamp vote =
+    if is_pending (state_of partition.marks stamp) then on_vote partition from stamp vote else nothing
 
 -- ---- a message
 
-abbrev pub to_request : PartitionState → Request → Action
-to_request partition (Prepare stamp writes items) = to_prepare partition stamp writes items
-to_request partition (Commit stamp) = to_commit partition stamp
-to_request partition (Get item stamps) = to_get partition item stamps
-to_request partition (Check stamp) = to_check partition stamp
+abbrev pub on_request : PartitionState → Request → Action
+on_request partition (Prepare stamp writes items) = on_prepare partition stamp writes items
+on_request partition (Commit stamp) = on_commit partition stamp
+on_request partition (Get item stamps) = on_get partition item stamps
+on_request partition (Check stamp) = on_check partition stamp
 
-abbrev pub to_reply : PartitionState → Node → Reply → Action
-to_reply partition from (reply.Status stamp vote) = to_status partition from stamp vote
-to_reply partition from (reply.Prepared stamp) = nothing
-to_reply partition from (reply.Committed stamp) = nothing
-to_reply partition from (reply.Discarded stamp) = nothing
-to_reply partition from (reply.Version item stamp value) = nothing
-to_reply partition from (reply.NotPrepared stamp) = nothing
-to_reply partition from reply.Clash = nothing
-to_reply partition from (reply.Full stamp) = nothing
-to_reply partition from (reply.Gone item) = nothing
+abbrev pub on_reply : PartitionState → Node → Reply → Action
+on_reply partition from (reply.Status stamp vote) = on_status partition from stamp vote
+on_reply partition from (reply.Prepared stamp) = nothing
+on_reply partition from (reply.Committed stamp) = nothing
+on_reply partition from (reply.Discarded stamp) = nothing
+on_reply partition from (reply.Version item stamp value) = nothing
+on_reply partition from (reply.NotPrepared stamp) = nothing
+on_reply partition from reply.Clash = nothing
+on_reply partition from (reply.Full stamp) = nothing
+on_reply partition from (reply.Gone item) = nothing
 
-abbrev pub to_body : PartitionState → Node → Body → Action
-to_body partition from (body.Request request) = to_request partition request
-to_body partition from (body.Reply reply) = to_reply partition from reply
+abbrev pub on_body : PartitionState → Node → Body → Action
+on_body partition from (body.Request request) = on_request partition request
+on_body partition from (body.Reply reply) = on_reply partition from reply
 
 -- what a message does here: nothing where it is another's
 abbrev pub action_of : PartitionState → Message → Action
 action_of partition message =
-    if is_part message.to partition.number then to_body partition message.from message.body else nothing
+    if is_part message.to partition.number then on_body partition message.from message.body else nothing
 
 -- the partition once that is done
 abbrev pub with_action : PartitionState → Action → PartitionState

@@ -2,7 +2,7 @@
 use Rattle.std.specs.Prelude.{◌≡◌, ℕ, ◌≤◌, ◌<◌, Bool, true, not, ◌==◌, ◌&&◌, nat_lt, nat_le, List, [], ◌∷◌, Option, Some, None, Result, Ok, Err, if◌then◌else◌}
 use Rattle.std.specs.List.{list_all}
 use Rattle.std.specs.Option.{unwrap_or}
-use Rattle.album_stamps.specs.declared.limits.TheConstants.{MOST_PARTS, MOST_MARKS}
+use Rattle.album_stamps.specs.declared.limits.TheConstants.{MAX_PARTS, MAX_MARKS}
 use Rattle.album_stamps.specs.declared.refusals.Refusal.{Refusal}
 use Rattle.album_stamps.specs.declared.refusals.Refusal.TheVariants.{BadOpening, NoSuchPart}
 use Rattle.album_items.specs.Openings.{Row, has_parts, has_limit, has_single_rows, has_own_value}
@@ -53,9 +53,9 @@ opened number parts items limit =
 -- what is true of each partition
 pub record IsPartition (partition : PartitionState) : Type 0 where
   pub some : 1 ≤ partition.parts
-  pub few : partition.parts ≤ MOST_PARTS
+  pub few : partition.parts ≤ MAX_PARTS
   pub here : partition.number < partition.parts
-  pub limit : partition.limit ≤ MOST_MARKS
+  pub limit : partition.limit ≤ MAX_MARKS
   pub room : load partition.marks ≤ partition.limit
   pub legal : is_legal partition.marks ≡ true
   pub proper : are_proper_marks partition.number partition.parts partition.marks ≡ true

@@ -1,6 +1,6 @@
 -- How the versions that a partition keeps are those of its marks.
 use Rattle.std.specs.Prelude.{◌≡◌, ℕ, ◌==◌, ◌<◌, nat_le, true, max, is_some, List, length, Some, None, if◌then◌else◌}
-use Rattle.album_stamps.specs.declared.limits.TheConstants.{MOST_MARKS}
+use Rattle.album_stamps.specs.declared.limits.TheConstants.{MAX_MARKS}
 use Rattle.album_items.specs.Openings.{Row, has_single_rows}
 use Rattle.album_versions.specs.Versions.{VersionsState, version_at, latest_of, floor_of}
 use Rattle.album_partition.specs.declared.marks.Mark.{Mark}
@@ -17,7 +17,7 @@ pub record IsStored (marks : List Mark) (kept : VersionsState) : Type 0 where
 -- the mark may follow those that are made, and prepares no item twice
 pub record CanFollow (marks : List Mark) (mark : Mark) : Type 0 where
   pub follows : may_follow marks mark ≡ true
-  pub room : length marks < MOST_MARKS
+  pub room : length marks < MAX_MARKS
   pub once : has_single_rows (mark_writes (Some mark)) ≡ true
 
 -- at one stamp each item has the version that the rows give it, unless that is below its floor, and nothing else

@@ -2,7 +2,7 @@
 ghost use Rattle.std.specs.Prelude.{◌≡◌, ◌<◌, ◌++◌, ◌∷◌, [], true, length, Some, IfOk, OnOk, OnErr};
 ghost use Rattle.std.specs.List.{slice_get};
 ghost use Rattle.std.specs.Option.{option_copied};
-ghost use Rattle.album_stamps.specs.declared.limits.TheConstants.{MOST_MARKS};
+ghost use Rattle.album_stamps.specs.declared.limits.TheConstants.{MAX_MARKS};
 ghost use Rattle.album_partition.specs.Marks.{ArePending, mark_writes, mark_items, state_of, may_follow, is_legal, pending_stamps};
 ghost use Rattle.album_partition.specs.History.{IsAt, Stands, WillStand, kept_mark};
 
@@ -120,7 +120,7 @@ impl History {
     /// Makes a mark, which may follow those before it.
     pub fn add(&mut self, mark: Mark) -> Result<(), AllocError>
         requires follows { may_follow self.old mark ≡ true }
-        requires room { length self.old < MOST_MARKS }
+        requires room { length self.old < MAX_MARKS }
         ensures ok { OnOk result (self.new ≡ self.old ++ mark ∷ []) }
         ensures err { OnErr result (self.new ≡ self.old) }
     {
@@ -160,7 +160,7 @@ impl History {
     /// What the mark will change. A trim changes how no stamp stands.
     fn change(&self, mark: &Mark) -> Option<Change>
         requires follows { may_follow self.now mark.now ≡ true }
-        requires room { length self.now < MOST_MARKS }
+        requires room { length self.now < MAX_MARKS }
         ensures { WillStand self.now mark.now result }
     {
         match mark {

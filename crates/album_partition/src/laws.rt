@@ -17,7 +17,7 @@ ghost use Rattle.album_versions.specs.Best.{best_of, unless_gone};
 ghost use Rattle.album_terminate.specs.declared.deciding.StampState.TheVariants as StampState;
 ghost use Rattle.album_partition.specs.declared.marks.Mark.{Mark};
 ghost use Rattle.album_partition.specs.declared.marks.Mark.TheVariants as Made;
-ghost use Rattle.album_partition.specs.Answers.{says, to_prepare, to_check, action_of, after, answer};
+ghost use Rattle.album_partition.specs.Answers.{says, on_prepare, on_check, action_of, after, answer};
 ghost use Rattle.album_partition.specs.Laws.{IsTrueOf, IsClash, IsReplyTo, IsReadOf, IsGoneFor, IsCause};
 ghost use Rattle.album_partition.specs.Marks.{IsPromisedAgainst, prepares, commits, discards, decides, trims, state_of, value_in, version, latest, floor, has_kept_version, may_follow, is_legal, load, is_full};
 ghost use Rattle.album_partition.specs.Partition.{PartitionState, IsPartition, opened, read_at};
@@ -194,12 +194,12 @@ pub fn full_has_its_cause()
     ensures check { (partition : PartitionState) (stamp : ℕ) → stamp ≢ 0
         → is_full partition.limit partition.marks ≡ true
         → state_of partition.marks stamp ≡ StampState.Unknown
-        → to_check partition stamp ≡ says (Reply.Full stamp) }
+        → on_check partition stamp ≡ says (Reply.Full stamp) }
     ensures prepare { (partition : PartitionState) (stamp : ℕ) (writes : List Row) (items : List ℕ)
         → is_proper partition.number partition.parts stamp writes items ≡ true
         → is_full partition.limit partition.marks ≡ true
         → state_of partition.marks stamp ≡ StampState.Unknown
-        → to_prepare partition stamp writes items ≡ says (Reply.Full stamp) }
+        → on_prepare partition stamp writes items ≡ says (Reply.Full stamp) }
 {}
 
 /// A law: where a partition is full it stays so, and a stamp that is unknown there stays unknown,

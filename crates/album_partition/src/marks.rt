@@ -31,7 +31,7 @@ impl Mark {
         ensures { IfOk result (λ mark. mark ≡ Mark.Prepared stamp writes.now items.now) }
     {
         let mut writes = clone_of(writes)?;
-        if let Err(_) = writes.share() {
+        if let Err(_) = writes.make_shared() {
             return Err(AllocError);
         }
         Ok(Mark::Prepared(stamp, writes, items.clone()?))

@@ -113,7 +113,7 @@ impl Partition {
         if !message.to().is_part(self.seat.number) {
             return Ok(None);
         }
-        let action = self.to_body(message.from(), message.body())?;
+        let action = self.on_body(message.from(), message.body())?;
         match self.apply(action)? {
             None => Ok(None),
             Some(reply) => Ok(Some(self.reply_to(message, reply))),
@@ -218,7 +218,7 @@ impl Partition {
         ensures given { IfErr result (λ e. e.given ≡ items) }
     {
         // The answers share the memory of the first values.
-        if let Err(refusal) = items.share() {
+        if let Err(refusal) = items.make_shared() {
             return Err(Refused {
                 refusal,
                 given: items,

@@ -1,7 +1,7 @@
 // The marks of a partition, and the versions that they make.
 ghost use Rattle.std.specs.Prelude.{◌≡◌, ◌<◌, ◌≤◌, ◌⊎◌, ◌++◌, ◌∷◌, [], ℕ, true, is_some, option_to_list, length, None, Some, IsSome, IfSome, IfOk, OnOk, OnErr, All};
 ghost use Rattle.std.specs.Option.{option_copied};
-ghost use Rattle.album_stamps.specs.declared.limits.TheConstants.{MOST_MARKS};
+ghost use Rattle.album_stamps.specs.declared.limits.TheConstants.{MAX_MARKS};
 ghost use Rattle.album_items.specs.Openings.{has_single_rows};
 ghost use Rattle.album_versions.specs.Versions.{version_at, floor_of, SameVersions, Adds};
 ghost use Rattle.album_partition.specs.History.{kept_mark};
@@ -90,7 +90,7 @@ impl Stored {
     /// How many marks there are, and one more for each stamp that is pending.
     #[tactic(auto, using(crate::proofs::LoadLemmas::pending_few))]
     pub fn load(&self) -> u64
-        requires { length self.now ≤ MOST_MARKS }
+        requires { length self.now ≤ MAX_MARKS }
         ensures { result ≡ load self.now }
     {
         self.history.marks().len() as u64 + self.history.pending_count() as u64

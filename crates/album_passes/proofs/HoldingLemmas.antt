@@ -2,7 +2,7 @@
 use Rattle.std.proofs.Common.{◌≡◌, ℕ, true, ◌+◌, ◌<◌, ◌≤◌, max, List, [], ◌∷◌, ◌++◌, length, get_or, set, slice_index, None, refl, ap, sym, ◌∙◌, subst, ⊎_elim, arith, get_or-set_same, get_or-set_other, length-append}
 use native.Mathlib.Decide.{ℕ_discrete}
 use mathlib.Core.Logic.{dite}
-use Rattle.album_stamps.specs.declared.limits.TheConstants.{MOST_PARTS}
+use Rattle.album_stamps.specs.declared.limits.TheConstants.{MAX_PARTS}
 use Rattle.album_partition.specs.declared.marks.Mark.{Mark}
 use Rattle.album_partition.specs.Marks.{may_follow}
 use Rattle.album_passes.specs.Cuts.{Cut, prefix_at, announced_for, IsBacked, IsSound}
@@ -25,7 +25,7 @@ two_cuts v w m one two e =
 pub record IsHosting (seat : Knowledge) (lengths : List ℕ) : Type 0 where
   pub one : seat.cuts ≡ known seat ∷ []
   pub sound : IsSound (known seat)
-  pub few : (known seat).parts ≤ MOST_PARTS
+  pub few : (known seat).parts ≤ MAX_PARTS
   pub lengths_are : AreLengths lengths (known seat)
 
 -- so it is once the seat has taken in another
@@ -49,8 +49,8 @@ hosting v w z ls ks all h k e told greater =
 -- where the cut is the same, and there is no guest
 pub held_of : (z y : Knowledge) (ls : List ℕ) → y.cuts ≡ z.cuts → y.guest ≡ None → IsHosting z ls → IsHeld y ls
 held_of z y ls e alone h =
-    let q : (y.cuts ≡ known y ∷ []) × IsSound (known y) × ((known y).parts ≤ MOST_PARTS) × AreLengths ls (known y) =
-    subst (λ (cs : List Cut). (cs ≡ first_of cs ∷ []) × IsSound (first_of cs) × ((first_of cs).parts ≤ MOST_PARTS) × AreLengths ls (first_of cs)) (sym e)
+    let q : (y.cuts ≡ known y ∷ []) × IsSound (known y) × ((known y).parts ≤ MAX_PARTS) × AreLengths ls (known y) =
+    subst (λ (cs : List Cut). (cs ≡ first_of cs ∷ []) × IsSound (first_of cs) × ((first_of cs).parts ≤ MAX_PARTS) × AreLengths ls (first_of cs)) (sym e)
     (h.one, h.sound, h.few, h.lengths_are) in
     record { one = q.0; alone = alone; sound = q.1; few = q.2; lengths_are = q.3 }
 

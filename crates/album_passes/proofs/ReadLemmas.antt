@@ -20,7 +20,7 @@ use Rattle.album_partition.specs.Laws.{IsLatest, IsBest, IsReadAt}
 use Rattle.album_partition.specs.Marks.{prepares, commits, discards, state_by, state_of, mark_writes, writes_at, value_in, version, has_version}
 use Rattle.album_partition.specs.Proper.{is_among}
 use Rattle.album_partition.proofs.ListLemmas.{contains_from_any}
-use Rattle.album_reader.specs.Answers.{Answer}
+use Rattle.album_reader.specs.Answers.{ReadVersion}
 use Rattle.album_passes.specs.Cuts.{Cut, prefix_at, prefix_for, IsPreparedFor, IsSound, IsPrefix, Extends}
 use Rattle.album_passes.specs.Reads.{IsCommitted, written_value, IsFracturedBy, IsWritten, IsReadAtomic, IsFreshFrom, IsAnsweredBetween, IsReadInTwoRounds}
 use Rattle.album_passes.proofs.PrefixLemmas.{any_more}
@@ -139,59 +139,59 @@ best_of_given : (ms : List Mark) (i t u : ℕ) (ts : List ℕ) → Contains ts u
 best_of_given ms i t u [] n r = absurd (omega (arith, n.1))
 best_of_given ms i t u (s ∷ ts) n r = r
 
-stamp_there : (xs : List Answer) (x : Answer) → Contains xs x → Contains (map (λ (y : Answer). y.stamp) xs) x.stamp
+stamp_there : (xs : List ReadVersion) (x : ReadVersion) → Contains xs x → Contains (map (λ (y : ReadVersion). y.stamp) xs) x.stamp
 stamp_there [] x n = absurd (omega (arith, n.1))
-stamp_there (y ∷ xs) x (zero, l, e) = (0, omega arith, ap (λ (z : Answer). z.stamp) e)
+stamp_there (y ∷ xs) x (zero, l, e) = (0, omega arith, ap (λ (z : ReadVersion). z.stamp) e)
 stamp_there (y ∷ xs) x (suc k, l, e) = let r = stamp_there xs x (k, omega arith, e) in (suc r.0, omega (arith, r.1), r.2)
 
-stamp_from : (xs : List Answer) (t : ℕ) → Contains (map (λ (y : Answer). y.stamp) xs) t → (x : Answer) × Contains xs x × (x.stamp ≡ t)
+stamp_from : (xs : List ReadVersion) (t : ℕ) → Contains (map (λ (y : ReadVersion). y.stamp) xs) t → (x : ReadVersion) × Contains xs x × (x.stamp ≡ t)
 stamp_from [] t n = absurd (omega (arith, n.1))
 stamp_from (y ∷ xs) t (zero, l, e) = (y, (0, omega arith, refl), e)
 stamp_from (y ∷ xs) t (suc k, l, e) = let r = stamp_from xs t (k, omega arith, e) in (r.0, (suc r.1.0, omega (arith, r.1.1), r.1.2), r.2)
 
-module _ (b m c : Cut) (ones : List Answer) (ts : List ℕ) (fs : List Answer) (R : IsReadInTwoRounds b m c ones ts fs) where
-  first : (y : Answer) → Contains ones y → IsAnsweredBetween b m [] y
+module _ (b m c : Cut) (ones : List ReadVersion) (ts : List ℕ) (fs : List ReadVersion) (R : IsReadInTwoRounds b m c ones ts fs) where
+  first : (y : ReadVersion) → Contains ones y → IsAnsweredBetween b m [] y
   first y n = All-contains (IsAnsweredBetween b m []) ones y R.first_round n
 
-  second : (x : Answer) → Contains fs x → IsAnsweredBetween m c ts x
+  second : (x : ReadVersion) → Contains fs x → IsAnsweredBetween m c ts x
   second x n = All-contains (IsAnsweredBetween m c ts) fs x R.second_round n
 
-  earlier : (x : Answer) → Contains fs x → (y : Answer) × Contains ones y × (y.item ≡ x.item)
-  earlier x n = All-contains (λ (f : Answer). (y : Answer) × Contains ones y × (y.item ≡ f.item)) fs x R.asked_before n
+  earlier : (x : ReadVersion) → Contains fs x → (y : ReadVersion) × Contains ones y × (y.item ≡ x.item)
+  earlier x n = All-contains (λ (f : ReadVersion). (y : ReadVersion) × Contains ones y × (y.item ≡ f.item)) fs x R.asked_before n
 
-  collected : (y : Answer) → Contains ones y → Contains ts y.stamp
+  collected : (y : ReadVersion) → Contains ones y → Contains ts y.stamp
   collected y n = (R.collected y.stamp).1 (stamp_there ones y n)
 
-  best : (x : Answer) (n : Contains fs x) → IsBest (second x n).marks x.item ts x.stamp
+  best : (x : ReadVersion) (n : Contains fs x) → IsBest (second x n).marks x.item ts x.stamp
   best x n = let y = earlier x n in best_of_given (second x n).marks x.item x.stamp y.0.stamp ts (collected y.0 y.1) (second x n).read
 
   -- a stamp that was collected, and isn't 0, was committed as round two began
-  committed_first : (y : Answer) → Contains ones y → y.stamp ≢ 0 → IsCommitted m y.stamp
+  committed_first : (y : ReadVersion) → Contains ones y → y.stamp ≢ 0 → IsCommitted m y.stamp
   committed_first y n nz =
       let r = first y n in
       let done = state_committed r.marks y.stamp (r.read.committed nz) in
       (place_of m.parts y.item, any_more (commits y.stamp) r.marks (prefix_for m y.item) r.to done)
 
-  committed_then : (x : Answer) → Contains fs x → x.stamp ≢ 0 → IsCommitted m x.stamp
+  committed_then : (x : ReadVersion) → Contains fs x → x.stamp ≢ 0 → IsCommitted m x.stamp
   committed_then x n nz =
       let z = stamp_from ones x.stamp ((R.collected x.stamp).0 ((best x n).given nz)) in
       subst (IsCommitted m) z.2 (committed_first z.0 z.1 (λ e. nz (sym z.2 ∙ e)))
 
   -- nothing of a committed stamp is discarded where an answer was given
-  kept_then : (t : ℕ) → IsCommitted m t → (x : Answer) (n : Contains fs x) → list_any (discards t) (second x n).marks ≡ false
+  kept_then : (t : ℕ) → IsCommitted m t → (x : ReadVersion) (n : Contains fs x) → list_any (discards t) (second x n).marks ≡ false
   kept_then t h x n =
       let r = second x n in
       let done = committed_more m c R.second_on t h in
       discards_back r.marks (prefix_for c x.item) t r.to (never_discarded c done.0 (place_of c.parts x.item) t R.ended_sound done.1)
 
   -- what was collected and had been written to the item as round two began, the item is not read below
-  above : (x : Answer) (n : Contains fs x) (t : ℕ) (v : Value) → Contains ts t → IsCommitted m t → written_value m x.item t ≡ Some v → t ≤ x.stamp
+  above : (x : ReadVersion) (n : Contains fs x) (t : ℕ) (v : Value) → Contains ts t → IsCommitted m t → written_value m x.item t ≡ Some v → t ≤ x.stamp
   above x n t v given h w =
       let r = second x n in
       let had : version r.marks x.item t ≡ Some v = version_along (prefix_for m x.item) r.marks x.item t v r.from (kept_then t h x n) w in
       All-contains (λ (u : ℕ). has_version r.marks x.item u ≡ true → u ≤ x.stamp) ts t (best x n).greatest given (ap is_some had)
 
-  pub read_whole : (x y : Answer) → Contains fs x → Contains fs y → IsFracturedBy c x y → ⊥
+  pub read_whole : (x y : ReadVersion) → Contains fs x → Contains fs y → IsFracturedBy c x y → ⊥
   read_whole x y nx ny f =
       let older = f.older in
       let nz : x.stamp ≢ 0 = λ e. absurd (omega arith) in
@@ -201,7 +201,7 @@ module _ (b m c : Cut) (ones : List Answer) (ts : List ℕ) (fs : List Answer) (
       let le = above y ny x.stamp w.0 ((best x nx).given nz) h had in
       omega arith
 
-  pub read_written : (x : Answer) → Contains fs x → IsWritten c x
+  pub read_written : (x : ReadVersion) → Contains fs x → IsWritten c x
   read_written x n = let r = second x n in dite (ℕ_discrete x.stamp 0)
       (λ (z : x.stamp ≡ 0). inl (z, r.first z ∙ ap (λ (o : List Row). first_in o x.item) (sym R.second_on.opening)))
       (λ (nz : x.stamp ≢ 0).
@@ -211,7 +211,7 @@ module _ (b m c : Cut) (ones : List Answer) (ts : List ℕ) (fs : List Answer) (
       first_in : List Row → ℕ → Value
       first_in o i = unwrap_or (value_in o i) Missing
 
-  pub read_fresh : (x : Answer) → Contains fs x → (t : ℕ) → list_any (commits t) (prefix_for b x.item) ≡ true → is_some (written_value c x.item t) ≡ true → t ≤ x.stamp
+  pub read_fresh : (x : ReadVersion) → Contains fs x → (t : ℕ) → list_any (commits t) (prefix_for b x.item) ≡ true → is_some (written_value c x.item t) ≡ true → t ≤ x.stamp
   read_fresh x n t done wrote =
       let w = there (written_value c x.item t) wrote in
       let old : IsCommitted b t = (place_of b.parts x.item, done) in
@@ -235,7 +235,7 @@ module _ (b m c : Cut) (ones : List Answer) (ts : List ℕ) (fs : List Answer) (
 
 -- ---- as the cut grows
 
-pub atomic_more : (c d : Cut) → IsSound c → IsSound d → Extends c d → (fs : List Answer) → IsReadAtomic c fs → IsReadAtomic d fs
+pub atomic_more : (c d : Cut) → IsSound c → IsSound d → Extends c d → (fs : List ReadVersion) → IsReadAtomic c fs → IsReadAtomic d fs
 atomic_more c d s r x fs a = record {
   whole = λ f g nf ng y. (let older = y.older in ⊎_elim
       (λ (z : (f.stamp ≡ 0) × _). (let e = z.0 in omega arith))
@@ -252,7 +252,7 @@ atomic_more c d s r x fs a = record {
       (a.written k f l);
 }
 
-pub fresh_more : (a b c d : Cut) → IsSound c → IsSound d → Extends a b → Extends b c → Extends c d → (fs : List Answer) → IsFreshFrom b c fs → IsFreshFrom a d fs
+pub fresh_more : (a b c d : Cut) → IsSound c → IsSound d → Extends a b → Extends b c → Extends c d → (fs : List ReadVersion) → IsFreshFrom b c fs → IsFreshFrom a d fs
 fresh_more a b c d s r x y z fs f = λ k g l t done wrote.
     let i = (get_or fs k g).item in
     let at_b = any_more (commits t) (prefix_for a i) (prefix_for b i) (prefix_for_more a b x i) done in

@@ -1,7 +1,7 @@
 -- A desk, as its callers see it, how it opens, and the words with which it ends.
 use Rattle.std.specs.Prelude.{◌≡◌, ℕ, ◌+◌, ◌<◌, ◌≤◌, true, List, map, length, slice_index_or, None}
 use Rattle.album_items.specs.declared.openings.Opening.{Opening}
-use Rattle.album_stamps.specs.declared.limits.TheConstants.{MOST_PARTS, MOST_MARKS, CLIENTS}
+use Rattle.album_stamps.specs.declared.limits.TheConstants.{MAX_PARTS, MAX_MARKS, CLIENTS}
 use Rattle.atomic_table.specs.Seated.{TableId}
 use Rattle.album_partition.specs.declared.marks.Mark.{Mark}
 use Rattle.album_partition.specs.Marks.{is_legal}
@@ -33,8 +33,8 @@ pub record IsDesk (table : TableId) (terms : Terms) (parts limit sessions : ℕ)
   pub limit_is : terms.limit ≡ limit
   pub sessions_are : terms.sessions ≡ sessions
   pub some : 0 < parts
-  pub few : parts ≤ MOST_PARTS
-  pub low_limit : limit ≤ MOST_MARKS
+  pub few : parts ≤ MAX_PARTS
+  pub low_limit : limit ≤ MAX_MARKS
   pub few_sessions : sessions < CLIENTS
 
 -- ---- as it opens

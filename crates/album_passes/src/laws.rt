@@ -9,7 +9,7 @@ ghost use Rattle.album_partition.specs.declared.marks.Mark.TheVariants as Made;
 ghost use Rattle.album_partition.specs.Marks.{is_mark_of, prepares, commits, discards, state_of, items_at};
 ghost use Rattle.album_items.specs.Places.{others_of};
 ghost use Rattle.album_partition.specs.Proper.{is_proper};
-ghost use Rattle.album_reader.specs.Answers.{Answer};
+ghost use Rattle.album_reader.specs.Answers.{ReadVersion};
 ghost use Rattle.album_passes.specs.Cuts.{Cut, prefix_at, announced_for, IsNamed, IsPreparedThroughout, IsPromisedSomewhere, IsBacked, IsClosedCut, IsSound, Extends};
 ghost use Rattle.album_passes.specs.Changes.{marked_cut, merged};
 ghost use Rattle.album_passes.specs.Reads.{IsCommitted, written_value, IsReadAtomic, IsFreshFrom, IsReadInTwoRounds};
@@ -75,13 +75,13 @@ pub fn what_is_committed_is_there()
 /// A law: a read of two rounds over sound cuts is read atomic, and fresh from the cut with which it
 /// began. It stays so as the cut grows.
 pub fn reads_are_atomic_and_fresh()
-    ensures atomic { (begun middle ended : Cut) (firsts : List Answer) (stamps : List ℕ) (answers : List Answer)
+    ensures atomic { (begun middle ended : Cut) (firsts : List ReadVersion) (stamps : List ℕ) (answers : List ReadVersion)
         → IsReadInTwoRounds begun middle ended firsts stamps answers → IsReadAtomic ended answers }
-    ensures fresh { (begun middle ended : Cut) (firsts : List Answer) (stamps : List ℕ) (answers : List Answer)
+    ensures fresh { (begun middle ended : Cut) (firsts : List ReadVersion) (stamps : List ℕ) (answers : List ReadVersion)
         → IsReadInTwoRounds begun middle ended firsts stamps answers → IsFreshFrom begun ended answers }
-    ensures atomic_still { (old new : Cut) (answers : List Answer) → IsSound old → IsSound new → Extends old new
+    ensures atomic_still { (old new : Cut) (answers : List ReadVersion) → IsSound old → IsSound new → Extends old new
         → IsReadAtomic old answers → IsReadAtomic new answers }
-    ensures fresh_still { (earlier begun old new : Cut) (answers : List Answer) → IsSound old → IsSound new
+    ensures fresh_still { (earlier begun old new : Cut) (answers : List ReadVersion) → IsSound old → IsSound new
         → Extends earlier begun → Extends begun old → Extends old new
         → IsFreshFrom begun old answers → IsFreshFrom earlier new answers }
 {}

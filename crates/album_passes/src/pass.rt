@@ -1,7 +1,7 @@
 // A pass: a cut that travels with messages.
 ghost use Rattle.std.specs.Prelude.{◌≡◌, ◌<◌, ◌≤◌, max, length, Some, None, IfSome, IfNone};
 ghost use Rattle.album_stamps.specs.Stamps.{client_number};
-ghost use Rattle.album_stamps.specs.declared.limits.TheConstants.{MOST_PARTS};
+ghost use Rattle.album_stamps.specs.declared.limits.TheConstants.{MAX_PARTS};
 ghost use Rattle.album_passes.specs.Cuts.{IsSound, Extends, prefix_at, announced_for};
 ghost use Rattle.album_passes.specs.Changes.{merged, announced_cut, IsUnheard, KeepsOwn};
 ghost use Rattle.album_passes.specs.Knowledge.{AreApart};
@@ -48,7 +48,7 @@ impl Pass {
 
     /// How many marks the pass has seen of the partition's history. Its cut is sound: it is closed.
     pub fn length(&self, part: u16) -> u64
-        requires { part < MOST_PARTS }
+        requires { part < MAX_PARTS }
         ensures length { result ≡ length (prefix_at self.now.cut part) }
         ensures sound { IsSound self.now.cut }
     {

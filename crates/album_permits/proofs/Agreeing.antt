@@ -12,10 +12,10 @@ use Rattle.album_items.specs.ItemIds.{list, group}
 use Rattle.album_items.specs.Values.{head_of, home_of, children_of, entries_of, list_of, head_group_of}
 use Rattle.album_items.specs.declared.values.Head.{Head}
 use Rattle.album_items.specs.declared.values.Value.{Value}
-use Rattle.album_reader.specs.Answers.{Answer}
+use Rattle.album_reader.specs.Answers.{ReadVersion}
 use Rattle.album_views.specs.Asks.{objects_of}
-use Rattle.album_views.specs.Naming.{IsNamed, subjects_of}
-use Rattle.album_views.specs.Naming.IsNamed.{Subject, ListOf, HeadGroupOf, GroupInListOf}
+use Rattle.album_views.specs.ReadSets.{IsNamed, subjects_of}
+use Rattle.album_views.specs.ReadSets.IsNamed.{Subject, ListOf, HeadGroupOf, GroupInListOf}
 use Rattle.album_views.specs.Seen.{seen}
 use Rattle.album_views.specs.declared.asks.Ask.{Ask}
 use Rattle.album_views.specs.declared.asks.Ask.TheVariants as ask
@@ -63,33 +63,33 @@ lists-on subjects (new ∷ lists) each = (
 )
 
 deletion-on :
-    (sight : ℕ → Value) (object : ℕ) (firsts : List ℕ) → Contains (firsts ++ home_of (sight object)) object
-    → AreOn (firsts ++ home_of (sight object)) (deletion sight object)
-deletion-on sight object firsts here = (
+    (lookup : ℕ → Value) (object : ℕ) (firsts : List ℕ) → Contains (firsts ++ home_of (lookup object)) object
+    → AreOn (firsts ++ home_of (lookup object)) (deletion lookup object)
+deletion-on lookup object firsts here = (
   here,
-  homes-on (firsts ++ home_of (sight object)) (home_of (sight object)) DELETE_CHILD
-      (λ home c. Contains-append_right firsts (home_of (sight object)) home c),
+  homes-on (firsts ++ home_of (lookup object)) (home_of (lookup object)) DELETE_CHILD
+      (λ home c. Contains-append_right firsts (home_of (lookup object)) home c),
 )
 
-needs-on : (sight : ℕ → Value) (asked : Ask) → AllOn (subjects_of sight asked) (needs_of sight asked)
-needs-on sight (ask.Read object) = ((first-of object [], tt), tt)
-needs-on sight (ask.List album) = ((first-of album (children_of (sight album)), tt), tt)
-needs-on sight (ask.GetList object) = ((first-of object [], tt), tt)
-needs-on sight (ask.AddPicture album title content) = ((first-of album [], tt), tt)
-needs-on sight (ask.AddAlbum album title) = ((first-of album [], tt), tt)
-needs-on sight (ask.Retitle object title) = ((first-of object [], tt), tt)
-needs-on sight (ask.Replace object content) = ((first-of object [], tt), tt)
-needs-on sight (ask.Delete object) =
-    (deletion-on sight object (object ∷ []) (first-of object (home_of (sight object))), tt)
-needs-on sight (ask.Move object to) = (
-  deletion-on sight object (object ∷ to ∷ []) (first-of object (to ∷ home_of (sight object))),
+needs-on : (lookup : ℕ → Value) (asked : Ask) → AllOn (subjects_of lookup asked) (needs_of lookup asked)
+needs-on lookup (ask.Read object) = ((first-of object [], tt), tt)
+needs-on lookup (ask.List album) = ((first-of album (children_of (lookup album)), tt), tt)
+needs-on lookup (ask.GetList object) = ((first-of object [], tt), tt)
+needs-on lookup (ask.AddPicture album title content) = ((first-of album [], tt), tt)
+needs-on lookup (ask.AddAlbum album title) = ((first-of album [], tt), tt)
+needs-on lookup (ask.Retitle object title) = ((first-of object [], tt), tt)
+needs-on lookup (ask.Replace object content) = ((first-of object [], tt), tt)
+needs-on lookup (ask.Delete object) =
+    (deletion-on lookup object (object ∷ []) (first-of object (home_of (lookup object))), tt)
+needs-on lookup (ask.Move object to) = (
+  deletion-on lookup object (object ∷ to ∷ []) (first-of object (to ∷ home_of (lookup object))),
   (((1, omega arith, refl), tt), tt),
 )
-needs-on sight (ask.SetLists lists) =
+needs-on lookup (ask.SetLists lists) =
     lists-on (objects_of (ask.SetLists lists) ++ []) lists
     (λ object c. Contains-append_left (objects_of (ask.SetLists lists)) [] object c)
-needs-on sight (ask.SetOwner object owner number) = ((first-of object [], tt), tt)
-needs-on sight (ask.SetMembers object members) = ((first-of object [], tt), tt)
+needs-on lookup (ask.SetOwner object owner number) = ((first-of object [], tt), tt)
+needs-on lookup (ask.SetMembers object members) = ((first-of object [], tt), tt)
 
 -- the objects of reasons
 abbrev ReasonsOn : List ℕ → List Reason → Type 0
@@ -123,7 +123,7 @@ checked-on subjects rs all = go (position (λ (reason : Reason). is_grant reason
 
 -- ---- on two snapshots
 
-module _ (asked : Ask) (one other : List Answer) (agree : AgreeOn asked one other) where
+module _ (asked : Ask) (one other : List ReadVersion) (agree : AgreeOn asked one other) where
   needs-alike : (a : Ask) → ((item : ℕ) → Contains (subjects_of (seen one) a) item → seen one item ≡ seen other item) → needs_of (seen one) a ≡ needs_of (seen other) a
   needs-alike (ask.Read object) same = refl
   needs-alike (ask.List album) same = refl
@@ -244,13 +244,13 @@ module _ (asked : Ask) (one other : List Answer) (agree : AgreeOn asked one othe
 -- ---- any two bases
 
 needs-same :
-    (asked : Ask) (one other : List Answer) → AgreeOn asked one other
+    (asked : Ask) (one other : List ReadVersion) → AgreeOn asked one other
     → needs_of (seen one) asked ≡ needs_of (seen other) asked
 needs-same asked one other agree =
     needs-alike asked one other agree asked (λ item c. seen-alike asked one other agree item (Subject item c))
 
 pub ruling-alike :
-    (policy : Policy) (me : Principal) (asked : Ask) (one other : List Answer) (b c : Basis) → AgreeOn asked one other
+    (policy : Policy) (me : Principal) (asked : Ask) (one other : List ReadVersion) (b c : Basis) → AgreeOn asked one other
     → IsBasis policy me one b → IsBasis policy me other c → ruling_of b asked ≡ ruling_of c asked
 ruling-alike policy me asked one other b c agree l m =
     let same = groups-alike asked one other agree me b.is_in c.is_in l.groups m.groups in
@@ -260,7 +260,7 @@ ruling-alike policy me asked one other b c agree l m =
     ∙ ap (λ (x : Basis). ruling_of x asked) (sym (basis-made policy me other c m))
 
 pub notes-alike :
-    (policy : Policy) (me : Principal) (asked : Ask) (one other : List Answer) (b c : Basis) → AgreeOn asked one other
+    (policy : Policy) (me : Principal) (asked : Ask) (one other : List ReadVersion) (b c : Basis) → AgreeOn asked one other
     → IsBasis policy me one b → IsBasis policy me other c → notes_of b asked ≡ notes_of c asked
 notes-alike policy me asked one other b c agree l m =
     let same = groups-alike asked one other agree me b.is_in c.is_in l.groups m.groups in

@@ -13,8 +13,8 @@ use Rattle.album_items.specs.ItemIds.{list}
 use Rattle.album_items.specs.Values.{children_of}
 use Rattle.album_items.specs.declared.values.Head.{Head}
 use Rattle.album_items.specs.declared.values.Value.{Value}
-use Rattle.album_reader.specs.Answers.{Answer}
-use Rattle.album_views.specs.Naming.IsNamed.{Subject}
+use Rattle.album_reader.specs.Answers.{ReadVersion}
+use Rattle.album_views.specs.ReadSets.IsNamed.{Subject}
 use Rattle.album_views.specs.Seen.{seen}
 use Rattle.album_views.specs.declared.asks.Ask.{Ask}
 use Rattle.album_views.specs.declared.asks.Ask.TheVariants as ask
@@ -24,7 +24,7 @@ use Rattle.album_listing.specs.Disclosure.{bare, AreRuledAlike, AreAlikeFor}
 use Rattle.album_listing.specs.GroupsFound.{basis_on}
 use Rattle.album_listing.specs.Masks.{READ_DATA, LIST_DIRECTORY, READ_ACL, DELETE, DELETE_CHILD, ADD_FILE}
 use Rattle.album_listing.specs.Reasons.{on, case_on, with_verdict, is_grant}
-use Rattle.album_listing.specs.Sights.{stamp_seen, stamp_named, entries_named}
+use Rattle.album_listing.specs.ViewLookups.{stamp_seen, stamp_named, entries_named}
 use Rattle.album_listing.specs.declared.reasons.Alternative.{Alternative}
 use Rattle.album_listing.specs.declared.reasons.Reason.{Reason}
 use Rattle.album_listing.proofs.Baring.{head-bare, home-bare, entries-bare, bared, seen-bared, subjects-back, agree-bared, basis-bared, bare_basis, made-bared, seen-same, rows-alike}
@@ -44,24 +44,24 @@ use Rattle.album_permits.proofs.Spending.{entries-alike}
 
 -- ---- a basis that is bared
 
-needs-bare : (sight : ℕ → Value) (asked : Ask) → needs_of (λ i. bare (sight i)) asked ≡ needs_of sight asked
-needs-bare sight (ask.Read object) = refl
-needs-bare sight (ask.List album) = refl
-needs-bare sight (ask.GetList object) = refl
-needs-bare sight (ask.AddPicture album title content) = refl
-needs-bare sight (ask.AddAlbum album title) = refl
-needs-bare sight (ask.Retitle object title) = refl
-needs-bare sight (ask.Replace object content) = refl
-needs-bare sight (ask.Delete object) =
+needs-bare : (lookup : ℕ → Value) (asked : Ask) → needs_of (λ i. bare (lookup i)) asked ≡ needs_of lookup asked
+needs-bare lookup (ask.Read object) = refl
+needs-bare lookup (ask.List album) = refl
+needs-bare lookup (ask.GetList object) = refl
+needs-bare lookup (ask.AddPicture album title content) = refl
+needs-bare lookup (ask.AddAlbum album title) = refl
+needs-bare lookup (ask.Retitle object title) = refl
+needs-bare lookup (ask.Replace object content) = refl
+needs-bare lookup (ask.Delete object) =
     ap (λ (homes : List ℕ). (on object DELETE ∷ map (λ home. on home DELETE_CHILD) homes) ∷ [])
-    (home-bare (sight object))
-needs-bare sight (ask.Move object to) =
+    (home-bare (lookup object))
+needs-bare lookup (ask.Move object to) =
     ap
     (λ (homes : List ℕ). (on object DELETE ∷ map (λ home. on home DELETE_CHILD) homes) ∷ just to ADD_FILE ∷ [])
-    (home-bare (sight object))
-needs-bare sight (ask.SetLists lists) = refl
-needs-bare sight (ask.SetOwner object owner number) = refl
-needs-bare sight (ask.SetMembers object members) = refl
+    (home-bare (lookup object))
+needs-bare lookup (ask.SetLists lists) = refl
+needs-bare lookup (ask.SetOwner object owner number) = refl
+needs-bare lookup (ask.SetMembers object members) = refl
 
 module _ (basis : Basis) where
   missing-bare : (need : List Alternative) → missing_in (bare_basis basis) need ≡ missing_in basis need
@@ -112,11 +112,11 @@ module _ (basis : Basis) where
 
 -- ---- two snapshots that are ruled alike
 
-agree : (asked : Ask) (one other : List Answer) → AreRuledAlike asked one other → AgreeOn asked (bared one) (bared other)
+agree : (asked : Ask) (one other : List ReadVersion) → AreRuledAlike asked one other → AgreeOn asked (bared one) (bared other)
 agree asked one other alike = agree-bared asked asked one other (subjects-back (seen one) asked) alike
 
 ruling-bared :
-    (policy : Policy) (me : Principal) (asked : Ask) (rows : List Answer) (b : Basis) → IsBasis policy me rows b
+    (policy : Policy) (me : Principal) (asked : Ask) (rows : List ReadVersion) (b : Basis) → IsBasis policy me rows b
     → ruling_of b asked ≡ ruling_of (made policy me (bared rows) b.is_in) asked
 ruling-bared policy me asked rows b based =
     ap (λ (x : Basis). ruling_of x asked) (basis-made policy me rows b based)
@@ -124,7 +124,7 @@ ruling-bared policy me asked rows b based =
     ∙ sym (ap (λ (x : Basis). ruling_of x asked) (made-bared policy me rows b.is_in))
 
 notes-bared :
-    (policy : Policy) (me : Principal) (asked : Ask) (rows : List Answer) (b : Basis) → IsBasis policy me rows b
+    (policy : Policy) (me : Principal) (asked : Ask) (rows : List ReadVersion) (b : Basis) → IsBasis policy me rows b
     → notes_of b asked ≡ notes_of (made policy me (bared rows) b.is_in) asked
 notes-bared policy me asked rows b based =
     ap (λ (x : Basis). notes_of x asked) (basis-made policy me rows b based)
@@ -132,7 +132,7 @@ notes-bared policy me asked rows b based =
     ∙ sym (ap (λ (x : Basis). notes_of x asked) (made-bared policy me rows b.is_in))
 
 pub ruled-alike :
-    (policy : Policy) (me : Principal) (asked : Ask) (one other : List Answer) (b c : Basis)
+    (policy : Policy) (me : Principal) (asked : Ask) (one other : List ReadVersion) (b c : Basis)
     → AreRuledAlike asked one other → IsBasis policy me one b → IsBasis policy me other c
     → ruling_of b asked ≡ ruling_of c asked
 ruled-alike policy me asked one other b c alike l m =
@@ -143,7 +143,7 @@ ruled-alike policy me asked one other b c alike l m =
     ∙ sym (ruling-bared policy me asked other c m)
 
 pub noted-alike :
-    (policy : Policy) (me : Principal) (asked : Ask) (one other : List Answer) (b c : Basis)
+    (policy : Policy) (me : Principal) (asked : Ask) (one other : List ReadVersion) (b c : Basis)
     → AreRuledAlike asked one other → IsBasis policy me one b → IsBasis policy me other c
     → notes_of b asked ≡ notes_of c asked
 noted-alike policy me asked one other b c alike l m =
@@ -156,7 +156,7 @@ noted-alike policy me asked one other b c alike l m =
 -- ---- two snapshots that are alike for who asks
 
 pub granted-alike :
-    (policy : Policy) (me : Principal) (asked : Ask) (one other : List Answer)
+    (policy : Policy) (me : Principal) (asked : Ask) (one other : List ReadVersion)
     → AreAlikeFor policy me asked one other → IsPermit (permit_on policy me asked one)
     → IsPermit (permit_on policy me asked other)
 granted-alike policy me asked one other alike kept =
@@ -169,13 +169,13 @@ granted-alike policy me asked one other alike kept =
     }
 
 -- the entries of the list that an item names
-entries-bared : (rows : List Answer) (item : ℕ) → entries_named (seen (bared rows)) item ≡ entries_named (seen rows) item
+entries-bared : (rows : List ReadVersion) (item : ℕ) → entries_named (seen (bared rows)) item ≡ entries_named (seen rows) item
 entries-bared rows item =
-    ap (λ (sight : ℕ → Value). entries_named sight item) (λ k i. seen-bared rows i k)
+    ap (λ (lookup : ℕ → Value). entries_named lookup item) (λ k i. seen-bared rows i k)
     ∙ λ k. option_map_or (λ (head : Head). entries-bare (seen rows (list head.list)) k) (head-bare (seen rows item) k) []
 
 pub served-alike :
-    (policy : Policy) (me : Principal) (asked : Ask) (one other : List Answer) (given more : Served)
+    (policy : Policy) (me : Principal) (asked : Ask) (one other : List ReadVersion) (given more : Served)
     → AreAlikeFor policy me asked one other → IsPermit (permit_on policy me asked one)
     → IsServed (permit_on policy me asked one) given → IsServed (permit_on policy me asked other) more → given ≡ more
 served-alike policy me (ask.Read object) one other given more alike kept l m =

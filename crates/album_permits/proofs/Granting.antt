@@ -24,7 +24,7 @@ use Rattle.album_listing.specs.Basis.{Basis}
 use Rattle.album_listing.specs.GroupsFound.{basis_on}
 use Rattle.album_listing.specs.Masks.{READ_DATA, WRITE_DATA, LIST_DIRECTORY, ADD_FILE, ADD_SUBDIRECTORY, DELETE_CHILD, WRITE_ATTRIBUTES, DELETE, READ_ACL, WRITE_ACL, WRITE_OWNER}
 use Rattle.album_listing.specs.Reasons.{on, is_granted_on}
-use Rattle.album_listing.specs.Sights.{stamp_seen, stamp_named, entries_named}
+use Rattle.album_listing.specs.ViewLookups.{stamp_seen, stamp_named, entries_named}
 use Rattle.album_listing.specs.Told.{title_told, content_told}
 use Rattle.album_listing.specs.declared.reasons.Alternative.{Alternative}
 use Rattle.album_listing.specs.declared.rows.Row.{Row}
@@ -365,23 +365,23 @@ effect-granted permit stamp item is change =
 -- ---- what is served
 
 module _ (permit : PermitState) where
-  abbrev sight : ℕ → Value
-  sight = seen permit.view.rows
+  abbrev lookup : ℕ → Value
+  lookup = seen permit.view.rows
 
   abbrev IsReadPicture : ℕ → List ℕ → List ℕ → Type 0
   IsReadPicture object title content =
       IsTrue (is_granted_to permit object READ_DATA)
-      × (title_told (sight object) ≡ Some title)
-      × (content_told (sight object) ≡ Some content)
+      × (title_told (lookup object) ≡ Some title)
+      × (content_told (lookup object) ≡ Some content)
 
   picture-for :
       (object stamp : ℕ) (title content : List ℕ) (asked : Ask) → has_needs_met (basis_for permit) asked ≡ true
       → IsServedFor permit (served.Picture object stamp title content) asked → IsReadPicture object title content
   picture-for object stamp title content (ask.Read other) met l =
-      go (sight other) refl (only-met (basis_for permit) other READ_DATA met).1 l
+      go (lookup other) refl (only-met (basis_for permit) other READ_DATA met).1 l
     where
       go :
-          (v : Value) → sight other ≡ v → is_granted_to permit other READ_DATA ≡ true
+          (v : Value) → lookup other ≡ v → is_granted_to permit other READ_DATA ≡ true
           → served.Picture object stamp title content ≡ read_of other (stamp_seen permit.view.rows other) v
           → IsReadPicture object title content
       go value.Missing same granted e = absurd (cc)
@@ -390,8 +390,8 @@ module _ (permit : PermitState) where
           let t : title ≡ x.title = cc in
           let k : content ≡ x.content = cc in (
             subst (λ (i : ℕ). is_granted_to permit i READ_DATA ≡ true) (sym o) granted,
-            ap (λ (i : ℕ). title_told (sight i)) o ∙ ap title_told same ∙ ap Some (sym t),
-            ap (λ (i : ℕ). content_told (sight i)) o ∙ ap content_told same ∙ ap Some (sym k),
+            ap (λ (i : ℕ). title_told (lookup i)) o ∙ ap title_told same ∙ ap Some (sym t),
+            ap (λ (i : ℕ). content_told (lookup i)) o ∙ ap content_told same ∙ ap Some (sym k),
           )
       go (value.Album x) same granted e = absurd (cc)
       go (value.List x) same granted e = absurd (cc)
@@ -411,27 +411,27 @@ module _ (permit : PermitState) where
 
   abbrev IsReadGroup : ℕ → List Member → Type 0
   IsReadGroup object members =
-      IsTrue (is_granted_to permit object READ_DATA) × (members_of (sight object) ≡ members)
+      IsTrue (is_granted_to permit object READ_DATA) × (members_of (lookup object) ≡ members)
 
   group-for :
       (object stamp : ℕ) (members : List Member) (asked : Ask) → has_needs_met (basis_for permit) asked ≡ true
       → IsServedFor permit (served.Group object stamp members) asked → IsReadGroup object members
   group-for object stamp members (ask.Read other) met l =
-      go (sight other) refl (only-met (basis_for permit) other READ_DATA met).1 l
+      go (lookup other) refl (only-met (basis_for permit) other READ_DATA met).1 l
     where
       at :
-          (v : Value) → sight other ≡ v → is_granted_to permit other READ_DATA ≡ true
+          (v : Value) → lookup other ≡ v → is_granted_to permit other READ_DATA ≡ true
           → served.Group object stamp members ≡ served.Group other (stamp_seen permit.view.rows other) (members_of v)
           → IsReadGroup object members
       at v same granted e =
           let o : object ≡ other = cc in
           let m : members ≡ members_of v = cc in (
             subst (λ (i : ℕ). is_granted_to permit i READ_DATA ≡ true) (sym o) granted,
-            ap (λ (i : ℕ). members_of (sight i)) o ∙ ap members_of same ∙ sym m,
+            ap (λ (i : ℕ). members_of (lookup i)) o ∙ ap members_of same ∙ sym m,
           )
 
       go :
-          (v : Value) → sight other ≡ v → is_granted_to permit other READ_DATA ≡ true
+          (v : Value) → lookup other ≡ v → is_granted_to permit other READ_DATA ≡ true
           → served.Group object stamp members ≡ read_of other (stamp_seen permit.view.rows other) v
           → IsReadGroup object members
       go value.Missing same granted e = at value.Missing same granted e
@@ -474,7 +474,7 @@ module _ (permit : PermitState) where
       (album stamp : ℕ) (rows : List Row) (asked : Ask) → has_needs_met (basis_for permit) asked ≡ true
       → IsServedFor permit (served.Listed album stamp rows) asked → IsTrue (is_granted_to permit album LIST_DIRECTORY)
   rows-for album stamp rows (ask.Read other) met l =
-      absurd (read-rows other (stamp_seen permit.view.rows other) album stamp rows (sight other) l)
+      absurd (read-rows other (stamp_seen permit.view.rows other) album stamp rows (lookup other) l)
   rows-for album stamp rows (ask.List other) met l =
       let e = l.told in
       let o : album ≡ other =
@@ -494,23 +494,23 @@ module _ (permit : PermitState) where
 
   abbrev IsReadList : ℕ → List Ace → Type 0
   IsReadList object entries =
-      IsTrue (is_granted_to permit object READ_ACL) × (entries_named sight object ≡ entries)
+      IsTrue (is_granted_to permit object READ_ACL) × (entries_named lookup object ≡ entries)
 
   entries-for :
       (object stamp : ℕ) (entries : List Ace) (asked : Ask) → has_needs_met (basis_for permit) asked ≡ true
       → IsServedFor permit (served.Entries object stamp entries) asked → IsReadList object entries
   entries-for object stamp entries (ask.Read other) met l =
-      absurd (read-entries other (stamp_seen permit.view.rows other) object stamp entries (sight other) l)
+      absurd (read-entries other (stamp_seen permit.view.rows other) object stamp entries (lookup other) l)
   entries-for object stamp entries (ask.List album) met l =
       let e = l.told in absurd (let f : served.Entries object stamp entries ≡ served.Listed album (stamp_seen permit.view.rows album) l.rows = e in cc)
   entries-for object stamp entries (ask.GetList other) met l =
       let e : served.Entries object stamp entries
-      ≡ served.Entries other (stamp_named permit.view.rows other) (entries_named sight other) = l in
+      ≡ served.Entries other (stamp_named permit.view.rows other) (entries_named lookup other) = l in
       let o : object ≡ other = cc in
-      let k : entries ≡ entries_named sight other = cc in (
+      let k : entries ≡ entries_named lookup other = cc in (
         subst (λ (i : ℕ). is_granted_to permit i READ_ACL ≡ true) (sym o)
             (only-met (basis_for permit) other READ_ACL met).1,
-        ap (entries_named sight) o ∙ sym k,
+        ap (entries_named lookup) o ∙ sym k,
       )
   entries-for object stamp entries (ask.AddPicture into t k) met l = absurd l
   entries-for object stamp entries (ask.AddAlbum into t) met l = absurd l

@@ -88,24 +88,24 @@ behind-homes [] more object c = c
 behind-homes (h ∷ homes) more object c =
     let d = behind-homes homes more object c in (suc d.0, omega (arith, d.1), d.2)
 
-module _ (sight : ℕ → Value) (me : Principal) (stamp : ℕ) where
+module _ (lookup : ℕ → Value) (me : Principal) (stamp : ℕ) where
   abbrev May : Ask → ℕ → Type 0
-  May asked = MayWrite sight stamp asked
+  May asked = MayWrite lookup stamp asked
 
   lists-may :
       (lists all : List NewList)
-      → ((object : ℕ) → Contains (objects_changed sight (ask.SetLists lists)) object
-      → Contains (objects_changed sight (ask.SetLists all)) object)
-      → AllOf (May (ask.SetLists all)) (flat_map (list_written sight) lists)
+      → ((object : ℕ) → Contains (objects_changed lookup (ask.SetLists lists)) object
+      → Contains (objects_changed lookup (ask.SetLists all)) object)
+      → AllOf (May (ask.SetLists all)) (flat_map (list_written lookup) lists)
   lists-may [] all each = tt
   lists-may (new ∷ lists) all each =
-      append-of (May (ask.SetLists all)) (list_written sight new) (flat_map (list_written sight) lists)
-      (mapped-of (May (ask.SetLists all)) (λ item. value.List new.list) (list_of (sight new.object))
+      append-of (May (ask.SetLists all)) (list_written lookup new) (flat_map (list_written lookup) lists)
+      (mapped-of (May (ask.SetLists all)) (λ item. value.List new.list) (list_of (lookup new.object))
       (λ item c. ListOf new.object item
-      (each new.object (first-of new.object (objects_changed sight (ask.SetLists lists)))) c))
+      (each new.object (first-of new.object (objects_changed lookup (ask.SetLists lists)))) c))
       (lists-may lists all (λ object c. each object (suc c.0, omega (arith, c.1), c.2)))
 
-  written-may : (asked : Ask) → AllOf (May asked) (written sight me stamp asked)
+  written-may : (asked : Ask) → AllOf (May asked) (written lookup me stamp asked)
   written-may (ask.Read object) = tt
   written-may (ask.List album) = tt
   written-may (ask.GetList object) = tt
@@ -120,24 +120,24 @@ module _ (sight : ℕ → Value) (me : Principal) (stamp : ℕ) where
   written-may (ask.Retitle object title) = (Object object (first-of object []), tt)
   written-may (ask.Replace object content) = (Object object (first-of object []), tt)
   written-may (ask.Delete object) = (
-    Object object (first-of object (changed (map (λ h. on h DELETE_CHILD) (home_of (sight object)) ++ []))),
-    append-of (May (ask.Delete object)) (list_dropped sight object) (taken_out sight object)
-        (mapped-of (May (ask.Delete object)) (λ item. value.Missing) (list_of (sight object))
+    Object object (first-of object (changed (map (λ h. on h DELETE_CHILD) (home_of (lookup object)) ++ []))),
+    append-of (May (ask.Delete object)) (list_dropped lookup object) (taken_out lookup object)
+        (mapped-of (May (ask.Delete object)) (λ item. value.Missing) (list_of (lookup object))
         (λ item c. ListOf object item
-        (first-of object (changed (map (λ h. on h DELETE_CHILD) (home_of (sight object)) ++ []))) c))
-        (mapped-of (May (ask.Delete object)) (λ home. without_child object (sight home)) (home_of (sight object))
+        (first-of object (changed (map (λ h. on h DELETE_CHILD) (home_of (lookup object)) ++ []))) c))
+        (mapped-of (May (ask.Delete object)) (λ home. without_child object (lookup home)) (home_of (lookup object))
         (λ home c.
-        let d = homes-changed (home_of (sight object)) [] home c in Object home (suc d.0, omega (arith, d.1), d.2))),
+        let d = homes-changed (home_of (lookup object)) [] home c in Object home (suc d.0, omega (arith, d.1), d.2))),
   )
   written-may (ask.Move object to) = (
     Object object
-        (first-of object (changed (map (λ h. on h DELETE_CHILD) (home_of (sight object)) ++ on to ADD_FILE ∷ []))),
-    append-of (May (ask.Move object to)) (taken_out sight object) ((to, with_child object (sight to)) ∷ [])
-        (mapped-of (May (ask.Move object to)) (λ home. without_child object (sight home)) (home_of (sight object))
+        (first-of object (changed (map (λ h. on h DELETE_CHILD) (home_of (lookup object)) ++ on to ADD_FILE ∷ []))),
+    append-of (May (ask.Move object to)) (taken_out lookup object) ((to, with_child object (lookup to)) ∷ [])
+        (mapped-of (May (ask.Move object to)) (λ home. without_child object (lookup home)) (home_of (lookup object))
         (λ home c.
-        let d = homes-changed (home_of (sight object)) (on to ADD_FILE ∷ []) home c in
+        let d = homes-changed (home_of (lookup object)) (on to ADD_FILE ∷ []) home c in
         Object home (suc d.0, omega (arith, d.1), d.2))) (
-          let d = behind-homes (home_of (sight object)) (on to ADD_FILE ∷ []) to (first-of to []) in
+          let d = behind-homes (home_of (lookup object)) (on to ADD_FILE ∷ []) to (first-of to []) in
               Object to (suc d.0, omega (arith, d.1), d.2),
           tt,
         ),

@@ -14,16 +14,16 @@ use Rattle.album_items.specs.Values.{head_of, home_of, children_of, entries_of, 
 use Rattle.album_items.specs.declared.values.Head.{Head}
 use Rattle.album_items.specs.declared.values.Value.{Value}
 use Rattle.album_items.specs.declared.values.Value.TheVariants as value
-use Rattle.album_reader.specs.Answers.{Answer}
+use Rattle.album_reader.specs.Answers.{ReadVersion}
 use Rattle.album_views.specs.Asks.{objects_of}
-use Rattle.album_views.specs.Naming.{IsNamed, subjects_of}
-use Rattle.album_views.specs.Naming.IsNamed.{Subject, ListOf}
+use Rattle.album_views.specs.ReadSets.{IsNamed, subjects_of}
+use Rattle.album_views.specs.ReadSets.IsNamed.{Subject, ListOf}
 use Rattle.album_views.specs.Seen.{seen}
 use Rattle.album_views.specs.declared.asks.Ask.{Ask}
 use Rattle.album_views.specs.declared.asks.Ask.TheVariants as ask
 use Rattle.album_views.specs.declared.asks.NewList.{NewList}
 use Rattle.album_listing.specs.Agreement.{AgreeOn}
-use Rattle.album_listing.specs.Sights.{stamp_seen, entries_named, stamp_named}
+use Rattle.album_listing.specs.ViewLookups.{stamp_seen, entries_named, stamp_named}
 use Rattle.album_listing.proofs.Judging.{first-of}
 use Rattle.album_listing.proofs.Looking.{seen-alike, listings-alike}
 use Rattle.album_permits.specs.Changes.{with_title, with_content, with_home, with_owner, with_members, without_child, with_child}
@@ -50,7 +50,7 @@ lists-same one other (new ∷ lists) same =
     ∙ ap (λ (ws : List Write). list_written other new ++ ws)
     (lists-same one other lists (λ x c. same x (suc c.0, omega (arith, c.1), c.2)))
 
-module _ (asked : Ask) (one other : List Answer) (agree : AgreeOn asked one other) where
+module _ (asked : Ask) (one other : List ReadVersion) (agree : AgreeOn asked one other) where
   same : (item : ℕ) → Contains (subjects_of (seen one) asked) item → seen one item ≡ seen other item
   same item subject = seen-alike asked one other agree item (Subject item subject)
 
@@ -110,7 +110,7 @@ module _ (asked : Ask) (one other : List Answer) (agree : AgreeOn asked one othe
 
 module _ (me : Principal) (stamp : ℕ) where
   written-alike :
-      (asked : Ask) (one other : List Answer) → AgreeOn asked one other
+      (asked : Ask) (one other : List ReadVersion) → AgreeOn asked one other
       → written (seen one) me stamp asked ≡ written (seen other) me stamp asked
   written-alike (ask.Read object) one other agree = refl
   written-alike (ask.List into) one other agree = refl
@@ -177,7 +177,7 @@ module _ (me : Principal) (stamp : ℕ) where
       (same (ask.SetMembers object members) one other agree object (first-of object []))
 
   full-alike :
-      (asked : Ask) (one other : List Answer) → AgreeOn asked one other
+      (asked : Ask) (one other : List ReadVersion) → AgreeOn asked one other
       → is_album_full (seen one) stamp asked ≡ is_album_full (seen other) stamp asked
   full-alike (ask.Read object) one other agree = refl
   full-alike (ask.List into) one other agree = refl
@@ -196,19 +196,19 @@ module _ (me : Principal) (stamp : ℕ) where
   full-alike (ask.SetMembers object members) one other agree = refl
 
 pub effect-alike :
-    (policy : Policy) (me : Principal) (asked : Ask) (one other : List Answer) (stamp : ℕ) → AgreeOn asked one other
+    (policy : Policy) (me : Principal) (asked : Ask) (one other : List ReadVersion) (stamp : ℕ) → AgreeOn asked one other
     → effect_of (permit_on policy me asked one) stamp ≡ effect_of (permit_on policy me asked other) stamp
 effect-alike policy me asked one other stamp agree = ap merged (written-alike me stamp asked one other agree)
 
 pub room-alike :
-    (policy : Policy) (me : Principal) (asked : Ask) (one other : List Answer) (stamp : ℕ) → AgreeOn asked one other
+    (policy : Policy) (me : Principal) (asked : Ask) (one other : List ReadVersion) (stamp : ℕ) → AgreeOn asked one other
     → is_full_for (permit_on policy me asked one) stamp ≡ is_full_for (permit_on policy me asked other) stamp
 room-alike policy me asked one other stamp agree = full-alike me stamp asked one other agree
 
 -- ---- what is served
 
 pub served-alike :
-    (policy : Policy) (me : Principal) (asked : Ask) (one other : List Answer) (given more : Served)
+    (policy : Policy) (me : Principal) (asked : Ask) (one other : List ReadVersion) (given more : Served)
     → AgreeOn asked one other
     → IsServed (permit_on policy me asked one) given → IsServed (permit_on policy me asked other) more → given ≡ more
 served-alike policy me (ask.Read object) one other given more agree l m =

@@ -5,7 +5,7 @@ use Rattle.std.specs.List.{list_any, list_all, flat_map}
 use Rattle.std.specs.Option.{option_map_or}
 use Rattle.std.proofs.lemmas.Bool.{or_parts, or_from, and_parts, and_from, not-true, not_from_false, eq-eqb, ne_eqb, le-leb}
 use Rattle.std.proofs.lemmas.List.{length-append, length-map}
-use Rattle.album_stamps.specs.Distinct.{are_single}
+use Rattle.album_stamps.specs.Distinct.{are_distinct}
 use Rattle.album_stamps.specs.declared.refusals.Refusal.{Refusal}
 use Rattle.album_lists.specs.Whos.{or_else}
 use Rattle.album_lists.specs.declared.lists.Holder.TheVariants.{Plain, Folder}
@@ -17,7 +17,7 @@ use Rattle.album_items.specs.Transactions.{items_written, are_items, has_right_k
 use Rattle.album_items.specs.Values.{is_of, head_of, home_of, list_of}
 use Rattle.album_items.specs.declared.values.Value.{Value}
 use Rattle.album_items.specs.declared.values.Value.TheVariants as value
-use Rattle.album_reader.specs.Answers.{Answer}
+use Rattle.album_reader.specs.Answers.{ReadVersion}
 use Rattle.album_reader.specs.Snapshots.{version_of}
 use Rattle.album_views.proofs.Flaws.{asks_objects, objects_few}
 use Rattle.album_views.specs.Asks.{objects_of, is_write}
@@ -55,22 +55,22 @@ other-put a (v ∷ vs) w other none =
     go false first rest more = or_from (a == v.0) (has a (put vs w)) first more
 
 single-put :
-    (vs : List Write) (w : Write) → are_single (items_written vs) ≡ true
-    → are_single (items_written (put vs w)) ≡ true
+    (vs : List Write) (w : Write) → are_distinct (items_written vs) ≡ true
+    → are_distinct (items_written (put vs w)) ≡ true
 single-put [] w single = refl
 single-put (v ∷ vs) w single =
-    let parts = and_parts (not (has v.0 vs)) (are_single (items_written vs)) single in
+    let parts = and_parts (not (has v.0 vs)) (are_distinct (items_written vs)) single in
     go (v.0 == w.0) refl parts.0 parts.1 (single-put vs w parts.1)
   where
     go :
-        (b : Bool) → (v.0 == w.0) ≡ b → not (has v.0 vs) ≡ true → are_single (items_written vs) ≡ true
-        → are_single (items_written (put vs w)) ≡ true
-        → are_single (items_written (cond b (w ∷ vs) (v ∷ put vs w))) ≡ true
+        (b : Bool) → (v.0 == w.0) ≡ b → not (has v.0 vs) ≡ true → are_distinct (items_written vs) ≡ true
+        → are_distinct (items_written (put vs w)) ≡ true
+        → are_distinct (items_written (cond b (w ∷ vs) (v ∷ put vs w))) ≡ true
     go true same first rest more =
-        and_from (not (has w.0 vs)) (are_single (items_written vs))
+        and_from (not (has w.0 vs)) (are_distinct (items_written vs))
         (subst (λ (a : ℕ). not (has a vs) ≡ true) (eqb-true v.0 w.0 same) first) rest
     go false same first rest more =
-        and_from (not (has v.0 (put vs w))) (are_single (items_written (put vs w)))
+        and_from (not (has v.0 (put vs w))) (are_distinct (items_written (put vs w)))
         (not_from_false (has v.0 (put vs w)) (other-put v.0 vs w same (not-true (has v.0 vs) first))) more
 
 kinds-put :
@@ -105,7 +105,7 @@ length-put (v ∷ vs) w = go (v.0 == w.0) (length-put vs w)
 -- ---- writes that are merged
 
 single-fold :
-    (ws vs : List Write) → are_single (items_written vs) ≡ true → are_single (items_written (fold put vs ws)) ≡ true
+    (ws vs : List Write) → are_distinct (items_written vs) ≡ true → are_distinct (items_written (fold put vs ws)) ≡ true
 single-fold [] vs single = single
 single-fold (w ∷ ws) vs single = single-fold ws (put vs w) (single-put vs w single)
 
@@ -427,7 +427,7 @@ module _
 -- ---- what is seen is of its item's kind
 
 seen-right :
-    (rows : List Answer) (item : ℕ) → shows_right_kinds rows ≡ true → is_of (seen rows item) (kind_of item) ≡ true
+    (rows : List ReadVersion) (item : ℕ) → shows_right_kinds rows ≡ true → is_of (seen rows item) (kind_of item) ≡ true
 unfolding seen
 seen-right [] item right = refl
 seen-right (row ∷ rows) item right =
@@ -473,12 +473,12 @@ effect_items permit stamp kept change =
     counted (merged ws) (some-merged ws some) (omega (arith, few, few-fold ws [])) (single-fold ws [] refl)
   where
     counted :
-        (vs : List Write) → 1 ≤ length vs → length vs ≤ 16 → are_single (items_written vs) ≡ true
+        (vs : List Write) → 1 ≤ length vs → length vs ≤ 16 → are_distinct (items_written vs) ≡ true
         → are_items (items_written vs) ≡ true
     counted vs some few single =
         let same : length (items_written vs) ≡ length vs = length-map vs (λ (write : Write). write.0) in
         and_from (not (length (items_written vs) == 0) && nat_le (length (items_written vs)) 16)
-        (are_single (items_written vs))
+        (are_distinct (items_written vs))
         (and_from (not (length (items_written vs) == 0)) (nat_le (length (items_written vs)) 16)
         (not_from_false (length (items_written vs) == 0)
         (ne_eqb (length (items_written vs)) 0 (λ none. absurd (omega (arith, some, same, none)))))

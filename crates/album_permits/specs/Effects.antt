@@ -2,7 +2,7 @@
 use Rattle.std.specs.Prelude.{ℕ, List, [], ◌∷◌, ◌++◌, ◌==◌, Bool, false, not, nat_le, count_by, map, fold, Some, if◌then◌else◌}
 use Rattle.std.specs.List.{flat_map}
 use Rattle.std.specs.Option.{option_map_or}
-use Rattle.album_stamps.specs.declared.limits.TheConstants.{MOST_CHILDREN}
+use Rattle.album_stamps.specs.declared.limits.TheConstants.{MAX_CHILDREN}
 use Rattle.album_lists.specs.Inheritance.{inherited}
 use Rattle.album_lists.specs.declared.lists.Ace.{Ace}
 use Rattle.album_lists.specs.declared.lists.Holder.{Holder}
@@ -18,7 +18,7 @@ use Rattle.album_views.specs.Seen.{seen}
 use Rattle.album_views.specs.declared.asks.Ask.{Ask}
 use Rattle.album_views.specs.declared.asks.Ask.TheVariants as ask
 use Rattle.album_views.specs.declared.asks.NewList.{NewList}
-use Rattle.album_listing.specs.Sights.{entries_named}
+use Rattle.album_listing.specs.ViewLookups.{entries_named}
 use Rattle.album_permits.specs.Changes.{with_title, with_content, with_home, with_owner, with_members, without_child, with_child}
 use Rattle.album_permits.specs.Permits.{PermitState}
 
@@ -117,7 +117,7 @@ effect_of permit stamp = merged (written (seen permit.view.rows) permit.principa
 
 -- the album has 128 children beside this one
 abbrev pub has_most_others : ℕ → Value → Bool
-has_most_others child value = nat_le MOST_CHILDREN (count_by (λ other. not (child == other)) (children_of value))
+has_most_others child value = nat_le MAX_CHILDREN (count_by (λ other. not (child == other)) (children_of value))
 
 -- the album that gets a child by the ask is full
 abbrev pub is_album_full : (ℕ → Value) → ℕ → Ask → Bool

@@ -2,7 +2,7 @@
 use Rattle.std.specs.Prelude.{◌≡◌, None, List}
 use Rattle.album_eval.specs.declared.facts.Principal.{Principal}
 use Rattle.album_eval.specs.declared.policies.Policy.{Policy}
-use Rattle.album_reader.specs.Answers.{Answer}
+use Rattle.album_reader.specs.Answers.{ReadVersion}
 use Rattle.album_views.specs.Checks.{refusal_of}
 use Rattle.album_views.specs.Views.{ViewState}
 use Rattle.album_views.specs.declared.asks.Ask.{Ask}
@@ -17,7 +17,7 @@ pub record PermitState : Type 0 where
   pub policy : Policy
 
 -- the permit for an ask on a snapshot
-abbrev pub permit_on : Policy → Principal → Ask → List Answer → PermitState
+abbrev pub permit_on : Policy → Principal → Ask → List ReadVersion → PermitState
 permit_on policy principal ask rows =
     record { view = record { ask = ask; rows = rows }; principal = principal; policy = policy }
 

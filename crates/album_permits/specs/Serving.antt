@@ -7,7 +7,7 @@ use Rattle.album_views.specs.Seen.{seen}
 use Rattle.album_views.specs.declared.asks.Ask.{Ask}
 use Rattle.album_views.specs.declared.asks.Ask.TheVariants as ask
 use Rattle.album_listing.specs.Listing.{IsListing}
-use Rattle.album_listing.specs.Sights.{stamp_seen, stamp_named, entries_named}
+use Rattle.album_listing.specs.ViewLookups.{stamp_seen, stamp_named, entries_named}
 use Rattle.album_listing.specs.declared.rows.Row.{Row}
 use Rattle.album_permits.specs.Permits.{PermitState}
 use Rattle.album_permits.specs.declared.serving.Served.{Served}

@@ -10,7 +10,7 @@ ghost use Rattle.album_permits.specs.Effects.{head_group_seen, new_head, heritag
 use crate::changes::with_child;
 use album_eval::Principal;
 use album_items::{Album, Content, Head, ItemId, Items, Kind, Picture, Title, Value};
-use album_listing::Sight;
+use album_listing::ViewLookup;
 use album_lists::{AccessList, Holder};
 use album_stamps::{Refusal, Stamp};
 use std::alloc::Global;
@@ -18,7 +18,7 @@ use std::alloc::Global;
 /// A new picture of this title and content in the album, with its list; and the album with it.
 pub(crate) fn picture_added(
     alloc: Global,
-    sight: &Sight,
+    lookup: &ViewLookup,
     principal: &Principal,
     stamp: Stamp,
     into: ItemId,
@@ -31,23 +31,23 @@ pub(crate) fn picture_added(
       Value.Picture (record {
         title = title.now;
         content = content.now;
-        head = new_head (seen sight.now.view.now.rows) principal.now stamp into;
+        head = new_head (seen lookup.now.view.now.rows) principal.now stamp into;
         home = number_of into;
       }),
     )
-        ∷ (list stamp, Value.List (heritage (seen sight.now.view.now.rows) Plain into))
-        ∷ (into, with_child (picture stamp) (seen sight.now.view.now.rows into))
+        ∷ (list stamp, Value.List (heritage (seen lookup.now.view.now.rows) Plain into))
+        ∷ (into, with_child (picture stamp) (seen lookup.now.view.now.rows into))
         ∷ []) }
     ensures memory { IsOkUnless result Refusal.OutOfMemory }
 {
     let picture = Picture {
         title: title.copy()?,
         content: content.copy()?,
-        head: new_head(sight, principal, stamp, into)?,
+        head: new_head(lookup, principal, stamp, into)?,
         home: into.number(),
     };
-    let list = heritage(alloc, sight, Holder::Plain, into)?;
-    let album = with_child(alloc, sight.value(into), picture_at(stamp))?;
+    let list = heritage(alloc, lookup, Holder::Plain, into)?;
+    let album = with_child(alloc, lookup.value(into), picture_at(stamp))?;
     three(
         alloc,
         (picture_at(stamp), Value::Picture(picture)),
@@ -59,7 +59,7 @@ pub(crate) fn picture_added(
 /// A new album of this title in the album, with its list; and the album with it.
 pub(crate) fn album_added(
     alloc: Global,
-    sight: &Sight,
+    lookup: &ViewLookup,
     principal: &Principal,
     stamp: Stamp,
     into: ItemId,
@@ -70,24 +70,24 @@ pub(crate) fn album_added(
       album stamp,
       Value.Album (record {
         title = title.now;
-        head = new_head (seen sight.now.view.now.rows) principal.now stamp into;
+        head = new_head (seen lookup.now.view.now.rows) principal.now stamp into;
         home = Some (number_of into);
         children = [];
       }),
     )
-        ∷ (list stamp, Value.List (heritage (seen sight.now.view.now.rows) Folder into))
-        ∷ (into, with_child (album stamp) (seen sight.now.view.now.rows into))
+        ∷ (list stamp, Value.List (heritage (seen lookup.now.view.now.rows) Folder into))
+        ∷ (into, with_child (album stamp) (seen lookup.now.view.now.rows into))
         ∷ []) }
     ensures memory { IsOkUnless result Refusal.OutOfMemory }
 {
     let inner = Album {
         title: title.copy()?,
-        head: new_head(sight, principal, stamp, into)?,
+        head: new_head(lookup, principal, stamp, into)?,
         home: Some(into.number()),
         children: Items::of(Vec::new(alloc)),
     };
-    let list = heritage(alloc, sight, Holder::Folder, into)?;
-    let outer = with_child(alloc, sight.value(into), album_at(stamp))?;
+    let list = heritage(alloc, lookup, Holder::Folder, into)?;
+    let outer = with_child(alloc, lookup.value(into), album_at(stamp))?;
     three(
         alloc,
         (album_at(stamp), Value::Album(inner)),
@@ -131,20 +131,20 @@ fn three(
 
 /// A new object in the album is the principal's, in the album's head group.
 fn new_head(
-    sight: &Sight,
+    lookup: &ViewLookup,
     principal: &Principal,
     stamp: Stamp,
     into: ItemId,
 ) -> Result<Head, Refusal>
     requires known { IsTrue (is_known principal.now) }
     ensures head { IfOk result (λ head.
-        head ≡ new_head (seen sight.now.view.now.rows) principal.now stamp into) }
+        head ≡ new_head (seen lookup.now.view.now.rows) principal.now stamp into) }
     ensures memory { IsOkUnless result Refusal.OutOfMemory }
 {
     match principal {
         Principal::User(name) => Ok(Head {
             owner: name.copy()?,
-            group: head_group_seen(sight, into),
+            group: head_group_seen(lookup, into),
             list: stamp.value(),
         }),
         Principal::Anonymous => unreachable!(),
@@ -152,10 +152,10 @@ fn new_head(
 }
 
 /// The head group of the item.
-fn head_group_seen(sight: &Sight, item: ItemId) -> u64
-    ensures { result ≡ head_group_seen (seen sight.now.view.now.rows) item }
+fn head_group_seen(lookup: &ViewLookup, item: ItemId) -> u64
+    ensures { result ≡ head_group_seen (seen lookup.now.view.now.rows) item }
 {
-    match sight.value(item).head() {
+    match lookup.value(item).head() {
         Some(head) => head.group,
         None => 0,
     }
@@ -164,12 +164,12 @@ fn head_group_seen(sight: &Sight, item: ItemId) -> u64
 /// What a new object inherits of the list of the album.
 fn heritage(
     alloc: Global,
-    sight: &Sight,
+    lookup: &ViewLookup,
     holder: Holder,
     into: ItemId,
 ) -> Result<AccessList, Refusal>
-    ensures list { IfOk result (λ list. list ≡ heritage (seen sight.now.view.now.rows) holder into) }
+    ensures list { IfOk result (λ list. list ≡ heritage (seen lookup.now.view.now.rows) holder into) }
     ensures memory { IsOkUnless result Refusal.OutOfMemory }
 {
-    sight.list_of(into).inherit(alloc, holder)
+    lookup.list_of(into).inherit(alloc, holder)
 }

@@ -2,7 +2,7 @@
 ghost use Rattle.std.specs.Prelude.{◌≡◌, List};
 ghost use Rattle.album_eval.specs.declared.facts.Principal.{Principal};
 ghost use Rattle.album_eval.specs.declared.policies.Policy.{Policy};
-ghost use Rattle.album_reader.specs.Answers.{Answer};
+ghost use Rattle.album_reader.specs.Answers.{ReadVersion};
 ghost use Rattle.album_views.specs.declared.asks.Ask.{Ask};
 ghost use Rattle.album_listing.specs.Basis.{Basis, IsBasis};
 ghost use Rattle.album_listing.specs.Disclosure.{AreRuledAlike, AreAlikeFor};
@@ -15,10 +15,10 @@ ghost use Rattle.album_permits.specs.declared.serving.Served.{Served};
 /// A law: titles, contents, children and stamps decide nothing, nor does what is not named. On two snapshots that are
 /// alike but for these, the ruling and its notes are the same.
 pub fn secrets_decide_nothing()
-    ensures ruling { (policy : Policy) (principal : Principal) (ask : Ask) (one other : List Answer) (b c : Basis)
+    ensures ruling { (policy : Policy) (principal : Principal) (ask : Ask) (one other : List ReadVersion) (b c : Basis)
         → AreRuledAlike ask one other → IsBasis policy principal one b → IsBasis policy principal other c
         → ruling_of b ask ≡ ruling_of c ask }
-    ensures notes { (policy : Policy) (principal : Principal) (ask : Ask) (one other : List Answer) (b c : Basis)
+    ensures notes { (policy : Policy) (principal : Principal) (ask : Ask) (one other : List ReadVersion) (b c : Basis)
         → AreRuledAlike ask one other → IsBasis policy principal one b → IsBasis policy principal other c
         → notes_of b ask ≡ notes_of c ask }
 {}
@@ -26,10 +26,10 @@ pub fn secrets_decide_nothing()
 /// A law: an answer discloses nothing that who asks may not read. On two snapshots that are alike for a principal it
 /// is granted the same, and is served the same.
 pub fn answers_disclose_nothing()
-    ensures granted { (policy : Policy) (principal : Principal) (ask : Ask) (one other : List Answer)
+    ensures granted { (policy : Policy) (principal : Principal) (ask : Ask) (one other : List ReadVersion)
         → AreAlikeFor policy principal ask one other
         → IsPermit (permit_on policy principal ask one) → IsPermit (permit_on policy principal ask other) }
-    ensures served { (policy : Policy) (principal : Principal) (ask : Ask) (one other : List Answer)
+    ensures served { (policy : Policy) (principal : Principal) (ask : Ask) (one other : List ReadVersion)
         (served more : Served)
         → AreAlikeFor policy principal ask one other → IsPermit (permit_on policy principal ask one)
         → IsServed (permit_on policy principal ask one) served

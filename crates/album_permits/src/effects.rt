@@ -19,8 +19,8 @@ use crate::permits::Permit;
 use crate::writes::Writes;
 use album_eval::Principal;
 use album_items::{ItemId, ItemValues, Kind, Value};
-use album_listing::Sight;
-use album_stamps::{MOST_CHILDREN, Refusal, Refused, Stamp};
+use album_listing::ViewLookup;
+use album_stamps::{MAX_CHILDREN, Refusal, Refused, Stamp};
 use album_views::{Ask, NewList};
 use std::alloc::{AllocError, Global};
 
@@ -36,7 +36,7 @@ impl Permit {
     ///
     /// # Errors
     ///
-    /// `AlbumFull` where the album that gets a child has `MOST_CHILDREN` others, and only there; else
+    /// `AlbumFull` where the album that gets a child has `MAX_CHILDREN` others, and only there; else
     /// `OutOfMemory`. The permit is handed back.
     pub fn effect(self, alloc: Global, stamp: Stamp) -> Result<Writes, Refused<Permit>>
         requires change { IsTrue (is_write self.view.ask) }
@@ -67,18 +67,18 @@ impl Permit {
 fn is_full_for(alloc: Global, permit: &Permit, stamp: Stamp) -> bool
     ensures { result ≡ is_full_for permit.now stamp }
 {
-    let sight = Sight::of(alloc, permit.view());
-    is_album_full(&sight, stamp, permit.view().ask())
+    let lookup = ViewLookup::of(alloc, permit.view());
+    is_album_full(&lookup, stamp, permit.view().ask())
 }
 
 /// Whether the album that gets a child by the ask is full.
-fn is_album_full(sight: &Sight, stamp: Stamp, ask: &Ask) -> bool
-    ensures { result ≡ is_album_full (seen sight.now.view.now.rows) stamp ask.now }
+fn is_album_full(lookup: &ViewLookup, stamp: Stamp, ask: &Ask) -> bool
+    ensures { result ≡ is_album_full (seen lookup.now.view.now.rows) stamp ask.now }
 {
     match ask {
-        Ask::AddPicture { album, .. } => has_most_others(picture_at(stamp), sight.value(*album)),
-        Ask::AddAlbum { album, .. } => has_most_others(album_at(stamp), sight.value(*album)),
-        Ask::Move { object, to } => has_most_others(*object, sight.value(*to)),
+        Ask::AddPicture { album, .. } => has_most_others(picture_at(stamp), lookup.value(*album)),
+        Ask::AddAlbum { album, .. } => has_most_others(album_at(stamp), lookup.value(*album)),
+        Ask::Move { object, to } => has_most_others(*object, lookup.value(*to)),
         Ask::Read { .. } | Ask::List { .. } | Ask::GetList { .. } => false,
         Ask::Retitle { .. } | Ask::Replace { .. } | Ask::Delete { .. } => false,
         Ask::SetLists { .. } | Ask::SetOwner { .. } | Ask::SetMembers { .. } => false,
@@ -89,7 +89,7 @@ fn is_album_full(sight: &Sight, stamp: Stamp, ask: &Ask) -> bool
 fn has_most_others(child: ItemId, album: &Value) -> bool
     ensures { result ≡ has_most_others child album.now }
 {
-    count_of_others(child, album.children()) >= MOST_CHILDREN
+    count_of_others(child, album.children()) >= MAX_CHILDREN
 }
 
 fn count_of_others(child: ItemId, children: &[ItemId]) -> usize
@@ -106,10 +106,10 @@ fn effect_of(alloc: Global, permit: &Permit, stamp: Stamp) -> Result<ItemValues,
     ensures writes { IfOk result (λ writes. writes ≡ effect_of permit.now stamp) }
     ensures memory { IsOkUnless result Refusal.OutOfMemory }
 {
-    let sight = Sight::of(alloc, permit.view());
+    let lookup = ViewLookup::of(alloc, permit.view());
     let writes = written(
         alloc,
-        &sight,
+        &lookup,
         permit.principal(),
         stamp,
         permit.view().ask(),
@@ -121,14 +121,14 @@ fn effect_of(alloc: Global, permit: &Permit, stamp: Stamp) -> Result<ItemValues,
 /// What the ask writes at the stamp, in order; an item may stand twice.
 fn written(
     alloc: Global,
-    sight: &Sight,
+    lookup: &ViewLookup,
     principal: &Principal,
     stamp: Stamp,
     ask: &Ask,
 ) -> Result<Vec<(ItemId, Value)>, Refusal>
     requires owned { owner_flaw ask.now principal.now ≡ None }
     ensures writes { IfOk result (λ writes.
-        writes.items ≡ written (seen sight.now.view.now.rows) principal.now stamp ask.now) }
+        writes.items ≡ written (seen lookup.now.view.now.rows) principal.now stamp ask.now) }
     ensures memory { IsOkUnless result Refusal.OutOfMemory }
 {
     match ask {
@@ -137,19 +137,23 @@ fn written(
             album,
             title,
             content,
-        } => picture_added(alloc, sight, principal, stamp, *album, title, content),
+        } => picture_added(alloc, lookup, principal, stamp, *album, title, content),
         Ask::AddAlbum { album, title } => {
-            album_added(alloc, sight, principal, stamp, *album, title)
+            album_added(alloc, lookup, principal, stamp, *album, title)
         }
         Ask::Retitle { object, title } => {
-            one(alloc, *object, with_title(sight.value(*object), title)?)
+            one(alloc, *object, with_title(lookup.value(*object), title)?)
         }
         Ask::Replace { object, content } => {
-            one(alloc, *object, with_content(sight.value(*object), content)?)
+            one(
+                alloc,
+                *object,
+                with_content(lookup.value(*object), content)?,
+            )
         }
-        Ask::Delete { object } => deleted(alloc, sight, *object),
-        Ask::Move { object, to } => moved(alloc, sight, *object, *to),
-        Ask::SetLists { lists } => lists_written(alloc, sight, lists.as_slice()),
+        Ask::Delete { object } => deleted(alloc, lookup, *object),
+        Ask::Move { object, to } => moved(alloc, lookup, *object, *to),
+        Ask::SetLists { lists } => lists_written(alloc, lookup, lists.as_slice()),
         Ask::SetOwner {
             object,
             owner,
@@ -157,10 +161,14 @@ fn written(
         } => one(
             alloc,
             *object,
-            with_owner(sight.value(*object), owner, *group)?,
+            with_owner(lookup.value(*object), owner, *group)?,
         ),
         Ask::SetMembers { object, members } => {
-            one(alloc, *object, with_members(sight.value(*object), members)?)
+            one(
+                alloc,
+                *object,
+                with_members(lookup.value(*object), members)?,
+            )
         }
     }
 }
@@ -174,50 +182,54 @@ fn one(alloc: Global, item: ItemId, value: Value) -> Result<Vec<(ItemId, Value)>
 }
 
 /// The picture and its list are no more, and its home has it no more.
-fn deleted(alloc: Global, sight: &Sight, picture: ItemId) -> Result<Vec<(ItemId, Value)>, Refusal>
+fn deleted(
+    alloc: Global,
+    lookup: &ViewLookup,
+    picture: ItemId,
+) -> Result<Vec<(ItemId, Value)>, Refusal>
     ensures writes { IfOk result (λ writes. writes.items ≡ (picture, Value.Missing)
-        ∷ (list_dropped (seen sight.now.view.now.rows) picture ++ taken_out (seen sight.now.view.now.rows) picture)) }
+        ∷ (list_dropped (seen lookup.now.view.now.rows) picture ++ taken_out (seen lookup.now.view.now.rows) picture)) }
     ensures memory { IsOkUnless result Refusal.OutOfMemory }
 {
     let mut writes = one(alloc, picture, Value::Missing)?;
-    add_list_dropped(&mut writes, sight, picture)?;
-    add_taken_out(alloc, &mut writes, sight, picture)?;
+    add_list_dropped(&mut writes, lookup, picture)?;
+    add_taken_out(alloc, &mut writes, lookup, picture)?;
     Ok(writes)
 }
 
 /// The picture has another home, that it had has it no more, and the new one has it last.
 fn moved(
     alloc: Global,
-    sight: &Sight,
+    lookup: &ViewLookup,
     picture: ItemId,
     to: ItemId,
 ) -> Result<Vec<(ItemId, Value)>, Refusal>
     ensures writes { IfOk result (λ writes.
-        writes.items ≡ (picture, with_home (number_of to) (seen sight.now.view.now.rows picture))
-        ∷ (taken_out (seen sight.now.view.now.rows) picture
-        ++ (to, with_child picture (seen sight.now.view.now.rows to)) ∷ [])) }
+        writes.items ≡ (picture, with_home (number_of to) (seen lookup.now.view.now.rows picture))
+        ∷ (taken_out (seen lookup.now.view.now.rows) picture
+        ++ (to, with_child picture (seen lookup.now.view.now.rows to)) ∷ [])) }
     ensures memory { IsOkUnless result Refusal.OutOfMemory }
 {
     let mut writes = one(
         alloc,
         picture,
-        with_home(sight.value(picture), to.number())?,
+        with_home(lookup.value(picture), to.number())?,
     )?;
-    add_taken_out(alloc, &mut writes, sight, picture)?;
-    writes.push((to, with_child(alloc, sight.value(to), picture)?))?;
+    add_taken_out(alloc, &mut writes, lookup, picture)?;
+    writes.push((to, with_child(alloc, lookup.value(to), picture)?))?;
     Ok(writes)
 }
 
 /// Adds that the list of the item is no more.
 fn add_list_dropped(
     writes: &mut Vec<(ItemId, Value)>,
-    sight: &Sight,
+    lookup: &ViewLookup,
     item: ItemId,
 ) -> Result<(), AllocError>
     ensures { OnOk result (writes.new.items
-        ≡ writes.old.items ++ list_dropped (seen sight.now.view.now.rows) item) }
+        ≡ writes.old.items ++ list_dropped (seen lookup.now.view.now.rows) item) }
 {
-    if let Some(head) = sight.value(item).head() {
+    if let Some(head) = lookup.value(item).head() {
         writes.push((ItemId::new(Kind::List, head.list), Value::Missing))?;
     }
     Ok(())
@@ -227,15 +239,15 @@ fn add_list_dropped(
 fn add_taken_out(
     alloc: Global,
     writes: &mut Vec<(ItemId, Value)>,
-    sight: &Sight,
+    lookup: &ViewLookup,
     picture: ItemId,
 ) -> Result<(), Refusal>
     ensures write { OnOk result (writes.new.items
-        ≡ writes.old.items ++ taken_out (seen sight.now.view.now.rows) picture) }
+        ≡ writes.old.items ++ taken_out (seen lookup.now.view.now.rows) picture) }
     ensures memory { IsOkUnless result Refusal.OutOfMemory }
 {
-    if let Some(home) = sight.value(picture).home() {
-        let value = without_child(alloc, sight.value(home), picture)?;
+    if let Some(home) = lookup.value(picture).home() {
+        let value = without_child(alloc, lookup.value(home), picture)?;
         writes.push((home, value))?;
     }
     Ok(())
@@ -244,26 +256,30 @@ fn add_taken_out(
 /// Each of the lists, as the value of the item that the head of its object names.
 fn lists_written(
     alloc: Global,
-    sight: &Sight,
+    lookup: &ViewLookup,
     lists: &[NewList],
 ) -> Result<Vec<(ItemId, Value)>, Refusal>
     ensures writes { IfOk result (λ writes.
-        writes.items ≡ flat_map (list_written (seen sight.now.view.now.rows)) lists.now) }
+        writes.items ≡ flat_map (list_written (seen lookup.now.view.now.rows)) lists.now) }
     ensures memory { IsOkUnless result Refusal.OutOfMemory }
 {
     let mut writes = Vec::new(alloc);
     for new in lists {
-        add_list(&mut writes, sight, new)?;
+        add_list(&mut writes, lookup, new)?;
     }
     Ok(writes)
 }
 
-fn add_list(writes: &mut Vec<(ItemId, Value)>, sight: &Sight, new: &NewList) -> Result<(), Refusal>
+fn add_list(
+    writes: &mut Vec<(ItemId, Value)>,
+    lookup: &ViewLookup,
+    new: &NewList,
+) -> Result<(), Refusal>
     ensures write { OnOk result (writes.new.items
-        ≡ writes.old.items ++ list_written (seen sight.now.view.now.rows) new.now) }
+        ≡ writes.old.items ++ list_written (seen lookup.now.view.now.rows) new.now) }
     ensures memory { IsOkUnless result Refusal.OutOfMemory }
 {
-    if let Some(head) = sight.value(new.object).head() {
+    if let Some(head) = lookup.value(new.object).head() {
         let list = new.list.copy()?;
         writes.push((ItemId::new(Kind::List, head.list), Value::List(list)))?;
     }

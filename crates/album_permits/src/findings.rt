@@ -1,13 +1,13 @@
 // What is found of the needs of an ask.
 ghost use Rattle.std.specs.Prelude.{◌≡◌, IfOk, IsOkUnless, is_none};
-ghost use Rattle.album_listing.specs.Hearings.{basis_of};
+ghost use Rattle.album_listing.specs.RulingContexts.{basis_of};
 ghost use Rattle.album_permits.specs.Findings.{is_missing, missing_in, reasons_of, is_met, need_found, needs_found, ruling_of};
 ghost use Rattle.album_permits.specs.Notes.{need_notes, needs_noted, notes_of};
 
 use crate::needs::{Need, needs};
 use crate::notes::{Note, notes_of};
 use album_items::ItemId;
-use album_listing::{Alternative, Hearing, Reason};
+use album_listing::{Alternative, Reason, RulingContext};
 use album_stamps::Refusal;
 use album_views::Ask;
 use std::alloc::{AllocError, Global};
@@ -55,20 +55,20 @@ pub(crate) struct Found {
 }
 
 /// What is found of the ask.
-pub(crate) fn find_of(alloc: Global, hearing: &Hearing, ask: &Ask) -> Result<Found, Refusal>
-    ensures finding { IfOk result (λ found. found.finding ≡ ruling_of (basis_of hearing.now) ask.now) }
-    ensures notes { IfOk result (λ found. found.notes.items ≡ notes_of (basis_of hearing.now) ask.now) }
+pub(crate) fn find_of(alloc: Global, context: &RulingContext, ask: &Ask) -> Result<Found, Refusal>
+    ensures finding { IfOk result (λ found. found.finding ≡ ruling_of (basis_of context.now) ask.now) }
+    ensures notes { IfOk result (λ found. found.notes.items ≡ notes_of (basis_of context.now) ask.now) }
     ensures memory { IsOkUnless result Refusal.OutOfMemory }
 {
-    let needs = needs(alloc, hearing.sight(), ask)?;
-    let found = find_all(alloc, hearing, needs.as_slice())?;
+    let needs = needs(alloc, context.lookup(), ask)?;
+    let found = find_all(alloc, context, needs.as_slice())?;
     Ok(found)
 }
 
 /// What is found of the needs: the first that fails decides.
-fn find_all(alloc: Global, hearing: &Hearing, needs: &[Need]) -> Result<Found, Refusal>
-    ensures finding { IfOk result (λ found. found.finding ≡ needs_found (basis_of hearing.now) needs.now) }
-    ensures notes { IfOk result (λ found. found.notes.items ≡ needs_noted (basis_of hearing.now) needs.now) }
+fn find_all(alloc: Global, context: &RulingContext, needs: &[Need]) -> Result<Found, Refusal>
+    ensures finding { IfOk result (λ found. found.finding ≡ needs_found (basis_of context.now) needs.now) }
+    ensures notes { IfOk result (λ found. found.notes.items ≡ needs_noted (basis_of context.now) needs.now) }
     ensures memory { IsOkUnless result Refusal.OutOfMemory }
 {
     let mut notes = Vec::new(alloc);
@@ -76,7 +76,7 @@ fn find_all(alloc: Global, hearing: &Hearing, needs: &[Need]) -> Result<Found, R
         let Found {
             finding,
             notes: more,
-        } = find_one(alloc, hearing, need.as_slice())?;
+        } = find_one(alloc, context, need.as_slice())?;
         notes.extend_from_slice(more.as_slice())?;
         match finding {
             Finding::Granted => {}
@@ -101,19 +101,19 @@ fn find_all(alloc: Global, hearing: &Hearing, needs: &[Need]) -> Result<Found, R
 }
 
 /// What is found of one need.
-fn find_one(alloc: Global, hearing: &Hearing, need: &[Alternative]) -> Result<Found, Refusal>
-    ensures finding { IfOk result (λ found. found.finding ≡ need_found (basis_of hearing.now) need.now) }
-    ensures notes { IfOk result (λ found. found.notes.items ≡ need_notes (basis_of hearing.now) need.now) }
+fn find_one(alloc: Global, context: &RulingContext, need: &[Alternative]) -> Result<Found, Refusal>
+    ensures finding { IfOk result (λ found. found.finding ≡ need_found (basis_of context.now) need.now) }
+    ensures notes { IfOk result (λ found. found.notes.items ≡ need_notes (basis_of context.now) need.now) }
     ensures memory { IsOkUnless result Refusal.OutOfMemory }
 {
-    if let Some(object) = missing_in(hearing, need) {
+    if let Some(object) = missing_in(context, need) {
         return Ok(Found {
             finding: Finding::Missing(object),
             notes: Vec::new(alloc),
         });
     }
-    let reasons = reasons_of(alloc, hearing, need)?;
-    let notes = notes_of(alloc, hearing, reasons.as_slice())?;
+    let reasons = reasons_of(alloc, context, need)?;
+    let notes = notes_of(alloc, context, reasons.as_slice())?;
     if is_met(reasons.as_slice()) {
         return Ok(Found {
             finding: Finding::Granted,
@@ -127,32 +127,32 @@ fn find_one(alloc: Global, hearing: &Hearing, need: &[Alternative]) -> Result<Fo
 }
 
 /// The first object of the need that is not there.
-fn missing_in(hearing: &Hearing, need: &[Alternative]) -> Option<ItemId>
-    ensures { result ≡ missing_in (basis_of hearing.now) need.now }
+fn missing_in(context: &RulingContext, need: &[Alternative]) -> Option<ItemId>
+    ensures { result ≡ missing_in (basis_of context.now) need.now }
 {
     need.iter()
         .map(|alternative| alternative.object)
-        .find(|object| is_missing(hearing, *object))
+        .find(|object| is_missing(context, *object))
 }
 
 /// Whether the object is not there.
-fn is_missing(hearing: &Hearing, object: ItemId) -> bool
-    ensures { result ≡ is_missing (basis_of hearing.now) object }
+fn is_missing(context: &RulingContext, object: ItemId) -> bool
+    ensures { result ≡ is_missing (basis_of context.now) object }
 {
-    hearing.sight().value(object).head().is_none()
+    context.lookup().value(object).head().is_none()
 }
 
 /// What is said of each alternative whose object is there.
 fn reasons_of(
     alloc: Global,
-    hearing: &Hearing,
+    context: &RulingContext,
     need: &[Alternative],
 ) -> Result<Vec<Reason>, AllocError>
-    ensures { IfOk result (λ reasons. reasons.items ≡ reasons_of (basis_of hearing.now) need.now) }
+    ensures { IfOk result (λ reasons. reasons.items ≡ reasons_of (basis_of context.now) need.now) }
 {
     let mut reasons = Vec::new(alloc);
     for alternative in need {
-        if let Some(reason) = hearing.reason(*alternative) {
+        if let Some(reason) = context.reason(*alternative) {
             reasons.push(reason)?;
         }
     }

@@ -2,7 +2,7 @@
 ghost use Rattle.std.specs.Prelude.{◌≡◌, ℕ, List};
 ghost use Rattle.album_eval.specs.declared.facts.Principal.{Principal};
 ghost use Rattle.album_eval.specs.declared.policies.Policy.{Policy};
-ghost use Rattle.album_reader.specs.Answers.{Answer};
+ghost use Rattle.album_reader.specs.Answers.{ReadVersion};
 ghost use Rattle.album_views.specs.Views.{ViewState};
 ghost use Rattle.album_views.specs.declared.asks.Ask.{Ask};
 ghost use Rattle.album_listing.specs.Agreement.{AgreeOn};
@@ -19,10 +19,10 @@ ghost use Rattle.album_permits.specs.declared.serving.Served.{Served};
 /// A law: a ruling looks at nothing that is not named. Where two snapshots agree on all that is named for the ask
 /// by the one, the ruling and its notes are the same on both.
 pub fn rulings_look_at_what_is_named()
-    ensures ruling { (policy : Policy) (principal : Principal) (ask : Ask) (one other : List Answer) (b c : Basis)
+    ensures ruling { (policy : Policy) (principal : Principal) (ask : Ask) (one other : List ReadVersion) (b c : Basis)
         → AgreeOn ask one other → IsBasis policy principal one b → IsBasis policy principal other c
         → ruling_of b ask ≡ ruling_of c ask }
-    ensures notes { (policy : Policy) (principal : Principal) (ask : Ask) (one other : List Answer) (b c : Basis)
+    ensures notes { (policy : Policy) (principal : Principal) (ask : Ask) (one other : List ReadVersion) (b c : Basis)
         → AgreeOn ask one other → IsBasis policy principal one b → IsBasis policy principal other c
         → notes_of b ask ≡ notes_of c ask }
 {}
@@ -30,15 +30,15 @@ pub fn rulings_look_at_what_is_named()
 /// A law: what a permit is spent on looks at nothing else either. On such snapshots the same is served, the same is
 /// written, and an album that gets a child is full on both or on neither.
 pub fn permits_are_spent_on_what_is_named()
-    ensures effect { (policy : Policy) (principal : Principal) (ask : Ask) (one other : List Answer) (stamp : ℕ)
+    ensures effect { (policy : Policy) (principal : Principal) (ask : Ask) (one other : List ReadVersion) (stamp : ℕ)
         → AgreeOn ask one other
         → effect_of (permit_on policy principal ask one) stamp
         ≡ effect_of (permit_on policy principal ask other) stamp }
-    ensures room { (policy : Policy) (principal : Principal) (ask : Ask) (one other : List Answer) (stamp : ℕ)
+    ensures room { (policy : Policy) (principal : Principal) (ask : Ask) (one other : List ReadVersion) (stamp : ℕ)
         → AgreeOn ask one other
         → is_full_for (permit_on policy principal ask one) stamp
         ≡ is_full_for (permit_on policy principal ask other) stamp }
-    ensures served { (policy : Policy) (principal : Principal) (ask : Ask) (one other : List Answer)
+    ensures served { (policy : Policy) (principal : Principal) (ask : Ask) (one other : List ReadVersion)
         (served more : Served)
         → AgreeOn ask one other
         → IsServed (permit_on policy principal ask one) served

@@ -6,7 +6,7 @@ ghost use Rattle.album_permits.specs.Needs.{just, deletion, needs_of};
 
 use album_access::Mask;
 use album_items::ItemId;
-use album_listing::{Alternative, Sight};
+use album_listing::{Alternative, ViewLookup};
 use album_views::{Ask, NewList};
 use std::alloc::{AllocError, Global};
 use std::marker::Model;
@@ -36,8 +36,8 @@ impl Need {
 }
 
 /// What the ask needs, in order.
-pub(crate) fn needs(alloc: Global, sight: &Sight, ask: &Ask) -> Result<Vec<Need>, AllocError>
-    ensures { IfOk result (λ needs. needs.items ≡ needs_of (seen sight.now.view.now.rows) ask.now) }
+pub(crate) fn needs(alloc: Global, lookup: &ViewLookup, ask: &Ask) -> Result<Vec<Need>, AllocError>
+    ensures { IfOk result (λ needs. needs.items ≡ needs_of (seen lookup.now.view.now.rows) ask.now) }
 {
     match ask {
         Ask::Read { object } => one(alloc, *object, Mask::READ_DATA),
@@ -50,9 +50,9 @@ pub(crate) fn needs(alloc: Global, sight: &Sight, ask: &Ask) -> Result<Vec<Need>
         Ask::AddAlbum { album, .. } => one(alloc, *album, Mask::APPEND_DATA),
         Ask::Retitle { object, .. } => one(alloc, *object, Mask::WRITE_ATTRIBUTES),
         Ask::Replace { object, .. } => one(alloc, *object, Mask::WRITE_DATA),
-        Ask::Delete { object } => Ok(vec![in alloc; deletion(alloc, sight, *object)?]?),
+        Ask::Delete { object } => Ok(vec![in alloc; deletion(alloc, lookup, *object)?]?),
         Ask::Move { object, to } => {
-            let deletion = deletion(alloc, sight, *object)?;
+            let deletion = deletion(alloc, lookup, *object)?;
             // ADD_FILE
             let addition = just(alloc, *to, Mask::WRITE_DATA)?;
             Ok(vec![in alloc; deletion, addition]?)
@@ -79,14 +79,14 @@ fn just(alloc: Global, object: ItemId, mask: Mask) -> Result<Need, AllocError>
 }
 
 /// DELETE on the picture, or DELETE_CHILD on its home.
-fn deletion(alloc: Global, sight: &Sight, picture: ItemId) -> Result<Need, AllocError>
-    ensures { IfOk result (λ need. need ≡ deletion (seen sight.now.view.now.rows) picture) }
+fn deletion(alloc: Global, lookup: &ViewLookup, picture: ItemId) -> Result<Need, AllocError>
+    ensures { IfOk result (λ need. need ≡ deletion (seen lookup.now.view.now.rows) picture) }
 {
     let itself = Alternative {
         object: picture,
         mask: Mask::DELETE,
     };
-    match sight.value(picture).home() {
+    match lookup.value(picture).home() {
         Some(home) => {
             let from_home = Alternative {
                 object: home,

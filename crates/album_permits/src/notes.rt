@@ -1,14 +1,14 @@
 // What is noted as an ask is ruled on.
 ghost use Rattle.std.specs.Prelude.{◌≡◌, ◌++◌, map, position, IfOk, OnOk, IsOkUnless};
 ghost use Rattle.std.specs.List.{flat_map};
-ghost use Rattle.album_listing.specs.Hearings.{basis_of};
+ghost use Rattle.album_listing.specs.RulingContexts.{basis_of};
 ghost use Rattle.album_listing.specs.Reasons.{is_grant};
 ghost use Rattle.album_permits.specs.Notes.{is_alarm_at, note_by, notes_for, checked};
 
 use album_access::{AceType, Mask};
 use album_eval::audits;
 use album_items::ItemId;
-use album_listing::{Hearing, Reason};
+use album_listing::{Reason, RulingContext};
 use album_lists::Ace;
 use album_stamps::Refusal;
 use std::alloc::{AllocError, Global};
@@ -27,16 +27,16 @@ pub struct Note {
 /// The notes of the alternatives of a need that are checked, by what is said of them.
 pub(crate) fn notes_of(
     alloc: Global,
-    hearing: &Hearing,
+    context: &RulingContext,
     reasons: &[Reason],
 ) -> Result<Vec<Note>, Refusal>
     ensures notes { IfOk result (λ notes.
-        notes.items ≡ flat_map (notes_for (basis_of hearing.now)) (checked reasons.now)) }
+        notes.items ≡ flat_map (notes_for (basis_of context.now)) (checked reasons.now)) }
     ensures memory { IsOkUnless result Refusal.OutOfMemory }
 {
     let mut notes = Vec::new(alloc);
     for reason in checked(reasons) {
-        add_notes(alloc, &mut notes, hearing, *reason)?;
+        add_notes(alloc, &mut notes, context, *reason)?;
     }
     Ok(notes)
 }
@@ -62,17 +62,17 @@ fn first_grant(reasons: &[Reason]) -> Option<usize>
 fn add_notes(
     alloc: Global,
     notes: &mut Vec<Note>,
-    hearing: &Hearing,
+    context: &RulingContext,
     reason: Reason,
 ) -> Result<(), Refusal>
-    ensures notes { OnOk result (notes.new.items ≡ notes.old.items ++ notes_for (basis_of hearing.now) reason) }
+    ensures notes { OnOk result (notes.new.items ≡ notes.old.items ++ notes_for (basis_of context.now) reason) }
     ensures memory { IsOkUnless result Refusal.OutOfMemory }
 {
-    let Some(head) = hearing.sight().value(reason.object).head() else {
+    let Some(head) = context.lookup().value(reason.object).head() else {
         return Ok(());
     };
-    let list = hearing.sight().list(head.list);
-    let facts = hearing.facts(head);
+    let list = context.lookup().list(head.list);
+    let facts = context.facts(head);
     let indexes = audits(alloc, list, &facts, reason.mask, reason.is_grant())?;
     let more = notes_at(alloc, reason, list.entries(), indexes.as_slice())?;
     notes.extend_from_slice(more.as_slice())?;

@@ -6,7 +6,7 @@ ghost use Rattle.album_items.specs.Values.{members_of};
 ghost use Rattle.album_items.specs.declared.values.Value.{Value};
 ghost use Rattle.album_views.specs.Seen.{seen};
 ghost use Rattle.album_listing.specs.Masks.{READ_DATA, LIST_DIRECTORY, READ_ACL};
-ghost use Rattle.album_listing.specs.Sights.{entries_named};
+ghost use Rattle.album_listing.specs.ViewLookups.{entries_named};
 ghost use Rattle.album_listing.specs.Told.{title_told, content_told};
 ghost use Rattle.album_listing.specs.declared.rows.Row.{Row};
 ghost use Rattle.album_permits.specs.Permits.{PermitState, IsPermit};

@@ -8,7 +8,7 @@ use crate::notes::Note;
 use crate::permits::Permit;
 use album_eval::{Policy, Principal};
 use album_items::ItemId;
-use album_listing::Hearing;
+use album_listing::RulingContext;
 use album_stamps::{Refusal, Refused};
 use album_views::View;
 use std::alloc::Global;
@@ -67,8 +67,8 @@ fn find_on(
     ensures found { IfOk result (IsFound policy principal.now view.now) }
     ensures memory { IsOkUnless result Refusal.OutOfMemory }
 {
-    let hearing = Hearing::of(alloc, view, principal, policy)?;
-    let found = find_of(alloc, &hearing, view.ask())?;
+    let context = RulingContext::of(alloc, view, principal, policy)?;
+    let found = find_of(alloc, &context, view.ask())?;
     Ok(found)
 }
 

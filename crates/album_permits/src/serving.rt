@@ -7,7 +7,7 @@ ghost use Rattle.album_permits.specs.Serving.{read_of, IsServed};
 
 use crate::permits::Permit;
 use album_items::{Content, ItemId, Members, Title, Value};
-use album_listing::{Rows, Sight, list};
+use album_listing::{Rows, ViewLookup, list};
 use album_lists::AccessList;
 use album_stamps::{Refusal, Refused, Stamp};
 use album_views::Ask;
@@ -71,18 +71,18 @@ fn serve_ask(alloc: Global, permit: &Permit) -> Result<Served, Refusal>
     ensures served { IfOk result (IsServed permit.now) }
     ensures memory { IsOkUnless result Refusal.OutOfMemory }
 {
-    let sight = Sight::of(alloc, permit.view());
+    let lookup = ViewLookup::of(alloc, permit.view());
     match permit.view().ask() {
-        Ask::Read { object } => read(alloc, *object, sight.stamp(*object), sight.value(*object)),
+        Ask::Read { object } => read(alloc, *object, lookup.stamp(*object), lookup.value(*object)),
         Ask::List { album } => Ok(Served::Listed {
             album: *album,
-            stamp: sight.stamp(*album),
+            stamp: lookup.stamp(*album),
             rows: list(alloc, permit.view(), permit.principal())?,
         }),
         Ask::GetList { object } => Ok(Served::Entries {
             object: *object,
-            stamp: sight.stamp_of_list(*object),
-            list: sight.list_of(*object).copy()?,
+            stamp: lookup.stamp_of_list(*object),
+            list: lookup.list_of(*object).copy()?,
         }),
         Ask::AddPicture { .. } | Ask::AddAlbum { .. } | Ask::Retitle { .. } => unreachable!(),
         Ask::Replace { .. } | Ask::Delete { .. } | Ask::Move { .. } => unreachable!(),

@@ -8,7 +8,7 @@ use Rattle.album_calls.specs.declared.messages.Message.{Message}
 use Rattle.album_reader.specs.declared.round.End.{End}
 use Rattle.album_reader.specs.declared.round.End.TheVariants as last
 use Rattle.album_reader.specs.declared.round.Fresh.{Fresh}
-use Rattle.album_reader.specs.Answers.{Answer, body_version, is_answer, answers_there, are_there}
+use Rattle.album_reader.specs.Answers.{ReadVersion, body_version, is_answer, answers_there, are_there}
 use Rattle.album_reader.specs.Ends.{answer_of, step_by, IsFresh}
 use Rattle.album_reader.specs.Rounds.{RoundState, new_answer, with_answer, end_by, end_of, outcome, taken, is_end, are_in_order, IsOpen, stepped, is_gone, StaysOpen}
 use Rattle.album_reader.specs.Rounds.Step.{Same, Gone}
@@ -17,7 +17,7 @@ use Rattle.album_reader.proofs.Rounds.{put_answer-set, with_answer-in_order, ind
 
 -- an item that was not asked
 pub new_answer-absent :
-    (round : RoundState) (message : Message) (version : Answer)
+    (round : RoundState) (message : Message) (version : ReadVersion)
     → body_version message.body ≡ Some version → is_answer round.asker message version.item ≡ true
     → position (λ other. version.item == other) round.items ≡ None
     → new_answer round message ≡ None
@@ -27,7 +27,7 @@ new_answer-absent round message version tells own e =
 
 -- an item that has its answer
 pub new_answer-taken :
-    (round : RoundState) (message : Message) (version : Answer) (index : ℕ) → IsOpen round
+    (round : RoundState) (message : Message) (version : ReadVersion) (index : ℕ) → IsOpen round
     → body_version message.body ≡ Some version → is_answer round.asker message version.item ≡ true
     → position (λ other. version.item == other) round.items ≡ Some index
     → is_some (get_or round.answers index None) ≡ true
@@ -36,7 +36,7 @@ new_answer-taken round message version index lasts tells own e taken =
     new_answer-answer round message version tells own
     ∙ ap (λ (b : Bool). if b then Some version else None) (lacks-taken round version.item index lasts e taken)
 
-none-is : (o : Option Answer) → is_some o ≡ false → o ≡ None
+none-is : (o : Option ReadVersion) → is_some o ≡ false → o ≡ None
 none-is None e = refl
 none-is (Some answer) e = absurd (cc)
 
@@ -64,7 +64,7 @@ IsFresh-free round message fresh lasts tells own e free =
 end-outcome : (round : RoundState) → is_end (outcome round) ≡ are_there round.answers
 end-outcome round = go (are_there round.answers)
   where
-    ended : (stamps : Option (List ℕ)) (answers : List Answer) → is_end (end_by stamps round answers) ≡ true
+    ended : (stamps : Option (List ℕ)) (answers : List ReadVersion) → is_end (end_by stamps round answers) ≡ true
     ended None answers = refl
     ended (Some stamps) answers = refl
 
@@ -76,7 +76,7 @@ end-outcome round = go (are_there round.answers)
 
 -- with an answer at the index, each is there just where each other one is
 are_there-set :
-    (answers : List (Option Answer)) (index : ℕ) (answer : Answer) → index < length answers
+    (answers : List (Option ReadVersion)) (index : ℕ) (answer : ReadVersion) → index < length answers
     → are_there (set answers index (Some answer)) ≡ (are_there (take index answers) && are_there (drop (suc index) answers))
 are_there-set [] index answer inside = absurd (omega arith)
 are_there-set (first ∷ answers) zero answer inside = refl
@@ -107,13 +107,13 @@ module _ (round : RoundState) (message : Message) (fresh : Fresh)
       })
       ≡ taken round message
   outcome-fresh =
-      ap (λ (os : List (Option Answer)). outcome (record {
+      ap (λ (os : List (Option ReadVersion)). outcome (record {
         asker = round.asker;
         items = round.items;
         stamps = round.stamps;
         answers = os;
       })) (sym answers-fresh)
-      ∙ sym (ap (λ (o : Option Answer). option_map_or (λ (a : Answer). outcome (with_answer round a)) o (Same round)) is.counts)
+      ∙ sym (ap (λ (o : Option ReadVersion). option_map_or (λ (a : ReadVersion). outcome (with_answer round a)) o (Same round)) is.counts)
 
   pub end-fresh :
       is_end (taken round message)

@@ -10,26 +10,26 @@ use Rattle.std.proofs.lemmas.List.{append-nil, append_assoc}
 use Rattle.std.proofs.lemmas.List.Elements.{filter_map-append, at_from_Contains}
 use Rattle.std.proofs.lemmas.List.Folds.{find-append, list_any_at}
 use Rattle.album_calls.specs.declared.messages.Message.{Message}
-use Rattle.album_reader.specs.Answers.{Asker, Answer, body_gone, is_answer, answer_in, answers_in, first_answer, answers_there, are_there, whole, all_answers}
+use Rattle.album_reader.specs.Answers.{Asker, ReadVersion, body_gone, is_answer, answer_in, answers_in, first_answer, answers_there, are_there, whole, all_answers}
 use Rattle.album_reader.specs.Rounds.{RoundState, Step, has_item, has_answer, if_lacking, put_answer, with_answer, end_by, end_of, outcome, lacks, is_gone, taken, stepped, after_replies, taken_after, step_after, open_step_after, goes, and_then, stepped_all}
 use Rattle.album_reader.specs.Rounds.Step.{Same, Gone}
 use Rattle.album_reader.specs.Snapshots.{items_read, version_of, version_read}
 
-or_none : (o : Option Answer) → option_or o None ≡ o
+or_none : (o : Option ReadVersion) → option_or o None ≡ o
 or_none None = refl
 or_none (Some answer) = refl
 
 -- the answer at the index is the first of those from there on
 pub drop-next :
-    (answers : List (Option Answer)) (index : ℕ) (answer : Option Answer)
+    (answers : List (Option ReadVersion)) (index : ℕ) (answer : Option ReadVersion)
     → index < length answers → answer ≡ get_or answers index answer
     → drop index answers ≡ answer ∷ drop (index + 1) answers
 drop-next answers index answer inside e =
-    rw add-one (drop-cons answers index answer inside ∙ ap (λ (o : Option Answer). o ∷ drop (suc index) answers) (sym e))
+    rw add-one (drop-cons answers index answer inside ∙ ap (λ (o : Option ReadVersion). o ∷ drop (suc index) answers) (sym e))
 
 -- what is found for an item is of this item
 find-item :
-    (answers : List Answer) (item : ℕ) (answer : Answer)
+    (answers : List ReadVersion) (item : ℕ) (answer : ReadVersion)
     → find (λ a. a.item == item) answers ≡ Some answer → answer.item ≡ item
 find-item [] item answer e = absurd (cc)
 find-item (first ∷ answers) item answer e = go (first.item == item) refl (find-item answers item answer) e
@@ -39,14 +39,14 @@ find-item (first ∷ answers) item answer e = go (first.item == item) refl (find
         Bool) → (first.item == item) ≡ b → (find (λ a. a.item == item) answers ≡ Some answer
         → answer.item ≡ item)
         → (if b then Some first else find (λ a. a.item == item) answers) ≡ Some answer → answer.item ≡ item
-    go true f later g = let same : first ≡ answer = cc in sym (ap (λ (a : Answer). a.item) same) ∙ eqb-true first.item item f
+    go true f later g = let same : first ≡ answer = cc in sym (ap (λ (a : ReadVersion). a.item) same) ∙ eqb-true first.item item f
     go false f later g = later g
 
 -- ---- more replies
 
 module _ (asker : Asker) where
   pub first_answer-item :
-      (replies : List Message) (item : ℕ) (answer : Answer)
+      (replies : List Message) (item : ℕ) (answer : ReadVersion)
       → first_answer asker replies item ≡ Some answer → answer.item ≡ item
   first_answer-item replies item answer e = find-item (answers_in asker replies) item answer e
 
@@ -66,7 +66,7 @@ module _ (asker : Asker) where
   first_answer-stays replies more item there =
       first_answer-append replies more item ∙ go (first_answer asker replies item) there
     where
-      go : (o : Option Answer) → is_some o ≡ true → option_or o (first_answer asker more item) ≡ o
+      go : (o : Option ReadVersion) → is_some o ≡ true → option_or o (first_answer asker more item) ≡ o
       go None e = absurd (cc)
       go (Some answer) e = refl
 
@@ -88,19 +88,19 @@ module _ (asker : Asker) where
   map-stays replies more [] there = refl
   map-stays replies more (item ∷ items) there =
       let parts = and_parts _ _ there in
-      ap (λ (o : Option Answer). o ∷ map (first_answer asker (replies ++ more)) items)
+      ap (λ (o : Option ReadVersion). o ∷ map (first_answer asker (replies ++ more)) items)
       (first_answer-stays replies more item parts.0)
-      ∙ ap (λ (os : List (Option Answer)). first_answer asker replies item ∷ os) (map-stays replies more items parts.1)
+      ∙ ap (λ (os : List (Option ReadVersion)). first_answer asker replies item ∷ os) (map-stays replies more items parts.1)
 
   -- ---- one reply more
 
   module _ (replies : List Message) (message : Message) where
     first_answer-one :
-        (answer : Answer) (item : ℕ)
+        (answer : ReadVersion) (item : ℕ)
         → answer_in asker message ≡ Some answer
         → first_answer asker (message ∷ []) item ≡ (if answer.item == item then Some answer else None)
     first_answer-one answer item e =
-        ap (λ (o : Option Answer). find (λ a. a.item == item) (filter_map (λ (x : Option Answer). x) (o ∷ []))) e
+        ap (λ (o : Option ReadVersion). find (λ a. a.item == item) (filter_map (λ (x : Option ReadVersion). x) (o ∷ []))) e
 
     -- it answers nothing
     map-none :
@@ -110,12 +110,12 @@ module _ (asker : Asker) where
     map-none [] none = refl
     map-none (item ∷ items) none =
         let nothing : first_answer asker (message ∷ []) item ≡ None =
-        ap (λ (o : Option Answer). find (λ a. a.item == item) (filter_map (λ (x : Option Answer). x) (o ∷ []))) none in
-        ap (λ (o : Option Answer). o ∷ map (first_answer asker (replies ++ message ∷ [])) items)
+        ap (λ (o : Option ReadVersion). find (λ a. a.item == item) (filter_map (λ (x : Option ReadVersion). x) (o ∷ []))) none in
+        ap (λ (o : Option ReadVersion). o ∷ map (first_answer asker (replies ++ message ∷ [])) items)
         (first_answer-none replies (message ∷ []) item nothing)
-        ∙ ap (λ (os : List (Option Answer)). first_answer asker replies item ∷ os) (map-none items none)
+        ∙ ap (λ (os : List (Option ReadVersion)). first_answer asker replies item ∷ os) (map-none items none)
 
-    module _ (answer : Answer) (tells : answer_in asker message ≡ Some answer) where
+    module _ (answer : ReadVersion) (tells : answer_in asker message ≡ Some answer) where
       -- an item that it doesn't tell of, or that has an answer
       one-same :
           (item : ℕ)
@@ -141,9 +141,9 @@ module _ (asker : Asker) where
       map-absent (item ∷ items) absent =
           let parts = or_parts _ _ absent in
           let apart : (answer.item == item) ≡ false = parts.0 in
-          ap (λ (o : Option Answer). o ∷ map (first_answer asker (replies ++ message ∷ [])) items)
+          ap (λ (o : Option ReadVersion). o ∷ map (first_answer asker (replies ++ message ∷ [])) items)
           (one-same item (λ same. absurd (cc)))
-          ∙ ap (λ (os : List (Option Answer)). first_answer asker replies item ∷ os) (map-absent items parts.1)
+          ∙ ap (λ (os : List (Option ReadVersion)). first_answer asker replies item ∷ os) (map-absent items parts.1)
 
       -- the item that it tells of has an answer
       answered :
@@ -154,7 +154,7 @@ module _ (asker : Asker) where
       answered (item ∷ items) e = go (first_answer asker replies item) refl e (answered items)
         where
           go :
-              (o : Option Answer) → first_answer asker replies item ≡ o
+              (o : Option ReadVersion) → first_answer asker replies item ≡ o
               → has_answer (answers_there (o ∷ map (first_answer asker replies) items)) answer.item ≡ true
               → (has_answer (answers_there (map (first_answer asker replies) items)) answer.item ≡ true
               → is_some (first_answer asker replies answer.item) ≡ true)
@@ -169,7 +169,7 @@ module _ (asker : Asker) where
               here true h k =
                   let own : old.item ≡ item = first_answer-item replies item old f in
                   let same : item ≡ answer.item = sym own ∙ eqb-true old.item answer.item h in
-                  ap (λ (n : ℕ). is_some (first_answer asker replies n)) (sym same) ∙ ap (λ (p : Option Answer). is_some p) f
+                  ap (λ (n : ℕ). is_some (first_answer asker replies n)) (sym same) ∙ ap (λ (p : Option ReadVersion). is_some p) f
               here false h k = later k
 
       map-answered :
@@ -178,9 +178,9 @@ module _ (asker : Asker) where
           → map (first_answer asker (replies ++ message ∷ [])) items ≡ map (first_answer asker replies) items
       map-answered [] there = refl
       map-answered (item ∷ items) there =
-          ap (λ (o : Option Answer). o ∷ map (first_answer asker (replies ++ message ∷ [])) items)
+          ap (λ (o : Option ReadVersion). o ∷ map (first_answer asker (replies ++ message ∷ [])) items)
           (one-same item (λ same. ap (λ (n : ℕ). is_some (first_answer asker replies n)) (sym (eqb-true answer.item item same)) ∙ there))
-          ∙ ap (λ (os : List (Option Answer)). first_answer asker replies item ∷ os) (map-answered items there)
+          ∙ ap (λ (os : List (Option ReadVersion)). first_answer asker replies item ∷ os) (map-answered items there)
 
       -- it tells of an item that has none
       map-new :
@@ -192,7 +192,7 @@ module _ (asker : Asker) where
       map-new (item ∷ items) free = go (first_answer asker replies item) refl free (map-new items)
         where
           go :
-              (o : Option Answer) → first_answer asker replies item ≡ o
+              (o : Option ReadVersion) → first_answer asker replies item ≡ o
               → has_answer (answers_there (o ∷ map (first_answer asker replies) items)) answer.item ≡ false
               → (has_answer (answers_there (map (first_answer asker replies) items)) answer.item ≡ false
               → put_answer answer items (map (first_answer asker replies) items)
@@ -203,21 +203,21 @@ module _ (asker : Asker) where
               let head : first_answer asker (replies ++ message ∷ []) item
               ≡ (if answer.item == item then Some answer else None) =
               first_answer-append replies (message ∷ []) item
-              ∙ ap (λ (p : Option Answer). option_or p (first_answer asker (message ∷ []) item)) f
+              ∙ ap (λ (p : Option ReadVersion). option_or p (first_answer asker (message ∷ []) item)) f
               ∙ first_answer-one answer item tells in
-              ap (λ (p : Option Answer). p ∷ put_answer answer items (map (first_answer asker replies) items)) (sym head)
-              ∙ ap (λ (os : List (Option Answer)). first_answer asker (replies ++ message ∷ []) item ∷ os) (later g)
+              ap (λ (p : Option ReadVersion). p ∷ put_answer answer items (map (first_answer asker replies) items)) (sym head)
+              ∙ ap (λ (os : List (Option ReadVersion)). first_answer asker (replies ++ message ∷ []) item ∷ os) (later g)
           go (Some old) f g later =
               let parts = or_parts _ _ g in
               let own : old.item ≡ item = first_answer-item replies item old f in
               let other : (old.item == answer.item) ≡ false = parts.0 in
               let apart : (answer.item == item) ≡ false = grind (arith, nat_tests, own, other) in
               let head : first_answer asker (replies ++ message ∷ []) item ≡ Some old =
-              first_answer-stays replies (message ∷ []) item (ap (λ (p : Option Answer). is_some p) f) ∙ f in
+              first_answer-stays replies (message ∷ []) item (ap (λ (p : Option ReadVersion). is_some p) f) ∙ f in
               ap (λ (b : Bool).
               (if b then Some answer else Some old) ∷ put_answer answer items (map (first_answer asker replies) items)) apart
-              ∙ ap (λ (p : Option Answer). p ∷ put_answer answer items (map (first_answer asker replies) items)) (sym head)
-              ∙ ap (λ (os : List (Option Answer)). first_answer asker (replies ++ message ∷ []) item ∷ os) (later parts.1)
+              ∙ ap (λ (p : Option ReadVersion). p ∷ put_answer answer items (map (first_answer asker replies) items)) (sym head)
+              ∙ ap (λ (os : List (Option ReadVersion)). first_answer asker (replies ++ message ∷ []) item ∷ os) (later parts.1)
 
       -- then not all were there
       not_whole :
@@ -229,7 +229,7 @@ module _ (asker : Asker) where
       not_whole (item ∷ items) asked free = go (first_answer asker replies item) refl asked free (not_whole items)
         where
           go :
-              (o : Option Answer) → first_answer asker replies item ≡ o
+              (o : Option ReadVersion) → first_answer asker replies item ≡ o
               → has_item (item ∷ items) answer.item ≡ true
               → has_answer (answers_there (o ∷ map (first_answer asker replies) items)) answer.item ≡ false
               → (has_item items answer.item ≡ true
@@ -249,11 +249,11 @@ module _ (asker : Asker) where
 -- ---- the round
 
 -- the round with these answers
-abbrev with_these : RoundState → List (Option Answer) → RoundState
+abbrev with_these : RoundState → List (Option ReadVersion) → RoundState
 with_these round answers = record round { answers = answers }
 
 whole-parts :
-    (answers : List (Option Answer)) (all : List Answer)
+    (answers : List (Option ReadVersion)) (all : List ReadVersion)
     → whole answers ≡ Some all → (are_there answers ≡ true) × (answers_there answers ≡ all)
 whole-parts answers all e = go (are_there answers) refl e
   where
@@ -270,7 +270,7 @@ settled :
 settled round = go (whole round.answers)
   where
     go :
-        (o : Option (List Answer))
+        (o : Option (List ReadVersion))
         → (if is_some o then Same round else option_map_or (end_of round) o (Same round)) ≡ Same round
     go None = refl
     go (Some all) = refl
@@ -281,18 +281,18 @@ module _ (round : RoundState) (replies : List Message) (message : Message) where
       ≡ map (first_answer round.asker replies) round.items
       → Same (after_replies round replies) ≡ taken_after round replies message
   same_after e = sym (
-      ap (λ (os : List (Option Answer)).
+      ap (λ (os : List (Option ReadVersion)).
       if is_some (all_answers round.asker replies round.items) then Same (with_these round os) else outcome (with_these round os)) e
       ∙ settled (after_replies round replies)
       )
 
   new_after :
-      (answer : Answer) → answer_in round.asker message ≡ Some answer
+      (answer : ReadVersion) → answer_in round.asker message ≡ Some answer
       → has_item round.items answer.item ≡ true
       → has_answer (answers_there (map (first_answer round.asker replies) round.items)) answer.item ≡ false
       → outcome (with_answer (after_replies round replies) answer) ≡ taken_after round replies message
   new_after answer tells asked free =
-      ap (λ (os : List (Option Answer)). outcome (with_these round os))
+      ap (λ (os : List (Option ReadVersion)). outcome (with_these round os))
       (map-new round.asker replies message answer tells round.items free)
       ∙ sym (
       ap (λ (b : Bool).
@@ -307,8 +307,8 @@ module _ (round : RoundState) (replies : List Message) (message : Message) where
   taken-after_replies = go (answer_in round.asker message) refl
     where
       go :
-          (o : Option Answer) → answer_in round.asker message ≡ o
-          → option_map_or (λ (a : Answer). outcome (with_answer (after_replies round replies) a))
+          (o : Option ReadVersion) → answer_in round.asker message ≡ o
+          → option_map_or (λ (a : ReadVersion). outcome (with_answer (after_replies round replies) a))
           (option_and_then (if_lacking (after_replies round replies)) o) (Same (after_replies round replies))
           ≡ taken_after round replies message
       go None e = same_after (map-none round.asker replies message round.items e)
@@ -318,7 +318,7 @@ module _ (round : RoundState) (replies : List Message) (message : Message) where
           here :
               (b : Bool) → has_item round.items answer.item ≡ b
               → (c : Bool) → has_answer (answers_there (map (first_answer round.asker replies) round.items)) answer.item ≡ c
-              → option_map_or (λ (a : Answer). outcome (with_answer (after_replies round replies) a))
+              → option_map_or (λ (a : ReadVersion). outcome (with_answer (after_replies round replies) a))
               (if b && not c then Some answer else None) (Same (after_replies round replies))
               ≡ taken_after round replies message
           here true f true g =
@@ -334,7 +334,7 @@ module _ (round : RoundState) (replies : List Message) (message : Message) where
       taken-after_replies
 
 end-stays :
-    (on : RoundState → Step) (stamps : Option (List ℕ)) (round : RoundState) (answers : List Answer)
+    (on : RoundState → Step) (stamps : Option (List ℕ)) (round : RoundState) (answers : List ReadVersion)
     → and_then on (end_by stamps round answers) ≡ end_by stamps round answers
 end-stays on None round answers = refl
 end-stays on (Some stamps) round answers = refl
@@ -351,7 +351,7 @@ there-has asker replies (first ∷ items) item there asked =
     go (first_answer asker replies first) refl there (item == first) refl asked (there-has asker replies items item)
   where
     go :
-        (o : Option Answer) → first_answer asker replies first ≡ o
+        (o : Option ReadVersion) → first_answer asker replies first ≡ o
         → are_there (o ∷ map (first_answer asker replies) items) ≡ true
         → (b : Bool) → (item == first) ≡ b → (b || has_item items item) ≡ true
         → (are_there (map (first_answer asker replies) items) ≡ true → has_item items item ≡ true
@@ -410,13 +410,13 @@ pub stepped_all-after_replies :
     ≡ (if goes round replies more then Gone round.items else outcome (after_replies round (replies ++ more)))
 stepped_all-after_replies round [] replies none = sym (
     ap (λ (ms : List Message). outcome (after_replies round ms)) (append-nil replies)
-    ∙ ap (λ (o : Option (List Answer)).
+    ∙ ap (λ (o : Option (List ReadVersion)).
     option_map_or (end_of (after_replies round replies)) o (Same (after_replies round replies))) none
     )
 stepped_all-after_replies round (message ∷ more) replies none =
     ap (and_then (λ next. stepped_all next more)) (
     stepped-after_replies round replies message
-    ∙ ap (λ (o : Option (List Answer)).
+    ∙ ap (λ (o : Option (List ReadVersion)).
     if is_gone (after_replies round replies) message then Gone round.items
     else if is_some o then Same next else outcome next) none
     )
@@ -430,14 +430,14 @@ stepped_all-after_replies round (message ∷ more) replies none =
     rest gone = if gone then Gone round.items else outcome (after_replies round (replies ++ message ∷ more))
 
     go :
-        (o : Option (List Answer)) → whole next.answers ≡ o
+        (o : Option (List ReadVersion)) → whole next.answers ≡ o
         → (whole next.answers ≡ None
         → stepped_all next more
         ≡ (if goes round (replies ++ message ∷ []) more then Gone round.items
         else outcome (after_replies round ((replies ++ message ∷ []) ++ more))))
         → and_then (λ r. stepped_all r more) (outcome next) ≡ rest (goes round (replies ++ message ∷ []) more)
     go None e later =
-        ap (λ (o : Option (List Answer)). and_then (λ r. stepped_all r more) (option_map_or (end_of next) o (Same next))) e
+        ap (λ (o : Option (List ReadVersion)). and_then (λ r. stepped_all r more) (option_map_or (end_of next) o (Same next))) e
         ∙ later e
         ∙ ap (λ (ms : List Message).
         if goes round (replies ++ message ∷ []) more then Gone round.items else outcome (after_replies round ms))
@@ -448,12 +448,12 @@ stepped_all-after_replies round (message ∷ more) replies none =
         ap (λ (ms : List Message). map (first_answer round.asker ms) round.items)
         (sym (append_assoc replies (message ∷ []) more))
         ∙ map-stays round.asker (replies ++ message ∷ []) more round.items parts.0 in
-        ap (λ (o : Option (List Answer)). and_then (λ r. stepped_all r more) (option_map_or (end_of next) o (Same next))) e
+        ap (λ (o : Option (List ReadVersion)). and_then (λ r. stepped_all r more) (option_map_or (end_of next) o (Same next))) e
         ∙ end-stays (λ r. stepped_all r more) round.stamps next all
         ∙ sym (
         ap rest (whole-goes round more (replies ++ message ∷ []) parts.0)
-        ∙ ap (λ (os : List (Option Answer)). outcome (with_these round os)) same
-        ∙ ap (λ (o : Option (List Answer)). option_map_or (end_of next) o (Same next)) e
+        ∙ ap (λ (os : List (Option ReadVersion)). outcome (with_these round os)) same
+        ∙ ap (λ (o : Option (List ReadVersion)). option_map_or (end_of next) o (Same next)) e
         )
 
     by :
@@ -492,7 +492,7 @@ module _ (asker : Asker) (replies : List Message) where
   items_read-there (item ∷ items) there = go (first_answer asker replies item) refl there (items_read-there items)
     where
       go :
-          (o : Option Answer) → first_answer asker replies item ≡ o
+          (o : Option ReadVersion) → first_answer asker replies item ≡ o
           → are_there (o ∷ map (first_answer asker replies) items) ≡ true
           → (are_there (map (first_answer asker replies) items) ≡ true
           → items_read (answers_there (map (first_answer asker replies) items)) ≡ items)
@@ -513,7 +513,7 @@ module _ (asker : Asker) (replies : List Message) where
       go (first_answer asker replies first) refl there (item == first) refl asked (find-there items item)
     where
       go :
-          (o : Option Answer) → first_answer asker replies first ≡ o
+          (o : Option ReadVersion) → first_answer asker replies first ≡ o
           → are_there (o ∷ map (first_answer asker replies) items) ≡ true
           → (b : Bool) → (item == first) ≡ b → (b || has_item items item) ≡ true
           → (are_there (map (first_answer asker replies) items) ≡ true → has_item items item ≡ true
@@ -538,14 +538,14 @@ module _ (asker : Asker) (replies : List Message) where
           ∙ later f h
 
   pub items_read-whole :
-      (items : List ℕ) (answers : List Answer)
+      (items : List ℕ) (answers : List ReadVersion)
       → all_answers asker replies items ≡ Some answers → items_read answers ≡ items
   items_read-whole items answers e =
       let parts = whole-parts (map (first_answer asker replies) items) answers e in
       ap items_read (sym parts.1) ∙ items_read-there items parts.0
 
   pub version_read-whole :
-      (items : List ℕ) (answers : List Answer)
+      (items : List ℕ) (answers : List ReadVersion)
       → all_answers asker replies items ≡ Some answers → (item : ℕ) → Contains items item
       → version_read answers item ≡ option_map version_of (first_answer asker replies item)
   version_read-whole items answers e item there =
@@ -553,5 +553,5 @@ module _ (asker : Asker) (replies : List Message) where
       let (at, inside, here) = at_from_Contains items item there in
       let asked : has_item items item ≡ true =
       list_any_at (λ (other : ℕ). item == other) items at 0 inside (ap (λ (n : ℕ). item == n) (here 0) ∙ eq-eqb item item refl) in
-      ap (λ (all : List Answer). option_map version_of (find (λ a. a.item == item) all)) (sym parts.1)
+      ap (λ (all : List ReadVersion). option_map version_of (find (λ a. a.item == item) all)) (sym parts.1)
       ∙ ap (option_map version_of) (find-there items item parts.0 asked)

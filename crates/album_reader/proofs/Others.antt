@@ -16,7 +16,7 @@ use Rattle.album_calls.specs.declared.nodes.Node.{Node}
 use Rattle.album_calls.specs.declared.nodes.Node.TheVariants.{Part, Client}
 use Rattle.album_calls.specs.declared.replies.Reply.{Reply}
 use Rattle.album_calls.specs.declared.replies.Reply.TheVariants as reply
-use Rattle.album_reader.specs.Answers.{Answer, reply_version, body_version, reply_gone, body_gone, is_answer, if_answer, answers_there}
+use Rattle.album_reader.specs.Answers.{ReadVersion, reply_version, body_version, reply_gone, body_gone, is_answer, if_answer, answers_there}
 use Rattle.album_reader.specs.Others.{IsOther, IsGone, Tells}
 use Rattle.album_reader.specs.Others.IsOther.{OtherTag, ToOther, OfNoItem, FromOther, NotAsked, Answered, GoneTooEarly}
 use Rattle.album_reader.specs.Others.Tells.{ItsVersion, ThatItIsGone}
@@ -31,24 +31,24 @@ pub new_answer-no_version :
     → body_version message.body ≡ None
     → new_answer round message ≡ None
 new_answer-no_version round message none =
-    ap (λ (o : Option Answer). option_and_then (if_lacking round) (option_and_then (if_answer round.asker message) o)) none
+    ap (λ (o : Option ReadVersion). option_and_then (if_lacking round) (option_and_then (if_answer round.asker message) o)) none
 
 -- it tells one, and is no answer for its item
 pub new_answer-no_answer :
-    (round : RoundState) (message : Message) (version : Answer)
+    (round : RoundState) (message : Message) (version : ReadVersion)
     → body_version message.body ≡ Some version → is_answer round.asker message version.item ≡ false
     → new_answer round message ≡ None
 new_answer-no_answer round message version tells other =
-    ap (λ (o : Option Answer). option_and_then (if_lacking round) (option_and_then (if_answer round.asker message) o)) tells
+    ap (λ (o : Option ReadVersion). option_and_then (if_lacking round) (option_and_then (if_answer round.asker message) o)) tells
     ∙ ap (λ (b : Bool). option_and_then (if_lacking round) (if b then Some version else None)) other
 
 -- it is one
 pub new_answer-answer :
-    (round : RoundState) (message : Message) (version : Answer)
+    (round : RoundState) (message : Message) (version : ReadVersion)
     → body_version message.body ≡ Some version → is_answer round.asker message version.item ≡ true
     → new_answer round message ≡ (if lacks round version.item then Some version else None)
 new_answer-answer round message version tells own =
-    ap (λ (o : Option Answer). option_and_then (if_lacking round) (option_and_then (if_answer round.asker message) o)) tells
+    ap (λ (o : Option ReadVersion). option_and_then (if_lacking round) (option_and_then (if_answer round.asker message) o)) tells
     ∙ ap (λ (b : Bool). option_and_then (if_lacking round) (if b then Some version else None)) own
 
 -- whatever it tells, it is no answer
@@ -57,13 +57,13 @@ no_answer :
     → ((item : ℕ) → is_answer round.asker message item ≡ false) → new_answer round message ≡ None
 no_answer round message other = go (body_version message.body) refl
   where
-    go : (o : Option Answer) → body_version message.body ≡ o → new_answer round message ≡ None
+    go : (o : Option ReadVersion) → body_version message.body ≡ o → new_answer round message ≡ None
     go None e = new_answer-no_version round message e
     go (Some version) e = new_answer-no_answer round message version e (other version.item)
 
 -- the round doesn't lack what it tells
 not_lacking :
-    (round : RoundState) (message : Message) (version : Answer)
+    (round : RoundState) (message : Message) (version : ReadVersion)
     → body_version message.body ≡ Some version → lacks round version.item ≡ false
     → new_answer round message ≡ None
 not_lacking round message version tells full = go (is_answer round.asker message version.item) refl
@@ -105,7 +105,7 @@ no_answer-gone round message other = go (body_gone message.body) refl
 
 -- a version of an item is no word that one is gone
 pub version-not_gone :
-    (b : Body) (version : Answer) → body_version b ≡ Some version → body_gone b ≡ None
+    (b : Body) (version : ReadVersion) → body_version b ≡ Some version → body_gone b ≡ None
 version-not_gone (body.Request request) version e = refl
 version-not_gone (body.Reply (reply.Prepared stamp)) version e = refl
 version-not_gone (body.Reply (reply.Committed stamp)) version e = refl
@@ -119,7 +119,7 @@ version-not_gone (body.Reply (reply.Gone item)) version e = absurd (cc)
 
 -- ---- the seven cases
 
-abbrev version : ℕ → ℕ → Value → Answer
+abbrev version : ℕ → ℕ → Value → ReadVersion
 version item stamp value = record { item = item; stamp = stamp; value = value }
 
 other_tag : (a b c : Bool) → a ≡ false → (a && b && c) ≡ false
@@ -179,14 +179,14 @@ has_item-absent items item absent = false_from_ne_true (has_item items item) (λ
 
 -- an answer that is there is among those that are
 pub has_answer-at :
-    (answers : List (Option Answer)) (index : ℕ) (answer : Answer)
+    (answers : List (Option ReadVersion)) (index : ℕ) (answer : ReadVersion)
     → get_or answers index None ≡ Some answer → has_answer (answers_there answers) answer.item ≡ true
 has_answer-at [] index answer e = absurd (cc)
 has_answer-at (None ∷ answers) zero answer e = absurd (cc)
 has_answer-at (None ∷ answers) (suc index) answer e = has_answer-at answers index answer e
 has_answer-at (Some first ∷ answers) zero answer e =
     let same : first ≡ answer = cc in
-    or_left _ _ (ap (λ (a : Answer). a.item == answer.item) same ∙ eq-eqb answer.item answer.item refl)
+    or_left _ _ (ap (λ (a : ReadVersion). a.item == answer.item) same ∙ eq-eqb answer.item answer.item refl)
 has_answer-at (Some first ∷ answers) (suc index) answer e = or_right _ _ (has_answer-at answers index answer e)
 
 -- in each case neither a version counts nor that an item is gone
@@ -248,7 +248,7 @@ pub stepped-other : (round : RoundState) (message : Message) → IsOther round m
 stepped-other round message other =
     let nothing = is_nothing round message other in
     ap (λ (b : Bool). if b then Gone round.items else taken round message) nothing.1
-    ∙ ap (λ (o : Option Answer). option_map_or (λ (a : Answer). outcome (with_answer round a)) o (Same round)) nothing.0
+    ∙ ap (λ (o : Option ReadVersion). option_map_or (λ (a : ReadVersion). outcome (with_answer round a)) o (Same round)) nothing.0
 
 -- ---- and no others
 
@@ -259,7 +259,7 @@ has_item-there items item there =
     list_any_at (λ (other : ℕ). item == other) items at 0 inside (eq-eqb item (get_or items at 0) (sym (here 0)))
 
 behind :
-    (answer first : Option Answer) (answers : List (Option Answer)) → Contains answers answer
+    (answer first : Option ReadVersion) (answers : List (Option ReadVersion)) → Contains answers answer
     → Contains (first ∷ answers) answer
 behind answer first answers there =
     let (at, inside, here) = there in
@@ -267,8 +267,8 @@ behind answer first answers there =
 
 -- an answer that is among those that are there
 answer-there :
-    (answers : List (Option Answer)) (item : ℕ) → has_answer (answers_there answers) item ≡ true
-    → (answer : Answer) × (answer.item ≡ item) × Contains answers (Some answer)
+    (answers : List (Option ReadVersion)) (item : ℕ) → has_answer (answers_there answers) item ≡ true
+    → (answer : ReadVersion) × (answer.item ≡ item) × Contains answers (Some answer)
 answer-there [] item e = absurd (cc)
 answer-there (None ∷ answers) item e =
     let (answer, own, there) = answer-there answers item e in
@@ -278,14 +278,14 @@ answer-there (Some first ∷ answers) item e = go (first.item == item) refl e (a
     go :
         (b : Bool) → (first.item == item) ≡ b → (b || has_answer (answers_there answers) item) ≡ true
         → (has_answer (answers_there answers) item ≡ true
-        → (answer : Answer) × (answer.item ≡ item) × Contains answers (Some answer))
-        → (answer : Answer) × (answer.item ≡ item) × Contains (Some first ∷ answers) (Some answer)
+        → (answer : ReadVersion) × (answer.item ≡ item) × Contains answers (Some answer))
+        → (answer : ReadVersion) × (answer.item ≡ item) × Contains (Some first ∷ answers) (Some answer)
     go true f g later = (first, eqb-true first.item item f, (0, omega arith, refl))
     go false f g later =
         let (answer, own, there) = later g in
         (answer, own, behind (Some answer) (Some first) answers there)
 
-some-none : (answer : Answer) → Some answer ≡ None → ⊥
+some-none : (answer : ReadVersion) → Some answer ≡ None → ⊥
 some-none answer e = cc
 
 -- what tells of an item, and is one of them unless it is an answer for an item that is lacking

@@ -6,10 +6,10 @@ use Rattle.std.proofs.lemmas.Bool.{and_parts, and_from, and_right, eqb-true, eq-
 use Rattle.std.proofs.lemmas.Bool.Decides.{nat_tests}
 use Rattle.std.proofs.lemmas.List.Quantifiers.{position-Some}
 use Rattle.std.proofs.lemmas.Option.{same_Some}
-use Rattle.album_stamps.specs.Distinct.{are_single}
-use Rattle.album_stamps.specs.declared.limits.TheConstants.{MOST_READ_ITEMS}
+use Rattle.album_stamps.specs.Distinct.{are_distinct}
+use Rattle.album_stamps.specs.declared.limits.TheConstants.{MAX_READ_ITEMS}
 use Rattle.album_calls.specs.declared.messages.Message.{Message}
-use Rattle.album_reader.specs.Answers.{Asker, Answer, answers_there, are_there}
+use Rattle.album_reader.specs.Answers.{Asker, ReadVersion, answers_there, are_there}
 use Rattle.album_reader.specs.Rounds.{RoundState, no_answers, first_round, has_item, has_answer, lacks, new_answer, put_answer, with_answer, end_by, end_of, outcome, taken, is_gone, stepped, are_in_order, IsOpen, StaysOpen}
 use Rattle.album_reader.specs.Rounds.Step.{Same, Gone}
 use Rattle.album_reader.specs.Snapshots.{items_read}
@@ -24,14 +24,14 @@ no_answers-in_order [] = refl
 no_answers-in_order (item ∷ items) = no_answers-in_order items
 
 in_order-tail :
-    (item : ℕ) (items : List ℕ) (answer : Option Answer) (answers : List (Option Answer))
+    (item : ℕ) (items : List ℕ) (answer : Option ReadVersion) (answers : List (Option ReadVersion))
     → are_in_order (item ∷ items) (answer ∷ answers) ≡ true → are_in_order items answers ≡ true
 in_order-tail item items None answers order = order
 in_order-tail item items (Some answer) answers order = (and_parts _ _ order).1
 
 pub in_order-length :
     (items :
-    List ℕ) (answers : List (Option Answer)) → are_in_order items answers ≡ true → length answers ≡ length items
+    List ℕ) (answers : List (Option ReadVersion)) → are_in_order items answers ≡ true → length answers ≡ length items
 in_order-length [] [] order = refl
 in_order-length [] (answer ∷ answers) order = absurd (cc)
 in_order-length (item ∷ items) [] order = absurd (cc)
@@ -39,7 +39,7 @@ in_order-length (item ∷ items) (answer ∷ answers) order =
     ap suc (in_order-length items answers (in_order-tail item items answer answers order))
 
 put_answer-in_order :
-    (answer : Answer) (items : List ℕ) (answers : List (Option Answer))
+    (answer : ReadVersion) (items : List ℕ) (answers : List (Option ReadVersion))
     → are_in_order items answers ≡ true → are_in_order items (put_answer answer items answers) ≡ true
 put_answer-in_order answer [] [] order = refl
 put_answer-in_order answer [] (old ∷ answers) order = order
@@ -49,7 +49,7 @@ put_answer-in_order answer (item ∷ items) (old ∷ answers) order = go (answer
   where
     go :
         (b :
-        Bool) → (answer.item == item) ≡ b → (o : Option Answer) → are_in_order (item ∷ items) (o ∷ answers) ≡ true
+        Bool) → (answer.item == item) ≡ b → (o : Option ReadVersion) → are_in_order (item ∷ items) (o ∷ answers) ≡ true
         → are_in_order items (put_answer answer items answers) ≡ true
         → are_in_order (item ∷ items) ((if b then Some answer else o) ∷ put_answer answer items answers) ≡ true
     go true e o f later = and_from _ _ e later
@@ -58,7 +58,7 @@ put_answer-in_order answer (item ∷ items) (old ∷ answers) order = go (answer
 
 -- all the answers are of all the items
 pub items_read-in_order :
-    (items : List ℕ) (answers : List (Option Answer))
+    (items : List ℕ) (answers : List (Option ReadVersion))
     → are_in_order items answers ≡ true → are_there answers ≡ true → items ≡ items_read (answers_there answers)
 items_read-in_order [] [] order there = refl
 items_read-in_order [] (answer ∷ answers) order there = absurd (cc)
@@ -73,7 +73,7 @@ items_read-in_order (item ∷ items) (Some answer ∷ answers) order there =
 
 -- an item that is none of the items has no answer
 absent-free :
-    (items : List ℕ) (answers : List (Option Answer)) (item : ℕ)
+    (items : List ℕ) (answers : List (Option ReadVersion)) (item : ℕ)
     → are_in_order items answers ≡ true → has_item items item ≡ false → has_answer (answers_there answers) item ≡ false
 absent-free [] [] item order absent = refl
 absent-free [] (answer ∷ answers) item order absent = absurd (cc)
@@ -90,14 +90,14 @@ absent-free (first ∷ items) (Some answer ∷ answers) item order absent =
 
 -- nothing changes where the item is none of the items
 put_answer-absent :
-    (answer : Answer) (items : List ℕ) (answers : List (Option Answer))
+    (answer : ReadVersion) (items : List ℕ) (answers : List (Option ReadVersion))
     → has_item items answer.item ≡ false → put_answer answer items answers ≡ answers
 put_answer-absent answer [] answers absent = refl
 put_answer-absent answer (item ∷ items) [] absent = refl
 put_answer-absent answer (item ∷ items) (old ∷ answers) absent =
     let parts = or_parts (answer.item == item) (has_item items answer.item) absent in
     ap (λ (b : Bool). (if b then Some answer else old) ∷ put_answer answer items answers) parts.0
-    ∙ ap (λ (os : List (Option Answer)). old ∷ os) (put_answer-absent answer items answers parts.1)
+    ∙ ap (λ (os : List (Option ReadVersion)). old ∷ os) (put_answer-absent answer items answers parts.1)
 
 has_item-at :
     (items : List ℕ) (index item : ℕ)
@@ -110,12 +110,12 @@ has_item-at (first ∷ items) (suc index) item inside here = or_right _ _ (has_i
 
 -- the first item is none of the others, and so another one than each of them
 single-head :
-    (first : ℕ) (items : List ℕ) → are_single (first ∷ items) ≡ true → has_item items first ≡ false
+    (first : ℕ) (items : List ℕ) → are_distinct (first ∷ items) ≡ true → has_item items first ≡ false
 single-head first items single = not-true (has_item items first) (and_parts _ _ single).0
 
 single-apart :
     (first : ℕ) (items : List ℕ) (index item : ℕ)
-    → are_single (first ∷ items) ≡ true → index < length items → get_or items index 0 ≡ item → (item == first) ≡ false
+    → are_distinct (first ∷ items) ≡ true → index < length items → get_or items index 0 ≡ item → (item == first) ≡ false
 single-apart first items index item single inside here = go (item == first) refl
   where
     go : (b : Bool) → (item == first) ≡ b → b ≡ false
@@ -127,8 +127,8 @@ single-apart first items index item single inside here = go (item == first) refl
 
 -- the item's answer goes to the item's index
 pub put_answer-set :
-    (answer : Answer) (items : List ℕ) (answers : List (Option Answer)) (index : ℕ)
-    → are_single items ≡ true → are_in_order items answers ≡ true
+    (answer : ReadVersion) (items : List ℕ) (answers : List (Option ReadVersion)) (index : ℕ)
+    → are_distinct items ≡ true → are_in_order items answers ≡ true
     → index < length answers → get_or items index 0 ≡ answer.item
     → put_answer answer items answers ≡ set answers index (Some answer)
 put_answer-set answer [] [] index single order inside here = absurd (omega arith)
@@ -137,7 +137,7 @@ put_answer-set answer (item ∷ items) [] index single order inside here = absur
 put_answer-set answer (item ∷ items) (old ∷ answers) zero single order inside here =
     ap (λ (b : Bool). (if b then Some answer else old) ∷ put_answer answer items answers)
     (ap (λ (n : ℕ). answer.item == n) here ∙ eq-eqb answer.item answer.item refl)
-    ∙ ap (λ (os : List (Option Answer)). Some answer ∷ os)
+    ∙ ap (λ (os : List (Option ReadVersion)). Some answer ∷ os)
     (put_answer-absent answer items answers (ap (has_item items) (sym here) ∙ single-head item items single))
 put_answer-set answer (item ∷ items) (old ∷ answers) (suc index) single order inside here =
     let order_too : are_in_order items answers ≡ true = in_order-tail item items old answers order in
@@ -145,13 +145,13 @@ put_answer-set answer (item ∷ items) (old ∷ answers) (suc index) single orde
     let apart : (answer.item == item) ≡ false =
     single-apart item items index answer.item single (omega (arith, lengths)) here in
     ap (λ (b : Bool). (if b then Some answer else old) ∷ put_answer answer items answers) apart
-    ∙ ap (λ (os : List (Option Answer)). old ∷ os)
+    ∙ ap (λ (os : List (Option ReadVersion)). old ∷ os)
     (put_answer-set answer items answers index (and_parts _ _ single).1 order_too (omega arith) here)
 
 -- an item whose index is free has no answer
 free-index :
-    (items : List ℕ) (answers : List (Option Answer)) (index item : ℕ)
-    → are_single items ≡ true → are_in_order items answers ≡ true
+    (items : List ℕ) (answers : List (Option ReadVersion)) (index item : ℕ)
+    → are_distinct items ≡ true → are_in_order items answers ≡ true
     → index < length answers → get_or items index 0 ≡ item → get_or answers index None ≡ None
     → has_answer (answers_there answers) item ≡ false
 free-index [] [] index item single order inside here free = refl
@@ -172,7 +172,7 @@ free-index (first ∷ items) (Some answer ∷ answers) (suc index) item single o
 
 -- an answer that is there is of the item at its index
 own_answer :
-    (items : List ℕ) (answers : List (Option Answer)) (index : ℕ) (answer : Answer)
+    (items : List ℕ) (answers : List (Option ReadVersion)) (index : ℕ) (answer : ReadVersion)
     → are_in_order items answers ≡ true → get_or answers index None ≡ Some answer → get_or items index 0 ≡ answer.item
 own_answer [] [] index answer order e = absurd (cc)
 own_answer [] (first ∷ answers) index answer order e = absurd (cc)
@@ -180,7 +180,7 @@ own_answer (item ∷ items) [] index answer order e = absurd (cc)
 own_answer (item ∷ items) (None ∷ answers) zero answer order e = absurd (cc)
 own_answer (item ∷ items) (Some first ∷ answers) zero answer order e =
     let same : first ≡ answer = cc in
-    sym (eqb-true first.item item (and_parts _ _ order).0) ∙ ap (λ (a : Answer). a.item) same
+    sym (eqb-true first.item item (and_parts _ _ order).0) ∙ ap (λ (a : ReadVersion). a.item) same
 own_answer (item ∷ items) (None ∷ answers) (suc index) answer order e = own_answer items answers index answer order e
 own_answer (item ∷ items) (Some first ∷ answers) (suc index) answer order e =
     own_answer items answers index answer (and_parts _ _ order).1 e
@@ -219,7 +219,7 @@ module _ (round : RoundState) (item index : ℕ)
   lacks-taken taken = go (get_or round.answers index None) refl taken
     where
       go :
-          (o : Option Answer)
+          (o : Option ReadVersion)
           → get_or round.answers index None ≡ o
           → is_some o ≡ true
           → lacks round item ≡ false
@@ -243,18 +243,18 @@ module _ (round : RoundState) (item index : ℕ)
   pub lacks-is : not (is_some (get_or round.answers index None)) ≡ lacks round item
   lacks-is = go (get_or round.answers index None) refl
     where
-      go : (o : Option Answer) → get_or round.answers index None ≡ o → not (is_some o) ≡ lacks round item
+      go : (o : Option ReadVersion) → get_or round.answers index None ≡ o → not (is_some o) ≡ lacks round item
       go None f = sym (lacks-free f)
-      go (Some answer) f = sym (lacks-taken (ap (λ (p : Option Answer). is_some p) f))
+      go (Some answer) f = sym (lacks-taken (ap (λ (p : Option ReadVersion). is_some p) f))
 
 -- an answer that is taken away again
 pub set_back :
-    (answers : List (Option Answer)) (index : ℕ) (answer : Option Answer)
+    (answers : List (Option ReadVersion)) (index : ℕ) (answer : Option ReadVersion)
     → get_or answers index None ≡ None → set (set answers index answer) index None ≡ answers
 set_back [] index answer free = refl
-set_back (first ∷ answers) zero answer free = ap (λ (o : Option Answer). o ∷ answers) (sym free)
+set_back (first ∷ answers) zero answer free = ap (λ (o : Option ReadVersion). o ∷ answers) (sym free)
 set_back (first ∷ answers) (suc index) answer free =
-    ap (λ (os : List (Option Answer)). first ∷ os) (set_back answers index answer free)
+    ap (λ (os : List (Option ReadVersion)). first ∷ os) (set_back answers index answer free)
 
 -- ---- what is not over stays so
 
@@ -263,7 +263,7 @@ no_answers-lacking [] some = absurd (some refl)
 no_answers-lacking (item ∷ items) some = refl
 
 pub some_items :
-    (items : List ℕ) (answers : List (Option Answer))
+    (items : List ℕ) (answers : List (Option ReadVersion))
     → are_in_order items answers ≡ true → are_there answers ≡ false → items ≡ [] → ⊥
 some_items [] [] order lacking e = absurd (cc)
 some_items [] (answer ∷ answers) order lacking e = absurd (cc)
@@ -271,7 +271,7 @@ some_items (item ∷ items) answers order lacking e = absurd (cc)
 
 pub first_open :
     (asker : Asker) (items : List ℕ)
-    → (items ≡ [] → ⊥) → length items ≤ MOST_READ_ITEMS → are_single items ≡ true → asker.tag + 1 < 2 ^ 64
+    → (items ≡ [] → ⊥) → length items ≤ MAX_READ_ITEMS → are_distinct items ≡ true → asker.tag + 1 < 2 ^ 64
     → IsOpen (first_round asker items)
 first_open asker items some few single next_tag = record {
   few = few;
@@ -285,18 +285,18 @@ first_open asker items some few single next_tag = record {
 -- with its answer in it the round is in order
 pub with_answer-in_order :
     (round :
-    RoundState) (answer : Answer) → IsOpen round → are_in_order round.items (with_answer round answer).answers ≡ true
+    RoundState) (answer : ReadVersion) → IsOpen round → are_in_order round.items (with_answer round answer).answers ≡ true
 with_answer-in_order round answer lasts = put_answer-in_order answer round.items round.answers lasts.in_order
 
 -- the stamps that a second round asks with rise
 rises_if_shown :
-    (answers : List Answer) (stamps : List ℕ)
+    (answers : List ReadVersion) (stamps : List ℕ)
     → Some (stamps_of answers) ≡ Some stamps → AllPairs (λ s t. s < t) stamps
 rises_if_shown answers stamps same =
     subst (λ (s : List ℕ). AllPairs (λ a b. a < b) s) (same_Some _ _ same) (stamps_of-rises answers)
 
 outcome-open :
-    (round : RoundState) (answer : Answer)
+    (round : RoundState) (answer : ReadVersion)
     → IsOpen round
     → StaysOpen (outcome (with_answer round answer))
 outcome-open round answer lasts = go (are_there (with_answer round answer).answers) refl
@@ -332,8 +332,8 @@ pub stepped-open : (round : RoundState) (message : Message) → IsOpen round →
 stepped-open round message lasts = by (is_gone round message)
   where
     go :
-        (o : Option Answer)
-        → StaysOpen (option_map_or (λ (a : Answer). outcome (with_answer round a)) o (Same round))
+        (o : Option ReadVersion)
+        → StaysOpen (option_map_or (λ (a : ReadVersion). outcome (with_answer round a)) o (Same round))
     go None = lasts
     go (Some answer) = outcome-open round answer lasts
 

@@ -8,8 +8,8 @@ use Rattle.std.proofs.lemmas.List.Folds.{find_at, list_any-append}
 use Rattle.std.proofs.lemmas.List.Quantifiers.{position-Some}
 use Rattle.std.proofs.lemmas.Option.{slice_get-get_or, slice_get_past}
 use Rattle.indexmap.specs.IndexSet.{insert_all}
-use Rattle.album_stamps.specs.Distinct.{are_single}
-use Rattle.album_reader.specs.Answers.{Answer}
+use Rattle.album_stamps.specs.Distinct.{are_distinct}
+use Rattle.album_reader.specs.Answers.{ReadVersion}
 use Rattle.album_reader.specs.Snapshots.{items_read}
 
 -- ---- by index
@@ -25,9 +25,9 @@ sameness-sym a b = go (a == b) refl (b == a) refl
     go false e true f = absurd (eqb-false a b e (sym (eqb-true b a f)))
 
 position_or_len-items :
-    (item : ℕ) (answers : List Answer)
+    (item : ℕ) (answers : List ReadVersion)
     → position_or_len (λ other. item == other) (items_read answers)
-    ≡ position_or_len (λ (answer : Answer). answer.item == item) answers
+    ≡ position_or_len (λ (answer : ReadVersion). answer.item == item) answers
 position_or_len-items item [] = refl
 position_or_len-items item (answer ∷ answers) =
     let rest = position_or_len-items item answers in
@@ -36,20 +36,20 @@ position_or_len-items item (answer ∷ answers) =
     ∙ ap (λ n. cond (not (answer.item == item)) (1 + n) 0) rest
 
 -- as many items were read as there are answers
-pub length-items : (answers : List Answer) → length (items_read answers) ≡ length answers
+pub length-items : (answers : List ReadVersion) → length (items_read answers) ≡ length answers
 length-items [] = refl
 length-items (answer ∷ answers) = ap suc (length-items answers)
 
 -- the answer of the item stands at the item's index
 pub read-at :
-    (item : ℕ) (answers : List Answer) (i : ℕ) (d : Answer)
+    (item : ℕ) (answers : List ReadVersion) (i : ℕ) (d : ReadVersion)
     → position (λ other. item == other) (items_read answers) ≡ Some i
-    → find (λ (answer : Answer). answer.item == item) answers ≡ Some (get_or answers i d)
+    → find (λ (answer : ReadVersion). answer.item == item) answers ≡ Some (get_or answers i d)
 read-at item answers i d e =
     let test : ℕ → Bool = λ other. item == other in
     let within : i < length answers = omega (arith, (position-Some test (items_read answers) i 0 e).0, length-items answers) in
     let at : position_or_len test (items_read answers) ≡ i = index_is test (items_read answers) i e in
-    find_at (λ (answer : Answer). answer.item == item) answers
+    find_at (λ (answer : ReadVersion). answer.item == item) answers
     ∙ ap (slice_get answers) (sym (position_or_len-items item answers) ∙ at)
     ∙ slice_get-get_or answers i d within
   where
@@ -66,14 +66,14 @@ read-at item answers i d e =
 
 -- an item without an index has no answer
 pub read-absent :
-    (item : ℕ) (answers : List Answer)
+    (item : ℕ) (answers : List ReadVersion)
     → position (λ other. item == other) (items_read answers) ≡ None
-    → find (λ (answer : Answer). answer.item == item) answers ≡ None
+    → find (λ (answer : ReadVersion). answer.item == item) answers ≡ None
 read-absent item answers e =
     let test : ℕ → Bool = λ other. item == other in
     let past : length answers ≤ position_or_len test (items_read answers) =
     omega (arith, length-items answers, past_end (nat_lt (position_or_len test (items_read answers)) (length (items_read answers))) test refl e) in
-    find_at (λ (answer : Answer). answer.item == item) answers
+    find_at (λ (answer : ReadVersion). answer.item == item) answers
     ∙ ap (slice_get answers) (sym (position_or_len-items item answers))
     ∙ slice_get_past answers (position_or_len test (items_read answers)) past
   where
@@ -108,7 +108,7 @@ all-new [] = refl
 all-new (item ∷ items) = all-new items
 
 insert_all-new :
-    (keys items : List ℕ) → AreNew keys items → are_single items ≡ true → insert_all ◌==◌ keys items ≡ keys ++ items
+    (keys items : List ℕ) → AreNew keys items → are_distinct items ≡ true → insert_all ◌==◌ keys items ≡ keys ++ items
 insert_all-new keys [] new single = sym (append-nil keys)
 insert_all-new keys (item ∷ items) new single =
     let parts = and_parts _ _ single in
@@ -119,5 +119,5 @@ insert_all-new keys (item ∷ items) new single =
     ∙ append_assoc keys (item ∷ []) items
 
 -- items that stand once are the keys of the set of them
-pub insert_all-single : (items : List ℕ) → are_single items ≡ true → insert_all ◌==◌ [] items ≡ items
+pub insert_all-single : (items : List ℕ) → are_distinct items ≡ true → insert_all ◌==◌ [] items ≡ items
 insert_all-single items single = insert_all-new [] items (all-new items) single

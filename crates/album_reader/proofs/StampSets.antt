@@ -8,7 +8,7 @@ use Rattle.std.proofs.Math.Bool.{or-false}
 use Rattle.std.proofs.lemmas.Bool.Decides.{nat_tests, Decides-eqb, Decides-by_or, Decides-like}
 use Rattle.std.proofs.lemmas.List.Elements.{All-nil, All-cons, All-weaker, at_from_Contains}
 use Rattle.std.proofs.lemmas.List.Kept.{AllPairs-cons}
-use Rattle.album_reader.specs.Answers.{Answer}
+use Rattle.album_reader.specs.Answers.{ReadVersion}
 use Rattle.album_reader.specs.StampSets.{with_stamp, with_stamps, stamps_of}
 
 -- ---- one more
@@ -121,14 +121,14 @@ with_stamp-rises stamp (first ∷ stamps) rise =
         (All-with_stamp (λ t. first < t) stamp stamps above (AllPairs-first first stamps rise)) later
 
 with_stamps-rises :
-    (stamps : List ℕ) (answers : List Answer)
+    (stamps : List ℕ) (answers : List ReadVersion)
     → AllPairs (λ s t. s < t) stamps
     → AllPairs (λ s t. s < t) (with_stamps stamps answers)
 with_stamps-rises stamps [] rise = rise
 with_stamps-rises stamps (answer ∷ answers) rise =
     with_stamps-rises (with_stamp answer.stamp stamps) answers (with_stamp-rises answer.stamp stamps rise)
 
-pub stamps_of-rises : (answers : List Answer) → AllPairs (λ s t. s < t) (stamps_of answers)
+pub stamps_of-rises : (answers : List ReadVersion) → AllPairs (λ s t. s < t) (stamps_of answers)
 stamps_of-rises answers = with_stamps-rises [] answers (λ i j d h k. absurd (omega arith))
 
 -- ---- no others
@@ -144,7 +144,7 @@ has_stamp-with_stamp more [] stamp = refl
 has_stamp-with_stamp more (first ∷ stamps) stamp = grind (arith, nat_tests, has_stamp-with_stamp more stamps stamp)
 
 has_stamp-with_stamps :
-    (stamps : List ℕ) (answers : List Answer) (stamp : ℕ)
+    (stamps : List ℕ) (answers : List ReadVersion) (stamp : ℕ)
     → has_stamp (with_stamps stamps answers) stamp
     ≡ (has_stamp (map (λ answer. answer.stamp) answers) stamp || has_stamp stamps stamp)
 has_stamp-with_stamps stamps [] stamp = refl
@@ -165,11 +165,11 @@ has_stamp-Decides stamps stamp =
     (Decides-by_or (λ one. one == stamp) (λ one. one ≡ stamp) (list_any (λ one. one == stamp)) (λ one. Decides-eqb one stamp) refl (λ _ _. refl) stamps)
 
 pub stamps_of-Contains :
-    (answers : List Answer) (stamp : ℕ)
+    (answers : List ReadVersion) (stamp : ℕ)
     → Contains (stamps_of answers) stamp ↔ Contains (map (λ answer. answer.stamp) answers) stamp
 stamps_of-Contains answers stamp =
     let all = has_stamp-Decides (stamps_of answers) stamp in
-    let each = has_stamp-Decides (map (λ (answer : Answer). answer.stamp) answers) stamp in
+    let each = has_stamp-Decides (map (λ (answer : ReadVersion). answer.stamp) answers) stamp in
     let same : has_stamp (stamps_of answers) stamp ≡ has_stamp (map (λ answer. answer.stamp) answers) stamp =
     has_stamp-with_stamps [] answers stamp
     ∙ or-false (has_stamp (map (λ answer. answer.stamp) answers) stamp) in

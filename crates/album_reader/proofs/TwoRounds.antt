@@ -4,7 +4,7 @@ use Rattle.std.specs.Prelude.{option_and_then}
 use Rattle.std.specs.Option.{option_map_or}
 use Rattle.std.proofs.lemmas.Bool.{false≢true, and_parts, eqb-true}
 use Rattle.album_calls.specs.declared.messages.Message.{Message}
-use Rattle.album_reader.specs.Answers.{Asker, Answer, body_version, is_answer, if_answer, answer_in, whole, all_answers}
+use Rattle.album_reader.specs.Answers.{Asker, ReadVersion, body_version, is_answer, if_answer, answer_in, whole, all_answers}
 use Rattle.album_reader.specs.StampSets.{stamps_of}
 use Rattle.album_reader.specs.Others.IsOther.{OtherTag}
 use Rattle.album_reader.specs.Rounds.{RoundState, Step, second_round, next_asker, gets_of, new_answer, with_answer, end_by, end_of, outcome, is_gone, taken, stepped, after_replies, taken_after}
@@ -15,17 +15,17 @@ use Rattle.album_reader.proofs.Others.{new_answer-other, is_gone-early}
 -- what is true of the round as it is, and of its end, is true of what comes of a version
 taken-cases :
     (P : Step → Type 0) (round : RoundState) (message : Message) → P (Same round)
-    → ((answer : Answer) → P (Same (with_answer round answer)))
-    → ((answer : Answer) (answers : List Answer) → P (end_of (with_answer round answer) answers))
+    → ((answer : ReadVersion) → P (Same (with_answer round answer)))
+    → ((answer : ReadVersion) (answers : List ReadVersion) → P (end_of (with_answer round answer) answers))
     → P (taken round message)
 taken-cases P round message same put last = go (new_answer round message)
   where
-    go : (o : Option Answer) → P (option_map_or (λ (a : Answer). outcome (with_answer round a)) o (Same round))
+    go : (o : Option ReadVersion) → P (option_map_or (λ (a : ReadVersion). outcome (with_answer round a)) o (Same round))
     go None = same
     go (Some answer) = here (whole (with_answer round answer).answers)
       where
         here :
-            (all : Option (List Answer))
+            (all : Option (List ReadVersion))
             → P (option_map_or (end_of (with_answer round answer)) all (Same (with_answer round answer)))
         here None = put answer
         here (Some answers) = last answer answers
@@ -33,8 +33,8 @@ taken-cases P round message same put last = go (new_answer round message)
 -- and of the step, where it is true of an item that is gone
 step-cases :
     (P : Step → Type 0) (round : RoundState) (message : Message) → P (Gone round.items) → P (Same round)
-    → ((answer : Answer) → P (Same (with_answer round answer)))
-    → ((answer : Answer) (answers : List Answer) → P (end_of (with_answer round answer) answers))
+    → ((answer : ReadVersion) → P (Same (with_answer round answer)))
+    → ((answer : ReadVersion) (answers : List ReadVersion) → P (end_of (with_answer round answer) answers))
     → P (stepped round message)
 step-cases P round message gone same put last = by (is_gone round message)
   where
@@ -57,7 +57,7 @@ AsksNoMore (Done answers) = Unit {0}
 AsksNoMore (Gone items) = Unit {0}
 
 pub first-not_done :
-    (round : RoundState) (message : Message) (answers : List Answer)
+    (round : RoundState) (message : Message) (answers : List ReadVersion)
     → round.stamps ≡ None → stepped round message ≢ Done answers
 first-not_done round message answers first e =
     subst IsNotDone e (step-cases IsNotDone round message tt tt (λ a. tt)
@@ -74,7 +74,7 @@ taken-not_gone : (round : RoundState) (message : Message) → IsNotGone (taken r
 taken-not_gone round message =
     taken-cases IsNotGone round message tt (λ a. tt) (λ a all. by round.stamps (with_answer round a) all)
   where
-    by : (o : Option (List ℕ)) (now : RoundState) (all : List Answer) → IsNotGone (end_by o now all)
+    by : (o : Option (List ℕ)) (now : RoundState) (all : List ReadVersion) → IsNotGone (end_by o now all)
     by None now all = tt
     by (Some stamps) now all = tt
 
@@ -124,13 +124,13 @@ ended round replies message step ends there e =
     by false f = go (is_some (all_answers round.asker replies round.items)) f
 
 pub next-asks_all :
-    (round next : RoundState) (replies : List Message) (message : Message) (gets : List Message) (answers : List Answer)
+    (round next : RoundState) (replies : List Message) (message : Message) (gets : List Message) (answers : List ReadVersion)
     → all_answers round.asker (replies ++ message ∷ []) round.items ≡ Some answers
     → stepped (after_replies round replies) message ≡ Next next gets
     → gets ≡ gets_of (next_asker round.asker) (stamps_of answers) round.items
 next-asks_all round next replies message gets answers whole_too e =
     by round.stamps (
-    sym (ap (λ (o : Option (List Answer)). option_map_or (end_of now) o (Same now)) whole_too)
+    sym (ap (λ (o : Option (List ReadVersion)). option_map_or (end_of now) o (Same now)) whole_too)
     ∙ ended round replies message (Next next gets) (λ n f. absurd (cc)) (λ n f. absurd (cc)) e
     )
   where
@@ -148,7 +148,7 @@ next-asks_all round next replies message gets answers whole_too e =
     by (Some stamps) f = absurd (cc)
 
 pub done-is_read :
-    (round : RoundState) (replies : List Message) (message : Message) (answers : List Answer)
+    (round : RoundState) (replies : List Message) (message : Message) (answers : List ReadVersion)
     → stepped (after_replies round replies) message ≡ Done answers
     → all_answers round.asker (replies ++ message ∷ []) round.items ≡ Some answers
 done-is_read round replies message answers e =
@@ -158,23 +158,23 @@ done-is_read round replies message answers e =
     now : RoundState
     now = after_replies round (replies ++ message ∷ [])
 
-    by : (o : Option (List ℕ)) (all : List Answer) → end_by o now all ≡ Done answers → all ≡ answers
+    by : (o : Option (List ℕ)) (all : List ReadVersion) → end_by o now all ≡ Done answers → all ≡ answers
     by None all f = absurd (cc)
     by (Some stamps) all f = cc
 
     go :
-        (o : Option (List Answer)) → all_answers round.asker (replies ++ message ∷ []) round.items ≡ o
+        (o : Option (List ReadVersion)) → all_answers round.asker (replies ++ message ∷ []) round.items ≡ o
         → option_map_or (end_of now) o (Same now) ≡ Done answers → o ≡ Some answers
     go None f g = absurd (cc)
-    go (Some all) f g = ap (λ (found : List Answer). Some found) (by round.stamps all g)
+    go (Some all) f g = ap (λ (found : List ReadVersion). Some found) (by round.stamps all g)
 
 -- an answer has the asker's tag
 answer_in-tag :
-    (asker : Asker) (message : Message) (answer : Answer)
+    (asker : Asker) (message : Message) (answer : ReadVersion)
     → answer_in asker message ≡ Some answer → message.tag ≡ asker.tag
 answer_in-tag asker message answer e = go (body_version message.body) e
   where
-    go : (o : Option Answer) → option_and_then (if_answer asker message) o ≡ Some answer → message.tag ≡ asker.tag
+    go : (o : Option ReadVersion) → option_and_then (if_answer asker message) o ≡ Some answer → message.tag ≡ asker.tag
     go None f = absurd (cc)
     go (Some version) f = here (is_answer asker message version.item) refl f
       where
@@ -185,7 +185,7 @@ answer_in-tag asker message answer e = go (body_version message.body) e
         here false g h = absurd (cc)
 
 pub new_answer-late :
-    (round : RoundState) (stamps : List ℕ) (message : Message) (answer : Answer)
+    (round : RoundState) (stamps : List ℕ) (message : Message) (answer : ReadVersion)
     → answer_in round.asker message ≡ Some answer → new_answer (second_round round stamps) message ≡ None
 new_answer-late round stamps message answer e =
     new_answer-other (second_round round stamps) message

@@ -17,7 +17,7 @@ pub record Asker : Type 0 where
   pub parts : ℕ
 
 -- a version of an item, as the item's partition answers it
-pub record Answer : Type 0 where
+pub record ReadVersion : Type 0 where
   pub item : ℕ
   pub stamp : ℕ
   pub value : Value
@@ -25,7 +25,7 @@ pub record Answer : Type 0 where
 -- ---- one message
 
 -- the version that a reply tells, if it tells one
-abbrev pub reply_version : Reply → Option Answer
+abbrev pub reply_version : Reply → Option ReadVersion
 reply_version (reply.Prepared stamp) = None
 reply_version (reply.Committed stamp) = None
 reply_version (reply.Discarded stamp) = None
@@ -37,7 +37,7 @@ reply_version (reply.Full stamp) = None
 reply_version (reply.Gone item) = None
 
 -- the version that a body tells, if it tells one
-abbrev pub body_version : Body → Option Answer
+abbrev pub body_version : Body → Option ReadVersion
 body_version (body.Request request) = None
 body_version (body.Reply reply) = reply_version reply
 
@@ -66,37 +66,37 @@ is_answer asker message item =
     && is_part message.from (place_of asker.parts item)
 
 -- the version, where the message answers the asker for its item
-abbrev pub if_answer : Asker → Message → Answer → Option Answer
+abbrev pub if_answer : Asker → Message → ReadVersion → Option ReadVersion
 if_answer asker message version = if is_answer asker message version.item then Some version else None
 
 -- what the message answers the asker
-abbrev pub answer_in : Asker → Message → Option Answer
+abbrev pub answer_in : Asker → Message → Option ReadVersion
 answer_in asker message = option_and_then (if_answer asker message) (body_version message.body)
 
 -- ---- all the replies
 
 -- the answers among the replies, in their order
-abbrev pub answers_in : Asker → List Message → List Answer
+abbrev pub answers_in : Asker → List Message → List ReadVersion
 answers_in asker replies = filter_map (answer_in asker) replies
 
 -- the item's first answer among the replies
-abbrev pub first_answer : Asker → List Message → ℕ → Option Answer
+abbrev pub first_answer : Asker → List Message → ℕ → Option ReadVersion
 first_answer asker replies item = find (λ answer. answer.item == item) (answers_in asker replies)
 
 -- those of the answers that are there
-abbrev pub answers_there : List (Option Answer) → List Answer
+abbrev pub answers_there : List (Option ReadVersion) → List ReadVersion
 answers_there [] = []
 answers_there (None ∷ answers) = answers_there answers
 answers_there (Some answer ∷ answers) = answer ∷ answers_there answers
 
 -- each of the answers is there
-abbrev pub are_there : List (Option Answer) → Bool
+abbrev pub are_there : List (Option ReadVersion) → Bool
 are_there answers = list_all is_some answers
 
 -- the answers, if each of them is there
-abbrev pub whole : List (Option Answer) → Option (List Answer)
+abbrev pub whole : List (Option ReadVersion) → Option (List ReadVersion)
 whole answers = if are_there answers then Some (answers_there answers) else None
 
 -- the first answers of all the items, in their order, if each has one
-abbrev pub all_answers : Asker → List Message → List ℕ → Option (List Answer)
+abbrev pub all_answers : Asker → List Message → List ℕ → Option (List ReadVersion)
 all_answers asker replies items = whole (map (first_answer asker replies) items)

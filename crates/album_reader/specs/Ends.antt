@@ -5,12 +5,12 @@ use Rattle.album_reader.specs.declared.versions.VersionIn.{VersionIn}
 use Rattle.album_reader.specs.declared.round.End.{End}
 use Rattle.album_reader.specs.declared.round.End.TheVariants as last
 use Rattle.album_reader.specs.declared.round.Fresh.{Fresh}
-use Rattle.album_reader.specs.Answers.{Answer}
+use Rattle.album_reader.specs.Answers.{ReadVersion}
 use Rattle.album_reader.specs.Rounds.{RoundState, Step, new_answer}
 use Rattle.album_reader.specs.Rounds.Step.{Same, Next, Done}
 
 -- the version that a message has, as an answer
-abbrev pub answer_of : VersionIn → Answer
+abbrev pub answer_of : VersionIn → ReadVersion
 answer_of version = record { item = version.item; stamp = version.stamp; value = version.value.now }
 
 -- the message brings the answer that the round lacks of the item at this index

@@ -13,14 +13,14 @@ use std::marker::Model;
 
 /// A version of an item, as the item's partition answered it.
 #[derive(Debug, Drop)]
-pub struct Answer {
+pub struct ReadVersion {
     pub item: ItemId,
     pub stamp: Stamp,
     pub value: SharedValue,
 }
 
-impl Model for Answer {
-    ghost use Rattle.album_reader.specs.Answers.{Answer as State};
+impl Model for ReadVersion {
+    ghost use Rattle.album_reader.specs.Answers.{ReadVersion as State};
 
     ghost Value = { State };
 
@@ -28,13 +28,13 @@ impl Model for Answer {
 }
 
 // By hand, since the search doesn't find derived clones of answers in a list of options equal.
-impl Clone for Answer {
+impl Clone for ReadVersion {
     ghost use Rattle.std.specs.Prelude.{◌≡◌};
 
     ghost is_clone = { λ answer copy. copy ≡ answer };
 
-    fn clone(&self) -> Result<Answer, AllocError> {
-        Ok(Answer {
+    fn clone(&self) -> Result<ReadVersion, AllocError> {
+        Ok(ReadVersion {
             item: self.item,
             stamp: self.stamp,
             value: self.value.clone()?,
@@ -45,12 +45,12 @@ impl Clone for Answer {
 /// Of each item its answer, if it is there. Contracts see them in the order of the items.
 #[derive(Clone, Debug, Drop)]
 pub struct Answers {
-    answers: Vec<Option<Answer>>,
+    answers: Vec<Option<ReadVersion>>,
 }
 
 impl Model for Answers {
     ghost use Rattle.std.specs.Prelude.{List, Option};
-    ghost use Rattle.album_reader.specs.Answers.{Answer as State};
+    ghost use Rattle.album_reader.specs.Answers.{ReadVersion as State};
 
     ghost Value = { List (Option State) };
 
@@ -75,7 +75,7 @@ impl Answers {
     }
 
     /// Puts an answer at the index.
-    pub fn put(&mut self, index: usize, answer: Answer)
+    pub fn put(&mut self, index: usize, answer: ReadVersion)
         requires { index < length self.old }
         ensures { self.new ≡ slice_set self.old index (Some answer) }
     {
@@ -106,7 +106,7 @@ impl Answers {
     }
 
     /// The answers that are there, once more.
-    pub fn there(&self, alloc: Global) -> Result<Vec<Answer>, AllocError>
+    pub fn there(&self, alloc: Global) -> Result<Vec<ReadVersion>, AllocError>
         ensures { IfOk result (λ there. there.items ≡ answers_there self.now) }
     {
         copies_there(alloc, self.answers.as_slice())
@@ -121,13 +121,16 @@ impl Answers {
     }
 }
 
-fn are_there(answers: &[Option<Answer>]) -> bool
+fn are_there(answers: &[Option<ReadVersion>]) -> bool
     ensures { result ≡ are_there answers.now }
 {
     answers.iter().all(|answer| answer.is_some())
 }
 
-fn copies_there(alloc: Global, answers: &[Option<Answer>]) -> Result<Vec<Answer>, AllocError>
+fn copies_there(
+    alloc: Global,
+    answers: &[Option<ReadVersion>],
+) -> Result<Vec<ReadVersion>, AllocError>
     ensures { IfOk result (λ there. there.items ≡ answers_there answers.now) }
 {
     let mut there = Vec::new(alloc);
@@ -139,7 +142,7 @@ fn copies_there(alloc: Global, answers: &[Option<Answer>]) -> Result<Vec<Answer>
     Ok(there)
 }
 
-fn stamps_there(alloc: Global, answers: &[Option<Answer>]) -> Result<Vec<Stamp>, AllocError>
+fn stamps_there(alloc: Global, answers: &[Option<ReadVersion>]) -> Result<Vec<Stamp>, AllocError>
     ensures { IfOk result (λ stamps. stamps.items ≡ stamps_of (answers_there answers.now)) }
 {
     let mut stamps = Vec::new(alloc);

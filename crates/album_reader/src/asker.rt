@@ -3,7 +3,7 @@ ghost use Rattle.std.specs.Prelude.{◌≡◌, ◌+◌, ◌<◌, ◌≤◌, ◌^
 
 use album_calls::{Body, Message, Node, Request, Stamps};
 use album_items::{ItemId, place};
-use album_stamps::{ClientNo, MOST_PARTS};
+use album_stamps::{ClientNo, MAX_PARTS};
 use std::marker::Model;
 
 /// Who asks, under which tag, of how many partitions.
@@ -16,14 +16,14 @@ pub struct Asker {
 
 impl Model for Asker {
     ghost use Rattle.std.specs.Prelude.{◌≤◌};
-    ghost use Rattle.album_stamps.specs.declared.limits.TheConstants.{MOST_PARTS};
+    ghost use Rattle.album_stamps.specs.declared.limits.TheConstants.{MAX_PARTS};
     ghost use Rattle.album_reader.specs.Answers.{Asker as State};
 
     ghost Value = { State };
 
     ghost view = { λ a. record { client = a.client; tag = a.tag; parts = a.parts } };
 
-    ghost invariant = { λ a. (1 ≤ a.parts) × (a.parts ≤ MOST_PARTS) };
+    ghost invariant = { λ a. (1 ≤ a.parts) × (a.parts ≤ MAX_PARTS) };
 
     ghost inverse = { λ a. record { client = a.client; tag = a.tag; parts = a.parts } };
 }
@@ -35,7 +35,7 @@ impl Asker {
     /// The client under the tag, of so many partitions.
     pub fn new(client: ClientNo, tag: u64, parts: u16) -> Asker
         requires low { 1 ≤ parts }
-        requires high { parts ≤ MOST_PARTS }
+        requires high { parts ≤ MAX_PARTS }
         ensures { result ≡ record { client = client; tag = tag; parts = parts } }
     {
         Asker { client, tag, parts }

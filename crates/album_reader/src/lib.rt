@@ -23,7 +23,7 @@ mod snapshot;
 // What holds of it.
 mod laws;
 
-pub use answers::Answer;
+pub use answers::ReadVersion;
 pub use laws::{
     a_message_counts_or_is_other, a_read_has_two_rounds, a_round_is_what_it_was_told,
     second_round_asks_with_each_stamp, what_was_read_is_the_first_answers,

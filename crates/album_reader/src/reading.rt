@@ -1,6 +1,6 @@
 // A read of items under way.
 ghost use Rattle.std.specs.Prelude.{◌≡◌, ◌≢◌, ℕ, ◌+◌, ◌<◌, ◌≤◌, ◌^◌, ◌++◌, nat_lt, not, true, false, IsTrue, OnErr, List, [], ◌∷◌, IsOkAnd, IfOk, IfErr, IsOkUnless, length, if◌then◌else◌};
-ghost use Rattle.album_stamps.specs.Distinct.{are_single};
+ghost use Rattle.album_stamps.specs.Distinct.{are_distinct};
 ghost use Rattle.album_reader.specs.Ends.{step_by};
 ghost use Rattle.album_reader.specs.Rounds.{IsOpen, StaysOpen, is_end};
 ghost use Rattle.album_reader.specs.Steps.{step_of};
@@ -10,7 +10,7 @@ use crate::round::{End, Round};
 use crate::snapshot::Snapshot;
 use album_calls::Message;
 use album_items::Items;
-use album_stamps::{ClientNo, MOST_PARTS, MOST_READ_ITEMS, Refusal, Refused};
+use album_stamps::{ClientNo, MAX_PARTS, MAX_READ_ITEMS, Refusal, Refused};
 use std::alloc::Global;
 use std::marker::Model;
 
@@ -64,21 +64,21 @@ impl Reading {
         parts: u16,
     ) -> Result<(Reading, Vec<Message>), Refused<Items>>
         requires low { 1 ≤ parts }
-        requires high { parts ≤ MOST_PARTS }
+        requires high { parts ≤ MAX_PARTS }
         requires some { items ≢ [] }
-        requires single { IsTrue (are_single items) }
+        requires single { IsTrue (are_distinct items) }
         requires low_tag { 1 ≤ tag }
         requires high_tag { tag + 1 < 2 ^ 64 }
         ensures reading { IfOk result
             (λ r. r.0 ≡ first_round (record { client = client; tag = tag; parts = parts }) items) }
         ensures messages { IfOk result
             (λ r. r.1.items ≡ gets_of (record { client = client; tag = tag; parts = parts }) [] items) }
-        ensures few { IfOk result (λ _. length items ≤ MOST_READ_ITEMS) }
+        ensures few { IfOk result (λ _. length items ≤ MAX_READ_ITEMS) }
         ensures refusal { IfErr result (λ e. e.refusal
-            ≡ (if nat_lt MOST_READ_ITEMS (length items) then Refusal.TooManyItems else Refusal.OutOfMemory)) }
+            ≡ (if nat_lt MAX_READ_ITEMS (length items) then Refusal.TooManyItems else Refusal.OutOfMemory)) }
         ensures given { IfErr result (λ e. e.given ≡ items) }
     {
-        if items.as_slice().len() > MOST_READ_ITEMS {
+        if items.as_slice().len() > MAX_READ_ITEMS {
             return Err(Refused {
                 refusal: Refusal::TooManyItems,
                 given: items,

@@ -2,7 +2,7 @@
 ghost use Rattle.std.specs.Prelude.{◌≡◌, option_map};
 ghost use Rattle.album_reader.specs.Snapshots.{items_read, version_read};
 
-use crate::answers::Answer;
+use crate::answers::ReadVersion;
 use album_items::{ItemId, Value};
 use album_stamps::Stamp;
 use indexmap::IndexSet;
@@ -14,12 +14,12 @@ use std::marker::Model;
 pub struct Snapshot {
     // At the index of its item stands each answer.
     items: IndexSet<ItemId>,
-    answers: Vec<Answer>,
+    answers: Vec<ReadVersion>,
 }
 
 impl Model for Snapshot {
     ghost use Rattle.std.specs.Prelude.{◌≡◌, List};
-    ghost use Rattle.album_reader.specs.Answers.{Answer as State};
+    ghost use Rattle.album_reader.specs.Answers.{ReadVersion as State};
     ghost use Rattle.album_reader.specs.Snapshots.{items_read};
 
     ghost Value = { List State };
@@ -31,7 +31,7 @@ impl Model for Snapshot {
 
 impl Snapshot {
     /// What was read, answer by answer. `items` are those of the answers.
-    pub(crate) fn of(items: IndexSet<ItemId>, answers: Vec<Answer>) -> Snapshot
+    pub(crate) fn of(items: IndexSet<ItemId>, answers: Vec<ReadVersion>) -> Snapshot
         requires { items.keys ≡ items_read answers.items }
         ensures { result ≡ answers.items }
     {
@@ -39,7 +39,7 @@ impl Snapshot {
     }
 
     /// The answers, in the order in which the items were asked.
-    pub fn answers(&self) -> &[Answer]
+    pub fn answers(&self) -> &[ReadVersion]
         ensures { result.now ≡ self.now }
     {
         self.answers.as_slice()

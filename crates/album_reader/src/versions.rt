@@ -3,7 +3,7 @@ ghost use Rattle.std.specs.Prelude.{◌≡◌, Option, option_map, IfOk};
 ghost use Rattle.album_reader.specs.Answers.{reply_version, body_version, body_gone};
 ghost use Rattle.album_reader.specs.Ends.{answer_of};
 
-use crate::answers::Answer;
+use crate::answers::ReadVersion;
 use album_calls::{Body, Reply};
 use album_items::{ItemId, SharedValue};
 use album_stamps::Stamp;
@@ -19,10 +19,10 @@ pub struct VersionIn<'a> {
 
 impl VersionIn<'_> {
     /// The version as an answer, which shares the value.
-    pub fn answer(&self) -> Result<Answer, AllocError>
+    pub fn answer(&self) -> Result<ReadVersion, AllocError>
         ensures { IfOk result (λ answer. answer ≡ answer_of self.now) }
     {
-        Ok(Answer {
+        Ok(ReadVersion {
             item: self.item,
             stamp: self.stamp,
             value: self.value.clone()?,

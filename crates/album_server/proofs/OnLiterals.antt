@@ -7,7 +7,7 @@ use Rattle.album_eval.specs.Verdict.{is_asked, mentions, first_mention, verdict}
 use Rattle.album_eval.specs.Audit.{is_noted, audited}
 use Rattle.album_listing.specs.GroupsFound.{groups_found}
 use Rattle.album_views.specs.Checks.{flaw_of}
-use Rattle.album_views.specs.Naming.{first_names, names_of}
+use Rattle.album_views.specs.ReadSets.{first_names, names_of}
 use Rattle.album_views.specs.Seen.{seen}
 use Rattle.album_views.specs.Views.{is_closed}
 use Rattle.album_wire.specs.AskShape.{read_shape_of, add_picture_shape_of}

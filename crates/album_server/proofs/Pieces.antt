@@ -1,6 +1,6 @@
 -- The lines of what was read, a piece at a time. For the turns of both engines.
 use Rattle.std.proofs.Common.{◌≡◌, ◌≢◌, ℕ, List, [], ◌∷◌, ◌++◌, length, Bool, true, false, cond, nat_eq, nat_lt, Some, None, refl, sym, ap, ◌∙◌, subst, append_assoc}
-use Rattle.album_stamps.specs.declared.limits.TheConstants.{MOST_LINE}
+use Rattle.album_stamps.specs.declared.limits.TheConstants.{MAX_LINE}
 use Rattle.album_wire.specs.Lines.{Line, longer, cut, continued, last, ended, begun, lines_of}
 use Rattle.album_wire.proofs.Cuts.{cut_append}
 
@@ -12,7 +12,7 @@ lines_split given later =
 -- a line with a byte more is one
 longer_last : (line : Line) (x : ℕ) → last (longer line x) ≢ []
 longer_last None x = λ none. cc
-longer_last (Some bytes) x = by_length (nat_lt MOST_LINE (length (bytes ++ x ∷ []))) bytes
+longer_last (Some bytes) x = by_length (nat_lt MAX_LINE (length (bytes ++ x ∷ []))) bytes
   where
     by_length : (e : Bool) (begin : List ℕ) → last (cond e None (Some (begin ++ x ∷ []))) ≢ []
     by_length true begin none = cc

@@ -11,7 +11,7 @@ use Rattle.album_views.specs.declared.asks.Ask.{Ask}
 use Rattle.album_writer.specs.declared.answers.Answer.{Answer}
 use Rattle.album_passes.specs.Cuts.{prefix_at}
 use Rattle.album_threads.specs.Asks.{IsOn}
-use Rattle.album_threads.specs.Inquiries.{IsUntrimmed}
+use Rattle.album_threads.specs.Controls.{IsUntrimmed}
 use Rattle.album_threads.specs.Resting.{RestsOn}
 use Rattle.album_threads.specs.Sessions.{SessionState, IsNoWord}
 use Rattle.album_world.specs.declared.outs.Out.TheVariants as out

@@ -1,8 +1,8 @@
 // The connections that come: each is given a session and a thread, or is told why not.
-use crate::connections::{Connections, Guest, attend};
+use crate::connections::{Connections, OwnedSession, attend};
 use crate::writing::write_refused;
 use album_stamps::Refusal;
-use album_threads::{Naming, Service};
+use album_threads::{Service, ServiceNames};
 use std::alloc::Global;
 use std::io::ErrorKind;
 use std::net::{TcpListener, TcpStream};
@@ -48,7 +48,7 @@ pub(crate) fn accept_all<'s, J, T, E>(
     limits: Limits,
 )
 where
-    J: Naming + Send + Sync + 's,
+    J: ServiceNames + Send + Sync + 's,
     T: Threads + Wait + time::Clock + Copy + Send + Sync + 's,
 {
     let mut count = Count {
@@ -120,7 +120,7 @@ fn welcome<'s, J, T, E>(
     stream: TcpStream,
 )
 where
-    J: Naming + Send + Sync + 's,
+    J: ServiceNames + Send + Sync + 's,
     T: Threads + Wait + time::Clock + Copy + Send + Sync + 's,
 {
     let _ = stream.set_read_timeout(limits.idle);
@@ -151,11 +151,11 @@ fn begin<'s, J, T, E>(
     stream: &Arc<TcpStream, Global>,
 ) -> Result<(), Refusal>
 where
-    J: Naming + Send + Sync + 's,
+    J: ServiceNames + Send + Sync + 's,
     T: Threads + Wait + time::Clock + Copy + Send + Sync + 's,
 {
     let own = Arc::try_clone(stream)?;
-    let guest = Guest {
+    let guest = OwnedSession {
         rt,
         session: service.session(&rt)?,
     };

@@ -2,7 +2,7 @@
 use crate::fault::Fault;
 use crate::talks::converse;
 use album_stamps::{ClientNo, Refusal};
-use album_threads::{Naming, Session};
+use album_threads::{ServiceNames, Session};
 use crossbeam_channel::Sender;
 use std::alloc::Global;
 use std::collections::BTreeMap;
@@ -99,14 +99,14 @@ impl Connections {
 }
 
 /// A session of a connection, which ends where it is let go.
-pub(crate) struct Guest<J: Naming, T: Wait + Copy> {
+pub(crate) struct OwnedSession<J: ServiceNames, T: Wait + Copy> {
     pub(crate) rt: T,
     pub(crate) session: Session<J>,
 }
 
-impl<J: Naming, T: Wait + Copy> Drop for Guest<J, T> {
+impl<J: ServiceNames, T: Wait + Copy> Drop for OwnedSession<J, T> {
     fn drop(self) {
-        let Guest { rt, session } = self;
+        let OwnedSession { rt, session } = self;
         session.end(&rt);
     }
 }
@@ -115,12 +115,12 @@ impl<J: Naming, T: Wait + Copy> Drop for Guest<J, T> {
 pub(crate) fn attend<J, T>(
     alloc: Global,
     connections: &Connections,
-    mut guest: Guest<J, T>,
+    mut guest: OwnedSession<J, T>,
     stream: &Arc<TcpStream, Global>,
     turns: u64,
 )
 where
-    J: Naming + Send + Sync,
+    J: ServiceNames + Send + Sync,
     T: Wait + time::Clock + Copy + Send + Sync,
 {
     let _ = stream.set_nodelay(true);

@@ -13,7 +13,7 @@ use crate::writing::{write_refused, write_text};
 use album_audit::Totals;
 use album_items::Opening;
 use album_stamps::Refusal;
-use album_threads::{Naming, Open, Opened, Service};
+use album_threads::{Open, Opened, Service, ServiceNames};
 use album_wire::{Counted, LineIn, Lines, TalkOut, write_talk};
 use json::Scratch;
 use std::alloc::Global;
@@ -284,7 +284,7 @@ fn serve_at<J, T, R, W>(
     serving: Serving,
 ) -> Result<(), Fault>
 where
-    J: Naming + Send + Sync + 'static,
+    J: ServiceNames + Send + Sync + 'static,
     T: Threads + Wait + time::Clock + Eprint + Copy + Send + Sync + 'static,
     R: Read + Send + Drop,
     W: Write,
@@ -317,7 +317,7 @@ fn attend_all<J, T, R>(
     serving: Serving,
 )
 where
-    J: Naming + Send + Sync,
+    J: ServiceNames + Send + Sync,
     T: Threads + Wait + time::Clock + Copy + Send + Sync,
     R: Read + Send + Drop,
 {

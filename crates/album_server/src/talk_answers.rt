@@ -11,7 +11,7 @@ use crate::answers::is_blank;
 use album_eval::Principal;
 use album_items::ItemId;
 use album_stamps::{Refusal, Stamp};
-use album_threads::{Naming, Session};
+use album_threads::{ServiceNames, Session};
 use album_views::Ask;
 use album_wire::{
     LineIn, TalkLine, TalkOut, read_hello, read_talk, write_out, write_refusal, write_talk,
@@ -27,7 +27,7 @@ use std::time;
 /// # Errors
 ///
 /// `OutOfMemory`, where there is none for the text of what was told.
-pub(crate) fn answer<J: Naming, T: Wait + time::Clock>(
+pub(crate) fn answer<J: ServiceNames, T: Wait + time::Clock>(
     rt: &T,
     alloc: Global,
     scratch: &mut Scratch,
@@ -50,7 +50,7 @@ pub(crate) fn answer<J: Naming, T: Wait + time::Clock>(
 }
 
 /// The answer to the first line, which has to say who talks.
-fn greet<J: Naming>(
+fn greet<J: ServiceNames>(
     alloc: Global,
     scratch: &mut Scratch,
     session: &Session<J>,
@@ -81,7 +81,7 @@ fn hello_line(alloc: Global, scratch: &mut Scratch, line: &LineIn) -> Result<Pri
 }
 
 /// The answer to a later line.
-fn attend<J: Naming, T: Wait + time::Clock>(
+fn attend<J: ServiceNames, T: Wait + time::Clock>(
     rt: &T,
     alloc: Global,
     scratch: &mut Scratch,
@@ -112,7 +112,7 @@ fn talk_line(alloc: Global, scratch: &mut Scratch, line: &LineIn) -> Result<Talk
 }
 
 /// The text of what the session is told to the line.
-fn carry_out<J: Naming, T: Wait + time::Clock>(
+fn carry_out<J: ServiceNames, T: Wait + time::Clock>(
     rt: &T,
     alloc: Global,
     session: &mut Session<J>,
@@ -131,7 +131,7 @@ fn carry_out<J: Naming, T: Wait + time::Clock>(
     }
 }
 
-fn carry_out_ask<J: Naming, T: Wait + time::Clock>(
+fn carry_out_ask<J: ServiceNames, T: Wait + time::Clock>(
     rt: &T,
     alloc: Global,
     session: &mut Session<J>,
@@ -149,7 +149,7 @@ fn carry_out_ask<J: Naming, T: Wait + time::Clock>(
 }
 
 #[tactic(auto, unfolding(album_wire::specs::TalkJson::talk_text))]
-fn tell_pending<J: Naming, T: Wait + time::Clock>(
+fn tell_pending<J: ServiceNames, T: Wait + time::Clock>(
     rt: &T,
     alloc: Global,
     session: &mut Session<J>,
@@ -168,7 +168,7 @@ fn tell_pending<J: Naming, T: Wait + time::Clock>(
     }
 }
 
-fn sweep<J: Naming, T: Wait + time::Clock>(
+fn sweep<J: ServiceNames, T: Wait + time::Clock>(
     rt: &T,
     alloc: Global,
     session: &mut Session<J>,
@@ -184,7 +184,7 @@ fn sweep<J: Naming, T: Wait + time::Clock>(
     }
 }
 
-fn trim<J: Naming, T: Wait + time::Clock>(
+fn trim<J: ServiceNames, T: Wait + time::Clock>(
     rt: &T,
     alloc: Global,
     session: &mut Session<J>,

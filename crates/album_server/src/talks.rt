@@ -12,7 +12,7 @@ use crate::fault::Fault;
 use crate::talk_answers::answer;
 use crate::writing::write_text;
 use album_eval::Principal;
-use album_threads::{Naming, Session};
+use album_threads::{ServiceNames, Session};
 use album_wire::{LineIn, Lines};
 use json::Scratch;
 use std::alloc::Global;
@@ -23,7 +23,7 @@ use std::time;
 /// Answers each line that is read by one line, in order, by what the session is told, before the next line is looked
 /// into; a line of spaces, tabs and carriage returns alone is skipped. The first line has to say who talks. Where
 /// `turns` reads did not come to the end, that is the fault `Reading`.
-pub fn converse<J: Naming, T: Wait + time::Clock, R: Read, W: Write>(
+pub fn converse<J: ServiceNames, T: Wait + time::Clock, R: Read, W: Write>(
     rt: &T,
     alloc: Global,
     reader: &mut R,
@@ -76,7 +76,7 @@ pub fn converse<J: Naming, T: Wait + time::Clock, R: Read, W: Write>(
 }
 
 /// Answers the last line, where the input does not end in a newline.
-fn finish<J: Naming, T: Wait + time::Clock, W: Write>(
+fn finish<J: ServiceNames, T: Wait + time::Clock, W: Write>(
     rt: &T,
     alloc: Global,
     scratch: &mut Scratch,
@@ -100,7 +100,7 @@ fn finish<J: Naming, T: Wait + time::Clock, W: Write>(
 }
 
 /// Answers the lines, one after another.
-fn answer_lines<J: Naming, T: Wait + time::Clock, W: Write>(
+fn answer_lines<J: ServiceNames, T: Wait + time::Clock, W: Write>(
     rt: &T,
     alloc: Global,
     scratch: &mut Scratch,

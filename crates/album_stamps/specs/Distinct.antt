@@ -8,5 +8,5 @@ no_two clash [] = true
 no_two clash (x ∷ xs) = not (list_any (clash x) xs) && no_two clash xs
 
 -- no number stands twice
-abbrev pub are_single : List ℕ → Bool
-are_single numbers = no_two (λ a b. a == b) numbers
+abbrev pub are_distinct : List ℕ → Bool
+are_distinct numbers = no_two (λ a b. a == b) numbers

@@ -1,48 +1,48 @@
 // The limits of the service: each stands here alone, and docs/FORMATS.md lists them.
 
 /// How many partitions a service may have.
-pub const MOST_PARTS: u16 = 16;
+pub const MAX_PARTS: u16 = 16;
 
 /// How many items one transaction may write.
-pub const MOST_TRANSACTION_ITEMS: usize = 16;
+pub const MAX_TRANSACTION_ITEMS: usize = 16;
 
 /// How many items one read may have.
-pub const MOST_READ_ITEMS: usize = 512;
+pub const MAX_READ_ITEMS: usize = 512;
 
 /// How many reads may be made for one view.
-pub const MOST_READS: u8 = 8;
+pub const MAX_READS: u8 = 8;
 
 /// How few, and how many marks the history of a partition may have room for.
-pub const LEAST_MARKS: u64 = 2;
+pub const MIN_MARKS: u64 = 2;
 
-pub const MOST_MARKS: u64 = 1_000_000;
+pub const MAX_MARKS: u64 = 1_000_000;
 
 /// How many entries an access list may have.
-pub const MOST_ENTRIES: usize = 128;
+pub const MAX_ENTRIES: usize = 128;
 
 /// How many members a group may have.
-pub const MOST_MEMBERS: usize = 128;
+pub const MAX_MEMBERS: usize = 128;
 
 /// How many children an album may have.
-pub const MOST_CHILDREN: usize = 128;
+pub const MAX_CHILDREN: usize = 128;
 
 /// How many bytes a user's name, a title and a content may have.
-pub const MOST_NAME: usize = 64;
+pub const MAX_NAME: usize = 64;
 
-pub const MOST_TITLE: usize = 200;
+pub const MAX_TITLE: usize = 200;
 
-pub const MOST_CONTENT: usize = 4096;
+pub const MAX_CONTENT: usize = 4096;
 
 /// How many items an opening may have, and the greatest number that it may use.
-pub const MOST_OPENING_ITEMS: usize = 4096;
+pub const MAX_OPENING_ITEMS: usize = 4096;
 
-pub const MOST_OPENING_NUMBER: u64 = 65_535;
+pub const MAX_OPENING_NUMBER: u64 = 65_535;
 
 /// How many bytes a line may have, without its newline.
-pub const MOST_LINE: usize = 65_536;
+pub const MAX_LINE: usize = 65_536;
 
 /// How many numbers the clients take up in a stamp, its low 16 bits: 0, which is no client's, and the clients'.
 pub const CLIENTS: u64 = 65_536;
 
 /// The greatest counter of a stamp, which has 40 bits.
-pub const GREATEST_COUNTER: u64 = (1 << 40) - 1;
+pub const MAX_COUNTER: u64 = (1 << 40) - 1;

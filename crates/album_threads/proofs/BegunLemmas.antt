@@ -4,8 +4,8 @@ use Rattle.std.proofs.Common.{◌≡◌, ℕ, ◌≤◌, true, inl, inr, List, O
 use Rattle.album_calls.specs.declared.messages.Message.{Message}
 use Rattle.album_client.specs.Clients.{stamp_at_work}
 use Rattle.album_client.specs.Turns.{answer_of}
-use Rattle.album_client.specs.declared.clients.Doing.{Doing}
-use Rattle.album_client.specs.declared.clients.Doing.TheVariants as doing
+use Rattle.album_client.specs.declared.clients.Phase.{Phase}
+use Rattle.album_client.specs.declared.clients.Phase.TheVariants as phase
 use Rattle.album_eval.specs.declared.policies.Policy.{Policy}
 use Rattle.album_items.specs.Transactions.{items_written, are_items}
 use Rattle.album_passes.specs.Cuts.{Cut, announced_for, IsPromisedSomewhere, IsSound, Extends}
@@ -115,18 +115,18 @@ module _ (policy : Policy) (o : Outset) where
     granted : IsBegun policy o.principal o.ask o.session now begun.stamp (λ permit. permit ≡ begun.permit)
     same : t ≡ begun.stamp
 
-  at_work : (now : SessionState) (at : Cut) (sent : List Message) (d : Doing) (t : ℕ)
+  at_work : (now : SessionState) (at : Cut) (sent : List Message) (d : Phase) (t : ℕ)
       → IsUnderWay policy o now at sent d
       → stamp_at_work d ≡ Some t → IsAtWork now t
-  at_work now at sent (doing.Idle tag) t w e = absurd w.phase
-  at_work now at sent (doing.Reads asking round) t w e = absurd (cc)
-  at_work now at sent (doing.Prepares writing) t w e = record {
+  at_work now at sent (phase.Idle tag) t w e = absurd w.phase
+  at_work now at sent (phase.Reads asking round) t w e = absurd (cc)
+  at_work now at sent (phase.Prepares writing) t w e = record {
     begun = w.phase.begun;
     granted = w.phase.granted;
     same = (let is : writing.stamp ≡ t = cc in sym is ∙ ap (λ (v : WritingState). v.stamp)
         w.phase.carried.further.same);
   }
-  at_work now at sent (doing.Commits writing) t w e = record {
+  at_work now at sent (phase.Commits writing) t w e = record {
     begun = w.phase.begun;
     granted = w.phase.granted;
     same = (let is : writing.stamp ≡ t = cc in
@@ -135,7 +135,7 @@ module _ (policy : Policy) (o : Outset) where
   }
 
   -- it is cut off, once more was seen
-  pub cut_rests : (limit : ℕ) (a b : SessionState) (at : Cut) (sent : List Message) (d : Doing) (t : ℕ) (why : Refusal)
+  pub cut_rests : (limit : ℕ) (a b : SessionState) (at : Cut) (sent : List Message) (d : Phase) (t : ℕ) (why : Refusal)
       → IsUnderWay policy o a at sent d → stamp_at_work d ≡ Some t → IsNoWord why
       → b.share ≡ a.share → b.counter ≡ a.counter → Extends a.cut b.cut → IsSound b.cut
       → RestsOn limit policy o.principal o.ask o.session b (answer.Unsettled t why)

@@ -4,15 +4,15 @@ use Rattle.std.proofs.Common.{◌≡◌, ℕ, ◌+◌, ◌<◌, ◌≤◌, Bool,
 use Rattle.std.proofs.lemmas.Bool.Decides.{nat_tests}
 use Rattle.std.proofs.lemmas.List.Elements.{All-nil, All-cons}
 use Rattle.album_calls.specs.declared.messages.Message.{Message}
-use Rattle.album_client.specs.Askings.{Asking}
+use Rattle.album_client.specs.Askings.{PendingAsk}
 use Rattle.album_client.specs.Clients.{Client}
 use Rattle.album_client.specs.Grants.{served_for}
-use Rattle.album_client.specs.Moves.{IsMoved}
+use Rattle.album_client.specs.Transitions.{IsMoved}
 use Rattle.album_client.specs.Terms.{Terms}
 use Rattle.album_client.specs.Turns.{Turn, turn_of, writes_unless, draws_by, grants, rules_by, rules, views_by, read_turn, prepare_turn, commit_turn, clock_after_rows}
-use Rattle.album_client.specs.declared.clients.Doing.{Doing}
-use Rattle.album_client.specs.declared.clients.Doing.TheVariants as doing
-use Rattle.album_client.specs.declared.moves.Moved.{Moved}
+use Rattle.album_client.specs.declared.clients.Phase.{Phase}
+use Rattle.album_client.specs.declared.clients.Phase.TheVariants as phase
+use Rattle.album_client.specs.declared.transitions.Transition.{Transition}
 use Rattle.album_eval.specs.declared.facts.Principal.{Principal}
 use Rattle.album_listing.specs.GroupsFound.{basis_on}
 use Rattle.album_permits.specs.Effects.{is_full_for}
@@ -21,12 +21,12 @@ use Rattle.album_permits.specs.Permits.{PermitState}
 use Rattle.album_permits.specs.declared.findings.Finding.{Finding}
 use Rattle.album_permits.specs.declared.findings.Finding.TheVariants as finding
 use Rattle.album_permits.specs.declared.serving.Served.{Served}
-use Rattle.album_reader.specs.Answers.{Answer as Row}
+use Rattle.album_reader.specs.Answers.{ReadVersion}
 use Rattle.album_reader.specs.Rounds.{Step, stepped}
 use Rattle.album_reader.specs.Rounds.Step.{Same, Next, Done, Gone}
 use Rattle.album_stamps.specs.Clocks.{ClockState, clock_after_see, clock_after_next, next_of}
 use Rattle.album_stamps.specs.Stamps.{is_client, client_number, counter_of, stamp_number}
-use Rattle.album_stamps.specs.declared.limits.TheConstants.{GREATEST_COUNTER}
+use Rattle.album_stamps.specs.declared.limits.TheConstants.{MAX_COUNTER}
 use Rattle.album_stamps.specs.declared.refusals.Refusal.{Refusal}
 use Rattle.album_threads.specs.Asks.{AreSeenBy}
 use Rattle.album_views.specs.Steps.{again}
@@ -39,21 +39,21 @@ use Rattle.album_writer.specs.Rounds.WriteStep.{Waits, Commits, Ends}
 
 -- ---- what a clock has seen
 
-pub rows_client : (k : ClockState) (rows : List Row) → (clock_after_rows k rows).client ≡ k.client
+pub rows_client : (k : ClockState) (rows : List ReadVersion) → (clock_after_rows k rows).client ≡ k.client
 rows_client k [] = refl
 rows_client k (row ∷ rows) = rows_client (clock_after_see k row.stamp) rows
 
-pub rows_rise : (k : ClockState) (rows : List Row) → k.counter ≤ (clock_after_rows k rows).counter
+pub rows_rise : (k : ClockState) (rows : List ReadVersion) → k.counter ≤ (clock_after_rows k rows).counter
 rows_rise k [] = le_refl _
 rows_rise k (row ∷ rows) =
     let l : k.counter ≤ (clock_after_see k row.stamp).counter = omega arith in
     le_trans l (rows_rise (clock_after_see k row.stamp) rows)
 
-pub rows_seen : (k : ClockState) (rows : List Row) → AreSeenBy (clock_after_rows k rows).counter rows
-rows_seen k [] = All-nil (λ (row : Row). counter_of row.stamp ≤ k.counter)
+pub rows_seen : (k : ClockState) (rows : List ReadVersion) → AreSeenBy (clock_after_rows k rows).counter rows
+rows_seen k [] = All-nil (λ (row : ReadVersion). counter_of row.stamp ≤ k.counter)
 rows_seen k (row ∷ rows) =
     let l : counter_of row.stamp ≤ (clock_after_see k row.stamp).counter = omega arith in
-    All-cons (λ (r : Row). counter_of r.stamp ≤ (clock_after_rows (clock_after_see k row.stamp) rows).counter) row rows
+    All-cons (λ (r : ReadVersion). counter_of r.stamp ≤ (clock_after_rows (clock_after_see k row.stamp) rows).counter) row rows
     (le_trans l (rows_rise (clock_after_see k row.stamp) rows)) (rows_seen (clock_after_see k row.stamp) rows)
 
 -- ---- what it draws
@@ -87,7 +87,7 @@ module _ (terms : Terms) (x : Client) where
     drawn = record y { clock = clock_after_next y.clock }
 
     drawn_clock : (turn : Turn) → turn.client.clock ≡ clock_after_next y.clock → IsClockOn x.clock turn
-    drawn_clock turn is = go (nat_lt y.clock.counter GREATEST_COUNTER) is
+    drawn_clock turn is = go (nat_lt y.clock.counter MAX_COUNTER) is
       where
         go : (b : Bool) → turn.client.clock ≡ (if b then record y.clock { counter = y.clock.counter + 1 } else y.clock)
             → IsClockOn x.clock turn
@@ -132,7 +132,7 @@ module _ (terms : Terms) (x : Client) where
   views_clock tag who (Closed view) = viewed_clock tag who view
   views_clock tag who (Busy why) = same_clock _ refl
 
-  read_clock : (tag : ℕ) (asking : Asking) (step : Step) → IsClockOn x.clock (read_turn terms x tag asking step)
+  read_clock : (tag : ℕ) (asking : PendingAsk) (step : Step) → IsClockOn x.clock (read_turn terms x tag asking step)
   read_clock tag asking (Same round) = same_clock _ refl
   read_clock tag asking (Next round messages) = same_clock _ refl
   read_clock tag asking (Done rows) =
@@ -150,13 +150,13 @@ module _ (terms : Terms) (x : Client) where
   commit_clock tag (Commits writing messages) = same_clock _ refl
   commit_clock tag (Ends outcome) = same_clock _ refl
 
-  turn_clock : (m : Message) (d : Doing) → IsClockOn x.clock (turn_of terms x m d)
-  turn_clock m (doing.Idle tag) = same_clock _ refl
-  turn_clock m (doing.Reads asking round) = read_clock round.asker.tag asking (stepped round m)
-  turn_clock m (doing.Prepares writing) = prepare_clock writing.tag (prepare_stepped writing m)
-  turn_clock m (doing.Commits writing) = commit_clock writing.tag (commit_stepped writing m)
+  turn_clock : (m : Message) (d : Phase) → IsClockOn x.clock (turn_of terms x m d)
+  turn_clock m (phase.Idle tag) = same_clock _ refl
+  turn_clock m (phase.Reads asking round) = read_clock round.asker.tag asking (stepped round m)
+  turn_clock m (phase.Prepares writing) = prepare_clock writing.tag (prepare_stepped writing m)
+  turn_clock m (phase.Commits writing) = commit_clock writing.tag (commit_stepped writing m)
 
-  pub moved_clock : (m : Message) (d : Doing) (moved : Moved) → IsMoved (turn_of terms x m d) moved
+  pub moved_clock : (m : Message) (d : Phase) (moved : Transition) → IsMoved (turn_of terms x m d) moved
       → (moved.client.clock.client ≡ x.clock.client) × (x.clock.counter ≤ moved.client.clock.counter)
   moved_clock m d moved is =
       let c = turn_clock m d in (

@@ -15,7 +15,7 @@ use Rattle.album_passes.specs.Reads.{IsAnsweredBetween, IsReadInTwoRounds}
 use Rattle.album_passes.proofs.CutLemmas.{extends_trans}
 use Rattle.album_passes.proofs.PrefixLemmas.{prefix_trans}
 use Rattle.album_passes.proofs.ReadLemmas.{read_whole, read_written, read_fresh}
-use Rattle.album_reader.specs.Answers.{Answer}
+use Rattle.album_reader.specs.Answers.{ReadVersion}
 use Rattle.album_reader.specs.Rounds.{RoundState, asked_stamps}
 use Rattle.album_reader.specs.Snapshots.{items_read}
 use Rattle.album_reader.specs.StampSets.{stamps_of}
@@ -26,12 +26,12 @@ use Rattle.album_threads.proofs.TrimLemmas.{prefix_trims, trimmed_since, trims_r
 
 -- ---- what a list of answers has
 
-mapped_there : (f : Answer → ℕ) (xs : List Answer) (x : Answer) → Contains xs x → Contains (map f xs) (f x)
+mapped_there : (f : ReadVersion → ℕ) (xs : List ReadVersion) (x : ReadVersion) → Contains xs x → Contains (map f xs) (f x)
 mapped_there f [] x n = absurd (omega (arith, n.1))
 mapped_there f (y ∷ xs) x (zero, l, e) = (0, omega arith, ap f e)
 mapped_there f (y ∷ xs) x (suc k, l, e) = let r = mapped_there f xs x (k, omega arith, e) in (suc r.0, omega (arith, r.1), r.2)
 
-mapped_from : (f : Answer → ℕ) (xs : List Answer) (n : ℕ) → Contains (map f xs) n → (x : Answer) × Contains xs x × (f x ≡ n)
+mapped_from : (f : ReadVersion → ℕ) (xs : List ReadVersion) (n : ℕ) → Contains (map f xs) n → (x : ReadVersion) × Contains xs x × (f x ≡ n)
 mapped_from f [] n h = absurd (omega (arith, h.1))
 mapped_from f (y ∷ xs) n (zero, l, e) = (y, (0, omega arith, refl), e)
 mapped_from f (y ∷ xs) n (suc k, l, e) = let r = mapped_from f xs n (k, omega arith, e) in (r.0, (suc r.1.0, omega (arith, r.1.1), r.1.2), r.2)
@@ -50,10 +50,10 @@ module _ (b m c : Cut) (begun next : RoundState) (gets : List Message) (F : IsFi
   first_round = subst (λ (o : Option (List ℕ)). All (IsAnsweredBetween b m (unwrap_or o [])) F.answers) F.first F.are.between
 
   -- each item of the second round was answered in the first
-  answered : (i : ℕ) → Contains next.items i → (x : Answer) × Contains F.answers x × (x.item ≡ i)
-  answered i n = mapped_from (λ (x : Answer). x.item) F.answers i (subst (λ (is : List ℕ). Contains is i) items_again n)
+  answered : (i : ℕ) → Contains next.items i → (x : ReadVersion) × Contains F.answers x × (x.item ≡ i)
+  answered i n = mapped_from (λ (x : ReadVersion). x.item) F.answers i (subst (λ (is : List ℕ). Contains is i) items_again n)
 
-  in_two_rounds : (rows : List Answer) → IsSound b → IsSound m → IsSound c → Extends b m → Extends m c → AreOf m c next rows
+  in_two_rounds : (rows : List ReadVersion) → IsSound b → IsSound m → IsSound c → Extends b m → Extends m c → AreOf m c next rows
       → IsReadInTwoRounds b m c F.answers (stamps_of F.answers) rows
   in_two_rounds rows s r t x y a = record {
     begun_sound = s;
@@ -66,11 +66,11 @@ module _ (b m c : Cut) (begun next : RoundState) (gets : List Message) (F : IsFi
     second_round = subst (λ (ts : List ℕ). All (IsAnsweredBetween m c ts) rows) stamps_given a.between;
     asked_before = λ k d l. answered (get_or rows k d).item
         (subst (λ (is : List ℕ). Contains is (get_or rows k d).item) a.items
-        (mapped_there (λ (z : Answer). z.item) rows (get_or rows k d) (Contains-get_or rows k d l)));
+        (mapped_there (λ (z : ReadVersion). z.item) rows (get_or rows k d) (Contains-get_or rows k d l)));
   }
 
   -- what the second round has read is read atomic and fresh
-  pub read_so : (rows : List Answer) → IsSound b → IsSound m → IsSound c → Extends b m → Extends m c → AreOf m c next rows
+  pub read_so : (rows : List ReadVersion) → IsSound b → IsSound m → IsSound c → Extends b m → Extends m c → AreOf m c next rows
       → IsReadOf b c begun.items rows
   read_so rows s r t x y a =
       let R = in_two_rounds rows s r t x y a in
@@ -100,7 +100,7 @@ module _ (b m c : Cut) (begun next : RoundState) (gets : List Message) (F : IsFi
       (legal_parts gone.marks gone.to.0 (subst (λ (ms : List Mark). is_legal ms ≡ true) (sym gone.to.1) (t.legal (place_of c.parts i)))).0 in
       let given : Contains (asked_stamps next) first.0.stamp =
       subst (λ (ts : List ℕ). Contains ts first.0.stamp) (sym stamps_given)
-      ((stamps_of-Contains F.answers first.0.stamp).1 (mapped_there (λ (z : Answer). z.stamp) F.answers first.0 first.1)) in
+      ((stamps_of-Contains F.answers first.0.stamp).1 (mapped_there (λ (z : ReadVersion). z.stamp) F.answers first.0 first.1)) in
       let more = trimmed_since was.0 gone.marks i first.0.stamp (asked_stamps next) since legal was.3 given gone.trimmed gone.unkept in
       let before = prefix_trims (prefix_for b i) was.0 was.1 in
       let now = prefix_trims gone.marks (prefix_for c i) gone.to in

@@ -5,7 +5,7 @@ use Rattle.album_items.specs.Places.{places_of, rows_placed_at}
 use Rattle.album_partition.specs.Marks.{commits}
 use Rattle.album_partition.specs.declared.marks.Mark.{Mark}
 use Rattle.album_partition.specs.declared.marks.Mark.TheVariants.{Prepared}
-use Rattle.album_reader.specs.Answers.{Answer}
+use Rattle.album_reader.specs.Answers.{ReadVersion}
 use Rattle.album_permits.specs.Effects.{effect_of}
 use Rattle.album_permits.specs.Permits.{PermitState}
 use Rattle.album_passes.specs.Cuts.{Cut, prefix_at, IsSound, IsPrefix, Extends}
@@ -14,7 +14,7 @@ use Rattle.album_passes.proofs.PrefixLemmas.{prefix_trans, any_more}
 use Rattle.album_passes.proofs.ReadLemmas.{atomic_more, fresh_more}
 use Rattle.album_threads.specs.Grounds.{IsSeen, items_of, IsKeptAt, IsKept, IsWithoutRoom}
 
-pub seen_more : (b c d : Cut) (rows : List Answer) → IsSound c → IsSound d → Extends b c → Extends c d → IsSeen b c rows → IsSeen b d rows
+pub seen_more : (b c d : Cut) (rows : List ReadVersion) → IsSound c → IsSound d → Extends b c → Extends c d → IsSeen b c rows → IsSeen b d rows
 seen_more b c d rows s r x y h = record {
   atomic = atomic_more c d s r y rows h.atomic;
   fresh = fresh_more b b c d s r (extends_self b) x y rows h.fresh;

@@ -1,4 +1,4 @@
--- What the owner's cut has beside each mark that a partition makes. `Keeper` cites the lemmas that are `pub`; the main
+-- What the owner's cut has beside each mark that a partition makes. `PartitionKeeper` cites the lemmas that are `pub`; the main
 -- one is `mark_backed`.
 use Rattle.std.proofs.Common.{◌≡◌, ⊎_elim, ℕ, zero, suc, ◌<◌, ◌≤◌, Bool, true, false, ◌==◌, List, [], ◌∷◌, ◌++◌, map, filter, length, get_or, if◌then◌else◌, All, Contains, Option, Some, None, option_to_list, refl, sym, ap, ◌∙◌, subst, arith, append-nil, length-append}
 use Rattle.std.specs.List.{list_any}
@@ -36,7 +36,7 @@ use Rattle.album_passes.proofs.CutLemmas.{backed_marked}
 use Rattle.album_passes.proofs.PrefixLemmas.{any_more}
 use Rattle.album_passes.specs.Owner.{OwnerState}
 use Rattle.album_threads.specs.Keepers.{AreShown, IsNext, KeeperState, IsKeeper}
-use Rattle.album_threads.specs.Letters.{ShowsVote, ShowsCheck, ShowsBody, Shows, IsShown}
+use Rattle.album_threads.specs.Envelopes.{ShowsVote, ShowsCheck, ShowsBody, Shows, IsShown}
 
 -- ---- what a message's cut shows, by what the message is
 

@@ -1,5 +1,5 @@
--- What a reply shows that goes on to another partition, and that what is shown stays so. `Response::into_letter` cites
--- `answer_shows`, and `Keeper::receive` cites `shows_more`.
+-- What a reply shows that goes on to another partition, and that what is shown stays so. `ReplyEnvelope::into_envelope` cites
+-- `answer_shows`, and `PartitionKeeper::receive` cites `shows_more`.
 use Rattle.std.proofs.Common.{◌≡◌, ℕ, Bool, true, false, List, refl, sym, subst}
 use Rattle.album_calls.specs.declared.messages.Body.{Body}
 use Rattle.album_calls.specs.declared.messages.Body.TheVariants as body
@@ -23,7 +23,7 @@ use Rattle.album_passes.specs.Cuts.{Cut, prefix_at, Extends}
 use Rattle.album_passes.proofs.CutLemmas.{backed_more}
 use Rattle.album_passes.proofs.PrefixLemmas.{any_more}
 use Rattle.album_items.specs.Places.{lies_at}
-use Rattle.album_threads.specs.Letters.{is_mark_for, ShowsVote, ShowsCheck, ShowsRequest, ShowsReply, ShowsBody, Shows, IsAnswered}
+use Rattle.album_threads.specs.Envelopes.{is_mark_for, ShowsVote, ShowsCheck, ShowsRequest, ShowsReply, ShowsBody, Shows, IsAnswered}
 
 pub discarded_tells : (a b c : Bool) → state_by a b c ≡ state.Discarded → b ≡ true
 discarded_tells true b c e = absurd (cc (e))

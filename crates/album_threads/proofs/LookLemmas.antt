@@ -2,15 +2,15 @@
 -- `looking_next`, `looks_seen` and `looks_busy`.
 use Rattle.std.proofs.Common.{◌≡◌, inl, inr, ℕ, ◌+◌, ◌<◌, ◌≤◌, Bool, true, false, None, List, [], ◌∷◌, ◌++◌, length, length-append, nat_le, nat_lt, if◌then◌else◌, refl, sym, ◌∙◌, subst, arith}
 use Rattle.std.proofs.lemmas.Bool.{ltb-true, ltb-false, leb-true}
-use Rattle.album_stamps.specs.declared.limits.TheConstants.{MOST_READ_ITEMS, MOST_READS}
-use Rattle.album_reader.specs.Answers.{Answer as Row}
+use Rattle.album_stamps.specs.declared.limits.TheConstants.{MAX_READ_ITEMS, MAX_READS}
+use Rattle.album_reader.specs.Answers.{ReadVersion}
 use Rattle.album_reader.specs.Snapshots.{items_read}
 use Rattle.album_passes.specs.Cuts.{Cut, IsSound, Extends}
 use Rattle.album_passes.proofs.CutLemmas.{extends_self, extends_trans}
 use Rattle.album_passes.proofs.ReadLemmas.{fresh_more}
 use Rattle.album_views.specs.Asks.{objects_of}
 use Rattle.album_views.specs.Checks.{flaw_of}
-use Rattle.album_views.specs.Naming.{names_of}
+use Rattle.album_views.specs.ReadSets.{names_of}
 use Rattle.album_views.specs.Steps.{again, stepped, AreReadable, AsksReadable}
 use Rattle.album_views.specs.Views.{ViewState, ViewingState, IsClosed, is_closed}
 use Rattle.album_views.specs.declared.asks.Ask.{Ask}
@@ -34,7 +34,7 @@ module _ (b c : Cut) (viewing : ViewingState) (items : List ℕ) where
   next = record { ask = viewing.ask; reads = viewing.reads + 1 }
 
   -- the step, by whether what was read is closed, its names are too many, and the read was the last one
-  abbrev chosen : List Row → Bool → Bool → Bool → ViewStep
+  abbrev chosen : List ReadVersion → Bool → Bool → Bool → ViewStep
   chosen rows closed wide last =
       if closed then Closed (record { ask = viewing.ask; rows = rows })
       else if wide then Busy Wide
@@ -42,15 +42,15 @@ module _ (b c : Cut) (viewing : ViewingState) (items : List ℕ) where
       else Again next (names_of rows viewing.ask)
 
   -- it is done, and closed, names too many items, is the last one, or is read anew
-  pub done_so : (rows : List Row) (step : ViewStep) → IsSound c → flaw_of viewing.ask ≡ None → IsReadOf b c items rows
+  pub done_so : (rows : List ReadVersion) (step : ViewStep) → IsSound c → flaw_of viewing.ask ≡ None → IsReadOf b c items rows
       → step ≡ stepped viewing rows → AsksReadable step → LooksOnce b c viewing items step
   done_so rows step s flawless read is readable =
-      go (is_closed viewing.ask rows) (nat_lt MOST_READ_ITEMS (length names)) (nat_le MOST_READS (viewing.reads + 1)) refl refl refl is
+      go (is_closed viewing.ask rows) (nat_lt MAX_READ_ITEMS (length names)) (nat_le MAX_READS (viewing.reads + 1)) refl refl refl is
     where
       names : List ℕ
       names = names_of rows viewing.ask
 
-      vain : is_closed viewing.ask rows ≡ false → nat_lt MOST_READ_ITEMS (length names) ≡ false → IsVain b c viewing.ask items rows
+      vain : is_closed viewing.ask rows ≡ false → nat_lt MAX_READ_ITEMS (length names) ≡ false → IsVain b c viewing.ask items rows
       vain e f = record {
         of = read.items_are;
         seen = read.seen;
@@ -58,8 +58,8 @@ module _ (b c : Cut) (viewing : ViewingState) (items : List ℕ) where
         few = ltb-false _ _ f;
       }
 
-      go : (x y z : Bool) → is_closed viewing.ask rows ≡ x → nat_lt MOST_READ_ITEMS (length names) ≡ y
-          → nat_le MOST_READS (viewing.reads + 1) ≡ z → step ≡ chosen rows x y z → LooksOnce b c viewing items step
+      go : (x y z : Bool) → is_closed viewing.ask rows ≡ x → nat_lt MAX_READ_ITEMS (length names) ≡ y
+          → nat_le MAX_READS (viewing.reads + 1) ≡ z → step ≡ chosen rows x y z → LooksOnce b c viewing items step
       go true y z e f g h =
           subst (LooksOnce b c viewing items) (sym h) (record {
             of = refl;
@@ -81,9 +81,9 @@ module _ (b c : Cut) (viewing : ViewingState) (items : List ℕ) where
   -- a trim has overtaken it
   pub gone_so : (step : ViewStep) → trims_in b < trims_in c → AreReadable items → step ≡ again viewing items
       → LooksOnce b c viewing items step
-  gone_so step more readable is = go (nat_le MOST_READS (viewing.reads + 1)) refl is
+  gone_so step more readable is = go (nat_le MAX_READS (viewing.reads + 1)) refl is
     where
-      go : (z : Bool) → nat_le MOST_READS (viewing.reads + 1) ≡ z → step ≡ (if z then Busy Rounds else Again next items)
+      go : (z : Bool) → nat_le MAX_READS (viewing.reads + 1) ≡ z → step ≡ (if z then Busy Rounds else Again next items)
           → LooksOnce b c viewing items step
       go true g h = subst (LooksOnce b c viewing items) (sym h) (leb-true _ _ g, inr more)
       go false g h = subst (LooksOnce b c viewing items) (sym h) (refl, readable, inr (more, refl))
@@ -91,22 +91,22 @@ module _ (b c : Cut) (viewing : ViewingState) (items : List ℕ) where
 -- ---- reads in vain
 
 -- what was seen since a later cut was seen since an earlier one
-seen_from : (a b c : Cut) (rows : List Row) → IsSound c → Extends a b → Extends b c → IsSeen b c rows → IsSeen a c rows
+seen_from : (a b c : Cut) (rows : List ReadVersion) → IsSound c → Extends a b → Extends b c → IsSeen b c rows → IsSeen a c rows
 seen_from a b c rows s x y h = record {
   atomic = h.atomic;
   fresh = fresh_more a b c c s s x y (extends_self c) rows h.fresh;
 }
 
-in_vain_more : (a b c : Cut) (ask : Ask) (items : List ℕ) (reads : List (List Row)) → IsSound b → IsSound c
+in_vain_more : (a b c : Cut) (ask : Ask) (items : List ℕ) (reads : List (List ReadVersion)) → IsSound b → IsSound c
     → Extends a b → Extends b c → AreInVain a b ask items reads → AreInVain a c ask items reads
 in_vain_more a b c ask _ _ s r x y (NoRead items) = NoRead items
 in_vain_more a b c ask _ _ s r x y (OneMore items rows later of seen lacking few rest) =
     OneMore items rows later of (seen_more a b c rows s r x y seen) lacking few
     (in_vain_more a b c ask (names_of rows ask) later s r x y rest)
 
-in_vain_push : (a c : Cut) (ask : Ask) (items : List ℕ) (reads : List (List Row)) (rows : List Row)
+in_vain_push : (a c : Cut) (ask : Ask) (items : List ℕ) (reads : List (List ReadVersion)) (rows : List ReadVersion)
     → AreInVain a c ask items reads → items_read rows ≡ items_next ask items reads → IsSeen a c rows
-    → (IsClosed ask rows → ⊥) → length (names_of rows ask) ≤ MOST_READ_ITEMS
+    → (IsClosed ask rows → ⊥) → length (names_of rows ask) ≤ MAX_READ_ITEMS
     → AreInVain a c ask items (reads ++ rows ∷ [])
 in_vain_push a c ask _ _ rows (NoRead items) of seen lacking few =
     OneMore items rows [] of seen lacking few (NoRead (names_of rows ask))
@@ -114,7 +114,7 @@ in_vain_push a c ask _ _ rows (OneMore items first later of_first seen_first lac
     OneMore items first (later ++ rows ∷ []) of_first seen_first lacking_first few_first
     (in_vain_push a c ask (names_of first ask) later rows rest of seen lacking few)
 
-next_push : (ask : Ask) (items : List ℕ) (reads : List (List Row)) (rows : List Row)
+next_push : (ask : Ask) (items : List ℕ) (reads : List (List ReadVersion)) (rows : List ReadVersion)
     → items_next ask items (reads ++ rows ∷ []) ≡ names_of rows ask
 next_push ask items [] rows = refl
 next_push ask items (first ∷ later) rows = next_push ask (names_of first ask) later rows
@@ -149,14 +149,14 @@ module _ (a b c : Cut) (viewing : ViewingState) (items : List ℕ) (h : IsLookin
   abbrev one_more : ViewingState
   one_more = record { ask = viewing.ask; reads = viewing.reads + 1 }
 
-  pushed : (rows : List Row) → IsVain b c viewing.ask items rows
+  pushed : (rows : List ReadVersion) → IsVain b c viewing.ask items rows
       → AreInVain a c viewing.ask (objects_of viewing.ask) (h.reads ++ rows ∷ [])
   pushed rows vain =
       in_vain_push a c viewing.ask (objects_of viewing.ask) h.reads rows
       (in_vain_more a b c viewing.ask (objects_of viewing.ask) h.reads h.sound s x y h.in_vain)
       (vain.of ∙ h.next) (seen_from a b c rows s x y vain.seen) vain.lacking vain.few
 
-  counted : (n : ℕ) (rows : List Row) → n ≤ viewing.reads + 1 → n + trims_in a ≤ length (h.reads ++ rows ∷ []) + trims_in c
+  counted : (n : ℕ) (rows : List ReadVersion) → n ≤ viewing.reads + 1 → n + trims_in a ≤ length (h.reads ++ rows ∷ []) + trims_in c
   counted n rows few =
       let stay = trims_stay b c h.sound s y in
       let long = length-append h.reads (rows ∷ []) in
@@ -189,7 +189,7 @@ module _ (a b c : Cut) (viewing : ViewingState) (items : List ℕ) (h : IsLookin
   out_of_reads (last, inl (rows, vain)) = record {
     reads = h.reads ++ rows ∷ [];
     in_vain = pushed rows vain;
-    all = counted MOST_READS rows last;
+    all = counted MAX_READS rows last;
   }
   out_of_reads (last, inr more) = record {
     reads = h.reads;

@@ -3,16 +3,16 @@
 use Rattle.std.proofs.Common.{◌≡◌, ℕ, ◌+◌, List, [], All, Some, None, Err, sym, ap, ◌∙◌, subst, arith}
 use Rattle.album_calls.specs.declared.messages.Message.{Message}
 use Rattle.album_client.specs.Clients.{IsProper}
-use Rattle.album_client.specs.declared.moves.Moved.{Moved}
+use Rattle.album_client.specs.declared.transitions.Transition.{Transition}
 use Rattle.album_eval.specs.declared.policies.Policy.{Policy}
 use Rattle.album_passes.specs.Cuts.{Cut, IsSound}
 use Rattle.album_passes.proofs.CutLemmas.{extends_trans}
 use Rattle.album_audit.specs.declared.totals.Totals.{Totals}
 use Rattle.album_stamps.specs.Clocks.{next_of}
-use Rattle.album_stamps.specs.declared.limits.TheConstants.{GREATEST_COUNTER}
+use Rattle.album_stamps.specs.declared.limits.TheConstants.{MAX_COUNTER}
 use Rattle.album_stamps.specs.declared.refusals.Refusal.TheVariants.{StampsSpent}
 use Rattle.album_threads.specs.Asks.{IsOn, IsHeard, AreShared}
-use Rattle.album_threads.specs.Letters.{Shows}
+use Rattle.album_threads.specs.Envelopes.{Shows}
 use Rattle.album_threads.specs.Phases.{Outset, IsUnderWay}
 use Rattle.album_threads.specs.Resting.{RestsOn}
 use Rattle.album_threads.specs.Sending.{prepared_first, announced_with, announced_by, IsFreeFor, IsFree, IsAnnouncedBy, sent_last, sent_at}
@@ -22,21 +22,21 @@ use Rattle.album_views.specs.Checks.{refusal_of}
 use Rattle.album_writer.specs.declared.answers.Answer.{Answer}
 
 -- An ask was under way of a session; then a reply was heard, by which its client has moved, and that is noted.
-pub record IsNoted (o : Outset) (now next noted : SessionState) (moved : Moved) : Type 0 where
+pub record IsNoted (o : Outset) (now next noted : SessionState) (moved : Transition) : Type 0 where
   pub taken : refusal_of o.ask o.principal ≡ None
   pub on : IsOn o.session now
   pub sound_before : IsSound now.cut
   pub heard : IsHeard now next
-  pub proper : IsProper moved.client.doing
+  pub proper : IsProper moved.client.phase
   pub client : noted.client ≡ next.client
   pub counter : noted.counter ≡ moved.client.clock.counter
   pub cut : noted.cut ≡ next.cut
   pub shared : AreShared next.client next.share noted.share moved.notes.items
-  pub spent : next_of moved.client.clock ≡ Err StampsSpent → moved.client.clock.counter ≡ GREATEST_COUNTER
+  pub spent : next_of moved.client.clock ≡ Err StampsSpent → moved.client.clock.counter ≡ MAX_COUNTER
 
 -- the ask is answered, or goes on, once the messages are sent
 pub data IsMovedOn
-    (limit : ℕ) (policy : Policy) (o : Outset) (noted : SessionState) (at : Cut) (sent : List Message) (moved : Moved)
+    (limit : ℕ) (policy : Policy) (o : Outset) (noted : SessionState) (at : Cut) (sent : List Message) (moved : Transition)
     : Type 0 where
   Told : (told : Answer) → moved.answer ≡ Some told → RestsOn limit policy o.principal o.ask o.session noted told
       → IsMovedOn limit policy o noted at sent moved
@@ -44,7 +44,7 @@ pub data IsMovedOn
       → All (Shows (announced_by noted.cut moved.sent.items)) moved.sent.items
       → ((new : SessionState) → IsAnnouncedBy noted new moved.sent.items
       → IsUnderWay policy o new (sent_at at new.cut moved.sent.items) (sent_last sent moved.sent.items)
-      moved.client.doing)
+      moved.client.phase)
       → IsMovedOn limit policy o noted at sent moved
 
 -- it has seen more, and nothing else
@@ -68,7 +68,7 @@ shared_none client a = λ i. record {
     none n = omega arith
 
 -- nothing is noted, and the clock stays
-pub heard_same : (o : Outset) (now next noted : SessionState) (moved : Moved) → IsNoted o now next noted moved
+pub heard_same : (o : Outset) (now next noted : SessionState) (moved : Transition) → IsNoted o now next noted moved
     → moved.notes.items ≡ [] → moved.client.clock.counter ≡ next.counter → noted ≡ next
 heard_same o now next noted moved n none same = λ i. record {
   client = n.client i;
@@ -82,12 +82,12 @@ heard_same o now next noted moved n none same = λ i. record {
         (shared_none next.client next.share)
 
 module _ (limit : ℕ) (policy : Policy) (o : Outset) (noted : SessionState) (at : Cut) (sent : List Message)
-    (moved : Moved)
+    (moved : Transition)
     (quiet : moved.answer ≡ None) where
   -- these are sent, none of which prepares anything
   pub goes_plain : (messages : List Message) → moved.sent.items ≡ messages → prepared_first messages ≡ None
       → All (Shows noted.cut) messages
-      → IsUnderWay policy o noted (sent_at at noted.cut messages) (sent_last sent messages) moved.client.doing
+      → IsUnderWay policy o noted (sent_at at noted.cut messages) (sent_last sent messages) moved.client.phase
       → IsMovedOn limit policy o noted at sent moved
   goes_plain messages e plain shown w = Goes quiet free shows goes
     where
@@ -103,7 +103,7 @@ module _ (limit : ℕ) (policy : Policy) (o : Outset) (noted : SessionState) (at
 
       goes : (new : SessionState) → IsAnnouncedBy noted new moved.sent.items
           → IsUnderWay policy o new (sent_at at new.cut moved.sent.items) (sent_last sent moved.sent.items)
-          moved.client.doing
+          moved.client.phase
       goes new a =
           let cut : new.cut ≡ noted.cut = a.cut ∙ ap (announced_with noted.cut) none in
           let same : new ≡ noted = λ i. record {
@@ -114,22 +114,22 @@ module _ (limit : ℕ) (policy : Policy) (o : Outset) (noted : SessionState) (at
                 a.share i;
           } in
           subst (λ (y : SessionState × List Message). IsUnderWay policy o y.0 (sent_at at y.0.cut y.1)
-          (sent_last sent y.1) moved.client.doing)
+          (sent_last sent y.1) moved.client.phase)
           (λ i. (sym same i, sym e i)) w
 
   pub goes_sent : (messages : List Message) → moved.sent.items ≡ messages → (messages ≡ [] → ⊥)
       → prepared_first messages ≡ None
-      → All (Shows noted.cut) messages → IsUnderWay policy o noted noted.cut messages moved.client.doing
+      → All (Shows noted.cut) messages → IsUnderWay policy o noted noted.cut messages moved.client.phase
       → IsMovedOn limit policy o noted at sent moved
   goes_sent messages e some plain shown w =
       goes_plain messages e plain shown
-      (subst (λ (y : Cut × List Message). IsUnderWay policy o noted y.0 y.1 moved.client.doing)
+      (subst (λ (y : Cut × List Message). IsUnderWay policy o noted y.0 y.1 moved.client.phase)
       (λ i. (sym (last_at at noted.cut messages some) i, sym (last_sent sent messages some) i)) w)
 
 -- ---- by what the client has come to
 
 module _ (limit : ℕ) (policy : Policy) (o : Outset) (noted : SessionState) (at : Cut) (sent : List Message)
-    (moved : Moved) where
+    (moved : Transition) where
   pub told_rests : (told : Answer) → moved.answer ≡ Some told → IsMovedOn limit policy o noted at sent moved
       → RestsOn limit policy o.principal o.ask o.session noted told
   told_rests told is (Told other same h) =
@@ -150,6 +150,6 @@ module _ (limit : ℕ) (policy : Policy) (o : Outset) (noted : SessionState) (at
   pub goes_of : moved.answer ≡ None → IsMovedOn limit policy o noted at sent moved
       → (new : SessionState) → IsAnnouncedBy noted new moved.sent.items
       → IsUnderWay policy o new (sent_at at new.cut moved.sent.items) (sent_last sent moved.sent.items)
-      moved.client.doing
+      moved.client.phase
   goes_of is (Told other same h) new a = absurd (cc)
   goes_of is (Goes none free shown goes) new a = goes new a

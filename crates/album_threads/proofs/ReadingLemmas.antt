@@ -3,26 +3,26 @@
 use Rattle.std.proofs.Common.{◌≡◌, ℕ, ◌+◌, Bool, true, false, List, [], ◌∷◌, map, length, Some, None, is_some, All, refl, sym, ap, ◌∙◌, subst, arith, nat_lt, nat_le, if◌then◌else◌}
 use Rattle.std.proofs.lemmas.Bool.{ltb-false}
 use Rattle.album_calls.specs.declared.messages.Message.{Message}
-use Rattle.album_client.specs.Askings.{Asking}
+use Rattle.album_client.specs.Askings.{PendingAsk}
 use Rattle.album_client.specs.Clients.{Client, IsProper}
-use Rattle.album_client.specs.Moves.{IsMoved}
+use Rattle.album_client.specs.Transitions.{IsMoved}
 use Rattle.album_client.specs.Terms.{Terms}
 use Rattle.album_client.specs.Turns.{asker_at, read_begins, read_turn, views_by, rules}
-use Rattle.album_client.specs.declared.clients.Doing.{Doing}
-use Rattle.album_client.specs.declared.clients.Doing.TheVariants as doing
-use Rattle.album_client.specs.declared.moves.Moved.{Moved}
+use Rattle.album_client.specs.declared.clients.Phase.{Phase}
+use Rattle.album_client.specs.declared.clients.Phase.TheVariants as phase
+use Rattle.album_client.specs.declared.transitions.Transition.{Transition}
 use Rattle.album_client.proofs.GrantLemmas.{taken_flawless}
 use Rattle.album_client.proofs.MoveLemmas.{readable_open}
 use Rattle.album_eval.specs.declared.facts.Principal.{Principal}
 use Rattle.album_eval.specs.declared.policies.Policy.{Policy}
 use Rattle.album_passes.specs.Cuts.{Cut, IsSound, Extends}
 use Rattle.album_passes.proofs.CutLemmas.{extends_self, extends_trans}
-use Rattle.album_reader.specs.Answers.{Answer as Row, answers_there}
+use Rattle.album_reader.specs.Answers.{ReadVersion, answers_there}
 use Rattle.album_reader.specs.Rounds.{RoundState, Step, IsOpen, asked_stamps, gets_of, get_of, first_round, stepped}
 use Rattle.album_reader.specs.Rounds.Step.{Same, Next, Done, Gone}
-use Rattle.album_stamps.specs.declared.limits.TheConstants.{MOST_READ_ITEMS, MOST_READS}
+use Rattle.album_stamps.specs.declared.limits.TheConstants.{MAX_READ_ITEMS, MAX_READS}
 use Rattle.album_threads.specs.Asks.{IsOn, IsViewOf, IsBusy, IsLooking, LooksOnce}
-use Rattle.album_threads.specs.Letters.{Shows}
+use Rattle.album_threads.specs.Envelopes.{Shows}
 use Rattle.album_threads.specs.Phases.{Outset, IsRound, IsReading, IsUnderWay}
 use Rattle.album_threads.specs.Phases.IsRound.{First, Second}
 use Rattle.album_threads.specs.Replies.{IsReplied, IsFirstOver, IsReadOf, IsOvertaken, Leads}
@@ -39,7 +39,7 @@ use Rattle.album_threads.proofs.RuledLemmas.{ruled_on}
 use Rattle.album_threads.proofs.SendLemmas.{gets_plain}
 use Rattle.album_views.specs.Asks.{objects_of}
 use Rattle.album_views.specs.Checks.{flaw_of, refusal_of}
-use Rattle.album_views.specs.Naming.{names_of}
+use Rattle.album_views.specs.ReadSets.{names_of}
 use Rattle.album_views.specs.Steps.{again, unclosed, AreReadable, AsksReadable}
 use Rattle.album_views.specs.Steps.{stepped as viewed}
 use Rattle.album_views.specs.Views.{ViewState, ViewingState, is_closed}
@@ -61,7 +61,7 @@ some_gets round is ts e = (readable_open round is).some (none round.items e)
     none (i ∷ items) f = absurd (cc)
 
 -- what was read can be read again
-readable_viewed : (viewing : ViewingState) (rows : List Row) → flaw_of viewing.ask ≡ None
+readable_viewed : (viewing : ViewingState) (rows : List ReadVersion) → flaw_of viewing.ask ≡ None
     → AsksReadable (viewed viewing rows)
 readable_viewed viewing rows flawless = go (is_closed viewing.ask rows)
   where
@@ -70,20 +70,20 @@ readable_viewed viewing rows flawless = go (is_closed viewing.ask rows)
     last items readable true = tt
     last items readable false = readable
 
-    wide : (b : Bool) → nat_lt MOST_READ_ITEMS (length (names_of rows viewing.ask)) ≡ b
+    wide : (b : Bool) → nat_lt MAX_READ_ITEMS (length (names_of rows viewing.ask)) ≡ b
         → AsksReadable (if b then Busy Wide else again viewing (names_of rows viewing.ask))
     wide true e = tt
     wide false e = last (names_of rows viewing.ask) (names-readable rows viewing.ask flawless (ltb-false _ _ e))
-        (nat_le MOST_READS (viewing.reads + 1))
+        (nat_le MAX_READS (viewing.reads + 1))
 
     go : (b : Bool) → AsksReadable (if b then Closed (record { ask = viewing.ask; rows = rows }) else unclosed viewing
         (names_of rows viewing.ask))
     go true = tt
-    go false = wide (nat_lt MOST_READ_ITEMS (length (names_of rows viewing.ask))) refl
+    go false = wide (nat_lt MAX_READ_ITEMS (length (names_of rows viewing.ask))) refl
 
 -- a read that begins
 reading_first : (principal : Principal) (ask : Ask) (old now : Cut) (terms : Terms) (x : Client) (tag : ℕ)
-    (asking : Asking) (items : List ℕ)
+    (asking : PendingAsk) (items : List ℕ)
     → asking.viewing.ask ≡ ask → asking.principal ≡ principal → terms.parts ≡ now.parts
     → IsOpen (first_round (asker_at terms x (tag + 1)) items)
     → IsLooking old now asking.viewing items → Extends old now
@@ -107,25 +107,25 @@ reading_first principal ask old now terms x tag asking items of whom parts opens
 -- ---- how an ask begins
 
 module _ (policy : Policy) (principal : Principal) (ask : Ask) (now : SessionState) (terms : Terms) (x : Client)
-    (tag : ℕ) (moved : Moved)
+    (tag : ℕ) (moved : Transition)
     (is : IsMoved (read_begins terms x tag (record {
       viewing = record { ask = ask; reads = 0 };
       principal = principal;
     }) (objects_of ask)) moved)
-    (proper : IsProper moved.client.doing) where
-  abbrev first_asking : Asking
+    (proper : IsProper moved.client.phase) where
+  abbrev first_asking : PendingAsk
   first_asking = record { viewing = record { ask = ask; reads = 0 }; principal = principal }
 
   opens : IsOpen (first_round (asker_at terms x (tag + 1)) (objects_of ask))
-  opens = subst IsProper (ap (λ (z : Client). z.doing) is.client) proper
+  opens = subst IsProper (ap (λ (z : Client). z.phase) is.client) proper
 
   pub reads_begin : terms.parts ≡ now.cut.parts → refusal_of ask principal ≡ None → IsSound now.cut
       → IsUnderWay policy (record { principal = principal; ask = ask; session = now }) now now.cut moved.sent.items
-      moved.client.doing
+      moved.client.phase
   reads_begin parts taken s =
-      subst (λ (z : List Message × Doing). IsUnderWay policy
+      subst (λ (z : List Message × Phase). IsUnderWay policy
       (record { principal = principal; ask = ask; session = now }) now now.cut z.0 z.1)
-      (λ i. (sym is.sent i, ap (λ (z : Client). z.doing) (sym is.client) i))
+      (λ i. (sym is.sent i, ap (λ (z : Client). z.phase) (sym is.client) i))
       (record {
         taken = taken;
         on = on_self now;
@@ -147,7 +147,7 @@ module _ (policy : Policy) (principal : Principal) (ask : Ask) (now : SessionSta
 -- ---- what comes of a reply
 
 module _ (limit : ℕ) (policy : Policy) (o : Outset) (now next noted : SessionState) (at : Cut) (sent : List Message)
-    (moved : Moved)
+    (moved : Transition)
     (N : IsNoted o now next noted moved) (same_share : now.share ≡ o.session.share)
     (silent_before : AnnouncesNothing o.session now) where
   abbrev After : Type 0
@@ -183,17 +183,17 @@ module _ (limit : ℕ) (policy : Policy) (o : Outset) (now next noted : SessionS
     same = heard_same o now next noted moved N none clock
 
     -- it reads on
-    waits : (asking : Asking) (round : RoundState) → moved.answer ≡ None
-        → moved.client.doing ≡ doing.Reads asking round → moved.sent.items ≡ []
+    waits : (asking : PendingAsk) (round : RoundState) → moved.answer ≡ None
+        → moved.client.phase ≡ phase.Reads asking round → moved.sent.items ≡ []
         → IsReading o.principal o.ask a at d sent asking round → After
     waits asking round quiet is empty w =
         goes_plain limit policy o noted at sent moved quiet [] empty refl (λ k l e. absurd (omega arith))
-        (subst (λ (z : SessionState × Doing). IsUnderWay policy o z.0 at sent z.1) (λ i. (sym same i, sym is i))
+        (subst (λ (z : SessionState × Phase). IsUnderWay policy o z.0 at sent z.1) (λ i. (sym same i, sym is i))
         (record { taken = N.taken; on = on_next; sound = N.heard.sound; phase = (w, share, silent) }))
 
     -- it sends these messages
-    asks : (asking : Asking) (round : RoundState) (messages : List Message) → moved.answer ≡ None
-        → moved.client.doing ≡ doing.Reads asking round → moved.sent.items ≡ messages → (messages ≡ [] → ⊥)
+    asks : (asking : PendingAsk) (round : RoundState) (messages : List Message) → moved.answer ≡ None
+        → moved.client.phase ≡ phase.Reads asking round → moved.sent.items ≡ messages → (messages ≡ [] → ⊥)
         → IsReading o.principal o.ask a d d messages asking round → After
     asks asking round messages quiet is sends some w =
         goes_sent limit policy o noted at sent moved quiet messages sends some
@@ -201,7 +201,7 @@ module _ (limit : ℕ) (policy : Policy) (o : Outset) (now next noted : SessionS
         (gets_plain w.begun.asker (asked_stamps w.begun) w.begun.items))
         (subst (λ (z : Cut × List Message). All (Shows z.0) z.1) (λ i. (sym N.cut i, sym w.asks i))
         (gets_shown d w.begun.asker (asked_stamps w.begun) w.begun.items))
-        (subst (λ (z : SessionState × Doing). IsUnderWay policy o z.0 z.0.cut messages z.1)
+        (subst (λ (z : SessionState × Phase). IsUnderWay policy o z.0 z.0.cut messages z.1)
         (λ i. (sym same i, sym is i))
         (record { taken = N.taken; on = on_next; sound = N.heard.sound; phase = (w, share, silent) }))
 
@@ -226,14 +226,14 @@ module _ (limit : ℕ) (policy : Policy) (o : Outset) (now next noted : SessionS
       same is)
 
   -- a read has led to this
-  module _ (start : Cut) (tag : ℕ) (asking : Asking) (items : List ℕ) (of : asking.viewing.ask ≡ o.ask)
+  module _ (start : Cut) (tag : ℕ) (asking : PendingAsk) (items : List ℕ) (of : asking.viewing.ask ≡ o.ask)
       (whom : asking.principal ≡ o.principal)
       (looking : IsLooking a start asking.viewing items) (before : Extends a start) (since : Extends start d) where
     views : (f : ViewStep) → LooksOnce start d asking.viewing items f
         → IsMoved (views_by terms x tag asking.principal f) moved → After
     views (Again viewing names) led is =
         let round = first_round (asker_at terms x (tag + 1)) names in
-        let does = ap (λ (z : Client). z.doing) is.client in
+        let does = ap (λ (z : Client). z.phase) is.client in
         let opens : IsOpen round = subst IsProper does N.proper in
         asks is.noted (ap (λ (z : Client). z.clock.counter) is.client)
         (record { viewing = viewing; principal = asking.principal }) round
@@ -252,12 +252,12 @@ module _ (limit : ℕ) (policy : Policy) (o : Outset) (now next noted : SessionS
         (looks_busy a start d asking.viewing items looking before since N.heard.sound o.ask why of led)
 
   -- what a step of a round leads to
-  steps : (tag : ℕ) (asking : Asking) (round : RoundState) (f : Step)
+  steps : (tag : ℕ) (asking : PendingAsk) (round : RoundState) (f : Step)
       (w : IsReading o.principal o.ask a at c sent asking round)
       → Leads at d w.begun f → IsMoved (read_turn terms x tag asking f) moved → After
   steps tag asking round (Same other) w led is =
       waits is.noted (ap (λ (z : Client). z.clock.counter) is.client) asking other is.answer
-      (ap (λ (z : Client). z.doing) is.client) is.sent (record {
+      (ap (λ (z : Client). z.phase) is.client) is.sent (record {
         of = w.of;
         whom = w.whom;
         start = w.start;
@@ -273,7 +273,7 @@ module _ (limit : ℕ) (policy : Policy) (o : Outset) (now next noted : SessionS
       })
   steps tag asking round (Next other gets) w led is =
       asks is.noted (ap (λ (z : Client). z.clock.counter) is.client) asking other gets is.answer
-      (ap (λ (z : Client). z.doing) is.client) is.sent some (record {
+      (ap (λ (z : Client). z.phase) is.client) is.sent some (record {
         of = w.of;
         whom = w.whom;
         start = w.start;
@@ -340,7 +340,7 @@ module _ (limit : ℕ) (policy : Policy) (o : Outset) (now next noted : SessionS
           (record { client = is.client; noted = is.noted; sent = is.sent; answer = is.answer })
 
   -- what a reply leads to
-  pub read_on : (asking : Asking) (round : RoundState) (m : Message)
+  pub read_on : (asking : PendingAsk) (round : RoundState) (m : Message)
       → IsReading o.principal o.ask a at c sent asking round
       → IsReplied limit at d sent m → IsMoved (read_turn terms x round.asker.tag asking (stepped round m)) moved → After
   read_on asking round m w r is =

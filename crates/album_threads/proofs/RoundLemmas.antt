@@ -27,19 +27,19 @@ use Rattle.album_passes.specs.Cuts.{Cut, prefix_at, prefix_for, IsPrefix, Extend
 use Rattle.album_passes.specs.Reads.{IsAnsweredBetween}
 use Rattle.album_passes.proofs.CutLemmas.{prefix_for_more}
 use Rattle.album_passes.proofs.PrefixLemmas.{prefix_trans, prefix_shorter}
-use Rattle.album_reader.specs.Answers.{Asker, Answer, reply_version, body_version, is_answer, if_answer, answer_in, answers_there, are_there}
+use Rattle.album_reader.specs.Answers.{Asker, ReadVersion, reply_version, body_version, is_answer, if_answer, answer_in, answers_there, are_there}
 use Rattle.album_reader.specs.Rounds.{RoundState, IsOpen, StaysOpen, no_answers, next_asker, second_round, asked_stamps, get_of, gets_of, if_lacking, new_answer, put_answer, with_answer, lacks, end_by, end_of, outcome, is_gone, taken, stepped, are_in_order}
 use Rattle.album_reader.specs.Rounds.Step.{Same, Gone}
 use Rattle.album_reader.specs.StampSets.{stamps_of}
 use Rattle.album_reader.specs.Others.{IsGone}
 use Rattle.album_reader.proofs.Others.{is_part-own, IsGone-is_gone}
 use Rattle.album_reader.proofs.Rounds.{items_read-in_order, stepped-open, with_answer-in_order}
-use Rattle.album_threads.specs.Letters.{Shows}
+use Rattle.album_threads.specs.Envelopes.{Shows}
 use Rattle.album_threads.specs.Replies.{IsReplied, IsUnder, AreOf, IsGoneBetween, Leads}
 
 -- ---- what a message answers
 
-tells_version : (r : Reply) (x : Answer) → reply_version r ≡ Some x → r ≡ reply.Version x.item x.stamp x.value
+tells_version : (r : Reply) (x : ReadVersion) → reply_version r ≡ Some x → r ≡ reply.Version x.item x.stamp x.value
 tells_version (reply.Version i t v) x e = cc
 tells_version (reply.Prepared t) x e = absurd (cc)
 tells_version (reply.Committed t) x e = absurd (cc)
@@ -50,25 +50,25 @@ tells_version reply.Clash x e = absurd (cc)
 tells_version (reply.Full t) x e = absurd (cc)
 tells_version (reply.Gone i) x e = absurd (cc)
 
-body_tells : (b : Body) (x : Answer) → body_version b ≡ Some x → b ≡ body.Reply (reply.Version x.item x.stamp x.value)
+body_tells : (b : Body) (x : ReadVersion) → body_version b ≡ Some x → b ≡ body.Reply (reply.Version x.item x.stamp x.value)
 body_tells (body.Request r) x e = absurd (cc)
 body_tells (body.Reply r) x e = ap body.Reply (tells_version r x e)
 
-answers_it : (a : Asker) (m : Message) (x : Answer) → answer_in a m ≡ Some x
+answers_it : (a : Asker) (m : Message) (x : ReadVersion) → answer_in a m ≡ Some x
     → (m.body ≡ body.Reply (reply.Version x.item x.stamp x.value)) × (m.from ≡ Part (place_of a.parts x.item))
 answers_it a m x e = go (body_version m.body) refl e
   where
-    here : (b : Bool) (v : Answer) → is_answer a m v.item ≡ b → (if b then Some v else None) ≡ Some x → body_version m.body ≡ Some v
+    here : (b : Bool) (v : ReadVersion) → is_answer a m v.item ≡ b → (if b then Some v else None) ≡ Some x → body_version m.body ≡ Some v
         → (m.body ≡ body.Reply (reply.Version x.item x.stamp x.value)) × (m.from ≡ Part (place_of a.parts x.item))
     here true v f g h =
         let same : v ≡ x = cc in
         let own = is_part-own m.from (place_of a.parts v.item) (and_parts _ _ f).1 in (
           body_tells m.body x (h ∙ ap Some same),
-          own ∙ ap (λ (y : Answer). Part (place_of a.parts y.item)) same,
+          own ∙ ap (λ (y : ReadVersion). Part (place_of a.parts y.item)) same,
         )
     here false v f g h = absurd (cc)
 
-    go : (o : Option Answer) → body_version m.body ≡ o → option_and_then (if_answer a m) o ≡ Some x
+    go : (o : Option ReadVersion) → body_version m.body ≡ o → option_and_then (if_answer a m) o ≡ Some x
         → (m.body ≡ body.Reply (reply.Version x.item x.stamp x.value)) × (m.from ≡ Part (place_of a.parts x.item))
     go None f g = absurd (cc)
     go (Some v) f g = here (is_answer a m v.item) v refl g f
@@ -167,7 +167,7 @@ told_between limit b c n sent m i us on parts r asked sender =
     same_part i j f = cc
 
 -- A version of an item, told to one of a round's Gets, was read at a history between the two cuts.
-read_between : (limit : ℕ) (b c : Cut) (a : Asker) (ts items : List ℕ) (m : Message) (x : Answer) → Extends b c → a.parts ≡ b.parts
+read_between : (limit : ℕ) (b c : Cut) (a : Asker) (ts items : List ℕ) (m : Message) (x : ReadVersion) → Extends b c → a.parts ≡ b.parts
     → IsReplied limit b c (gets_of a ts items) m → answer_in a m ≡ Some x → IsAnsweredBetween b c ts x
 read_between limit b c a ts items m x on parts r e =
     let p = r.answered.partition in
@@ -204,7 +204,7 @@ gone_between limit b c a ts items m i on parts r told sender listed =
     }
 
 -- it stays so
-between_on : (b c d : Cut) (ts : List ℕ) (x : Answer) → Extends c d → IsAnsweredBetween b c ts x → IsAnsweredBetween b d ts x
+between_on : (b c d : Cut) (ts : List ℕ) (x : ReadVersion) → Extends c d → IsAnsweredBetween b c ts x → IsAnsweredBetween b d ts x
 between_on b c d ts x on h = record {
   marks = h.marks;
   from = h.from;
@@ -214,19 +214,19 @@ between_on b c d ts x on h = record {
   first = h.first;
 }
 
-all_on : (b c d : Cut) (ts : List ℕ) (xs : List Answer) → Extends c d → All (IsAnsweredBetween b c ts) xs → All (IsAnsweredBetween b d ts) xs
+all_on : (b c d : Cut) (ts : List ℕ) (xs : List ReadVersion) → Extends c d → All (IsAnsweredBetween b c ts) xs → All (IsAnsweredBetween b d ts) xs
 all_on b c d ts xs on h = λ k e l. between_on b c d ts (get_or xs k e) on (h k e l)
 
 -- ---- the answers of a round
 
 -- what holds of those that are there, with one put at its item
-all_put : (P : Answer → Type 0) (x : Answer) (items : List ℕ) (answers : List (Option Answer)) → P x
+all_put : (P : ReadVersion → Type 0) (x : ReadVersion) (items : List ℕ) (answers : List (Option ReadVersion)) → P x
     → All P (answers_there answers) → All P (answers_there (put_answer x items answers))
 all_put P x [] answers px h = h
 all_put P x (i ∷ items) [] px h = h
 all_put P x (i ∷ items) (old ∷ answers) px h = go (x.item == i) old h (all_put P x items answers px)
   where
-    go : (b : Bool) (o : Option Answer) → All P (answers_there (o ∷ answers))
+    go : (b : Bool) (o : Option ReadVersion) → All P (answers_there (o ∷ answers))
         → (All P (answers_there answers) → All P (answers_there (put_answer x items answers)))
         → All P (answers_there ((if b then Some x else o) ∷ put_answer x items answers))
     go true None g later = All-cons P x _ px (later g)
@@ -235,14 +235,14 @@ all_put P x (i ∷ items) (old ∷ answers) px h = go (x.item == i) old h (all_p
     go false (Some y) g later = All-cons P y _ (All-head P y _ g) (later (All-tail P y _ g))
 
 -- what counts is an answer
-counts : (round : RoundState) (m : Message) (x : Answer) → new_answer round m ≡ Some x → answer_in round.asker m ≡ Some x
+counts : (round : RoundState) (m : Message) (x : ReadVersion) → new_answer round m ≡ Some x → answer_in round.asker m ≡ Some x
 counts round m x e = go (answer_in round.asker m) refl e
   where
-    here : (b : Bool) (v : Answer) → (if b then Some v else None) ≡ Some x → Some v ≡ Some x
+    here : (b : Bool) (v : ReadVersion) → (if b then Some v else None) ≡ Some x → Some v ≡ Some x
     here true v f = f
     here false v f = absurd (cc)
 
-    go : (o : Option Answer) → answer_in round.asker m ≡ o → option_and_then (if_lacking round) o ≡ Some x → answer_in round.asker m ≡ Some x
+    go : (o : Option ReadVersion) → answer_in round.asker m ≡ o → option_and_then (if_lacking round) o ≡ Some x → answer_in round.asker m ≡ Some x
     go None f g = absurd (cc)
     go (Some v) f g = f ∙ here (lacks round v.item) v g
 
@@ -287,12 +287,12 @@ leads limit b c d begun round m first on both parts r u = by (is_gone round m) r
     old : All (IsAnsweredBetween b d (asked_stamps begun)) (answers_there round.answers)
     old = all_on b c d (asked_stamps begun) (answers_there round.answers) on u.between
 
-    new : (x : Answer) → new_answer round m ≡ Some x → IsAnsweredBetween b d (asked_stamps begun) x
+    new : (x : ReadVersion) → new_answer round m ≡ Some x → IsAnsweredBetween b d (asked_stamps begun) x
     new x e = read_between limit b d begun.asker (asked_stamps begun) begun.items m x both parts r
         (subst (λ (a : Asker). answer_in a m ≡ Some x) u.asker (counts round m x e))
 
-    go : (o : Option Answer) → new_answer round m ≡ o → StaysOpen (option_map_or (λ (x : Answer). outcome (with_answer round x)) o (Same round))
-        → Leads b d begun (option_map_or (λ (x : Answer). outcome (with_answer round x)) o (Same round))
+    go : (o : Option ReadVersion) → new_answer round m ≡ o → StaysOpen (option_map_or (λ (x : ReadVersion). outcome (with_answer round x)) o (Same round))
+        → Leads b d begun (option_map_or (λ (x : ReadVersion). outcome (with_answer round x)) o (Same round))
     go None e stays = record { asker = u.asker; items = u.items; stamps = u.stamps; still_open = u.still_open; between = old }
     go (Some x) e stays = outcome_leads b d begun (with_answer round x) u.asker u.items u.stamps (with_answer-in_order round x u.still_open)
         (all_put (IsAnsweredBetween b d (asked_stamps begun)) x round.items round.answers (new x e) old) stays

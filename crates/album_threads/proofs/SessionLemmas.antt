@@ -1,4 +1,4 @@
--- What a session has seen more. `Caller` cites `tells_joined` and the lemmas on `IsLater`, `Session` `ahead_later` and
+-- What a session has seen more. `PartitionChannel` cites `tells_joined` and the lemmas on `IsLater`, `Session` `ahead_later` and
 -- `floor_above`.
 use Rattle.std.proofs.Common.{◌≡◌, ◌≢◌, ℕ, ◌≤◌, true, List, [], ◌∷◌, ◌++◌, length, length-append, append-nil, Result, Ok, Err, Some, refl, sym, ap, ◌∙◌, subst, ⊎_elim, arith}
 use Rattle.album_stamps.specs.declared.refusals.Refusal.{Refusal}
@@ -12,11 +12,11 @@ use Rattle.album_passes.specs.Cuts.{Cut, prefix_at, IsPrefix, IsSound, Extends}
 use Rattle.album_passes.specs.Pass.{PassState}
 use Rattle.album_passes.proofs.CutLemmas.{extends_self, longer_at}
 use Rattle.album_passes.proofs.PrefixLemmas.{longer_cases}
-use Rattle.album_threads.specs.Inquiries.{IsUntrimmed, Tells}
-use Rattle.album_threads.specs.Inquiries.IsUntrimmed.{Elsewhere, NoRoom}
+use Rattle.album_threads.specs.Controls.{IsUntrimmed, Tells}
+use Rattle.album_threads.specs.Controls.IsUntrimmed.{Elsewhere, NoRoom}
 use Rattle.album_threads.specs.Sessions.{CallerState, IsLater, IsAhead}
-use Rattle.album_threads.specs.declared.inquiries.Inquiry.{Inquiry}
-use Rattle.album_threads.specs.declared.inquiries.Inquiry.TheVariants.{Pending, Sweep, Trim}
+use Rattle.album_threads.specs.declared.control.Control.{Control}
+use Rattle.album_threads.specs.declared.control.Control.TheVariants.{Pending, Sweep, Trim}
 
 -- ---- what is told, once its pass is joined
 
@@ -41,7 +41,7 @@ untrimmed_at : (limit : ℕ) (c d : Cut) (p i : ℕ) → prefix_at d p ≡ prefi
 untrimmed_at limit c d p i same parts _ (Elsewhere other) = Elsewhere (subst (λ (n : ℕ). place_of n i ≢ p) (sym parts) other)
 untrimmed_at limit c d p i same parts _ (NoRoom full) = NoRoom (subst (λ (ms : List Mark). is_full limit ms ≡ true) (sym same) full)
 
-tells_at : (limit : ℕ) (c d : Cut) (p : ℕ) → prefix_at d p ≡ prefix_at c p → d.parts ≡ c.parts → (q : Inquiry) (told : Result (List ℕ) Refusal)
+tells_at : (limit : ℕ) (c d : Cut) (p : ℕ) → prefix_at d p ≡ prefix_at c p → d.parts ≡ c.parts → (q : Control) (told : Result (List ℕ) Refusal)
     → Tells limit c p q told → Tells limit d p q told
 tells_at limit c d p same parts Pending (Ok stamps) h = subst (λ (ms : List Mark). ArePending ms stamps) (sym same) h
 tells_at limit c d p same parts Pending (Err why) h = h
@@ -51,7 +51,7 @@ tells_at limit c d p same parts (Trim i) (Ok stamps) h = subst (λ (ms : List Ma
 tells_at limit c d p same parts (Trim i) (Err why) h = λ n. untrimmed_at limit c d p i same parts why (h n)
 
 pub tells_joined : (limit : ℕ) (b c d : Cut) (p : ℕ) → d ≡ merged b c → Extends c d → length (prefix_at b p) ≤ length (prefix_at c p)
-    → (q : Inquiry) (told : Result (List ℕ) Refusal) → Tells limit c p q told → Tells limit d p q told
+    → (q : Control) (told : Result (List ℕ) Refusal) → Tells limit c p q told → Tells limit d p q told
 tells_joined limit b c d p is x l q told h =
     tells_at limit c d p
     (ap (λ (e : Cut). prefix_at e p) is ∙ joined_prefix b c p (subst (λ (e : Cut). Extends c e) is x) l)

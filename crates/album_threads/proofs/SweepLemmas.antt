@@ -1,4 +1,4 @@
--- What goes out for a stamp that is pending, and what comes of a trim. `Keeper::sweep`, `trim` and `answer` cite the
+-- What goes out for a stamp that is pending, and what comes of a trim. `PartitionKeeper::sweep`, `trim` and `answer` cite the
 -- lemmas that are `pub`.
 use Rattle.std.proofs.Common.{◌≡◌, ◌≢◌, ℕ, Bool, true, false, not, ◌==◌, List, [], ◌∷◌, ◌++◌, map, filter, get_or, if◌then◌else◌, All, Contains, Option, Some, None, Result, Ok, Err, option_to_list, refl, sym, ap, ◌∙◌, subst, append-nil}
 use Rattle.std.specs.List.{list_any, range_with_len}
@@ -12,7 +12,7 @@ use Rattle.album_stamps.specs.declared.refusals.Refusal.TheVariants.{Clash, Full
 use Rattle.album_items.specs.ItemIds.{place_of}
 use Rattle.album_items.specs.Places.{is_placed, lies_at, is_other, others_of}
 use Rattle.album_calls.specs.declared.messages.Message.{Message}
-use Rattle.album_terminate.specs.Asking.{check_to}
+use Rattle.album_terminate.specs.PendingAsk.{check_to}
 use Rattle.album_terminate.specs.declared.deciding.StampState.TheVariants as state
 use Rattle.album_partition.specs.Marks.{prepares, state_of, is_pending, items_at, mark_items, is_full, latest, floor}
 use Rattle.album_partition.specs.Partition.{PartitionState}
@@ -28,10 +28,10 @@ use Rattle.album_passes.specs.Cuts.{Cut, prefix_at, announced_for, IsBacked, IsS
 use Rattle.album_passes.specs.Changes.{marked_cut}
 use Rattle.album_passes.specs.Owner.{OwnerState}
 use Rattle.album_passes.proofs.ClosedLemmas.{found, found_in, prepares_is, backed_there}
-use Rattle.album_threads.specs.Inquiries.{IsUntrimmed}
-use Rattle.album_threads.specs.Inquiries.IsUntrimmed.{Elsewhere, NoRoom}
+use Rattle.album_threads.specs.Controls.{IsUntrimmed}
+use Rattle.album_threads.specs.Controls.IsUntrimmed.{Elsewhere, NoRoom}
 use Rattle.album_threads.specs.Keepers.{AreShown, IsNext, KeeperState, IsKeeper}
-use Rattle.album_threads.specs.Letters.{Shows, IsShown}
+use Rattle.album_threads.specs.Envelopes.{Shows, IsShown}
 use Rattle.album_threads.proofs.KeeperLemmas.{shown_more, keeper_on}
 
 -- ---- a sweep

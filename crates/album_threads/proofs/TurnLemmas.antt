@@ -5,17 +5,17 @@ use Rattle.std.specs.Option.{unwrap_or}
 use Rattle.std.specs.Prelude.{IsOkAnd, IfSome, IfNone, OnErr}
 use Rattle.album_calls.specs.declared.messages.Message.{Message}
 use Rattle.album_client.specs.Clients.{Client, IsProper, stamp_at_work}
-use Rattle.album_client.specs.Moves.{IsMoved}
+use Rattle.album_client.specs.Transitions.{IsMoved}
 use Rattle.album_client.specs.Terms.{Terms}
 use Rattle.album_client.specs.Turns.{turn_of, prepare_turn, commit_turn}
-use Rattle.album_client.specs.declared.clients.Doing.{Doing}
-use Rattle.album_client.specs.declared.clients.Doing.TheVariants as doing
-use Rattle.album_client.specs.declared.moves.Moved.{Moved}
+use Rattle.album_client.specs.declared.clients.Phase.{Phase}
+use Rattle.album_client.specs.declared.clients.Phase.TheVariants as phase
+use Rattle.album_client.specs.declared.transitions.Transition.{Transition}
 use Rattle.album_eval.specs.declared.policies.Policy.{Policy}
 use Rattle.album_passes.specs.Cuts.{Cut, announced_for, Extends}
 use Rattle.album_passes.proofs.CutLemmas.{extends_self}
 use Rattle.album_stamps.specs.Clocks.{next_of}
-use Rattle.album_stamps.specs.declared.limits.TheConstants.{GREATEST_COUNTER}
+use Rattle.album_stamps.specs.declared.limits.TheConstants.{MAX_COUNTER}
 use Rattle.album_stamps.specs.declared.refusals.Refusal.{Refusal}
 use Rattle.album_stamps.specs.declared.refusals.Refusal.TheVariants.{StampsSpent}
 use Rattle.album_threads.specs.Asks.{IsOn, IsHeard, AreShared}
@@ -25,9 +25,9 @@ use Rattle.album_threads.specs.Resting.{RestsOn}
 use Rattle.album_threads.specs.Sending.{IsAnnouncedBy, sent_at, sent_last}
 use Rattle.album_threads.specs.Sessions.{SessionState, IsNoWord, AnnouncesNothing}
 use Rattle.album_threads.specs.Turns.{actor_in, terms_in, IsTaken, IsSent, IsLed}
-use Rattle.album_threads.specs.declared.asked.Asked.{Asked}
-use Rattle.album_threads.specs.declared.asks.Way.{Way}
-use Rattle.album_threads.specs.declared.asks.Way.TheVariants.{Answered, Awaits}
+use Rattle.album_threads.specs.declared.session.asked.Asked.{Asked}
+use Rattle.album_threads.specs.declared.session.ask.Way.{Way}
+use Rattle.album_threads.specs.declared.session.ask.Way.TheVariants.{Answered, Awaits}
 use Rattle.album_threads.proofs.BegunLemmas.{cut_rests}
 use Rattle.album_threads.proofs.CarryLemmas.{prepared_on, committed_on}
 use Rattle.album_threads.proofs.ClockLemmas.{moved_clock}
@@ -38,21 +38,21 @@ use Rattle.album_writer.specs.Rounds.WriteStep.{Waits, Commits as Decides, Ends}
 use Rattle.album_writer.specs.declared.answers.Answer.{Answer}
 use Rattle.album_writer.specs.declared.answers.Answer.TheVariants as answer
 
-moved_on : (limit : ℕ) (policy : Policy) (o : Outset) (now next noted : SessionState) (at : Cut) (sent : List Message) (moved : Moved)
-    (d : Doing) (m : Message) → IsNoted o now next noted moved → IsPhase policy o now at sent d → IsReplied limit at next.cut sent m
+moved_on : (limit : ℕ) (policy : Policy) (o : Outset) (now next noted : SessionState) (at : Cut) (sent : List Message) (moved : Transition)
+    (d : Phase) (m : Message) → IsNoted o now next noted moved → IsPhase policy o now at sent d → IsReplied limit at next.cut sent m
     → IsMoved (turn_of (terms_in policy next) (actor_in next) m d) moved → IsMovedOn limit policy o noted at sent moved
-moved_on limit policy o now next noted at sent moved (doing.Idle tag) m N w r is = absurd w
-moved_on limit policy o now next noted at sent moved (doing.Reads asking round) m N w r is =
+moved_on limit policy o now next noted at sent moved (phase.Idle tag) m N w r is = absurd w
+moved_on limit policy o now next noted at sent moved (phase.Reads asking round) m N w r is =
     read_on limit policy o now next noted at sent moved N w.1 w.2 asking round m w.0 r is
-moved_on limit policy o now next noted at sent moved (doing.Prepares writing) m N w r is =
+moved_on limit policy o now next noted at sent moved (phase.Prepares writing) m N w r is =
     prepared_on limit policy o now next noted at sent moved N w.since w.begun w.granted writing m w.carried r is
-moved_on limit policy o now next noted at sent moved (doing.Commits writing) m N w r is =
+moved_on limit policy o now next noted at sent moved (phase.Commits writing) m N w r is =
     committed_on limit policy o now next noted at sent moved N w.since w.begun w.granted writing m w.carried r is
 
 -- ---- a reply
 
 -- it was heard, and has led to this
-pub taken_so : (limit : ℕ) (at now : Cut) (sent : List Message) (terms : Terms) (x : Client) (d : Doing) (heard : Result Message Refusal) (moved : Moved)
+pub taken_so : (limit : ℕ) (at now : Cut) (sent : List Message) (terms : Terms) (x : Client) (d : Phase) (heard : Result Message Refusal) (moved : Transition)
     → IfOk heard (IsReplied limit at now sent) → IsOkAnd heard (λ reply. IsMoved (turn_of terms x reply d) moved)
     → IsTaken limit at now sent terms x d moved
 taken_so limit at now sent terms x d (Ok reply) moved replied is = record { reply = reply; replied = replied; is = is }
@@ -60,13 +60,13 @@ taken_so limit at now sent terms x d (Err why) moved replied is = absurd is
 
 -- ---- what a session has come to by it
 
-module _ (limit : ℕ) (policy : Policy) (o : Outset) (now next noted : SessionState) (at : Cut) (sent : List Message) (d : Doing) (moved : Moved)
+module _ (limit : ℕ) (policy : Policy) (o : Outset) (now next noted : SessionState) (at : Cut) (sent : List Message) (d : Phase) (moved : Transition)
     (h : IsHeard now next) (t : IsTaken limit at next.cut sent (terms_in policy next) (actor_in next) d moved)
     (client : noted.client ≡ next.client) (cut : noted.cut ≡ next.cut) (counter : noted.counter ≡ moved.client.clock.counter) where
   -- the ask is answered, or goes on
-  pub led_on : IsUnderWay policy o now at sent d → IsProper moved.client.doing
+  pub led_on : IsUnderWay policy o now at sent d → IsProper moved.client.phase
       → AreShared next.client next.share noted.share moved.notes.items
-      → (next_of moved.client.clock ≡ Err StampsSpent → moved.client.clock.counter ≡ GREATEST_COUNTER)
+      → (next_of moved.client.clock ≡ Err StampsSpent → moved.client.clock.counter ≡ MAX_COUNTER)
       → IsMovedOn limit policy o noted at sent moved
   led_on w proper shared spent =
       moved_on limit policy o now next noted at sent moved d t.reply (record {
@@ -83,7 +83,7 @@ module _ (limit : ℕ) (policy : Policy) (o : Outset) (now next noted : SessionS
       }) w.phase t.replied t.is
 
 -- a session is on from what it was as the reply was heard
-pub on_moved : (limit : ℕ) (policy : Policy) (next noted : SessionState) (at : Cut) (sent : List Message) (d : Doing) (moved : Moved)
+pub on_moved : (limit : ℕ) (policy : Policy) (next noted : SessionState) (at : Cut) (sent : List Message) (d : Phase) (moved : Transition)
     → IsTaken limit at next.cut sent (terms_in policy next) (actor_in next) d moved
     → noted.client ≡ next.client → noted.cut ≡ next.cut → noted.counter ≡ moved.client.clock.counter → IsOn next noted
 on_moved limit policy next noted at sent d moved t client cut counter = record {
@@ -108,7 +108,7 @@ on_refusal (Err e) P h = h
 
 module _ (limit : ℕ) (policy : Policy) (o : Outset) where
   -- no word comes to what was under way
-  pub cut_led : (now next : SessionState) (at : Cut) (sent : List Message) (d : Doing) (why : Refusal) (r : Result Way Refusal) → IsUnderWay policy o now at sent d
+  pub cut_led : (now next : SessionState) (at : Cut) (sent : List Message) (d : Phase) (why : Refusal) (r : Result Way Refusal) → IsUnderWay policy o now at sent d
       → IsHeard now next → IsNoWord why → (stamp : Option ℕ) → stamp ≡ stamp_at_work d
       → IfSome stamp (λ t. r ≡ Ok (Answered (answer.Unsettled t why))) → IfNone stamp (r ≡ Err why) → IfOk r (IsLed limit policy o next)
   cut_led now next at sent d why r w h none (Some t) is begun before =
@@ -117,7 +117,7 @@ module _ (limit : ℕ) (policy : Policy) (o : Outset) where
   cut_led now next at sent d why r w h none None is begun before =
       subst (λ (z : Result Way Refusal). IfOk z (IsLed limit policy o next)) (sym before) tt
 
-  sent_led : (asked : Asked) (d : Doing) (messages : List Message) (new : SessionState)
+  sent_led : (asked : Asked) (d : Phase) (messages : List Message) (new : SessionState)
       → IsUnderWay policy o new (sent_at asked.begun.cut new.cut messages) (sent_last asked.sent.items messages) d
       → (way : Way) → IsSent asked d messages new.cut way → IsLed limit policy o new way
   sent_led asked d messages new w (Answered told) cut =
@@ -125,41 +125,41 @@ module _ (limit : ℕ) (policy : Policy) (o : Outset) where
       (cut_rests policy o limit new new (sent_at asked.begun.cut new.cut messages) (sent_last asked.sent.items messages) d cut.stamp cut.why w cut.of cut.none
       refl refl (extends_self new.cut) w.sound)
   sent_led asked d messages new w (Awaits more next) (is, sends, from) =
-      subst (λ (z : Cut × List Message × Doing). IsUnderWay policy o new z.0 z.1 z.2) (λ i. (sym from i, sym sends i, sym is i)) w
+      subst (λ (z : Cut × List Message × Phase). IsUnderWay policy o new z.0 z.1 z.2) (λ i. (sym from i, sym sends i, sym is i)) w
 
   -- ---- where it is refused, nothing was announced
 
-  pub unbegun_now : (now : SessionState) (at : Cut) (sent : List Message) (d : Doing) → IsUnderWay policy o now at sent d → stamp_at_work d ≡ None
+  pub unbegun_now : (now : SessionState) (at : Cut) (sent : List Message) (d : Phase) → IsUnderWay policy o now at sent d → stamp_at_work d ≡ None
       → AnnouncesNothing o.session now
-  unbegun_now now at sent (doing.Idle tag) w e = absurd w.phase
-  unbegun_now now at sent (doing.Reads asking round) w e = w.phase.2
-  unbegun_now now at sent (doing.Prepares writing) w e = absurd (cc)
-  unbegun_now now at sent (doing.Commits writing) w e = absurd (cc)
+  unbegun_now now at sent (phase.Idle tag) w e = absurd w.phase
+  unbegun_now now at sent (phase.Reads asking round) w e = w.phase.2
+  unbegun_now now at sent (phase.Prepares writing) w e = absurd (cc)
+  unbegun_now now at sent (phase.Commits writing) w e = absurd (cc)
 
   unbegun_next : (now next : SessionState) → IsOn o.session now → IsHeard now next → AnnouncesNothing o.session now → AnnouncesNothing o.session next
   unbegun_next now next on h silent = λ t own. h.silent t (own ∙ sym on.client) ∙ silent t own
 
-  pub unbegun_cut : (now next : SessionState) (at : Cut) (sent : List Message) (d : Doing) (r : Result Way Refusal) → IsUnderWay policy o now at sent d
+  pub unbegun_cut : (now next : SessionState) (at : Cut) (sent : List Message) (d : Phase) (r : Result Way Refusal) → IsUnderWay policy o now at sent d
       → IsHeard now next → (stamp : Option ℕ) → stamp ≡ stamp_at_work d → OnErr r (stamp ≡ None) → OnErr r (AnnouncesNothing o.session next)
   unbegun_cut now next at sent d (Ok way) w h stamp is none = tt
   unbegun_cut now next at sent d (Err why) w h stamp is none =
       unbegun_next now next w.on h (unbegun_now now at sent d w (sym is ∙ none))
 
   -- of a write nothing is noted
-  pub unbegun_noted : (now next noted : SessionState) (at : Cut) (sent : List Message) (d : Doing) (moved : Moved) → IsUnderWay policy o now at sent d
+  pub unbegun_noted : (now next noted : SessionState) (at : Cut) (sent : List Message) (d : Phase) (moved : Transition) → IsUnderWay policy o now at sent d
       → IsHeard now next → noted.cut ≡ next.cut → IsTaken limit at next.cut sent (terms_in policy next) (actor_in next) d moved
       → (moved.notes.items ≡ [] → ⊥) → AnnouncesNothing o.session noted
-  unbegun_noted now next noted at sent (doing.Idle tag) moved w h cut t some = absurd w.phase
-  unbegun_noted now next noted at sent (doing.Reads asking round) moved w h cut t some = λ u own.
+  unbegun_noted now next noted at sent (phase.Idle tag) moved w h cut t some = absurd w.phase
+  unbegun_noted now next noted at sent (phase.Reads asking round) moved w h cut t some = λ u own.
       ap (λ (c : Cut). announced_for c u) cut ∙ unbegun_next now next w.on h w.phase.2 u own
-  unbegun_noted now next noted at sent (doing.Prepares writing) moved w h cut t some =
+  unbegun_noted now next noted at sent (phase.Prepares writing) moved w h cut t some =
       absurd (some (t.is.noted ∙ none (prepare_stepped writing t.reply)))
     where
       none : (f : WriteStep) → unwrap_or (prepare_turn (actor_in next) writing.tag f).noted [] ≡ []
       none (Waits other) = refl
       none (Decides other messages) = refl
       none (Ends out) = refl
-  unbegun_noted now next noted at sent (doing.Commits writing) moved w h cut t some =
+  unbegun_noted now next noted at sent (phase.Commits writing) moved w h cut t some =
       absurd (some (t.is.noted ∙ none (commit_stepped writing t.reply)))
     where
       none : (f : WriteStep) → unwrap_or (commit_turn (actor_in next) writing.tag f).noted [] ≡ []
@@ -167,14 +167,14 @@ module _ (limit : ℕ) (policy : Policy) (o : Outset) where
       none (Decides other messages) = refl
       none (Ends out) = refl
 
-  pub unbegun_sent : (new : SessionState) (at : Cut) (sent : List Message) (d : Doing) (r : Result Way Refusal) → IsUnderWay policy o new at sent d
+  pub unbegun_sent : (new : SessionState) (at : Cut) (sent : List Message) (d : Phase) (r : Result Way Refusal) → IsUnderWay policy o new at sent d
       → OnErr r (stamp_at_work d ≡ None) → OnErr r (AnnouncesNothing o.session new)
   unbegun_sent new at sent d (Ok way) w none = tt
   unbegun_sent new at sent d (Err why) w none = unbegun_now new at sent d w none
 
   -- ---- where it is sent, it goes on
 
-  pub all_led : (asked : Asked) (d : Doing) (messages : List Message) (new : SessionState)
+  pub all_led : (asked : Asked) (d : Phase) (messages : List Message) (new : SessionState)
       → IsUnderWay policy o new (sent_at asked.begun.cut new.cut messages) (sent_last asked.sent.items messages) d
       → (r : Result Way Refusal) → IfOk r (IsSent asked d messages new.cut) → IfOk r (IsLed limit policy o new)
   all_led asked d messages new w (Ok way) h = sent_led asked d messages new w way h

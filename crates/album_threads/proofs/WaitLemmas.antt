@@ -3,12 +3,12 @@
 use Rattle.std.proofs.Common.{◌≡◌, ℕ, Bool, true, false, not, List, Option, Some, None, Result, Ok, Err, IfOk, IsSome, sym, ap, ◌∙◌, subst}
 use Rattle.std.specs.Prelude.{IsOkAnd, IfSome, IfNone, IfErr}
 use Rattle.album_calls.specs.declared.messages.Message.{Message}
-use Rattle.album_client.specs.Askings.{Asking}
+use Rattle.album_client.specs.Askings.{PendingAsk}
 use Rattle.album_client.specs.Clients.{Client}
 use Rattle.album_client.specs.Terms.{Terms}
 use Rattle.album_client.specs.Turns.{Turn, is_waiting, read_turn, still, IsTakenBy}
-use Rattle.album_client.specs.declared.clients.Doing.{Doing}
-use Rattle.album_client.specs.declared.clients.Doing.TheVariants as doing
+use Rattle.album_client.specs.declared.clients.Phase.{Phase}
+use Rattle.album_client.specs.declared.clients.Phase.TheVariants as phase
 use Rattle.album_eval.specs.declared.policies.Policy.{Policy}
 use Rattle.album_passes.specs.Cuts.{Cut, Extends}
 use Rattle.album_passes.proofs.CutLemmas.{extends_trans}
@@ -26,8 +26,8 @@ use Rattle.album_threads.proofs.RoundLemmas.{leads}
 module _ (limit : ℕ) (policy : Policy) (o : Outset) (now next : SessionState) (at : Cut) (sent : List Message) (m : Message)
     (h : IsHeard now next) (r : IsReplied limit at next.cut sent m) where
   -- it reads on
-  reads_on : (asking : Asking) (round : RoundState) (new : Doing) → IsUnderWay policy o now at sent (doing.Reads asking round)
-      → is_waiting (doing.Reads asking round) m ≡ true → IsTakenBy (doing.Reads asking round) m new
+  reads_on : (asking : PendingAsk) (round : RoundState) (new : Phase) → IsUnderWay policy o now at sent (phase.Reads asking round)
+      → is_waiting (phase.Reads asking round) m ≡ true → IsTakenBy (phase.Reads asking round) m new
       → IsUnderWay policy o next at sent new
   reads_on asking round new w waits taken =
       go (stepped round m)
@@ -42,11 +42,11 @@ module _ (limit : ℕ) (policy : Policy) (o : Outset) (now next : SessionState) 
       since = extends_trans at now.cut next.cut read.on h.grown
 
       go : (f : Step) → Leads at next.cut read.begun f → not (is_end f) ≡ true
-          → ((terms : Terms) (x : Client) → read_turn terms x round.asker.tag asking f ≡ still (record x { doing = new }))
+          → ((terms : Terms) (x : Client) → read_turn terms x round.asker.tag asking f ≡ still (record x { phase = new }))
           → IsUnderWay policy o next at sent new
       go (Same other) led e t =
           subst (IsUnderWay policy o next at sent)
-          (ap (λ (y : Turn). y.client.doing) (t (terms_in policy next) (actor_in next)))
+          (ap (λ (y : Turn). y.client.phase) (t (terms_in policy next) (actor_in next)))
           (record {
             taken = w.taken;
             on = on_heard o.session now next w.on h;
@@ -74,15 +74,15 @@ module _ (limit : ℕ) (policy : Policy) (o : Outset) (now next : SessionState) 
       go (Done rows) led e t = absurd (cc)
       go (Gone items) led e t = absurd (cc)
 
-  pub waits_on : (d new : Doing) → IsUnderWay policy o now at sent d → is_waiting d m ≡ true → IsTakenBy d m new
+  pub waits_on : (d new : Phase) → IsUnderWay policy o now at sent d → is_waiting d m ≡ true → IsTakenBy d m new
       → IsUnderWay policy o next at sent new
-  waits_on (doing.Idle tag) new w waits taken = absurd (cc)
-  waits_on (doing.Reads asking round) new w waits taken = reads_on asking round new w waits taken
-  waits_on (doing.Prepares writing) new w waits taken = absurd (cc)
-  waits_on (doing.Commits writing) new w waits taken = absurd (cc)
+  waits_on (phase.Idle tag) new w waits taken = absurd (cc)
+  waits_on (phase.Reads asking round) new w waits taken = reads_on asking round new w waits taken
+  waits_on (phase.Prepares writing) new w waits taken = absurd (cc)
+  waits_on (phase.Commits writing) new w waits taken = absurd (cc)
 
 -- the reply that was heard was taken so
-pub waited_on : (limit : ℕ) (policy : Policy) (o : Outset) (now next : SessionState) (at : Cut) (sent : List Message) (d new : Doing)
+pub waited_on : (limit : ℕ) (policy : Policy) (o : Outset) (now next : SessionState) (at : Cut) (sent : List Message) (d new : Phase)
     (heard : Result Message Refusal) → IsHeard now next → IfOk heard (IsReplied limit at next.cut sent)
     → IsOkAnd heard (λ reply. (is_waiting d reply ≡ true) × IsTakenBy d reply new)
     → IsUnderWay policy o now at sent d → IsUnderWay policy o next at sent new
@@ -91,7 +91,7 @@ waited_on limit policy o now next at sent d new (Ok m) h r (waits, taken) w =
 waited_on limit policy o now next at sent d new (Err why) h r is w = absurd is
 
 -- where nothing is given, the reply that was heard was taken
-pub none_on : (limit : ℕ) (policy : Policy) (now next : SessionState) (at : Cut) (sent : List Message) (d new : Doing)
+pub none_on : (limit : ℕ) (policy : Policy) (now next : SessionState) (at : Cut) (sent : List Message) (d new : Phase)
     (heard : Result Message Refusal) (given : Option (Result Message Refusal))
     → IsHeard now next → IfOk heard (IsReplied limit at next.cut sent)
     → IfNone given (IsOkAnd heard (λ reply. (is_waiting d reply ≡ true) × IsTakenBy d reply new))

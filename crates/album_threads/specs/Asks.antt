@@ -1,18 +1,18 @@
 -- What an ask leaves of a session as it goes on, and what is read for it.
 use Rattle.std.specs.Prelude.{◌≡◌, ◌⊎◌, ◌+◌, ◌<◌, ◌≤◌, ℕ, List, [], ◌∷◌, All, length, map, None, IsTrue}
 use Rattle.album_stamps.specs.Stamps.{is_client, counter_of}
-use Rattle.album_stamps.specs.declared.limits.TheConstants.{MOST_READ_ITEMS, MOST_READS}
+use Rattle.album_stamps.specs.declared.limits.TheConstants.{MAX_READ_ITEMS, MAX_READS}
 use Rattle.album_audit.specs.Totals.{totals_of, plus}
 use Rattle.album_audit.specs.declared.totals.Totals.{Totals}
 use Rattle.album_passes.specs.Cuts.{Cut, Extends, IsSound}
 use Rattle.album_permits.specs.declared.notes.Note.{Note}
-use Rattle.album_reader.specs.Answers.{Answer as Row}
+use Rattle.album_reader.specs.Answers.{ReadVersion}
 use Rattle.album_reader.specs.Snapshots.{items_read}
 use Rattle.album_threads.specs.Grounds.{IsSeen, IsWide, AreInVain, IsOutOfReads, trims_in}
 use Rattle.album_threads.specs.Sessions.{SessionState, IsAhead, AnnouncesNothing}
 use Rattle.album_views.specs.Asks.{objects_of}
 use Rattle.album_views.specs.Checks.{flaw_of}
-use Rattle.album_views.specs.Naming.{names_of}
+use Rattle.album_views.specs.ReadSets.{names_of}
 use Rattle.album_views.specs.Steps.{AreReadable}
 use Rattle.album_views.specs.Views.{ViewState, ViewingState, IsClosed, IsView}
 use Rattle.album_views.specs.declared.asks.Ask.{Ask}
@@ -28,7 +28,7 @@ pub record IsOn (old new : SessionState) : Type 0 where
   pub risen : old.counter ≤ new.counter
 
 -- no stamp of what was read has a greater counter
-abbrev pub AreSeenBy : ℕ → List Row → Type 0
+abbrev pub AreSeenBy : ℕ → List ReadVersion → Type 0
 AreSeenBy counter rows = All (λ row. counter_of row.stamp ≤ counter) rows
 
 -- The same session has seen more, and nothing else is changed or announced. And what is so of each session: what it has
@@ -62,34 +62,34 @@ IsBusy begun now ask Wide = IsWide begun now ask
 IsBusy begun now ask Rounds = IsOutOfReads begun now ask
 
 -- what was read of these items is no view, and can be read anew with what it names
-pub record IsVain (begun now : Cut) (ask : Ask) (items : List ℕ) (rows : List Row) : Type 0 where
+pub record IsVain (begun now : Cut) (ask : Ask) (items : List ℕ) (rows : List ReadVersion) : Type 0 where
   pub of : items_read rows ≡ items
   pub seen : IsSeen begun now rows
   pub lacking : IsClosed ask rows → ⊥
-  pub few : length (names_of rows ask) ≤ MOST_READ_ITEMS
+  pub few : length (names_of rows ask) ≤ MAX_READ_ITEMS
 
 -- What comes of one read of these items for the ask. Where it is no view, it was in vain, or overtaken by a trim.
 abbrev pub LooksOnce : Cut → Cut → ViewingState → List ℕ → ViewStep → Type 0
 LooksOnce begun now viewing items (Closed view) = IsViewOf begun now viewing.ask view
 LooksOnce begun now viewing items (Busy Wide) = IsWide begun now viewing.ask
 LooksOnce begun now viewing items (Busy Rounds) =
-    (MOST_READS ≤ viewing.reads + 1)
-    × (((rows : List Row) × IsVain begun now viewing.ask items rows) ⊎ (trims_in begun < trims_in now))
+    (MAX_READS ≤ viewing.reads + 1)
+    × (((rows : List ReadVersion) × IsVain begun now viewing.ask items rows) ⊎ (trims_in begun < trims_in now))
 LooksOnce begun now viewing items (Again next names) =
     (next ≡ record { ask = viewing.ask; reads = viewing.reads + 1 })
     × AreReadable names
-    × (((rows : List Row) × IsVain begun now viewing.ask items rows × (names ≡ names_of rows viewing.ask))
+    × (((rows : List ReadVersion) × IsVain begun now viewing.ask items rows × (names ≡ names_of rows viewing.ask))
     ⊎ ((trims_in begun < trims_in now) × (names ≡ items)))
 
 -- the items that are read behind reads in vain, of which the first was of these items
-abbrev pub items_next : Ask → List ℕ → List (List Row) → List ℕ
+abbrev pub items_next : Ask → List ℕ → List (List ReadVersion) → List ℕ
 items_next ask items [] = items
 items_next ask items (rows ∷ later) = items_next ask (names_of rows ask) later
 
 -- The reads so far were in vain, or overtaken by a trim each, and these items are to be read next.
 pub record IsLooking (begun now : Cut) (viewing : ViewingState) (items : List ℕ) : Type 0 where
   pub flawless : flaw_of viewing.ask ≡ None
-  pub reads : List (List Row)
+  pub reads : List (List ReadVersion)
   pub in_vain : AreInVain begun now viewing.ask (objects_of viewing.ask) reads
   pub next : items ≡ items_next viewing.ask (objects_of viewing.ask) reads
   pub all : viewing.reads + trims_in begun ≤ length reads + trims_in now

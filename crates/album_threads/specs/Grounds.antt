@@ -1,7 +1,7 @@
 -- On what an answer of a session rests: the cut that it began with, and the one that it has then.
 use Rattle.std.specs.Prelude.{◌≡◌, ℕ, ◌+◌, ◌<◌, ◌≤◌, Bool, true, false, List, [], ◌∷◌, length, sum_by, count_by, Contains}
 use Rattle.std.specs.List.{list_any}
-use Rattle.album_stamps.specs.declared.limits.TheConstants.{MOST_READ_ITEMS, MOST_READS}
+use Rattle.album_stamps.specs.declared.limits.TheConstants.{MAX_READ_ITEMS, MAX_READS}
 use Rattle.album_items.specs.Places.{places_of, rows_placed_at}
 use Rattle.album_items.specs.Transactions.{items_written}
 use Rattle.album_eval.specs.declared.facts.Principal.{Principal}
@@ -10,10 +10,10 @@ use Rattle.album_terminate.specs.declared.deciding.StampState.TheVariants as sta
 use Rattle.album_partition.specs.Marks.{commits, state_of, is_full}
 use Rattle.album_partition.specs.declared.marks.Mark.{Mark}
 use Rattle.album_partition.specs.declared.marks.Mark.TheVariants.{Prepared, Committed, Discarded, Trimmed}
-use Rattle.album_reader.specs.Answers.{Answer}
+use Rattle.album_reader.specs.Answers.{ReadVersion}
 use Rattle.album_reader.specs.Snapshots.{items_read}
 use Rattle.album_views.specs.Asks.{objects_of}
-use Rattle.album_views.specs.Naming.{names_of}
+use Rattle.album_views.specs.ReadSets.{names_of}
 use Rattle.album_views.specs.Views.{IsClosed, IsView}
 use Rattle.album_views.specs.declared.asks.Ask.{Ask}
 use Rattle.album_listing.specs.Basis.{Basis, IsBasis}
@@ -29,7 +29,7 @@ use Rattle.album_passes.specs.Reads.{IsReadAtomic, IsFreshFrom}
 -- ---- a view
 
 -- what was read is read atomic, with the cut's marks as histories, and fresh from the cut with which the ask began
-pub record IsSeen (begun now : Cut) (rows : List Answer) : Type 0 where
+pub record IsSeen (begun now : Cut) (rows : List ReadVersion) : Type 0 where
   pub atomic : IsReadAtomic now rows
   pub fresh : IsFreshFrom begun now rows
 
@@ -38,7 +38,7 @@ pub record IsSeen (begun now : Cut) (rows : List Answer) : Type 0 where
 pub record IsOnView
     (begun now : Cut) (policy : Policy) (principal : Principal) (ask : Ask) (Holds : PermitState → Type 0)
     : Type 0 where
-  pub rows : List Answer
+  pub rows : List ReadVersion
   pub seen : IsSeen begun now rows
   pub view : IsView (record { ask = ask; rows = rows })
   pub holds : Holds (permit_on policy principal ask rows)
@@ -89,18 +89,18 @@ pub record IsWithoutRoom (limit : ℕ) (now : Cut) (permit : PermitState) (stamp
 
 -- what was read is not closed, and names more items than can be read
 pub record IsWide (begun now : Cut) (ask : Ask) : Type 0 where
-  pub rows : List Answer
+  pub rows : List ReadVersion
   pub seen : IsSeen begun now rows
   pub lacking : IsClosed ask rows → ⊥
-  pub wide : MOST_READ_ITEMS < length (names_of rows ask)
+  pub wide : MAX_READ_ITEMS < length (names_of rows ask)
 
 -- Reads that led to no view, one after another: the first of these items, each next of just what the one before names.
-pub data AreInVain (begun now : Cut) (ask : Ask) : List ℕ → List (List Answer) → Type 0 where
+pub data AreInVain (begun now : Cut) (ask : Ask) : List ℕ → List (List ReadVersion) → Type 0 where
   NoRead : (items : List ℕ) → AreInVain begun now ask items []
   OneMore :
-      (items : List ℕ) (rows : List Answer) (later : List (List Answer))
+      (items : List ℕ) (rows : List ReadVersion) (later : List (List ReadVersion))
       → items_read rows ≡ items → IsSeen begun now rows
-      → (IsClosed ask rows → ⊥) → length (names_of rows ask) ≤ MOST_READ_ITEMS
+      → (IsClosed ask rows → ⊥) → length (names_of rows ask) ≤ MAX_READ_ITEMS
       → AreInVain begun now ask (names_of rows ask) later → AreInVain begun now ask items (rows ∷ later)
 
 -- the mark is one that trims
@@ -117,6 +117,6 @@ trims_in cut = sum_by (λ marks. count_by is_trim marks) cut.prefixes
 -- As many reads were made as an ask may have: those that led to no view, the first of the ask's objects, and beside
 -- them no more that were overtaken by a trim than the cut has gained trims.
 pub record IsOutOfReads (begun now : Cut) (ask : Ask) : Type 0 where
-  pub reads : List (List Answer)
+  pub reads : List (List ReadVersion)
   pub in_vain : AreInVain begun now ask (objects_of ask) reads
-  pub all : MOST_READS + trims_in begun ≤ length reads + trims_in now
+  pub all : MAX_READS + trims_in begun ≤ length reads + trims_in now

@@ -9,7 +9,7 @@ use Rattle.album_partition.specs.declared.marks.Mark.{Mark}
 use Rattle.album_passes.specs.Cuts.{Cut, prefix_at, IsBacked}
 use Rattle.album_passes.specs.Changes.{marked_cut}
 use Rattle.album_passes.specs.Owner.{OwnerState}
-use Rattle.album_threads.specs.Letters.{IsShown}
+use Rattle.album_threads.specs.Envelopes.{IsShown}
 
 -- the partition, and the owner of its history
 pub record KeeperState : Type 0 where

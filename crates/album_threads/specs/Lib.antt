@@ -1,6 +1,6 @@
-pub mod Names
-pub mod Letters
-pub mod Inquiries
+pub mod ServiceNames
+pub mod Envelopes
+pub mod Controls
 pub mod Keepers
 pub mod Opened
 pub mod Grounds

@@ -1,7 +1,7 @@
 -- What a service starts with.
 use Rattle.std.specs.Prelude.{◌≡◌, ℕ, ◌<◌, ◌≤◌, List, length, slice_index_or}
 use Rattle.atomic_table.specs.Seated.{TableId}
-use Rattle.album_stamps.specs.declared.limits.TheConstants.{MOST_PARTS}
+use Rattle.album_stamps.specs.declared.limits.TheConstants.{MAX_PARTS}
 use Rattle.album_items.specs.Places.{rows_placed_at}
 use Rattle.album_eval.specs.declared.policies.Policy.{Policy}
 use Rattle.album_partition.specs.Partition.{PartitionState, opening_state}
@@ -48,7 +48,7 @@ pub record IsOpened
     : Type 0 where
   pub parts_are : desk.terms.parts ≡ parts
   pub some : 1 ≤ desk.terms.parts
-  pub few : desk.terms.parts ≤ MOST_PARTS
+  pub few : desk.terms.parts ≤ MAX_PARTS
   pub owned : AreOwners desk owners
   pub opened : AreFirst desk.terms desk.terms.parts partitions
   pub first : pass ≡ first_pass desk

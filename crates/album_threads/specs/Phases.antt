@@ -1,9 +1,9 @@
 -- What is under way for an ask between two replies, a case for each phase of its client.
 use Rattle.std.specs.Prelude.{◌≡◌, List, None}
 use Rattle.album_calls.specs.declared.messages.Message.{Message}
-use Rattle.album_client.specs.Askings.{Asking}
-use Rattle.album_client.specs.declared.clients.Doing.{Doing}
-use Rattle.album_client.specs.declared.clients.Doing.TheVariants.{Idle, Reads, Prepares, Commits}
+use Rattle.album_client.specs.Askings.{PendingAsk}
+use Rattle.album_client.specs.declared.clients.Phase.{Phase}
+use Rattle.album_client.specs.declared.clients.Phase.TheVariants.{Idle, Reads, Prepares, Commits}
 use Rattle.album_eval.specs.declared.facts.Principal.{Principal}
 use Rattle.album_eval.specs.declared.policies.Policy.{Policy}
 use Rattle.album_passes.specs.Cuts.{Cut, IsSound, Extends}
@@ -33,7 +33,7 @@ pub data IsRound (start at : Cut) (begun : RoundState) : Type 0 where
 
 -- It reads for the ask: what was read before led to no view, and this round began at a cut, where it sent its messages.
 pub record IsReading
-    (principal : Principal) (ask : Ask) (old at now : Cut) (sent : List Message) (asking : Asking) (round : RoundState)
+    (principal : Principal) (ask : Ask) (old at now : Cut) (sent : List Message) (asking : PendingAsk) (round : RoundState)
     : Type 0 where
   pub of : asking.viewing.ask ≡ ask
   pub whom : asking.principal ≡ principal
@@ -65,7 +65,7 @@ pub record IsCommitting (at now : Cut) (sent : List Message) (begun writing : Wr
   pub further : IsFurther next (IsCommittedAt now next) writing
 
 -- what is under way of the write, by the phase
-abbrev pub IsCarried : Cut → Cut → List Message → WritingState → Doing → Type 0
+abbrev pub IsCarried : Cut → Cut → List Message → WritingState → Phase → Type 0
 IsCarried at now sent begun (Idle tag) = ⊥
 IsCarried at now sent begun (Reads asking round) = ⊥
 IsCarried at now sent begun (Prepares writing) = IsPreparing at now sent begun writing
@@ -73,18 +73,18 @@ IsCarried at now sent begun (Commits writing) = IsCommitting at now sent begun w
 
 -- It is granted on a view, and was begun at its stamp, which is announced; and that is under way of it.
 pub record IsWriting
-    (policy : Policy) (outset : Outset) (now : SessionState) (at : Cut) (sent : List Message) (doing : Doing)
+    (policy : Policy) (outset : Outset) (now : SessionState) (at : Cut) (sent : List Message) (phase : Phase)
     : Type 0 where
   pub begun : WritingState
   pub granted : IsBegun policy outset.principal outset.ask outset.session now begun.stamp
       (λ permit. permit ≡ begun.permit)
   pub since : Extends at now.cut
-  pub carried : IsCarried at now.cut sent begun doing
+  pub carried : IsCarried at now.cut sent begun phase
 
 -- ---- an ask
 
 -- It reads, and has noted and announced nothing; or it writes.
-abbrev pub IsPhase : Policy → Outset → SessionState → Cut → List Message → Doing → Type 0
+abbrev pub IsPhase : Policy → Outset → SessionState → Cut → List Message → Phase → Type 0
 IsPhase policy outset now at sent (Idle tag) = ⊥
 IsPhase policy outset now at sent (Reads asking round) =
     IsReading outset.principal outset.ask outset.session.cut at now.cut sent asking round
@@ -96,9 +96,9 @@ IsPhase policy outset now at sent (Commits writing) = IsWriting policy outset no
 -- The principal may ask it, the session goes on from what it was, and is at this phase: replies to the messages are
 -- awaited, which were sent with that cut.
 pub record IsUnderWay
-    (policy : Policy) (outset : Outset) (now : SessionState) (at : Cut) (sent : List Message) (doing : Doing)
+    (policy : Policy) (outset : Outset) (now : SessionState) (at : Cut) (sent : List Message) (phase : Phase)
     : Type 0 where
   pub taken : refusal_of outset.ask outset.principal ≡ None
   pub on : IsOn outset.session now
   pub sound : IsSound now.cut
-  pub phase : IsPhase policy outset now at sent doing
+  pub phase : IsPhase policy outset now at sent phase

@@ -6,13 +6,13 @@ use Rattle.album_partition.specs.Marks.{floor, kept_version}
 use Rattle.album_partition.specs.declared.marks.Mark.{Mark}
 use Rattle.album_passes.specs.Cuts.{Cut, prefix_at, prefix_for, IsPrefix, Extends}
 use Rattle.album_passes.specs.Reads.{IsAnsweredBetween}
-use Rattle.album_reader.specs.Answers.{Answer, answers_there}
+use Rattle.album_reader.specs.Answers.{ReadVersion, answers_there}
 use Rattle.album_reader.specs.Rounds.{RoundState, Step, IsOpen, next_asker, second_round, asked_stamps, gets_of}
 use Rattle.album_reader.specs.Rounds.Step.{Same, Next, Done, Gone}
 use Rattle.album_reader.specs.Snapshots.{items_read}
 use Rattle.album_reader.specs.StampSets.{stamps_of}
 use Rattle.album_threads.specs.Grounds.{IsSeen, trims_in}
-use Rattle.album_threads.specs.Letters.{IsAnswered}
+use Rattle.album_threads.specs.Envelopes.{IsAnswered}
 
 -- ---- a reply
 
@@ -42,14 +42,14 @@ pub record IsUnder (old new : Cut) (begun round : RoundState) : Type 0 where
   pub between : All (IsAnsweredBetween old new (asked_stamps begun)) (answers_there round.answers)
 
 -- these are the answers of all its items
-pub record AreOf (old new : Cut) (begun : RoundState) (answers : List Answer) : Type 0 where
+pub record AreOf (old new : Cut) (begun : RoundState) (answers : List ReadVersion) : Type 0 where
   pub items : items_read answers ≡ begun.items
   pub between : All (IsAnsweredBetween old new (asked_stamps begun)) answers
 
 -- the first round is over, and the second asks with just the stamps of its answers
 pub record IsFirstOver (old new : Cut) (begun next : RoundState) (gets : List Message) : Type 0 where
   pub first : begun.stamps ≡ None
-  pub answers : List Answer
+  pub answers : List ReadVersion
   pub are : AreOf old new begun answers
   pub still_open : IsOpen next
   pub next_is : next ≡ second_round begun (stamps_of answers)
@@ -81,7 +81,7 @@ Leads old new begun (Gone items) = (is_some begun.stamps ≡ true) × IsGoneFrom
 -- ---- a read
 
 -- what was read is of these items, read atomic and fresh
-pub record IsReadOf (begun now : Cut) (items : List ℕ) (rows : List Answer) : Type 0 where
+pub record IsReadOf (begun now : Cut) (items : List ℕ) (rows : List ReadVersion) : Type 0 where
   pub items_are : items_read rows ≡ items
   pub seen : IsSeen begun now rows
 

@@ -1,7 +1,7 @@
 -- On what each answer of a session rests.
 use Rattle.std.specs.Prelude.{◌≡◌, ◌⊎◌, ◌<◌, ℕ, true, List, All, map, Some, None}
 use Rattle.album_stamps.specs.Stamps.{client_number, counter_of}
-use Rattle.album_stamps.specs.declared.limits.TheConstants.{GREATEST_COUNTER}
+use Rattle.album_stamps.specs.declared.limits.TheConstants.{MAX_COUNTER}
 use Rattle.album_stamps.specs.declared.refusals.Refusal.{Refusal}
 use Rattle.album_stamps.specs.declared.refusals.Refusal.TheVariants.{OutOfMemory, AlbumFull, StampsSpent, Full, Closed}
 use Rattle.album_audit.specs.Totals.{totals_of, plus}
@@ -67,7 +67,7 @@ pub record IsAlbumFull (new : SessionState) (permit : PermitState) : Type 0 wher
 -- why what is granted can't be written: the album is full, or the clock is spent
 abbrev pub IsRefusedBy : SessionState → Refusal → PermitState → Type 0
 IsRefusedBy new why permit =
-    ((why ≡ AlbumFull) × IsAlbumFull new permit) ⊎ ((why ≡ StampsSpent) × (new.counter ≡ GREATEST_COUNTER))
+    ((why ≡ AlbumFull) × IsAlbumFull new permit) ⊎ ((why ≡ StampsSpent) × (new.counter ≡ MAX_COUNTER))
 
 -- on what the answer rests, of a session that was so before the ask and is so after it
 abbrev pub RestsOn : ℕ → Policy → Principal → Ask → SessionState → SessionState → Answer → Type 0

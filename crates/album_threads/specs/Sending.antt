@@ -39,9 +39,9 @@ announced_by cut messages = announced_with cut (prepared_first messages)
 
 -- the stamp is the client's own, and nothing is announced for it
 abbrev pub IsUnused : CallerState → Option Announcement → Type 0
-IsUnused caller None = Unit {0}
-IsUnused caller (Some (stamp, items)) =
-    (client_number stamp ≡ caller.client) × (announced_for caller.cut stamp ≡ None)
+IsUnused channel None = Unit {0}
+IsUnused channel (Some (stamp, items)) =
+    (client_number stamp ≡ channel.client) × (announced_for channel.cut stamp ≡ None)
 
 -- the clock has reached its counter
 abbrev pub IsReached : ℕ → Option Announcement → Type 0

@@ -3,7 +3,7 @@ use Rattle.std.specs.Prelude.{◌≡◌, ℕ, ◌<◌, ◌≤◌, ◌⊎◌, Som
 use Rattle.atomic_table.specs.Seated.{TableId}
 use Rattle.album_stamps.specs.Clocks.{ClockState}
 use Rattle.album_stamps.specs.Stamps.{client_number, counter_of}
-use Rattle.album_stamps.specs.declared.limits.TheConstants.{MOST_PARTS}
+use Rattle.album_stamps.specs.declared.limits.TheConstants.{MAX_PARTS}
 use Rattle.album_stamps.specs.declared.refusals.Refusal.{Refusal}
 use Rattle.album_stamps.specs.declared.refusals.Refusal.TheVariants.{OutOfMemory, Closed}
 use Rattle.album_audit.specs.declared.totals.Totals.{Totals}
@@ -25,7 +25,7 @@ pub record IsCaller (table : TableId) (client parts : ℕ) (pass : PassState) : 
   pub number : pass.number ≡ Some client
   pub parts_are : pass.cut.parts ≡ parts
   pub some : 1 ≤ parts
-  pub few : parts ≤ MOST_PARTS
+  pub few : parts ≤ MAX_PARTS
 
 -- the same client has seen more, and just that is announced of its stamps which was before
 pub record IsLater (old new : CallerState) : Type 0 where
@@ -57,7 +57,7 @@ AnnouncesNothing old new = (stamp : ℕ) → client_number stamp ≡ old.client
     → announced_for new.cut stamp ≡ announced_for old.cut stamp
 
 -- the policy is this one, and the clock is the client's, and ahead of what is announced of it
-pub record IsSession (named policy : Policy) (clock : ClockState) (caller : CallerState) : Type 0 where
+pub record IsSession (named policy : Policy) (clock : ClockState) (channel : CallerState) : Type 0 where
   pub policy_is : policy ≡ named
-  pub own : clock.client ≡ caller.client
-  pub ahead : IsAhead caller.client clock.counter caller.cut
+  pub own : clock.client ≡ channel.client
+  pub ahead : IsAhead channel.client clock.counter channel.cut

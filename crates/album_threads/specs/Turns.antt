@@ -2,12 +2,12 @@
 use Rattle.std.specs.Prelude.{◌≡◌, ℕ, List, Option, Some, None}
 use Rattle.album_calls.specs.declared.messages.Message.{Message}
 use Rattle.album_client.specs.Clients.{Client, stamp_at_work}
-use Rattle.album_client.specs.Moves.{IsMoved}
+use Rattle.album_client.specs.Transitions.{IsMoved}
 use Rattle.album_client.specs.Terms.{Terms}
 use Rattle.album_client.specs.Turns.{turn_of}
-use Rattle.album_client.specs.declared.clients.Doing.{Doing}
-use Rattle.album_client.specs.declared.clients.Doing.TheVariants.{Idle}
-use Rattle.album_client.specs.declared.moves.Moved.{Moved}
+use Rattle.album_client.specs.declared.clients.Phase.{Phase}
+use Rattle.album_client.specs.declared.clients.Phase.TheVariants.{Idle}
+use Rattle.album_client.specs.declared.transitions.Transition.{Transition}
 use Rattle.album_eval.specs.declared.policies.Policy.{Policy}
 use Rattle.album_passes.specs.Cuts.{Cut}
 use Rattle.album_stamps.specs.declared.refusals.Refusal.{Refusal}
@@ -17,11 +17,11 @@ use Rattle.album_threads.specs.Replies.{IsReplied}
 use Rattle.album_threads.specs.Resting.{RestsOn}
 use Rattle.album_threads.specs.Sending.{sent_at, sent_last}
 use Rattle.album_threads.specs.Sessions.{SessionState, IsNoWord}
-use Rattle.album_threads.specs.declared.asked.Asked.{Asked}
-use Rattle.album_threads.specs.declared.turns.Turned.{Turned}
-use Rattle.album_threads.specs.declared.turns.Turned.TheVariants.{Answers, Sends}
-use Rattle.album_threads.specs.declared.asks.Way.{Way}
-use Rattle.album_threads.specs.declared.asks.Way.TheVariants.{Answered, Awaits}
+use Rattle.album_threads.specs.declared.session.asked.Asked.{Asked}
+use Rattle.album_threads.specs.declared.session.turn.Turned.{Turned}
+use Rattle.album_threads.specs.declared.session.turn.Turned.TheVariants.{Answers, Sends}
+use Rattle.album_threads.specs.declared.session.ask.Way.{Way}
+use Rattle.album_threads.specs.declared.session.ask.Way.TheVariants.{Answered, Awaits}
 use Rattle.album_writer.specs.declared.answers.Answer.{Answer}
 use Rattle.album_writer.specs.declared.answers.Answer.TheVariants as answer
 
@@ -30,7 +30,7 @@ abbrev pub actor_in : SessionState → Client
 actor_in session = record {
   number = session.client;
   clock = record { client = session.client; counter = session.counter };
-  doing = Idle 0;
+  phase = Idle 0;
 }
 
 abbrev pub terms_in : Policy → SessionState → Terms
@@ -38,42 +38,42 @@ terms_in policy session = record { parts = session.cut.parts; policy = policy }
 
 -- an ask is under way so, but for the reply that was heard last
 pub record IsWaited
-    (policy : Policy) (outset : Outset) (new : SessionState) (at : Cut) (sent : List Message) (doing : Doing)
+    (policy : Policy) (outset : Outset) (new : SessionState) (at : Cut) (sent : List Message) (phase : Phase)
     : Type 0 where
   pub before : SessionState
-  pub way : IsUnderWay policy outset before at sent doing
+  pub way : IsUnderWay policy outset before at sent phase
   pub heard : IsHeard before new
 
 -- some ask is
-abbrev pub IsSomehowWaited : Policy → SessionState → Cut → List Message → Doing → Type 0
-IsSomehowWaited policy new at sent doing = (outset : Outset) × IsWaited policy outset new at sent doing
+abbrev pub IsSomehowWaited : Policy → SessionState → Cut → List Message → Phase → Type 0
+IsSomehowWaited policy new at sent phase = (outset : Outset) × IsWaited policy outset new at sent phase
 
 -- a reply has come to one of the messages that were sent, and led to this
 pub record IsTaken
-    (limit : ℕ) (at now : Cut) (sent : List Message) (terms : Terms) (client : Client) (doing : Doing) (moved : Moved)
+    (limit : ℕ) (at now : Cut) (sent : List Message) (terms : Terms) (client : Client) (phase : Phase) (moved : Transition)
     : Type 0 where
   pub reply : Message
   pub replied : IsReplied limit at now sent reply
-  pub is : IsMoved (turn_of terms client reply doing) moved
+  pub is : IsMoved (turn_of terms client reply phase) moved
 
 -- the client has answered, or does this and sends these messages
-abbrev pub IsTurned : Doing → List Message → Option Answer → Turned → Type 0
-IsTurned doing sent told (Answers found) = told ≡ Some found
-IsTurned doing sent told (Sends next messages) = (told ≡ None) × (next ≡ doing) × (messages.items ≡ sent)
+abbrev pub IsTurned : Phase → List Message → Option Answer → Turned → Type 0
+IsTurned phase sent told (Answers found) = told ≡ Some found
+IsTurned phase sent told (Sends next messages) = (told ≡ None) × (next ≡ phase) × (messages.items ≡ sent)
 
 -- the answer is that the write that was under way is cut off
-pub record IsCutOff (doing : Doing) (told : Answer) : Type 0 where
+pub record IsCutOff (phase : Phase) (told : Answer) : Type 0 where
   pub stamp : ℕ
-  pub of : stamp_at_work doing ≡ Some stamp
+  pub of : stamp_at_work phase ≡ Some stamp
   pub why : Refusal
   pub none : IsNoWord why
   pub is : told ≡ answer.Unsettled stamp why
 
 -- the messages are sent, and replies are awaited; or it is cut off
-abbrev pub IsSent : Asked → Doing → List Message → Cut → Way → Type 0
-IsSent asked doing messages now (Answered told) = IsCutOff doing told
-IsSent asked doing messages now (Awaits more next) =
-    (next ≡ doing)
+abbrev pub IsSent : Asked → Phase → List Message → Cut → Way → Type 0
+IsSent asked phase messages now (Answered told) = IsCutOff phase told
+IsSent asked phase messages now (Awaits more next) =
+    (next ≡ phase)
     × (more.sent.items ≡ sent_last asked.sent.items messages)
     × (more.begun.cut ≡ sent_at asked.begun.cut now messages)
 
@@ -81,5 +81,5 @@ IsSent asked doing messages now (Awaits more next) =
 abbrev pub IsLed : ℕ → Policy → Outset → SessionState → Way → Type 0
 IsLed limit policy outset now (Answered told) =
     RestsOn limit policy outset.principal outset.ask outset.session now told
-IsLed limit policy outset now (Awaits asked doing) =
-    IsUnderWay policy outset now asked.begun.cut asked.sent.items doing
+IsLed limit policy outset now (Awaits asked phase) =
+    IsUnderWay policy outset now asked.begun.cut asked.sent.items phase

@@ -1,30 +1,40 @@
 //! The store, running: each partition on a thread of its own, and sessions that ask it.
+//!
+//! What comes in: an opening, and then requests of sessions. What goes out: answers, and at the end the audit totals.
+//!
+//! A session sends envelopes to the mailboxes of partitions (`session/channel`, `session/round`). A partition's thread
+//! takes each, gives its message to the partition, and sends the reply back with a pass that shows the reply's history
+//! (`partition/thread`, `partition/keeper`). The session joins that pass, and gives the reply to its client, which is
+//! `album_client`'s (`session/turn`), until the client answers (`session/ask`).
+//!
+//! Read `service`, `session` and `session/ask` first, then `partition/keeper`, and specs/ in the order of specs/Lib.antt.
 #![tactic(auto)]
 
-mod asked;
-mod asks;
-mod attend;
-mod caller;
+// What a service is opened with, and the service: its threads, its sessions, its totals.
 mod gate;
-mod inquiries;
-mod keeper;
-mod laws;
-mod letters;
-mod mailbox;
-mod naming;
-mod noting;
 mod opened;
-mod rounds;
 mod service;
-mod session;
-mod starting;
-mod turns;
+mod service_names;
 
+// A session, and how it asks the partitions.
+mod session;
+
+// A partition's thread, and what it keeps.
+mod partition;
+
+// What goes between sessions and threads: messages with their passes, and requests of whoever runs the service.
+mod control;
+mod envelopes;
+mod mailbox;
+
+// What holds of the answers.
+mod laws;
+
+pub use control::{Control, ControlReply, ControlRequest};
+pub use envelopes::{ReplyEnvelope, RequestEnvelope};
 pub use gate::{Gate, Open};
-pub use inquiries::{Inquiry, Notice, Question};
 pub use laws::grounds_stay;
-pub use letters::{Letter, Response};
-pub use naming::Naming;
 pub use opened::Opened;
 pub use service::Service;
+pub use service_names::ServiceNames;
 pub use session::Session;

@@ -1,7 +1,7 @@
 // Mailboxes: what lies in them, and how the next of it is taken.
-use crate::inquiries::{Notice, Question};
-use crate::letters::{Letter, Response};
-use crate::naming::Naming;
+use crate::control::{ControlReply, ControlRequest};
+use crate::envelopes::{ReplyEnvelope, RequestEnvelope};
+use crate::service_names::ServiceNames;
 use crossbeam_channel::{Receiver, Sender};
 use std::alloc::Global;
 use std::collections::VecDeque;
@@ -26,13 +26,13 @@ const NAPS: u32 = 256;
 
 /// What lies in a partition's mailbox. What is large lies behind a pointer, since a mailbox moves what it takes.
 #[derive(Drop)]
-pub(crate) enum Mail<J: Naming> {
+pub(crate) enum PartitionMail<J: ServiceNames> {
     /// A session of this number begins, and takes here what it is told.
-    Register(u16, Sender<Word<J>>),
+    Register(u16, Sender<SessionMail<J>>),
     /// Messages of one session, or one of another partition: those of a round that go to this partition, in order.
-    Letters(Vec<Letter<J>>),
+    Letters(Vec<RequestEnvelope<J>>),
     /// What a session asks beside messages.
-    Question(Box<Question<J>, Global>),
+    ControlRequest(Box<ControlRequest<J>, Global>),
     /// The session of this number is over.
     Forget(u16),
     /// The service closes.
@@ -41,11 +41,11 @@ pub(crate) enum Mail<J: Naming> {
 
 /// What lies in a session's mailbox.
 #[derive(Drop)]
-pub(crate) enum Word<J: Naming> {
+pub(crate) enum SessionMail<J: ServiceNames> {
     /// The replies to the messages of one mail, in order.
-    Responses(VecDeque<Response<J>>),
+    Responses(VecDeque<ReplyEnvelope<J>>),
     /// What is told to a question.
-    Notice(Box<Notice<J>, Global>),
+    ControlReply(Box<ControlReply<J>, Global>),
 }
 
 /// Where a thread takes what lies in its mailbox.

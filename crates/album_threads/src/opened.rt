@@ -11,7 +11,7 @@ use album_eval::Policy;
 use album_items::{ItemId, ItemValues, Opening, Value, place};
 use album_partition::Partition;
 use album_passes::{Desk, Owner, Pass};
-use album_stamps::{MOST_PARTS, Refusal};
+use album_stamps::{MAX_PARTS, Refusal};
 use std::alloc::Global;
 use std::marker::Model;
 
@@ -107,7 +107,7 @@ fn rows_placed_at(
     rows: &[(ItemId, Value)],
 ) -> Result<ItemValues, Refusal>
     requires low { 1 ≤ parts }
-    requires high { parts ≤ MOST_PARTS }
+    requires high { parts ≤ MAX_PARTS }
     ensures rows { IfOk result (λ placed. placed ≡ rows_placed_at number parts rows.now) }
     ensures memory { IsOkUnless result Refusal.OutOfMemory }
 {

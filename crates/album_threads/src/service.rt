@@ -1,18 +1,18 @@
 // A running service: a thread for each partition.
 ghost use Rattle.std.specs.Prelude.{◌≡◌, ◌≤◌, ◌⊎◌, IfOk, IfErr, IsOkUnless, None};
 ghost use Rattle.std.specs.Arc.{arc_value};
-ghost use Rattle.album_stamps.specs.declared.limits.TheConstants.{MOST_PARTS};
+ghost use Rattle.album_stamps.specs.declared.limits.TheConstants.{MAX_PARTS};
 ghost use Rattle.album_audit.specs.Totals.{none};
 ghost use Rattle.album_passes.specs.Changes.{IsUnheard};
 ghost use Rattle.album_threads.specs.Opened.{opened_as};
 
-use crate::caller::Caller;
 use crate::gate::Gate;
-use crate::mailbox::Mail;
-use crate::naming::Naming;
+use crate::mailbox::PartitionMail;
 use crate::opened::Opened;
+use crate::partition::start::start_all;
+use crate::service_names::ServiceNames;
 use crate::session::Session;
-use crate::starting::start_all;
+use crate::session::channel::PartitionChannel;
 use album_audit::{AuditBook, Totals};
 use album_eval::Policy;
 use album_passes::{Desk, Pass};
@@ -26,7 +26,7 @@ use std::{thread, time};
 
 /// The pass from which those of the sessions are split.
 #[derive(Drop)]
-struct Seed<J: Naming> {
+struct Seed<J: ServiceNames> {
     pass: Pass,
     of: PhantomData<J>,
     ghost table_is: { pass.table ≡ J.table },
@@ -34,7 +34,7 @@ struct Seed<J: Naming> {
     ghost parts_are: { pass.cut.parts ≡ J.terms.parts },
 }
 
-impl<J: Naming> Seed<J> {
+impl<J: ServiceNames> Seed<J> {
     /// A pass with an equal cut.
     fn split(&mut self, desk: &Desk) -> Pass
         requires { desk.now.table ≡ J.table }
@@ -48,7 +48,7 @@ impl<J: Naming> Seed<J> {
 
 /// A running service, of the desk, the policy and the audit book that `J` names. It has threads, and
 /// ends by `close`.
-pub struct Service<J: Naming> {
+pub struct Service<J: ServiceNames> {
     desk: Arc<Desk, Global>,
     policy: Policy,
     seed: Mutex<Seed<J>>,
@@ -57,17 +57,17 @@ pub struct Service<J: Naming> {
     /// How many partitions there are.
     parts: u16,
     /// Of the partitions, in order.
-    mailboxes: Vec<Sender<Mail<J>>>,
+    mailboxes: Vec<Sender<PartitionMail<J>>>,
     threads: Vec<JoinHandle<()>>,
     ghost table_is: { (arc_value desk).table ≡ J.table },
     ghost terms_are: { (arc_value desk).terms ≡ J.terms },
     ghost policy_is: { policy ≡ J.policy },
     ghost parts_are: { J.terms.parts ≡ parts },
     ghost some: { 1 ≤ parts },
-    ghost few: { parts ≤ MOST_PARTS },
+    ghost few: { parts ≤ MAX_PARTS },
 }
 
-impl<J: Naming + Send + 'static> Service<J> {
+impl<J: ServiceNames + Send + 'static> Service<J> {
     /// Starts a thread for each partition of what was opened. Each message that one takes passes the
     /// gate.
     ///
@@ -145,7 +145,7 @@ impl<J: Naming + Send + 'static> Service<J> {
     }
 }
 
-impl<J: Naming> Service<J> {
+impl<J: ServiceNames> Service<J> {
     /// A new session, with a number of its own, from 1 on, of which nothing is announced yet, and a share of the audit
     /// book in which nothing counts.
     ///
@@ -161,22 +161,22 @@ impl<J: Naming> Service<J> {
         ensures refused { IfErr result (λ e. (e ≡ Refusal.OutOfMemory) ⊎ (e ≡ Refusal.SessionsSpent)) }
     {
         let book = Arc::try_clone(&self.book)?;
-        let caller = self.caller(rt)?;
+        let channel = self.channel(rt)?;
         let share = self.book.lock(rt).share();
         match share {
-            Ok(share) => Ok(Session::new(self.alloc, caller, self.policy, book, share)),
+            Ok(share) => Ok(Session::new(self.alloc, channel, self.policy, book, share)),
             Err(refusal) => {
-                caller.leave(rt);
+                channel.leave(rt);
                 Err(refusal)
             }
         }
     }
 
     /// Who asks for a new session. Each partition knows of it.
-    fn caller<R: Wait>(&self, rt: &R) -> Result<Caller<J>, Refusal>
-        ensures unheard { IfOk result (λ caller. IsUnheard caller.client caller.cut) }
-        ensures most { IfOk result (λ caller. caller.client ≤ J.terms.sessions) }
-        ensures parts { IfOk result (λ caller. caller.cut.parts ≡ J.terms.parts) }
+    fn channel<R: Wait>(&self, rt: &R) -> Result<PartitionChannel<J>, Refusal>
+        ensures unheard { IfOk result (λ channel. IsUnheard channel.client channel.cut) }
+        ensures most { IfOk result (λ channel. channel.client ≤ J.terms.sessions) }
+        ensures parts { IfOk result (λ channel. channel.cut.parts ≡ J.terms.parts) }
         ensures refused { IfErr result (λ e. (e ≡ Refusal.OutOfMemory) ⊎ (e ≡ Refusal.SessionsSpent)) }
     {
         let desk = Arc::try_clone(&self.desk)?;
@@ -184,12 +184,12 @@ impl<J: Naming> Service<J> {
         let (end, from) = unbounded(self.alloc)?;
         let mut pass = self.seed.lock(rt).split(&desk);
         let client = desk.draw(rt, &mut pass)?;
-        let caller = Caller::new(self.alloc, desk, pass, client, self.parts, to, from);
-        if caller.register(rt, end).is_err() {
-            caller.leave(rt);
+        let channel = PartitionChannel::new(self.alloc, desk, pass, client, self.parts, to, from);
+        if channel.register(rt, end).is_err() {
+            channel.leave(rt);
             return Err(Refusal::OutOfMemory);
         }
-        Ok(caller)
+        Ok(channel)
     }
 
     /// The totals of the audit book so far.
@@ -199,10 +199,10 @@ impl<J: Naming> Service<J> {
 }
 
 /// The same mailboxes once more.
-fn copies_of<J: Naming>(
+fn copies_of<J: ServiceNames>(
     alloc: Global,
-    mailboxes: &[Sender<Mail<J>>],
-) -> Result<Vec<Sender<Mail<J>>>, AllocError> {
+    mailboxes: &[Sender<PartitionMail<J>>],
+) -> Result<Vec<Sender<PartitionMail<J>>>, AllocError> {
     let mut copies = Vec::new(alloc);
     for mailbox in mailboxes {
         copies.push(mailbox.clone()?)?;
@@ -211,10 +211,16 @@ fn copies_of<J: Naming>(
 }
 
 /// So many mailboxes, and where what is sent to them comes.
-fn mailboxes_for<J: Naming>(
+fn mailboxes_for<J: ServiceNames>(
     alloc: Global,
     count: usize,
-) -> Result<(Vec<Sender<Mail<J>>>, Vec<Receiver<Mail<J>>>), AllocError> {
+) -> Result<
+    (
+        Vec<Sender<PartitionMail<J>>>,
+        Vec<Receiver<PartitionMail<J>>>,
+    ),
+    AllocError,
+> {
     let mut mailboxes = Vec::new(alloc);
     let mut mails = Vec::new(alloc);
     for _ in 0..count {
@@ -226,9 +232,9 @@ fn mailboxes_for<J: Naming>(
 }
 
 /// Tells each partition's thread to leave, and joins those that run.
-fn leave_all<J: Naming, R: Threads + Wait>(
+fn leave_all<J: ServiceNames, R: Threads + Wait>(
     rt: &R,
-    mailboxes: &[Sender<Mail<J>>],
+    mailboxes: &[Sender<PartitionMail<J>>],
     threads: Vec<JoinHandle<()>>,
 ) {
     for mailbox in mailboxes {
@@ -240,9 +246,9 @@ fn leave_all<J: Naming, R: Threads + Wait>(
 }
 
 /// Tells a partition's thread to leave, again until its mailbox takes it.
-fn leave<J: Naming, R: Wait>(rt: &R, mailbox: &Sender<Mail<J>>) {
+fn leave<J: ServiceNames, R: Wait>(rt: &R, mailbox: &Sender<PartitionMail<J>>) {
     for _ in rt.forever() {
-        let sent = mailbox.send(rt, Mail::Leave);
+        let sent = mailbox.send(rt, PartitionMail::Leave);
         let again = matches!(&sent, Err(SendError::OutOfMemory(_)));
         drop(sent);
         if !again {

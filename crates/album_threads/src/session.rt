@@ -5,12 +5,19 @@ ghost use Rattle.album_partition.specs.Marks.{ArePending, state_of, latest, floo
 ghost use Rattle.album_passes.specs.Changes.{IsUnheard};
 ghost use Rattle.album_passes.specs.Cuts.{Extends, IsSound, prefix_at};
 ghost use Rattle.album_terminate.specs.declared.deciding.StampState.TheVariants as StampState;
-ghost use Rattle.album_threads.specs.Inquiries.{Tells, IsUntrimmed};
+ghost use Rattle.album_threads.specs.Controls.{Tells, IsUntrimmed};
 ghost use Rattle.album_threads.specs.Sessions.{IsNoWord};
 
-use crate::caller::Caller;
-use crate::inquiries::Inquiry;
-use crate::naming::Naming;
+mod ask;
+mod asked;
+pub(crate) mod channel;
+mod note;
+mod round;
+mod turn;
+
+use crate::control::Control;
+use crate::service_names::ServiceNames;
+use crate::session::channel::PartitionChannel;
 use album_audit::{AuditBook, Share};
 use album_calls::Stamps;
 use album_eval::Policy;
@@ -23,9 +30,9 @@ use std::time;
 
 /// A session, which asks the partitions of the service that `J` names. It has a share of the audit book, and ends by
 /// `end`. Contracts see its client, the counter of its clock, what it has seen of the partitions, and its share.
-pub struct Session<J: Naming> {
+pub struct Session<J: ServiceNames> {
     pub(crate) alloc: Global,
-    pub(crate) caller: Caller<J>,
+    pub(crate) channel: PartitionChannel<J>,
     pub(crate) clock: Clock,
     /// The tag of the last round that its client asked.
     pub(crate) tag: u64,
@@ -34,39 +41,39 @@ pub struct Session<J: Naming> {
     pub(crate) share: Share<J>,
 }
 
-impl<J: Naming> Model for Session<J> {
+impl<J: ServiceNames> Model for Session<J> {
     ghost use Rattle.album_threads.specs.Sessions.{SessionState, IsSession};
 
     ghost Value = { SessionState };
 
     ghost view = { λ s. record {
-      client = s.caller.client;
+      client = s.channel.client;
       counter = s.clock.counter;
-      cut = s.caller.cut;
+      cut = s.channel.cut;
       share = s.share;
     } };
 
-    ghost invariant = { λ s. IsSession J.policy s.policy s.clock s.caller };
+    ghost invariant = { λ s. IsSession J.policy s.policy s.clock s.channel };
 }
 
-impl<J: Naming> Session<J> {
+impl<J: ServiceNames> Session<J> {
     /// The session of who asks so, of whom nothing is announced yet.
     #[tactic(auto, using(crate::proofs::SessionLemmas::ahead_new))]
     pub(crate) fn new(
         alloc: Global,
-        caller: Caller<J>,
+        channel: PartitionChannel<J>,
         policy: Policy,
         book: Arc<Mutex<AuditBook<J>>, Global>,
         share: Share<J>,
     ) -> Session<J>
         requires policy { policy ≡ J.policy }
-        requires unheard { IsUnheard caller.client caller.cut }
-        ensures { result ≡ record { client = caller.client; counter = 0; cut = caller.cut; share = share } }
+        requires unheard { IsUnheard channel.client channel.cut }
+        ensures { result ≡ record { client = channel.client; counter = 0; cut = channel.cut; share = share } }
     {
-        let clock = Clock::new(caller.client());
+        let clock = Clock::new(channel.client());
         Session {
             alloc,
-            caller,
+            channel,
             clock,
             tag: 0,
             policy,
@@ -79,7 +86,7 @@ impl<J: Naming> Session<J> {
     pub fn client(&self) -> ClientNo
         ensures { result ≡ self.now.client }
     {
-        self.caller.client()
+        self.channel.client()
     }
 
     /// The stamps that are pending at the partition, rising.
@@ -97,7 +104,7 @@ impl<J: Naming> Session<J> {
         ensures counter { self.new.counter ≡ self.old.counter }
         ensures share { self.new.share ≡ self.old.share }
     {
-        self.inquire(rt, part, &Inquiry::Pending)?
+        self.inquire(rt, part, &Control::Pending)?
     }
 
     /// Has the partition ask the others of the stamp's items how it stands at their side.
@@ -123,7 +130,7 @@ impl<J: Naming> Session<J> {
         ensures counter { self.new.counter ≡ self.old.counter }
         ensures share { self.new.share ≡ self.old.share }
     {
-        self.inquire(rt, part, &Inquiry::Sweep(stamp))??;
+        self.inquire(rt, part, &Control::Sweep(stamp))??;
         Ok(())
     }
 
@@ -153,7 +160,7 @@ impl<J: Naming> Session<J> {
         ensures counter { self.new.counter ≡ self.old.counter }
         ensures share { self.new.share ≡ self.old.share }
     {
-        self.inquire(rt, part, &Inquiry::Trim(item))??;
+        self.inquire(rt, part, &Control::Trim(item))??;
         Ok(())
     }
 
@@ -163,7 +170,7 @@ impl<J: Naming> Session<J> {
         &mut self,
         rt: &R,
         part: u16,
-        inquiry: &Inquiry,
+        inquiry: &Control,
     ) -> Result<Result<Stamps, Refusal>, Refusal>
         ensures told { IfOk result (Tells J.terms.limit self.new.cut part inquiry.now) }
         ensures sound { OnOk result (IsSound self.new.cut) }
@@ -175,10 +182,10 @@ impl<J: Naming> Session<J> {
         ensures counter { self.new.counter ≡ self.old.counter }
         ensures share { self.new.share ≡ self.old.share }
     {
-        if part >= self.caller.parts() {
+        if part >= self.channel.parts() {
             return Err(Refusal::NoSuchPart);
         }
-        self.caller.inquire(rt, part, inquiry)
+        self.channel.inquire(rt, part, inquiry)
     }
 
     /// Both sessions take in all that the other has seen, and then have one cut.
@@ -195,21 +202,21 @@ impl<J: Naming> Session<J> {
         ensures one_share { self.new.share ≡ self.old.share }
         ensures other_share { other.new.share ≡ other.old.share }
     {
-        self.caller.meet(&mut other.caller);
+        self.channel.meet(&mut other.channel);
     }
 
     /// Ends the session: its share goes back to the audit book, and the partitions forget it.
     pub fn end<R: Wait>(self, rt: &R) {
         let Session {
             alloc: _,
-            caller,
+            channel,
             clock: _,
             tag: _,
             policy: _,
             book,
             share,
         } = self;
-        caller.leave(rt);
+        channel.leave(rt);
         book.lock(rt).gather(share);
     }
 }

@@ -3,14 +3,14 @@
 use Rattle.std.proofs.Common.{◌≡◌, ◌≢◌, ◌≤◌, ◌↔◌, ◌==◌, inl, inr, ℕ, Bool, true, false, List, [], ◌∷◌, length, None, Contains, refl, sym, ap, subst, ◌∙◌}
 use Rattle.std.specs.List.{list_all}
 use Rattle.std.proofs.lemmas.Bool.{and_parts, and_from, or_left, or_right, eqb-true, eq-eqb}
-use Rattle.album_stamps.specs.Distinct.{are_single}
-use Rattle.album_stamps.specs.declared.limits.TheConstants.{MOST_READ_ITEMS}
-use Rattle.album_reader.specs.Answers.{Answer}
+use Rattle.album_stamps.specs.Distinct.{are_distinct}
+use Rattle.album_stamps.specs.declared.limits.TheConstants.{MAX_READ_ITEMS}
+use Rattle.album_reader.specs.Answers.{ReadVersion}
 use Rattle.album_reader.specs.Snapshots.{items_read}
 use Rattle.album_views.specs.Asks.{objects_of}
 use Rattle.album_views.specs.Checks.{flaw_of}
-use Rattle.album_views.specs.Naming.{IsNamed, subjects_of, names_of}
-use Rattle.album_views.specs.Naming.IsNamed.{Subject}
+use Rattle.album_views.specs.ReadSets.{IsNamed, subjects_of, names_of}
+use Rattle.album_views.specs.ReadSets.IsNamed.{Subject}
 use Rattle.album_views.specs.Seen.{is_read, seen}
 use Rattle.album_views.specs.Steps.{AreReadable}
 use Rattle.album_views.specs.Views.{IsClosed, is_closed}
@@ -40,39 +40,39 @@ in-all test (y ∷ ys) each =
 -- ---- names
 
 pub names-named-by :
-    (rows : List Answer) (ask : Ask) (item : ℕ) → Contains (names_of rows ask) item ↔ IsNamed (seen rows) ask item
+    (rows : List ReadVersion) (ask : Ask) (item : ℕ) → Contains (names_of rows ask) item ↔ IsNamed (seen rows) ask item
 names-named-by rows ask item = (
   λ c. names-named rows ask item (Contains-has (names_of rows ask) item c),
   λ n. has-Contains (names_of rows ask) item
       (named-in (seen rows) ask (names_of rows ask) (names-fixed rows ask) item n),
 )
 
-pub names-single : (rows : List Answer) (ask : Ask) → are_single (names_of rows ask) ≡ true
+pub names-single : (rows : List ReadVersion) (ask : Ask) → are_distinct (names_of rows ask) ≡ true
 names-single rows ask =
-    subst (λ (ns : List ℕ). are_single ns ≡ true) (sym (names-fixed rows ask))
+    subst (λ (ns : List ℕ). are_distinct ns ≡ true) (sym (names-fixed rows ask))
     (grown-single (seen rows) ask (names_of rows ask))
 
 -- ---- closed
 
-pub closed-is : (rows : List Answer) (ask : Ask) → is_closed ask rows ≡ true → IsClosed ask rows
+pub closed-is : (rows : List ReadVersion) (ask : Ask) → is_closed ask rows ≡ true → IsClosed ask rows
 unfolding is_closed
 closed-is rows ask all = λ item named.
     let there = named-in (seen rows) ask (names_of rows ask) (names-fixed rows ask) item named in
     has-Contains (items_read rows) item
     (sym (read-has rows item) ∙ all-in (is_read rows) (names_of rows ask) all item there)
 
-pub is-closed : (rows : List Answer) (ask : Ask) → IsClosed ask rows → is_closed ask rows ≡ true
+pub is-closed : (rows : List ReadVersion) (ask : Ask) → IsClosed ask rows → is_closed ask rows ≡ true
 unfolding is_closed
 is-closed rows ask closed =
     in-all (is_read rows) (names_of rows ask)
     (λ item h. read-has rows item ∙ Contains-has (items_read rows) item (closed item (names-named rows ask item h)))
 
-pub not-closed : (rows : List Answer) (ask : Ask) → is_closed ask rows ≡ false → IsClosed ask rows → ⊥
+pub not-closed : (rows : List ReadVersion) (ask : Ask) → is_closed ask rows ≡ false → IsClosed ask rows → ⊥
 not-closed rows ask lacking closed = let all = is-closed rows ask closed in absurd (cc)
 
 -- the test of the names is whether the snapshot is closed
 pub closed-tested :
-    (rows : List Answer) (ask : Ask) (names : List ℕ) (b : Bool)
+    (rows : List ReadVersion) (ask : Ask) (names : List ℕ) (b : Bool)
     → names ≡ names_of rows ask → b ≡ list_all (is_read rows) names → is_closed ask rows ≡ b
 unfolding is_closed
 closed-tested rows ask names b e test = sym (test ∙ ap (list_all (is_read rows)) e)
@@ -80,7 +80,7 @@ closed-tested rows ask names b e test = sym (test ∙ ap (list_all (is_read rows
 -- ---- readable names
 
 -- an ask with an object has a name
-names-some : (rows : List Answer) (ask : Ask) → flaw_of ask ≡ None → names_of rows ask ≢ []
+names-some : (rows : List ReadVersion) (ask : Ask) → flaw_of ask ≡ None → names_of rows ask ≢ []
 names-some rows ask e none = go (objects_of ask) (asks_objects ask e).0 (λ item h.
     named-in (seen rows) ask (names_of rows ask) (names-fixed rows ask) item
     (Subject item (has-Contains (subjects_of (seen rows) ask) item (in-left (objects_of ask) _ item h))))
@@ -93,8 +93,8 @@ names-some rows ask e none = go (objects_of ask) (asks_objects ask e).0 (λ item
         absurd (cc)
 
 pub names-readable :
-    (rows : List Answer) (ask : Ask) → flaw_of ask ≡ None
-    → length (names_of rows ask) ≤ MOST_READ_ITEMS → AreReadable (names_of rows ask)
+    (rows : List ReadVersion) (ask : Ask) → flaw_of ask ≡ None
+    → length (names_of rows ask) ≤ MAX_READ_ITEMS → AreReadable (names_of rows ask)
 names-readable rows ask e l = record {
   some = names-some rows ask e;
   few = l;

@@ -7,8 +7,8 @@ use Rattle.std.proofs.lemmas.Bool.{and_parts, not-true, eqb-false, ltb-false}
 use Rattle.std.proofs.lemmas.List.{length-map}
 use Rattle.std.proofs.lemmas.List.Folds.{list_all-map}
 use Rattle.std.proofs.lemmas.Simd.{map-map}
-use Rattle.album_stamps.specs.Distinct.{no_two, are_single}
-use Rattle.album_stamps.specs.declared.limits.TheConstants.{MOST_TRANSACTION_ITEMS, MOST_MEMBERS}
+use Rattle.album_stamps.specs.Distinct.{no_two, are_distinct}
+use Rattle.album_stamps.specs.declared.limits.TheConstants.{MAX_TRANSACTION_ITEMS, MAX_MEMBERS}
 use Rattle.album_views.specs.Asks.{Wanted, want, headed, wanted, objects_of}
 use Rattle.album_views.specs.Steps.{AreReadable}
 use Rattle.album_views.specs.Checks.{is_one_of, has_kinds, has_single_objects, same_object, new_members, has_fitting_lists, flaw_of}
@@ -35,14 +35,14 @@ any_object object [] = refl
 any_object object (new ∷ lists) = ap (λ b. object == new.object || b) (any_object object lists)
 
 single_objects :
-    (lists : List NewList) → are_single (map (λ (new : NewList). new.object) lists) ≡ no_two same_object lists
+    (lists : List NewList) → are_distinct (map (λ (new : NewList). new.object) lists) ≡ no_two same_object lists
 single_objects [] = refl
 single_objects (new ∷ lists) =
-    ap (λ b. not b && are_single (map (λ (new : NewList). new.object) lists)) (any_object new.object lists)
+    ap (λ b. not b && are_distinct (map (λ (new : NewList). new.object) lists)) (any_object new.object lists)
     ∙ ap (λ b. not (list_any (same_object new) lists) && b) (single_objects lists)
 
-pub single_lists : (lists : List NewList) → are_single (objects_of (ask.SetLists lists)) ≡ no_two same_object lists
-single_lists lists = ap are_single (objects_lists lists) ∙ single_objects lists
+pub single_lists : (lists : List NewList) → are_distinct (objects_of (ask.SetLists lists)) ≡ no_two same_object lists
+single_lists lists = ap are_distinct (objects_lists lists) ∙ single_objects lists
 
 pub count_lists : (lists : List NewList) → length (objects_of (ask.SetLists lists)) ≡ length lists
 count_lists lists = ap length (objects_lists lists) ∙ length-map lists (λ (new : NewList). new.object)
@@ -56,8 +56,8 @@ passed false x rest e = (refl, e)
 
 pub record Passes (ask : Ask) : Type 0 where
   pub request : (has_kinds ask && has_single_objects ask) ≡ true
-  pub few : nat_lt MOST_TRANSACTION_ITEMS (length (objects_of ask)) ≡ false
-  pub room : nat_lt MOST_MEMBERS (length (new_members ask)) ≡ false
+  pub few : nat_lt MAX_TRANSACTION_ITEMS (length (objects_of ask)) ≡ false
+  pub room : nat_lt MAX_MEMBERS (length (new_members ask)) ≡ false
   pub fitting : has_fitting_lists ask ≡ true
 
 not-false : (b : Bool) → not b ≡ false → b ≡ true
@@ -68,8 +68,8 @@ pub no_flaw : (ask : Ask) → flaw_of ask ≡ None → Passes ask
 unfolding flaw_of
 no_flaw ask e =
     let first = passed (not (has_kinds ask && has_single_objects ask)) _ _ e in
-    let second = passed (nat_lt MOST_TRANSACTION_ITEMS (length (objects_of ask))) _ _ first.1 in
-    let third = passed (nat_lt MOST_MEMBERS (length (new_members ask))) _ _ second.1 in
+    let second = passed (nat_lt MAX_TRANSACTION_ITEMS (length (objects_of ask))) _ _ first.1 in
+    let third = passed (nat_lt MAX_MEMBERS (length (new_members ask))) _ _ second.1 in
     let fourth = passed (not (has_fitting_lists ask)) _ _ third.1 in
     record {
       request = not-false (has_kinds ask && has_single_objects ask) first.0;
@@ -80,14 +80,14 @@ no_flaw ask e =
 
 -- what the ask of objects says, taken apart
 pub asks_objects :
-    (ask : Ask) → flaw_of ask ≡ None → (length (objects_of ask) ≢ 0) × (are_single (objects_of ask) ≡ true)
+    (ask : Ask) → flaw_of ask ≡ None → (length (objects_of ask) ≢ 0) × (are_distinct (objects_of ask) ≡ true)
 asks_objects ask e =
     let request = and_parts (has_kinds ask) (has_single_objects ask) (no_flaw ask e).request in
-    let parts = and_parts (not (length (objects_of ask) == 0)) (are_single (objects_of ask)) request.1 in
+    let parts = and_parts (not (length (objects_of ask) == 0)) (are_distinct (objects_of ask)) request.1 in
     (eqb-false _ _ (not-true _ parts.0), parts.1)
 
-pub objects_few : (ask : Ask) → flaw_of ask ≡ None → length (objects_of ask) ≤ MOST_TRANSACTION_ITEMS
-objects_few ask e = ltb-false MOST_TRANSACTION_ITEMS (length (objects_of ask)) (no_flaw ask e).few
+pub objects_few : (ask : Ask) → flaw_of ask ≡ None → length (objects_of ask) ≤ MAX_TRANSACTION_ITEMS
+objects_few ask e = ltb-false MAX_TRANSACTION_ITEMS (length (objects_of ask)) (no_flaw ask e).few
 
 each_object :
     (objects : List Wanted) → list_all (λ wanted. is_one_of wanted.kinds wanted.object) objects ≡ true

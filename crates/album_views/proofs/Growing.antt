@@ -6,11 +6,11 @@ use Rattle.std.specs.List.{flat_map}
 use Rattle.std.proofs.lemmas.Grind.{flat_map-append, fold-append}
 use Rattle.std.proofs.lemmas.List.{take_more, take-append-le, take_all, append_assoc, append-nil, length-append}
 use Rattle.indexmap.specs.IndexSet.{insert_key, insert_all}
-use Rattle.album_stamps.specs.Distinct.{are_single}
+use Rattle.album_stamps.specs.Distinct.{are_distinct}
 use Rattle.album_items.specs.Values.{list_of, head_group_of, groups_in_list, groups_in_group}
 use Rattle.album_items.specs.declared.values.Value.{Value}
-use Rattle.album_views.specs.Naming.{IsNamed, subjects_of, named_by_head, named_by_list, first_names, once, grown}
-use Rattle.album_views.specs.Naming.IsNamed.{Subject, ListOf, HeadGroupOf, GroupInListOf, GroupInGroup}
+use Rattle.album_views.specs.ReadSets.{IsNamed, subjects_of, named_by_head, named_by_list, first_names, once, grown}
+use Rattle.album_views.specs.ReadSets.IsNamed.{Subject, ListOf, HeadGroupOf, GroupInListOf, GroupInGroup}
 use Rattle.album_views.specs.declared.asks.Ask.{Ask}
 use Rattle.album_views.proofs.Sets.{has, has-Contains, Contains-has, in-append, in-left, in-right, in-here, in-flat_map, flat_map-in, all-new, all-only, all-more, all-single, single-apart}
 
@@ -70,7 +70,7 @@ module _ (seen : ℕ → Value) (ask : Ask) where
         ])
       ]
 
-  pub grown-single : (items : List ℕ) → are_single (grown seen ask items) ≡ true
+  pub grown-single : (items : List ℕ) → are_distinct (grown seen ask items) ≡ true
   grown-single items = all-single [] (first_names seen ask ++ flat_map inner items) refl
 
   -- ---- what is named has grown
@@ -157,7 +157,7 @@ module _ (seen : ℕ → Value) (ask : Ask) where
           named-in names fixed item (named item
           (subst (λ (ns : List ℕ). has ns item ≡ true) (sym e) (in-right names (item ∷ more) item (in-here item more)))) in
           let single =
-          subst (λ (ns : List ℕ). are_single ns ≡ true) (sym whole ∙ e) (grown-single all) in
+          subst (λ (ns : List ℕ). are_distinct ns ≡ true) (sym whole ∙ e) (grown-single all) in
           let apart = single-apart names (item ∷ more) item single (in-here item more) in absurd (cc)
 
   -- ---- the loop

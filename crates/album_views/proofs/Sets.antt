@@ -8,7 +8,7 @@ use Rattle.std.proofs.lemmas.List.{append_assoc, append-nil}
 use Rattle.std.proofs.lemmas.List.Folds.{list_any-append}
 use Rattle.std.proofs.lemmas.Map.Views.{Contains-from_any}
 use Rattle.indexmap.specs.IndexSet.{insert_key, insert_all}
-use Rattle.album_stamps.specs.Distinct.{are_single}
+use Rattle.album_stamps.specs.Distinct.{are_distinct}
 use Rattle.album_reader.proofs.Snapshots.{sameness-sym}
 
 -- ---- members
@@ -120,20 +120,20 @@ key-more keys key =
     (λ e. (key ∷ [], refl))
 
 single-push :
-    (keys : List ℕ) (key : ℕ) → are_single keys ≡ true → has keys key ≡ false → are_single (keys ++ key ∷ []) ≡ true
+    (keys : List ℕ) (key : ℕ) → are_distinct keys ≡ true → has keys key ≡ false → are_distinct (keys ++ key ∷ []) ≡ true
 single-push [] key single fresh = refl
 single-push (x ∷ xs) key single fresh =
-    let parts = and_parts (not (has xs x)) (are_single xs) single in
+    let parts = and_parts (not (has xs x)) (are_distinct xs) single in
     let apart = or_parts (key == x) (has xs key) fresh in
     let other : has (xs ++ key ∷ []) x ≡ false =
     list_any-append (◌==◌ x) xs (key ∷ [])
     ∙ or_from (has xs x) (x == key || false) (not-true (has xs x) parts.0)
     (or_from (x == key) false (sameness-sym x key ∙ apart.0) refl) in
-    and_from (not (has (xs ++ key ∷ []) x)) (are_single (xs ++ key ∷ [])) (ap not other) (single-push xs key parts.1 apart.1)
+    and_from (not (has (xs ++ key ∷ []) x)) (are_distinct (xs ++ key ∷ [])) (ap not other) (single-push xs key parts.1 apart.1)
 
-key-single : (keys : List ℕ) (key : ℕ) → are_single keys ≡ true → are_single (insert_key ◌==◌ keys key) ≡ true
+key-single : (keys : List ℕ) (key : ℕ) → are_distinct keys ≡ true → are_distinct (insert_key ◌==◌ keys key) ≡ true
 key-single keys key single =
-    key-by (λ ks. are_single ks ≡ true) keys key (λ e. single) (λ e. single-push keys key single e)
+    key-by (λ ks. are_distinct ks ≡ true) keys key (λ e. single) (λ e. single-push keys key single e)
 
 -- ---- all keys
 
@@ -173,16 +173,16 @@ all-more keys (x ∷ xs) =
     (one.0 ++ rest.0, rest.1 ∙ ap (λ (ks : List ℕ). ks ++ rest.0) one.1 ∙ append_assoc keys one.0 rest.0)
 
 pub all-single :
-    (keys items : List ℕ) → are_single keys ≡ true → are_single (insert_all ◌==◌ keys items) ≡ true
+    (keys items : List ℕ) → are_distinct keys ≡ true → are_distinct (insert_all ◌==◌ keys items) ≡ true
 all-single keys [] single = single
 all-single keys (x ∷ xs) single = all-single (insert_key ◌==◌ keys x) xs (key-single keys x single)
 
 -- where none stands twice, what stands behind the others is none of them
 pub single-apart :
-    (xs ys : List ℕ) (item : ℕ) → are_single (xs ++ ys) ≡ true → has ys item ≡ true → has xs item ≡ false
+    (xs ys : List ℕ) (item : ℕ) → are_distinct (xs ++ ys) ≡ true → has ys item ≡ true → has xs item ≡ false
 single-apart [] ys item single behind = refl
 single-apart (x ∷ xs) ys item single behind =
-    let parts = and_parts (not (has (xs ++ ys) x)) (are_single (xs ++ ys)) single in
+    let parts = and_parts (not (has (xs ++ ys) x)) (are_distinct (xs ++ ys)) single in
     or_from (item == x) (has xs item) (other (item == x) refl (not-true (has (xs ++ ys) x) parts.0))
     (single-apart xs ys item parts.1 behind)
   where

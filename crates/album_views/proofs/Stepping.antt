@@ -2,10 +2,10 @@
 -- the law `a_view_is_the_first_closed_read` (`closed-by`, `wide-by`, `rounds-by`, `again-by`).
 use Rattle.std.proofs.Common.{◌≡◌, ◌≤◌, ◌<◌, ◌+◌, ◌↔◌, ℕ, Bool, true, false, None, List, length, nat_le, nat_lt, if◌then◌else◌, refl, sym, ap, ◌∙◌}
 use Rattle.std.proofs.lemmas.Bool.{lt-ltb, le-ltb, ltb-true, ltb-false, le-leb, lt-leb, leb-true, leb-false}
-use Rattle.album_stamps.specs.declared.limits.TheConstants.{MOST_READ_ITEMS, MOST_READS}
-use Rattle.album_reader.specs.Answers.{Answer}
+use Rattle.album_stamps.specs.declared.limits.TheConstants.{MAX_READ_ITEMS, MAX_READS}
+use Rattle.album_reader.specs.Answers.{ReadVersion}
 use Rattle.album_views.specs.Checks.{flaw_of}
-use Rattle.album_views.specs.Naming.{names_of}
+use Rattle.album_views.specs.ReadSets.{names_of}
 use Rattle.album_views.specs.Steps.{again, unclosed, stepped, AreReadable, AsksReadable}
 use Rattle.album_views.specs.Views.{ViewState, ViewingState, IsClosed, is_closed}
 use Rattle.album_views.proofs.Closing.{closed-is, is-closed, not-closed, names-readable}
@@ -14,51 +14,51 @@ use Rattle.album_views.specs.declared.viewing.ViewStep.TheVariants.{Again, Close
 use Rattle.album_views.specs.declared.viewing.Why.TheVariants.{Rounds, Wide}
 
 pub step-closed :
-    (viewing : ViewingState) (rows : List Answer) → is_closed viewing.ask rows ≡ true
+    (viewing : ViewingState) (rows : List ReadVersion) → is_closed viewing.ask rows ≡ true
     → stepped viewing rows ≡ Closed (record { ask = viewing.ask; rows = rows })
 step-closed viewing rows e =
     ap (λ b. if b then Closed (record { ask = viewing.ask; rows = rows }) else unclosed viewing (names_of rows viewing.ask)) e
 
 pub step-unclosed :
-    (viewing : ViewingState) (rows : List Answer) → is_closed viewing.ask rows ≡ false
+    (viewing : ViewingState) (rows : List ReadVersion) → is_closed viewing.ask rows ≡ false
     → stepped viewing rows ≡ unclosed viewing (names_of rows viewing.ask)
 step-unclosed viewing rows e =
     ap (λ b. if b then Closed (record { ask = viewing.ask; rows = rows }) else unclosed viewing (names_of rows viewing.ask)) e
 
 pub unclosed-wide :
-    (viewing : ViewingState) (names : List ℕ) → MOST_READ_ITEMS < length names → unclosed viewing names ≡ Busy Wide
-unclosed-wide viewing names l = ap (λ b. if b then Busy Wide else again viewing names) (lt-ltb MOST_READ_ITEMS (length names) l)
+    (viewing : ViewingState) (names : List ℕ) → MAX_READ_ITEMS < length names → unclosed viewing names ≡ Busy Wide
+unclosed-wide viewing names l = ap (λ b. if b then Busy Wide else again viewing names) (lt-ltb MAX_READ_ITEMS (length names) l)
 
 pub unclosed-again :
     (viewing : ViewingState) (names : List ℕ)
-    → length names ≤ MOST_READ_ITEMS → unclosed viewing names ≡ again viewing names
+    → length names ≤ MAX_READ_ITEMS → unclosed viewing names ≡ again viewing names
 unclosed-again viewing names l =
-    ap (λ b. if b then Busy Wide else again viewing names) (le-ltb MOST_READ_ITEMS (length names) l)
+    ap (λ b. if b then Busy Wide else again viewing names) (le-ltb MAX_READ_ITEMS (length names) l)
 
 pub again-readable : (viewing : ViewingState) (items : List ℕ) → AreReadable items → AsksReadable (again viewing items)
-again-readable viewing items readable = go (nat_le MOST_READS (viewing.reads + 1))
+again-readable viewing items readable = go (nat_le MAX_READS (viewing.reads + 1))
   where
     go : (b : Bool) → AsksReadable (if b then Busy Rounds else Again (record viewing { reads = viewing.reads + 1 }) items)
     go true = tt
     go false = readable
 
 pub unclosed-readable :
-    (viewing : ViewingState) (rows : List Answer) → flaw_of viewing.ask ≡ None
+    (viewing : ViewingState) (rows : List ReadVersion) → flaw_of viewing.ask ≡ None
     → AsksReadable (unclosed viewing (names_of rows viewing.ask))
-unclosed-readable viewing rows sound = go (nat_lt MOST_READ_ITEMS (length names)) refl
+unclosed-readable viewing rows sound = go (nat_lt MAX_READ_ITEMS (length names)) refl
   where
     names : List ℕ
     names = names_of rows viewing.ask
 
     go :
-        (b : Bool) → nat_lt MOST_READ_ITEMS (length names) ≡ b
+        (b : Bool) → nat_lt MAX_READ_ITEMS (length names) ≡ b
         → AsksReadable (if b then Busy Wide else again viewing names)
     go true e = tt
     go false e = again-readable viewing names (names-readable rows viewing.ask sound (ltb-false _ _ e))
 
 -- ---- what a step says of the snapshot
 
-module _ (viewing : ViewingState) (rows : List Answer) where
+module _ (viewing : ViewingState) (rows : List ReadVersion) where
   abbrev names : List ℕ
   names = names_of rows viewing.ask
 
@@ -117,7 +117,7 @@ module _ (viewing : ViewingState) (rows : List Answer) where
 
   pub wide-by :
       (stepped viewing rows ≡ Busy Wide)
-      ↔ ((IsClosed viewing.ask rows → ⊥) × (MOST_READ_ITEMS < length (names_of rows viewing.ask)))
+      ↔ ((IsClosed viewing.ask rows → ⊥) × (MAX_READ_ITEMS < length (names_of rows viewing.ask)))
   wide-by = (
     λ e. (let told = wide-told _ _ _ e in (not-closed rows viewing.ask told.0, ltb-true _ _ told.1)),
     λ h. step-unclosed viewing rows (is-lacking h.0) ∙ unclosed-wide viewing names h.1,
@@ -126,22 +126,22 @@ module _ (viewing : ViewingState) (rows : List Answer) where
   pub rounds-by :
       (stepped viewing rows ≡ Busy Rounds)
       ↔ ((IsClosed viewing.ask rows → ⊥)
-      × (length (names_of rows viewing.ask) ≤ MOST_READ_ITEMS)
-      × (MOST_READS ≤ viewing.reads + 1))
+      × (length (names_of rows viewing.ask) ≤ MAX_READ_ITEMS)
+      × (MAX_READS ≤ viewing.reads + 1))
   rounds-by = (
     λ e. (let told = rounds-told _ _ _ e in
         (not-closed rows viewing.ask told.0, ltb-false _ _ told.1, leb-true _ _ told.2)),
     λ h. step-unclosed viewing rows (is-lacking h.0)
         ∙ unclosed-again viewing names h.1
-        ∙ ap (λ b. if b then Busy Rounds else Again next names) (le-leb MOST_READS (viewing.reads + 1) h.2),
+        ∙ ap (λ b. if b then Busy Rounds else Again next names) (le-leb MAX_READS (viewing.reads + 1) h.2),
   )
 
   pub again-by :
       (other : ViewingState) (items : List ℕ)
       → (stepped viewing rows ≡ Again other items)
       ↔ ((IsClosed viewing.ask rows → ⊥)
-      × (length (names_of rows viewing.ask) ≤ MOST_READ_ITEMS)
-      × (viewing.reads + 1 < MOST_READS)
+      × (length (names_of rows viewing.ask) ≤ MAX_READ_ITEMS)
+      × (viewing.reads + 1 < MAX_READS)
       × (items ≡ names_of rows viewing.ask)
       × (other ≡ record { ask = viewing.ask; reads = viewing.reads + 1 }))
   again-by other items = (
@@ -149,7 +149,7 @@ module _ (viewing : ViewingState) (rows : List Answer) where
         (not-closed rows viewing.ask told.0, ltb-false _ _ told.1, leb-false _ _ told.2, told.3, told.4)),
     λ h. step-unclosed viewing rows (is-lacking h.0)
         ∙ unclosed-again viewing names h.1
-        ∙ ap (λ b. if b then Busy Rounds else Again next names) (lt-leb MOST_READS (viewing.reads + 1) h.2)
+        ∙ ap (λ b. if b then Busy Rounds else Again next names) (lt-leb MAX_READS (viewing.reads + 1) h.2)
         ∙ ap (λ (v : ViewingState). Again v names) (sym h.4)
         ∙ ap (λ (is : List ℕ). Again other is) (sym h.3),
   )

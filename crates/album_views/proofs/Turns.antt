@@ -7,14 +7,14 @@ use Rattle.std.specs.List.{flat_map, list_any}
 use Rattle.std.specs.Option.{option_map_or}
 use Rattle.std.proofs.lemmas.Bool.{or_left, or_parts, eqb-true}
 use Rattle.indexmap.specs.IndexSet.{insert_all}
-use Rattle.album_stamps.specs.Distinct.{are_single}
+use Rattle.album_stamps.specs.Distinct.{are_distinct}
 use Rattle.album_items.specs.Values.{groups_in_group}
 use Rattle.album_items.specs.declared.values.Value.{Value}
 use Rattle.album_items.specs.declared.values.Value.TheVariants.{Missing}
-use Rattle.album_reader.specs.Answers.{Answer}
+use Rattle.album_reader.specs.Answers.{ReadVersion}
 use Rattle.album_reader.specs.Snapshots.{items_read, version_read, version_of}
 use Rattle.album_reader.proofs.Snapshots.{sameness-sym, length-items}
-use Rattle.album_views.specs.Naming.{grown, names_of}
+use Rattle.album_views.specs.ReadSets.{grown, names_of}
 use Rattle.album_views.specs.Seen.{is_read, seen}
 use Rattle.album_views.specs.declared.asks.Ask.{Ask}
 use Rattle.album_views.proofs.Sets.{has, one-of, in-left, in-right, in-any, single-apart}
@@ -23,12 +23,12 @@ use Rattle.album_views.proofs.Growing.{inner_of, AreNamed, GoesOn, grown-goes_on
 -- ---- what was read
 
 -- an item was read where it is among those that were
-pub read-has : (rows : List Answer) (item : ℕ) → is_read rows item ≡ has (items_read rows) item
+pub read-has : (rows : List ReadVersion) (item : ℕ) → is_read rows item ≡ has (items_read rows) item
 read-has [] item = refl
 read-has (row ∷ rows) item = go (row.item == item) refl (sameness-sym row.item item) (read-has rows item)
   where
     first : Bool → Bool
-    first b = is_some (option_map version_of (cond b (Some row) (find (λ (r : Answer). r.item == item) rows)))
+    first b = is_some (option_map version_of (cond b (Some row) (find (λ (r : ReadVersion). r.item == item) rows)))
 
     go :
         (b : Bool) → (row.item == item) ≡ b → (row.item == item) ≡ (item == row.item)
@@ -38,7 +38,7 @@ read-has (row ∷ rows) item = go (row.item == item) refl (sameness-sym row.item
     go false e s rest = ap first e ∙ rest ∙ sym (ap (λ b. b || has (items_read rows) item) (sym s ∙ e))
 
 -- what was not read tells of no group
-unread-nothing : (rows : List Answer) (item : ℕ) → has (items_read rows) item ≡ false → inner_of (seen rows) item ≡ []
+unread-nothing : (rows : List ReadVersion) (item : ℕ) → has (items_read rows) item ≡ false → inner_of (seen rows) item ≡ []
 unfolding seen
 unread-nothing rows item e = go (version_read rows item) (read-has rows item ∙ e)
   where
@@ -49,7 +49,7 @@ unread-nothing rows item e = go (version_read rows item) (read-has rows item ∙
     go (Some version) e = absurd (cc)
 
 unread-nothings :
-    (rows : List Answer) (items : List ℕ)
+    (rows : List ReadVersion) (items : List ℕ)
     → list_any (has (items_read rows)) items ≡ false → flat_map (inner_of (seen rows)) items ≡ []
 unread-nothings rows [] e = refl
 unread-nothings rows (item ∷ items) e =
@@ -113,7 +113,7 @@ left-all (item ∷ items) = omega (arith, left-all items)
 
 -- ---- turns
 
-module _ (rows : List Answer) (ask : Ask) where
+module _ (rows : List ReadVersion) (ask : Ask) where
   abbrev turn : List ℕ → List ℕ
   turn names = grown (seen rows) ask names
 
@@ -144,7 +144,7 @@ module _ (rows : List Answer) (ask : Ask) where
           → left (items_read rows) (turn names) < left (items_read rows) names
       fewer some =
           let at = in-any (has (items_read rows)) on.0 some in
-          let single = subst (λ (ns : List ℕ). are_single ns ≡ true) on.1 (grown-single (seen rows) ask names) in
+          let single = subst (λ (ns : List ℕ). are_distinct ns ≡ true) on.1 (grown-single (seen rows) ask names) in
           subst (λ (ns : List ℕ). left (items_read rows) ns < left (items_read rows) names) (sym on.1)
           (left-falls (items_read rows) names on.0 at.0 at.2 (single-apart names on.0 at.0 single at.1) at.1)
 

@@ -1,8 +1,8 @@
 -- Which asks are refused before anything is read, and why.
 use Rattle.std.specs.Prelude.{ℕ, List, [], Bool, not, ◌&&◌, ◌==◌, nat_lt, length, Option, Some, None, if◌then◌else◌}
 use Rattle.std.specs.List.{list_all, list_any}
-use Rattle.album_stamps.specs.Distinct.{are_single}
-use Rattle.album_stamps.specs.declared.limits.TheConstants.{MOST_TRANSACTION_ITEMS, MOST_MEMBERS}
+use Rattle.album_stamps.specs.Distinct.{are_distinct}
+use Rattle.album_stamps.specs.declared.limits.TheConstants.{MAX_TRANSACTION_ITEMS, MAX_MEMBERS}
 use Rattle.album_stamps.specs.declared.refusals.Refusal.{Refusal}
 use Rattle.album_stamps.specs.declared.refusals.Refusal.TheVariants.{BadRequest, TooManyItems, ListFull, BadFlags, NoOwner}
 use Rattle.album_lists.specs.Entries.{fits}
@@ -29,7 +29,7 @@ has_kinds ask = list_all (λ wanted. is_one_of wanted.kinds wanted.object) (want
 
 -- the ask has an object, and none twice
 abbrev pub has_single_objects : Ask → Bool
-has_single_objects ask = not (length (objects_of ask) == 0) && are_single (objects_of ask)
+has_single_objects ask = not (length (objects_of ask) == 0) && are_distinct (objects_of ask)
 
 -- both are for one object
 abbrev pub same_object : NewList → NewList → Bool
@@ -77,8 +77,8 @@ has_fitting_lists ask = list_all (λ (new : NewList). fits (holder_of new.object
 unfoldable pub flaw_of : Ask → Option Refusal
 flaw_of ask =
     if not (has_kinds ask && has_single_objects ask) then Some BadRequest
-    else if nat_lt MOST_TRANSACTION_ITEMS (length (objects_of ask)) then Some TooManyItems
-    else if nat_lt MOST_MEMBERS (length (new_members ask)) then Some ListFull
+    else if nat_lt MAX_TRANSACTION_ITEMS (length (objects_of ask)) then Some TooManyItems
+    else if nat_lt MAX_MEMBERS (length (new_members ask)) then Some ListFull
     else if not (has_fitting_lists ask) then Some BadFlags
     else None
 

@@ -1,6 +1,6 @@
 pub mod Asks
 pub mod Checks
 pub mod Seen
-pub mod Naming
+pub mod ReadSets
 pub mod Views
 pub mod Steps

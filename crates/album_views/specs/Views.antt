@@ -1,26 +1,26 @@
 -- When a snapshot is a view.
 use Rattle.std.specs.Prelude.{◌≡◌, ◌<◌, ℕ, List, Bool, None, Contains}
 use Rattle.std.specs.List.{list_all}
-use Rattle.album_stamps.specs.declared.limits.TheConstants.{MOST_READS}
-use Rattle.album_reader.specs.Answers.{Answer}
+use Rattle.album_stamps.specs.declared.limits.TheConstants.{MAX_READS}
+use Rattle.album_reader.specs.Answers.{ReadVersion}
 use Rattle.album_reader.specs.Snapshots.{items_read}
 use Rattle.album_views.specs.declared.asks.Ask.{Ask}
 use Rattle.album_views.specs.Checks.{flaw_of}
 use Rattle.album_views.specs.Seen.{seen, is_read}
-use Rattle.album_views.specs.Naming.{IsNamed, names_of}
+use Rattle.album_views.specs.ReadSets.{IsNamed, names_of}
 
 -- the snapshot has every item that the ruling looks at
-abbrev pub IsClosed : Ask → List Answer → Type 0
+abbrev pub IsClosed : Ask → List ReadVersion → Type 0
 IsClosed ask rows = (item : ℕ) → IsNamed (seen rows) ask item → Contains (items_read rows) item
 
 -- the same, computed (law `names_are_what_is_named`)
-unfoldable pub is_closed : Ask → List Answer → Bool
+unfoldable pub is_closed : Ask → List ReadVersion → Bool
 is_closed ask rows = list_all (is_read rows) (names_of rows ask)
 
 -- an ask, and the one snapshot on which it is ruled
 pub record ViewState : Type 0 where
   pub ask : Ask
-  pub rows : List Answer
+  pub rows : List ReadVersion
 
 -- what is true of each view: its ask has no flaw, and its snapshot is closed
 pub record IsView (view : ViewState) : Type 0 where
@@ -35,4 +35,4 @@ pub record ViewingState : Type 0 where
 -- what is true of each viewing: its ask has no flaw, and a read is left
 pub record IsViewing (viewing : ViewingState) : Type 0 where
   pub sound : flaw_of viewing.ask ≡ None
-  pub left : viewing.reads < MOST_READS
+  pub left : viewing.reads < MAX_READS

@@ -10,7 +10,7 @@ use crate::asks::{Ask, NewList};
 use album_eval::Principal;
 use album_items::{ItemId, Kind};
 use album_lists::Holder;
-use album_stamps::{MOST_MEMBERS, MOST_TRANSACTION_ITEMS, Refusal};
+use album_stamps::{MAX_MEMBERS, MAX_TRANSACTION_ITEMS, Refusal};
 
 /// The kinds of what has a head, and so a list of its own.
 const HEADED: [Kind; 3] = [Kind::Picture, Kind::Album, Kind::Group];
@@ -22,7 +22,7 @@ impl Ask {
     ///
     /// By the first test that the ask fails: `BadRequest` where an object is of a kind of which it may not
     /// be, where there is none, or one stands twice; `TooManyItems` where there are more than
-    /// `MOST_TRANSACTION_ITEMS`; `ListFull` where a group is to have more than `MOST_MEMBERS` members;
+    /// `MAX_TRANSACTION_ITEMS`; `ListFull` where a group is to have more than `MAX_MEMBERS` members;
     /// `BadFlags` where a list does not fit its object; `NoOwner` where Anonymous makes a new object.
     pub fn check(&self, principal: &Principal) -> Result<(), Refusal>
         ensures refusal { MatchResult result
@@ -47,10 +47,10 @@ impl Ask {
         if !(self.has_kinds() && self.has_single_objects()) {
             return Err(Refusal::BadRequest);
         }
-        if self.objects_len() > MOST_TRANSACTION_ITEMS {
+        if self.objects_len() > MAX_TRANSACTION_ITEMS {
             return Err(Refusal::TooManyItems);
         }
-        if self.new_members_len() > MOST_MEMBERS {
+        if self.new_members_len() > MAX_MEMBERS {
             return Err(Refusal::ListFull);
         }
         if !self.has_fitting_lists() {

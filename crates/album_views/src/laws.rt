@@ -1,26 +1,26 @@
 // Laws of asks and of views.
 ghost use Rattle.std.specs.Prelude.{◌≡◌, ◌≢◌, ◌↔◌, ◌+◌, ◌≤◌, ◌<◌, ℕ, List, None, true, false, IsTrue, length, Contains};
-ghost use Rattle.album_stamps.specs.Distinct.{are_single};
+ghost use Rattle.album_stamps.specs.Distinct.{are_distinct};
 ghost use Rattle.album_eval.specs.declared.facts.Principal.{Principal};
-ghost use Rattle.album_reader.specs.Answers.{Answer};
+ghost use Rattle.album_reader.specs.Answers.{ReadVersion};
 ghost use Rattle.album_views.specs.declared.asks.Ask.{Ask};
 ghost use Rattle.album_views.specs.declared.viewing.ViewStep.TheVariants.{Again, Closed, Busy};
 ghost use Rattle.album_views.specs.declared.viewing.Why.TheVariants.{Rounds, Wide};
 ghost use Rattle.album_views.specs.Asks.{Wanted, wanted, objects_of};
 ghost use Rattle.album_views.specs.Checks.{is_one_of, flaw_of, refusal_of};
-ghost use Rattle.album_views.specs.Naming.{IsNamed, grown, names_of};
+ghost use Rattle.album_views.specs.ReadSets.{IsNamed, grown, names_of};
 ghost use Rattle.album_views.specs.Seen.{seen};
 ghost use Rattle.album_views.specs.Steps.{stepped};
 ghost use Rattle.album_views.specs.Views.{ViewingState, ViewState, IsClosed, is_closed};
 
-use album_stamps::{MOST_READ_ITEMS, MOST_READS, MOST_TRANSACTION_ITEMS};
+use album_stamps::{MAX_READ_ITEMS, MAX_READS, MAX_TRANSACTION_ITEMS};
 
-/// A law: an ask that is refused to nobody for its own sake has 1 to `MOST_TRANSACTION_ITEMS` objects, none
+/// A law: an ask that is refused to nobody for its own sake has 1 to `MAX_TRANSACTION_ITEMS` objects, none
 /// of them twice, each of a kind of which it may be. One that is refused to somebody else at most is such an ask.
 pub fn asks_without_flaw()
     ensures some { (ask : Ask) → flaw_of ask ≡ None → 1 ≤ length (objects_of ask) }
-    ensures few { (ask : Ask) → flaw_of ask ≡ None → length (objects_of ask) ≤ MOST_TRANSACTION_ITEMS }
-    ensures single { (ask : Ask) → flaw_of ask ≡ None → IsTrue (are_single (objects_of ask)) }
+    ensures few { (ask : Ask) → flaw_of ask ≡ None → length (objects_of ask) ≤ MAX_TRANSACTION_ITEMS }
+    ensures single { (ask : Ask) → flaw_of ask ≡ None → IsTrue (are_distinct (objects_of ask)) }
     ensures kinds { (ask : Ask) (object : Wanted) → flaw_of ask ≡ None
         → Contains (wanted ask) object → IsTrue (is_one_of object.kinds object.object) }
     ensures taken { (ask : Ask) (principal : Principal) → refusal_of ask principal ≡ None → flaw_of ask ≡ None }
@@ -30,34 +30,34 @@ pub fn asks_without_flaw()
 /// the rules: the first names, and behind them the groups among the members of each name in turn, also of
 /// one that stands there for that reason; and no other list is.
 pub fn names_are_what_is_named()
-    ensures named { (rows : List Answer) (ask : Ask) (item : ℕ)
+    ensures named { (rows : List ReadVersion) (ask : Ask) (item : ℕ)
         → Contains (names_of rows ask) item ↔ IsNamed (seen rows) ask item }
-    ensures single { (rows : List Answer) (ask : Ask) → IsTrue (are_single (names_of rows ask)) }
-    ensures order { (rows : List Answer) (ask : Ask) → names_of rows ask ≡ grown (seen rows) ask (names_of rows ask) }
-    ensures one { (rows : List Answer) (ask : Ask) (names : List ℕ)
+    ensures single { (rows : List ReadVersion) (ask : Ask) → IsTrue (are_distinct (names_of rows ask)) }
+    ensures order { (rows : List ReadVersion) (ask : Ask) → names_of rows ask ≡ grown (seen rows) ask (names_of rows ask) }
+    ensures one { (rows : List ReadVersion) (ask : Ask) (names : List ℕ)
         → names ≡ grown (seen rows) ask names
         → ((item : ℕ) → Contains names item → IsNamed (seen rows) ask item)
         → names ≡ names_of rows ask }
-    ensures closed { (rows : List Answer) (ask : Ask) → (is_closed ask rows ≡ true) ↔ IsClosed ask rows }
+    ensures closed { (rows : List ReadVersion) (ask : Ask) → (is_closed ask rows ≡ true) ↔ IsClosed ask rows }
 {}
 
 /// A law: a view comes of a snapshot just where it is closed, and has the ask and that snapshot. No view
 /// comes of an ask just where a snapshot is not closed, and its names are too many, or it is that of the last read.
 /// Else just the names are read next.
 pub fn a_view_is_the_first_closed_read()
-    ensures closed { (viewing : ViewingState) (rows : List Answer) (view : ViewState)
+    ensures closed { (viewing : ViewingState) (rows : List ReadVersion) (view : ViewState)
         → (stepped viewing rows ≡ Closed view)
         ↔ (IsClosed viewing.ask rows × (view ≡ record { ask = viewing.ask; rows = rows })) }
-    ensures wide { (viewing : ViewingState) (rows : List Answer)
+    ensures wide { (viewing : ViewingState) (rows : List ReadVersion)
         → (stepped viewing rows ≡ Busy Wide)
-        ↔ ((IsClosed viewing.ask rows → ⊥) × (MOST_READ_ITEMS < length (names_of rows viewing.ask))) }
-    ensures rounds { (viewing : ViewingState) (rows : List Answer)
+        ↔ ((IsClosed viewing.ask rows → ⊥) × (MAX_READ_ITEMS < length (names_of rows viewing.ask))) }
+    ensures rounds { (viewing : ViewingState) (rows : List ReadVersion)
         → (stepped viewing rows ≡ Busy Rounds)
-        ↔ ((IsClosed viewing.ask rows → ⊥) × (length (names_of rows viewing.ask) ≤ MOST_READ_ITEMS)
-        × (MOST_READS ≤ viewing.reads + 1)) }
-    ensures again { (viewing next : ViewingState) (rows : List Answer) (items : List ℕ)
+        ↔ ((IsClosed viewing.ask rows → ⊥) × (length (names_of rows viewing.ask) ≤ MAX_READ_ITEMS)
+        × (MAX_READS ≤ viewing.reads + 1)) }
+    ensures again { (viewing next : ViewingState) (rows : List ReadVersion) (items : List ℕ)
         → (stepped viewing rows ≡ Again next items)
-        ↔ ((IsClosed viewing.ask rows → ⊥) × (length (names_of rows viewing.ask) ≤ MOST_READ_ITEMS)
-        × (viewing.reads + 1 < MOST_READS) × (items ≡ names_of rows viewing.ask)
+        ↔ ((IsClosed viewing.ask rows → ⊥) × (length (names_of rows viewing.ask) ≤ MAX_READ_ITEMS)
+        × (viewing.reads + 1 < MAX_READS) × (items ≡ names_of rows viewing.ask)
         × (next ≡ record { ask = viewing.ask; reads = viewing.reads + 1 })) }
 {}

@@ -12,7 +12,7 @@ mod asks;
 mod checks;
 
 // What a ruling looks at, and the reads until a snapshot has it.
-mod naming;
+mod read_set;
 mod view;
 mod viewing;
 
@@ -21,6 +21,6 @@ mod laws;
 
 pub use asks::{Ask, NewList, NewLists};
 pub use laws::{a_view_is_the_first_closed_read, asks_without_flaw, names_are_what_is_named};
-pub use naming::names;
+pub use read_set::names;
 pub use view::View;
 pub use viewing::{ViewStep, Viewing, Why};

@@ -5,7 +5,7 @@ ghost use Rattle.album_views.specs.Views.{IsView};
 
 use crate::asks::Ask;
 use album_items::{ItemId, Value};
-use album_reader::{Answer, Snapshot};
+use album_reader::{ReadVersion, Snapshot};
 use album_stamps::Stamp;
 use std::marker::Model;
 
@@ -44,7 +44,7 @@ impl View {
     }
 
     /// What was read, in the order of the items.
-    pub fn answers(&self) -> &[Answer]
+    pub fn answers(&self) -> &[ReadVersion]
         ensures { result.now ≡ self.now.rows }
     {
         self.snapshot.answers()

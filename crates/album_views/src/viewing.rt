@@ -1,20 +1,20 @@
 // Reads until one is a view.
 ghost use Rattle.std.specs.Prelude.{◌≡◌, ◌≢◌, ◌≤◌, None, IfOk, IfErr, IsTrue, IsOkUnless, length, nat_lt, Contains};
 ghost use Rattle.std.specs.List.{list_all};
-ghost use Rattle.album_stamps.specs.Distinct.{are_single};
+ghost use Rattle.album_stamps.specs.Distinct.{are_distinct};
 ghost use Rattle.album_reader.specs.Snapshots.{items_read};
 ghost use Rattle.album_views.specs.Asks.{objects_of};
 ghost use Rattle.album_views.specs.Checks.{flaw_of};
-ghost use Rattle.album_views.specs.Naming.{names_of};
+ghost use Rattle.album_views.specs.ReadSets.{names_of};
 ghost use Rattle.album_views.specs.Seen.{is_read};
 ghost use Rattle.album_views.specs.Steps.{again, unclosed, stepped, AreReadable, AsksReadable};
 
 use crate::asks::Ask;
-use crate::naming::names;
+use crate::read_set::names;
 use crate::view::View;
 use album_items::{ItemId, Items};
 use album_reader::Snapshot;
-use album_stamps::{MOST_READ_ITEMS, MOST_READS, Refusal, Refused};
+use album_stamps::{MAX_READ_ITEMS, MAX_READS, Refusal, Refused};
 use std::alloc::Global;
 use std::marker::Model;
 
@@ -38,9 +38,9 @@ impl Model for Viewing {
 /// Why an ask has no view.
 #[derive(Clone, Copy, Debug, PartialEq, Eq)]
 pub enum Why {
-    /// `MOST_READS` reads were made.
+    /// `MAX_READS` reads were made.
     Rounds,
-    /// The ruling looks at more than `MOST_READ_ITEMS` items.
+    /// The ruling looks at more than `MAX_READ_ITEMS` items.
     Wide,
 }
 
@@ -136,7 +136,7 @@ impl Viewing {
     fn again(self, items: Items) -> ViewStep
         ensures { result ≡ again self items }
     {
-        if self.reads + 1 >= MOST_READS {
+        if self.reads + 1 >= MAX_READS {
             return ViewStep::Busy(Why::Rounds);
         }
         let next = Viewing {
@@ -161,9 +161,9 @@ impl Viewing {
 
 /// Whether they are more than a read may have.
 fn is_wide(names: &[ItemId]) -> bool
-    ensures { result ≡ nat_lt MOST_READ_ITEMS (length names.now) }
+    ensures { result ≡ nat_lt MAX_READ_ITEMS (length names.now) }
 {
-    names.len() > MOST_READ_ITEMS
+    names.len() > MAX_READ_ITEMS
 }
 
 /// Whether each of the items was read.

@@ -5,7 +5,7 @@ use Rattle.std.proofs.Math.ListN.{set}
 use Rattle.std.proofs.lemmas.Bool.{lt-ltb, le-ltb, ltb-true, ltb-false}
 use Rattle.std.specs.List.{fold, list_all, flat_map}
 use Rattle.album_wire.specs.declared.lines.LineIn.{LineIn}
-use Rattle.album_stamps.specs.declared.limits.TheConstants.{MOST_LINE}
+use Rattle.album_stamps.specs.declared.limits.TheConstants.{MAX_LINE}
 use Rattle.album_wire.specs.Lines.{Line, said, kept, longer, cut, continued, last, lines_of, has_no_newline}
 use Rattle.std.proofs.lemmas.Bool.{and_parts}
 
@@ -44,39 +44,39 @@ pub longer_none : (part : List ℕ) → fold longer None part ≡ None
 longer_none [] = refl
 longer_none (x ∷ part) = longer_none part
 
-kept_short : (bytes : List ℕ) → length bytes ≤ MOST_LINE → kept bytes ≡ Some bytes
-kept_short bytes short = rw (le-ltb MOST_LINE (length bytes) short) refl
+kept_short : (bytes : List ℕ) → length bytes ≤ MAX_LINE → kept bytes ≡ Some bytes
+kept_short bytes short = rw (le-ltb MAX_LINE (length bytes) short) refl
 
-kept_long : (bytes : List ℕ) → MOST_LINE < length bytes → kept bytes ≡ None
-kept_long bytes long = rw (lt-ltb MOST_LINE (length bytes) long) refl
+kept_long : (bytes : List ℕ) → MAX_LINE < length bytes → kept bytes ≡ None
+kept_long bytes long = rw (lt-ltb MAX_LINE (length bytes) long) refl
 
 -- the step of `longer_kept` at a byte, which still fits or does not
-by_length : (bytes part : List ℕ) (x : ℕ) (e : Bool) → nat_lt MOST_LINE (length (bytes ++ x ∷ [])) ≡ e
-    → (length (bytes ++ x ∷ []) ≤ MOST_LINE
+by_length : (bytes part : List ℕ) (x : ℕ) (e : Bool) → nat_lt MAX_LINE (length (bytes ++ x ∷ [])) ≡ e
+    → (length (bytes ++ x ∷ []) ≤ MAX_LINE
     → fold longer (Some (bytes ++ x ∷ [])) part ≡ kept ((bytes ++ x ∷ []) ++ part))
     → fold longer (cond e None (Some (bytes ++ x ∷ []))) part ≡ kept (bytes ++ x ∷ part)
 by_length bytes part x true is others =
-    let long : MOST_LINE < length (bytes ++ x ∷ []) = ltb-true _ _ is in
-    let longer_still : MOST_LINE < length (bytes ++ x ∷ part) =
+    let long : MAX_LINE < length (bytes ++ x ∷ []) = ltb-true _ _ is in
+    let longer_still : MAX_LINE < length (bytes ++ x ∷ part) =
     omega (arith, long, length-append bytes (x ∷ []), length-append bytes (x ∷ part)) in
     longer_none part ∙ sym (kept_long (bytes ++ x ∷ part) longer_still)
 by_length bytes part x false is others = others (ltb-false _ _ is) ∙ ap kept (append_assoc bytes (x ∷ []) part)
 
 -- bytes behind those of a line
-pub longer_kept : (bytes part : List ℕ) → length bytes ≤ MOST_LINE
+pub longer_kept : (bytes part : List ℕ) → length bytes ≤ MAX_LINE
     → fold longer (Some bytes) part ≡ kept (bytes ++ part)
 longer_kept bytes [] short = rw append-nil (sym (kept_short bytes short))
 longer_kept bytes (x ∷ part) short =
-    by_length bytes part x (nat_lt MOST_LINE (length (bytes ++ x ∷ []))) refl (longer_kept (bytes ++ x ∷ []) part)
+    by_length bytes part x (nat_lt MAX_LINE (length (bytes ++ x ∷ []))) refl (longer_kept (bytes ++ x ∷ []) part)
 
 -- bytes that fit behind those of a line
-pub longer_short : (bytes part : List ℕ) → length bytes + length part ≤ MOST_LINE
+pub longer_short : (bytes part : List ℕ) → length bytes + length part ≤ MAX_LINE
     → fold longer (Some bytes) part ≡ Some (bytes ++ part)
 longer_short bytes part short =
     longer_kept bytes part (omega arith) ∙ kept_short (bytes ++ part) (omega (arith, length-append bytes part))
 
 -- bytes that do not fit behind those of a line
-pub longer_long : (bytes part : List ℕ) → length bytes ≤ MOST_LINE → MOST_LINE < length bytes + length part
+pub longer_long : (bytes part : List ℕ) → length bytes ≤ MAX_LINE → MAX_LINE < length bytes + length part
     → fold longer (Some bytes) part ≡ None
 longer_long bytes part short long =
     longer_kept bytes part short ∙ kept_long (bytes ++ part) (omega (arith, length-append bytes part))

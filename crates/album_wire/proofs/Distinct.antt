@@ -1,4 +1,4 @@
--- Numbers that differ, and that differ from those seen before. For `are_single`; `first_new` is a step of its loop.
+-- Numbers that differ, and that differ from those seen before. For `are_distinct`; `first_new` is a step of its loop.
 use Rattle.std.proofs.Common.{◌≡◌, ◌==◌, ◌&&◌, ◌||◌, ◌+◌, ◌<◌, ℕ, suc, List, [], ◌∷◌, length, get_or, drop, map, Bool, true, false, not, cond, Decides, refl, sym, ap, ◌∙◌, add-one, drop-cons}
 use Rattle.std.specs.List.{list_any}
 use Rattle.std.specs.Ordering.{nat_cmp}
@@ -8,13 +8,13 @@ use Rattle.std.proofs.Math.Bool.{and-true}
 use Rattle.std.proofs.lemmas.Bool.Decides.{Decides-eqb, same_from_decides}
 use Rattle.std.proofs.lemmas.Map.Lookups.{exact_unsigned}
 use Rattle.std.proofs.lemmas.Cmp.{nat_cmp_total, eq_by_cmp_equiv}
-use Rattle.album_stamps.specs.Distinct.{are_single}
+use Rattle.album_stamps.specs.Distinct.{are_distinct}
 use Rattle.album_wire.specs.JudgeShape.{numbers, spelled_group}
 use Rattle.album_wire.specs.declared.judge_shape.GroupShape.{GroupShape}
 
 -- they differ, and none of them is seen
 abbrev pub are_new : (ℕ → Bool) → List ℕ → Bool
-are_new seen ns = are_single ns && not (list_any seen ns)
+are_new seen ns = are_distinct ns && not (list_any seen ns)
 
 any_same : (f g : ℕ → Bool) → ((n : ℕ) → f n ≡ g n) → (ns : List ℕ) → list_any f ns ≡ list_any g ns
 any_same f g same [] = refl
@@ -30,8 +30,8 @@ any_either f g (n ∷ ns) = rw (any_either f g ns) (go (f n) (g n) (list_any f n
     go false true false d = refl
     go false false c d = refl
 
-pub none_seen : (ns : List ℕ) (f : ℕ → Bool) → ((n : ℕ) → f n ≡ false) → are_new f ns ≡ are_single ns
-none_seen ns f none = rw (any_same f (λ n. false) none ns, never ns) (and-true (are_single ns))
+pub none_seen : (ns : List ℕ) (f : ℕ → Bool) → ((n : ℕ) → f n ≡ false) → are_new f ns ≡ are_distinct ns
+none_seen ns f none = rw (any_same f (λ n. false) none ns, never ns) (and-true (are_distinct ns))
   where
     never : (ms : List ℕ) → list_any (λ n. false) ms ≡ false
     never [] = refl
@@ -61,7 +61,7 @@ pub first_new : (old new : ℕ → Bool) (k : ℕ) (ns : List ℕ)
     → are_new old (k ∷ ns) ≡ are_new new ns
 first_new old new k ns updates unseen =
     rw (any_same new (λ q. (k == q) || old q) (λ q. updates q ∙ rw (same_key k q, same_back k q) (either (k == q) (old q))) ns, any_either (λ q. k == q) old ns, unseen)
-    (go (list_any (λ m. k == m) ns) (are_single ns) (list_any old ns))
+    (go (list_any (λ m. k == m) ns) (are_distinct ns) (list_any old ns))
   where
     either : (a b : Bool) → cond a true b ≡ (a || b)
     either true b = refl

@@ -7,7 +7,7 @@ use Rattle.std.proofs.lemmas.Slice.Eq.{bytes_eq-Decides}
 use Rattle.std.proofs.lemmas.Slice.Zip.{AllZip-long}
 use Rattle.serde_json.specs.Data.{Data, string, array}
 use Rattle.album_stamps.specs.declared.refusals.Refusal.TheVariants.{BadRequest, BadWho, BadMask, BadFlags, ListFull}
-use Rattle.album_stamps.specs.declared.limits.TheConstants.{MOST_ENTRIES, MOST_MEMBERS}
+use Rattle.album_stamps.specs.declared.limits.TheConstants.{MAX_ENTRIES, MAX_MEMBERS}
 use Rattle.album_stamps.specs.Outcome.{◌>>=◌}
 use Rattle.album_wire.specs.Fields.{sized, text_of, whole_of, list_of}
 use Rattle.album_access.specs.Bits.{mask_bits, flag_bits, is_mask, is_within, all_flag_bits, mask_of, flags_of}
@@ -210,26 +210,26 @@ all_whole (e ∷ es) (d ∷ ds) is h =
     and_from _ _ (and_from _ _ (can_be_spelled e d is.0) both.0) (all_whole es ds is.1 both.1)
 
 list_taken : (entries list : List Ace) → access_list_of entries ≡ Ok list
-    → (length list ≤ MOST_ENTRIES) × (list_all is_whole list ≡ true) × (entries ≡ list)
+    → (length list ≤ MAX_ENTRIES) × (list_all is_whole list ≡ true) × (entries ≡ list)
 unfolding access_list_of
-list_taken entries list = go (nat_lt MOST_ENTRIES (length entries)) refl (list_all is_whole entries) refl
+list_taken entries list = go (nat_lt MAX_ENTRIES (length entries)) refl (list_all is_whole entries) refl
   where
-    go : (a : Bool) → nat_lt MOST_ENTRIES (length entries) ≡ a → (b : Bool) → list_all is_whole entries ≡ b
+    go : (a : Bool) → nat_lt MAX_ENTRIES (length entries) ≡ a → (b : Bool) → list_all is_whole entries ≡ b
         → cond a (Err ListFull) (cond b (Ok entries) (Err BadFlags)) ≡ Ok list
-        → (length list ≤ MOST_ENTRIES) × (list_all is_whole list ≡ true) × (entries ≡ list)
+        → (length list ≤ MAX_ENTRIES) × (list_all is_whole list ≡ true) × (entries ≡ list)
     go true e b f h = cc
     go false e false f h = cc
     go false e true f h =
         let same : entries ≡ list = cc in
-        let P : List Ace → Type 0 = λ es. length es ≤ MOST_ENTRIES in
+        let P : List Ace → Type 0 = λ es. length es ≤ MAX_ENTRIES in
         (subst P same (ltb-false _ _ e), ap (list_all is_whole) (sym same) ∙ f, same)
 
 take_list : (list : List Ace)
-    → length list ≤ MOST_ENTRIES
+    → length list ≤ MAX_ENTRIES
     → list_all is_whole list ≡ true
     → access_list_of list ≡ Ok list
 unfolding access_list_of
-take_list list few all = rw (le-ltb MOST_ENTRIES (length list) few, all) refl
+take_list list few all = rw (le-ltb MAX_ENTRIES (length list) few, all) refl
 
 carried_read : (holder : Holder) (entries list : List Ace) → carried holder entries ≡ Ok list
     → (fits holder list ≡ true) × (entries ≡ list)
@@ -247,15 +247,15 @@ access_list_spelled holder list shapes d h g =
     let items = step_taken (list_of d) _ shapes h in
     let ds = each_read entry_shape_of items.0 shapes items.2 in
     let read = step_taken (entries_read shapes) _ list g in
-    let entries = step_taken (at_most MOST_ENTRIES shapes >>= each_of entry_read) _ read.0 read.1 in
-    let few = step_taken (at_most MOST_ENTRIES shapes) _ entries.0 entries.1 in
-    let each = ap (each_of entry_read) (few_read MOST_ENTRIES shapes few.0 few.1).1 ∙ few.2 in
+    let entries = step_taken (at_most MAX_ENTRIES shapes >>= each_of entry_read) _ read.0 read.1 in
+    let few = step_taken (at_most MAX_ENTRIES shapes) _ entries.0 entries.1 in
+    let each = ap (each_of entry_read) (few_read MAX_ENTRIES shapes few.0 few.1).1 ∙ few.2 in
     let taken = list_taken entries.0 read.0 entries.2 in
     let carry = carried_read holder read.0 list read.2 in
     let spelled =
     zip_through _ _ IsEntry entry_spelled entries.0 shapes ds.0 (each_of_read entry_read shapes entries.0 each) ds.2 in
     let IsEach : List Ace → Type 0 = λ es. AllZip IsEntry es ds.0 in
-    let IsFew : List Ace → Type 0 = λ es. length es ≤ MOST_ENTRIES in
+    let IsFew : List Ace → Type 0 = λ es. length es ≤ MAX_ENTRIES in
     record {
       each = (ds.0, list_read d items.0 items.1 ∙ ap array ds.1, subst IsEach (taken.2 ∙ carry.1) spelled);
       few = subst IsFew carry.1 taken.0;
@@ -271,7 +271,7 @@ access_list_read holder list d is =
     let between = zip_between _ _ IsEntry entry_parts list ds is.each.2 in
     let shapes = between.0 in
     let long : length shapes ≡ length list = AllZip-long _ list shapes between.1 in
-    let few : at_most MOST_ENTRIES shapes ≡ Ok shapes = read_few MOST_ENTRIES shapes (rw long is.few) in
+    let few : at_most MAX_ENTRIES shapes ≡ Ok shapes = read_few MAX_ENTRIES shapes (rw long is.few) in
     let each : each_of entry_read shapes ≡ Ok list = read_each_of entry_read shapes list between.1 in
     let taken : access_list_of list ≡ Ok list = take_list list is.few (all_whole list ds is.each.2 is.are_of_use) in
     let carry : carried_list_of holder shapes ≡ Ok list = rw (few, each, taken, is.may_be_carried) refl in
@@ -295,8 +295,8 @@ unfolding members_read
 members_spelled members texts d h g =
     let items = step_taken (list_of d) _ texts h in
     let ds = each_read text_of items.0 texts items.2 in
-    let few = step_taken (at_most MOST_MEMBERS texts) _ members g in
-    let same = few_read MOST_MEMBERS texts few.0 few.1 in
+    let few = step_taken (at_most MAX_MEMBERS texts) _ members g in
+    let same = few_read MAX_MEMBERS texts few.0 few.1 in
     let each = each_of_read member_read texts members (ap (each_of member_read) same.1 ∙ few.2) in
     let long : length texts ≡ length members = AllZip-long _ members texts each in
     record {
@@ -311,7 +311,7 @@ members_parts members d is =
     let between = zip_between _ _ _ member_parts members is.each.0 is.each.2 in
     let texts = between.0 in
     let long : length texts ≡ length members = AllZip-long _ members texts between.1 in
-    let few : at_most MOST_MEMBERS texts ≡ Ok texts = read_few MOST_MEMBERS texts (rw long is.few) in
+    let few : at_most MAX_MEMBERS texts ≡ Ok texts = read_few MAX_MEMBERS texts (rw long is.few) in
     let each : each_of member_read texts ≡ Ok members = read_each_of member_read texts members between.1 in
     let read : members_read texts ≡ Ok members = rw (few, each) refl in
     (texts, ap texts_of is.each.1 ∙ read_each text_of texts is.each.0 between.2, read)

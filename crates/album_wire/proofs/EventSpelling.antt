@@ -21,7 +21,7 @@ use Rattle.album_wire.specs.AskSpelling.{IsAsk}
 use Rattle.album_wire.specs.EventSpelling.{IsPrincipal, IsClient, IsStamp, IsPart, IsAsked, IsRange, IsSweep, IsTrim, AreEvents, IsEventLine}
 use Rattle.album_wire.specs.declared.event_shape.Spelled.{Spelled}
 use Rattle.album_wire.specs.declared.event_shape.Spelled.TheVariants as spelled
-use Rattle.album_wire.specs.declared.event_shape.TheConstants.{MOST_DELIVERIES, GREATEST_PART}
+use Rattle.album_wire.specs.declared.event_shape.TheConstants.{MAX_DELIVERIES, MAX_PART}
 use Rattle.album_wire.proofs.Steps.{step_taken, same_value, value_there, test_passed, taken, there}
 use Rattle.album_wire.proofs.Json.{whole_read, two, sized_read, same_two}
 use Rattle.album_wire.proofs.Forms.{step_then, on_test, on_true, on_false, IsString, read_whole, names_taken, names_then, member_taken, member_then, member_as, member_parts, is_in, is_out, line_by, known_taken, known_then, string_taken}
@@ -73,17 +73,17 @@ pub part_form : (part : ℕ) (d : Data) → part_named d ≡ Ok part → IsPart 
 unfolding part_named
 part_form part d h =
     let n = step_taken (whole_of d) _ part h in
-    let test = step_taken (guard (nat_le n.0 GREATEST_PART)) _ part n.2 in
-    let low = leb-true n.0 GREATEST_PART (test_passed _ test.0 test.1) in
+    let test = step_taken (guard (nat_le n.0 MAX_PART)) _ part n.2 in
+    let low = leb-true n.0 MAX_PART (test_passed _ test.0 test.1) in
     let Is : ℕ → Type 0 = λ m. IsPart m d in
     subst Is (same_value _ _ test.2) (whole_read d n.0 n.1, low)
 
 pub read_part : (part : ℕ) (d : Data) → IsPart part d → part_named d ≡ Ok part
 unfolding part_named
 read_part part d is =
-    let test : guard (nat_le part GREATEST_PART) ≡ Ok true = rw (le-leb part GREATEST_PART is.1) refl in
+    let test : guard (nat_le part MAX_PART) ≡ Ok true = rw (le-leb part MAX_PART is.1) refl in
     step_then (whole_of d) _ part part (read_whole part d is.0)
-    (step_then (guard (nat_le part GREATEST_PART)) _ true part test refl)
+    (step_then (guard (nat_le part MAX_PART)) _ true part test refl)
 
 -- ---- deliveries
 
@@ -93,8 +93,8 @@ unfolding range_of
 range_of_two a b events h =
     let first = step_taken (whole_of a) _ events h in
     let last = step_taken (whole_of b) _ events first.2 in
-    let test = step_taken (guard (nat_le (suc last.0 - first.0) MOST_DELIVERIES)) _ events last.2 in
-    let few = leb-true (suc last.0 - first.0) MOST_DELIVERIES (test_passed _ test.0 test.1) in
+    let test = step_taken (guard (nat_le (suc last.0 - first.0) MAX_DELIVERIES)) _ events last.2 in
+    let few = leb-true (suc last.0 - first.0) MAX_DELIVERIES (test_passed _ test.0 test.1) in
     let is : IsRange first.0 last.0 (list_data (a ∷ b ∷ [])) = record {
       items = same_two a b _ _ (whole_read a first.0 first.1) (whole_read b last.0 last.1);
       few = omega arith;
@@ -116,10 +116,10 @@ read_range : (first last : ℕ) (d : Data) → IsRange first last d → range_of
 unfolding range_of
 read_range first last d is =
     let below = is.few in
-    let short : suc last - first ≤ MOST_DELIVERIES = omega arith in
-    let test : guard (nat_le (suc last - first) MOST_DELIVERIES) ≡ Ok true =
-    rw (le-leb (suc last - first) MOST_DELIVERIES short) refl in
-    ap range_of is.items ∙ step_then (guard (nat_le (suc last - first) MOST_DELIVERIES)) _ true
+    let short : suc last - first ≤ MAX_DELIVERIES = omega arith in
+    let test : guard (nat_le (suc last - first) MAX_DELIVERIES) ≡ Ok true =
+    rw (le-leb (suc last - first) MAX_DELIVERIES short) refl in
+    ap range_of is.items ∙ step_then (guard (nat_le (suc last - first) MAX_DELIVERIES)) _ true
     (spelled.Range first last) test refl
 
 same_events : (w v : Spelled) (d : Data) → w ≡ v → AreEvents w d → AreEvents v d

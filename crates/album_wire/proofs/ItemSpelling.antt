@@ -6,7 +6,7 @@ use Rattle.std.proofs.lemmas.Bool.{ltb-false, le-ltb}
 use Rattle.std.proofs.lemmas.Bool.Decides.{Decides-eqb}
 use Rattle.hex.specs.Hex.{decode_of}
 use Rattle.serde_json.specs.Data.{Data, null, boolean, number, string, array, object}
-use Rattle.album_stamps.specs.declared.limits.TheConstants.{MOST_CONTENT}
+use Rattle.album_stamps.specs.declared.limits.TheConstants.{MAX_CONTENT}
 use Rattle.album_stamps.specs.declared.refusals.Refusal.{Refusal}
 use Rattle.album_stamps.specs.declared.refusals.Refusal.TheVariants.{BadRequest, BadWho, BadText}
 use Rattle.album_stamps.specs.Outcome.{◌>>=◌}
@@ -60,15 +60,15 @@ well : {A E : Type 0} (r : Result A E) (a : A) → or_bad_text r ≡ Ok a → r 
 well (Ok x) a h = ap Ok (same_value x a h)
 well (Err e) a h = cc
 
-short_taken : (bytes content : List ℕ) → short bytes ≡ Ok content → (bytes ≡ content) × (length content ≤ MOST_CONTENT)
-short_taken bytes content = go (nat_lt MOST_CONTENT (length bytes)) refl
+short_taken : (bytes content : List ℕ) → short bytes ≡ Ok content → (bytes ≡ content) × (length content ≤ MAX_CONTENT)
+short_taken bytes content = go (nat_lt MAX_CONTENT (length bytes)) refl
   where
-    go : (b : Bool) → nat_lt MOST_CONTENT (length bytes) ≡ b → cond b (Err BadText) (Ok bytes) ≡ Ok content
-        → (bytes ≡ content) × (length content ≤ MOST_CONTENT)
+    go : (b : Bool) → nat_lt MAX_CONTENT (length bytes) ≡ b → cond b (Err BadText) (Ok bytes) ≡ Ok content
+        → (bytes ≡ content) × (length content ≤ MAX_CONTENT)
     go true e h = cc
     go false e h =
         let same : bytes ≡ content = cc in
-        let IsShort : List ℕ → Type 0 = λ bs. length bs ≤ MOST_CONTENT in
+        let IsShort : List ℕ → Type 0 = λ bs. length bs ≤ MAX_CONTENT in
         (same, subst IsShort same (ltb-false _ _ e))
 
 pub content_form : (content text : List ℕ) → content_read text ≡ Ok content
@@ -89,7 +89,7 @@ unfolding content_read bytes_read
 content_parts content d is =
     let text = is.text.0 in
     let bytes : bytes_read text ≡ Ok content = ap or_bad_text (spelled_hex text content is.text.2) in
-    let few : short content ≡ Ok content = rw (le-ltb MOST_CONTENT (length content) is.short) refl in
+    let few : short content ≡ Ok content = rw (le-ltb MAX_CONTENT (length content) is.short) refl in
     (text, ap text_of is.text.1, step_then (bytes_read text) short content content bytes few)
 
 -- ---- entries and members

@@ -9,7 +9,7 @@ use Rattle.std.proofs.lemmas.Slice.Eq.{bytes_eq-Decides}
 use Rattle.serde_json.specs.Data.{Data, array, string}
 use Rattle.serde_json.specs.Find.{get}
 use Rattle.album_stamps.specs.declared.refusals.Refusal.TheVariants.{BadRequest, BadWho}
-use Rattle.album_stamps.specs.Distinct.{are_single}
+use Rattle.album_stamps.specs.Distinct.{are_distinct}
 use Rattle.album_stamps.specs.Outcome.{◌>>=◌}
 use Rattle.album_access.specs.Bits.{mask_bits, mask_of}
 use Rattle.album_lists.specs.Whos.{user_of}
@@ -191,12 +191,12 @@ no_same : (n : ℕ) (ns : List ℕ) → AllByRecursion (λ m. (n == m) ≡ false
 no_same n [] h = refl
 no_same n (m ∷ ns) h = rw (h.0, no_same n ns h.1) refl
 
-apart_from : (ns : List ℕ) → are_single ns ≡ true → IsDistinct (λ a b. a == b) ns
+apart_from : (ns : List ℕ) → are_distinct ns ≡ true → IsDistinct (λ a b. a == b) ns
 unfolding IsDistinct
 apart_from [] h = tt
 apart_from (n ∷ ns) h = let both = and_parts _ _ h in (none_same n ns (not-true _ both.0), apart_from ns both.1)
 
-distinct_from : (ns : List ℕ) → IsDistinct (λ a b. a == b) ns → are_single ns ≡ true
+distinct_from : (ns : List ℕ) → IsDistinct (λ a b. a == b) ns → are_distinct ns ≡ true
 unfolding IsDistinct
 distinct_from [] h = refl
 distinct_from (n ∷ ns) h = and_from _ _ (not_from_false _ (no_same n ns h.0)) (distinct_from ns h.1)
@@ -213,7 +213,7 @@ groups_spelled (Some d) shapes groups h g =
     let read = step_taken (list_of d >>= each group_shape_of) _ shapes h in
     let items = step_taken (list_of d) _ read.0 read.1 in
     let ds = each_read group_shape_of items.0 read.0 items.2 in
-    let apart = step_taken (guard (are_single (numbers read.0))) _ shapes read.2 in
+    let apart = step_taken (guard (are_distinct (numbers read.0))) _ shapes read.2 in
     let same : read.0 ≡ shapes = cc in
     let values = each_of_read listing_of read.0 groups (ap (each_of listing_of) same ∙ g) in
     let Apart : List ℕ → Type 0 = AllPairs (λ a b. a ≢ b) in
@@ -230,7 +230,7 @@ groups_read None groups is = ([], refl, rw is refl)
 groups_read (Some d) groups is =
     let between = zip_between _ _ IsGroup group_parts groups is.each.0 is.each.2 in
     let shapes = between.0 in
-    let apart : are_single (numbers shapes) ≡ true =
+    let apart : are_distinct (numbers shapes) ≡ true =
     distinct_from (numbers shapes) (IsDistinct-from_AllPairs Decides-eqb (numbers shapes)
     (subst (AllPairs (λ a b. a ≢ b)) (sym (same_numbers groups shapes between.1)) is.apart)) in
     let each : (list_of d >>= each group_shape_of) ≡ Ok shapes =

@@ -14,7 +14,7 @@ use Rattle.album_wire.specs.declared.event_shape.EventShape.{EventShape}
 use Rattle.album_wire.specs.declared.event_shape.EventShape.TheVariants as shape
 use Rattle.album_wire.specs.declared.event_shape.Spelled.{Spelled}
 use Rattle.album_wire.specs.declared.event_shape.Spelled.TheVariants as spelled
-use Rattle.album_wire.specs.declared.event_shape.TheConstants.{MOST_DELIVERIES, GREATEST_PART}
+use Rattle.album_wire.specs.declared.event_shape.TheConstants.{MAX_DELIVERIES, MAX_PART}
 
 -- the line of an event as it is spelled: of every event but an ask, its shape is all
 pub data SpelledEvent : Type 0 where
@@ -39,7 +39,7 @@ stamp_named d = whole_of d >>= λ number. ok_or (stamp_of_value number) BadReque
 unfoldable pub part_named : Data → Result ℕ Refusal
 part_named d = do
   part ← whole_of d
-  _ ← guard (nat_le part GREATEST_PART)
+  _ ← guard (nat_le part MAX_PART)
   Ok part
 
 -- ---- events
@@ -59,7 +59,7 @@ range_of d = do
   _ ← sized 2 d
   first ← item_of 0 d >>= whole_of
   last ← item_of 1 d >>= whole_of
-  _ ← guard (nat_le (suc last - first) MOST_DELIVERIES)
+  _ ← guard (nat_le (suc last - first) MAX_DELIVERIES)
   Ok (spelled.Range first last)
 
 -- the number of one message, or a range

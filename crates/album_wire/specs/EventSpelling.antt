@@ -13,7 +13,7 @@ use Rattle.album_wire.specs.ItemSpelling.{IsItem}
 use Rattle.album_wire.specs.AskSpelling.{IsAsk}
 use Rattle.album_wire.specs.declared.event_shape.Spelled.{Spelled}
 use Rattle.album_wire.specs.declared.event_shape.Spelled.TheVariants as spelled
-use Rattle.album_wire.specs.declared.event_shape.TheConstants.{MOST_DELIVERIES, GREATEST_PART}
+use Rattle.album_wire.specs.declared.event_shape.TheConstants.{MAX_DELIVERIES, MAX_PART}
 
 -- ---- who and what an event names
 
@@ -31,7 +31,7 @@ IsStamp stamp d = IsWhole stamp d × IsTrue (is_stamp stamp)
 
 -- the number of a partition, also of one that is not there
 abbrev pub IsPart : ℕ → Data → Type 0
-IsPart part d = IsWhole part d × (part ≤ GREATEST_PART)
+IsPart part d = IsWhole part d × (part ≤ MAX_PART)
 
 -- ---- events
 
@@ -45,7 +45,7 @@ pub record IsAsked (client : ℕ) (who : Principal) (ask : Ask) (d : Data) : Typ
 -- [first, last], of at most so many numbers
 pub record IsRange (first last : ℕ) (d : Data) : Type 0 where
   pub items : d ≡ list_data (whole_data first ∷ whole_data last ∷ [])
-  pub few : last < first + MOST_DELIVERIES
+  pub few : last < first + MAX_DELIVERIES
 
 -- a partition that is to ask how a stamp stands, and the stamp
 pub record IsSweep (part stamp : ℕ) (d : Data) : Type 0 where

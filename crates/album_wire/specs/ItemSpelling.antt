@@ -2,7 +2,7 @@
 use Rattle.std.specs.Prelude.{◌≡◌, ◌≤◌, ◌⊎◌, ◌+◌, ◌*◌, ℕ, List, [], ◌∷◌, length, codes, IsTrue, Option, Some, None, ⊤}
 use Rattle.hex.specs.Hex.{hex_digit_value}
 use Rattle.serde_json.specs.Data.{Data, null, string}
-use Rattle.album_stamps.specs.declared.limits.TheConstants.{MOST_CONTENT}
+use Rattle.album_stamps.specs.declared.limits.TheConstants.{MAX_CONTENT}
 use Rattle.album_lists.specs.Whos.{IsUserText}
 use Rattle.album_lists.specs.declared.lists.Ace.{Ace}
 use Rattle.album_lists.specs.declared.lists.Holder.TheVariants.{Folder}
@@ -57,7 +57,7 @@ IsHexText (byte ∷ bytes) (first ∷ second ∷ text) = AreDigits byte first se
 -- a content, in hexadecimal
 pub record IsContent (content : List ℕ) (d : Data) : Type 0 where
   pub text : IsText (IsHexText content) d
-  pub short : length content ≤ MOST_CONTENT
+  pub short : length content ≤ MAX_CONTENT
 
 -- a list of entries, whatever carries it: an album may carry each
 abbrev pub IsEntries : List Ace → Data → Type 0

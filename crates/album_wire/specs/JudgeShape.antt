@@ -6,7 +6,7 @@ use Rattle.serde_json.specs.Find.{get}
 use Rattle.album_stamps.specs.declared.refusals.Refusal.{Refusal}
 use Rattle.album_stamps.specs.declared.refusals.Refusal.TheVariants.{BadRequest}
 use Rattle.album_stamps.specs.Outcome.{◌>>=◌}
-use Rattle.album_stamps.specs.Distinct.{are_single}
+use Rattle.album_stamps.specs.Distinct.{are_distinct}
 use Rattle.album_lists.specs.declared.lists.Holder.{Holder}
 use Rattle.album_lists.specs.declared.lists.Holder.TheVariants.{Plain, Folder}
 use Rattle.album_eval.specs.Policies.{policy_of}
@@ -70,7 +70,7 @@ unfoldable pub groups_shape_of : Option Data → Result (List SpelledGroup) Refu
 groups_shape_of None = Ok []
 groups_shape_of (Some d) = do
   groups ← list_of d >>= each group_shape_of
-  _ ← guard (are_single (numbers groups))
+  _ ← guard (are_distinct (numbers groups))
   Ok groups
 
 -- what a kind of object is to its list

@@ -2,7 +2,7 @@
 use Rattle.std.specs.Prelude.{ℕ, ◌≤◌, List, [], ◌∷◌, ◌++◌, length, Bool, false, ◌||◌, ◌==◌, nat_lt, not, if◌then◌else◌, Option, Some, None}
 use Rattle.std.specs.List.{list_all}
 use Rattle.std.specs.Option.{ForSome}
-use Rattle.album_stamps.specs.declared.limits.TheConstants.{MOST_LINE}
+use Rattle.album_stamps.specs.declared.limits.TheConstants.{MAX_LINE}
 use Rattle.album_wire.specs.declared.lines.LineIn.{LineIn}
 use Rattle.album_wire.specs.declared.lines.LineIn.TheVariants.{Text, TooLong}
 
@@ -12,11 +12,11 @@ Line = Option (List ℕ)
 
 -- the line of these bytes
 abbrev pub kept : List ℕ → Line
-kept bytes = if nat_lt MOST_LINE (length bytes) then None else Some bytes
+kept bytes = if nat_lt MAX_LINE (length bytes) then None else Some bytes
 
 -- it has no more bytes than a line may have
 abbrev pub IsShort : Line → Type 0
-IsShort line = ForSome line (λ bytes. length bytes ≤ MOST_LINE)
+IsShort line = ForSome line (λ bytes. length bytes ≤ MAX_LINE)
 
 -- the line with a byte more
 abbrev pub longer : Line → ℕ → Line

@@ -6,7 +6,7 @@ use Rattle.serde_json.specs.Data.{Data, number, unsigned, string, array, object,
 use Rattle.serde_json.specs.Find.{get}
 use Rattle.serde_json.specs.Read.{read}
 use Rattle.serde_json.specs.View.{items_of}
-use Rattle.album_stamps.specs.declared.limits.TheConstants.{MOST_ENTRIES, MOST_MEMBERS}
+use Rattle.album_stamps.specs.declared.limits.TheConstants.{MAX_ENTRIES, MAX_MEMBERS}
 use Rattle.album_access.specs.Bits.{mask_bits, flag_bits, is_mask, is_within, all_flag_bits}
 use Rattle.album_access.specs.declared.types.AceType.{AceType}
 use Rattle.album_access.specs.declared.types.AceType.TheVariants.{Allowed, Denied, Audit, Alarm}
@@ -74,7 +74,7 @@ pub record IsEntry (entry : Ace) (d : Data) : Type 0 where
 -- a list of entries that such an object may carry
 pub record IsAccessList (holder : Holder) (entries : List Ace) (d : Data) : Type 0 where
   pub each : IsList IsEntry entries d
-  pub few : length entries ≤ MOST_ENTRIES
+  pub few : length entries ≤ MAX_ENTRIES
   pub are_of_use : IsTrue (list_all is_of_use entries)
   pub may_be_carried : IsTrue (fits holder entries)
 
@@ -83,4 +83,4 @@ pub record IsAccessList (holder : Holder) (entries : List Ace) (d : Data) : Type
 -- a list of members of a group
 pub record AreMembers (members : List Member) (d : Data) : Type 0 where
   pub each : IsList (λ member. IsText (IsMemberText member)) members d
-  pub few : length members ≤ MOST_MEMBERS
+  pub few : length members ≤ MAX_MEMBERS

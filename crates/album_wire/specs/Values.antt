@@ -3,7 +3,7 @@ use Rattle.std.specs.Prelude.{ℕ, List, [], ◌∷◌, nat_lt, length, if◌the
 use Rattle.std.specs.Option.{ok_or}
 use Rattle.album_stamps.specs.declared.refusals.Refusal.{Refusal}
 use Rattle.album_stamps.specs.declared.refusals.Refusal.TheVariants.{BadWho, ListFull, BadText}
-use Rattle.album_stamps.specs.declared.limits.TheConstants.{MOST_ENTRIES, MOST_MEMBERS, MOST_CONTENT}
+use Rattle.album_stamps.specs.declared.limits.TheConstants.{MAX_ENTRIES, MAX_MEMBERS, MAX_CONTENT}
 use Rattle.album_stamps.specs.Outcome.{◌>>=◌}
 use Rattle.album_access.specs.Bits.{mask_of, flags_of}
 use Rattle.album_lists.specs.Whos.{user_of, who_of, member_of}
@@ -33,14 +33,14 @@ entry_read e = do
 
 -- an access list: how many entries, then each of them, then whether all are whole
 unfoldable pub entries_read : List SpelledEntry → Result (List Ace) Refusal
-entries_read es = at_most MOST_ENTRIES es >>= each_of entry_read >>= access_list_of
+entries_read es = at_most MAX_ENTRIES es >>= each_of entry_read >>= access_list_of
 
 -- the members of a group: how many, then each of them
 abbrev pub member_read : List ℕ → Result Member Refusal
 member_read text = ok_or (member_of text) BadWho
 
 unfoldable pub members_read : List (List ℕ) → Result (List Member) Refusal
-members_read texts = at_most MOST_MEMBERS texts >>= each_of member_read
+members_read texts = at_most MAX_MEMBERS texts >>= each_of member_read
 
 -- an owner
 abbrev pub owner_read : List ℕ → Result (List ℕ) Refusal
@@ -59,7 +59,7 @@ unfoldable pub bytes_read : List ℕ → Result (List ℕ) Refusal
 bytes_read text = or_bad_text (decode_of text)
 
 abbrev pub short : List ℕ → Result (List ℕ) Refusal
-short bytes = if nat_lt MOST_CONTENT (length bytes) then Err BadText else Ok bytes
+short bytes = if nat_lt MAX_CONTENT (length bytes) then Err BadText else Ok bytes
 
 unfoldable pub content_read : List ℕ → Result (List ℕ) Refusal
 content_read text = bytes_read text >>= short

@@ -17,16 +17,16 @@ use json::Value;
 use std::alloc::Global;
 
 /// How many deliveries a range may spell.
-pub const MOST_DELIVERIES: u64 = 10_000;
+pub const MAX_DELIVERIES: u64 = 10_000;
 
 /// The greatest number that a line may give a partition.
-const GREATEST_PART: u64 = 65_535;
+const MAX_PART: u64 = 65_535;
 
 /// The events that a line spells.
 #[derive(Debug, Drop)]
 pub enum Spelled {
     One(Event),
-    /// The deliveries from the first number up to the last: at most `MOST_DELIVERIES`, and none where the first
+    /// The deliveries from the first number up to the last: at most `MAX_DELIVERIES`, and none where the first
     /// is greater.
     Range(u64, u64),
 }
@@ -105,9 +105,9 @@ fn range(value: &Value<'_>) -> Result<Spelled, Refusal>
 
 /// Whether there are no more numbers from the first up to the last than a range may spell.
 fn are_few(first: u64, last: u64) -> bool
-    ensures { result ≡ nat_le (suc last - first) MOST_DELIVERIES }
+    ensures { result ≡ nat_le (suc last - first) MAX_DELIVERIES }
 {
-    last < first || last - first < MOST_DELIVERIES
+    last < first || last - first < MAX_DELIVERIES
 }
 
 #[tactic(auto, unfolding(crate::specs::EventShape::sweep_shape_of))]
@@ -188,7 +188,7 @@ pub(crate) fn part_named(value: &Value<'_>) -> Result<u16, Refusal>
     ensures { Gives (λ part. part) result (part_named (value_data value.now)) }
 {
     let part = whole(value)?;
-    if part > GREATEST_PART {
+    if part > MAX_PART {
         return Err(Refusal::BadRequest);
     }
     Ok(part as u16)

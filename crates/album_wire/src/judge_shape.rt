@@ -1,7 +1,7 @@
 // The shape of a judge line: {entries, group, owner, who, mask, and perhaps kind, groups, policy}, groups =
 // [[number, texts]].
 ghost use Rattle.std.specs.Prelude.{◌≡◌, List, ℕ, IfOk, map, option_map};
-ghost use Rattle.album_stamps.specs.Distinct.{are_single};
+ghost use Rattle.album_stamps.specs.Distinct.{are_distinct};
 ghost use Rattle.album_stamps.specs.Outcome.{Gives};
 ghost use Rattle.album_wire.specs.Fields.{each};
 ghost use Rattle.album_wire.specs.JudgeShape.{spelled_group, spelled_judge, group_shape_of, numbers, groups_shape_of, holder_of, kind_shape_of, policy_shape_of, judge_shape_of};
@@ -111,7 +111,7 @@ fn groups_shape<'a>(
         return Ok(Vec::new(alloc));
     };
     let groups = each_group_shape(alloc, list(value)?)?;
-    if !are_single(alloc, &groups)? {
+    if !are_distinct(alloc, &groups)? {
         return Err(Refusal::BadRequest);
     }
     Ok(groups)
@@ -138,8 +138,8 @@ fn group_shape<'a>(alloc: Global, value: &Value<'a>) -> Result<GroupShape<'a>, R
 }
 
 /// Whether no number stands twice.
-fn are_single(alloc: Global, groups: &[GroupShape]) -> Result<bool, AllocError>
-    ensures { IfOk result (λ single. single ≡ are_single (numbers (map spelled_group groups.now))) }
+fn are_distinct(alloc: Global, groups: &[GroupShape]) -> Result<bool, AllocError>
+    ensures { IfOk result (λ single. single ≡ are_distinct (numbers (map spelled_group groups.now))) }
 {
     let mut seen = BTreeSet::new(alloc);
     for group in groups {

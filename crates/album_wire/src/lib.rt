@@ -32,7 +32,7 @@ mod value_json;
 mod values;
 
 pub use event_line::{read_event, worked_events};
-pub use event_shape::{MOST_DELIVERIES, Spelled};
+pub use event_shape::{MAX_DELIVERIES, Spelled};
 pub use judge_line::{Group, JudgeLine, questions_by_line, read_judge};
 pub use laws::{events_by_line, hellos_by_line, openings_by_line, talks_by_line};
 pub use lines::{LineIn, Lines, any_pieces, joined_lines};

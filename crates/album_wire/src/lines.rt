@@ -4,7 +4,7 @@ ghost use Rattle.std.specs.List.{fold, list_all, flat_map};
 ghost use Rattle.std.specs.Option.{option_to_list};
 ghost use Rattle.album_wire.specs.Lines.{Line, cut, continued, kept, last, lines_of, has_no_newline};
 
-use album_stamps::{MOST_LINE, Refusal};
+use album_stamps::{MAX_LINE, Refusal};
 use memchr::memchr;
 use std::alloc::{AllocError, Global};
 use std::marker::Model;
@@ -13,7 +13,7 @@ use std::marker::Model;
 #[derive(Debug, PartialEq, Drop)]
 pub enum LineIn {
     Text(Vec<u8>),
-    /// More than `MOST_LINE` bytes, of which none is kept.
+    /// More than `MAX_LINE` bytes, of which none is kept.
     TooLong,
 }
 
@@ -50,7 +50,7 @@ impl Lines {
     pub fn feed(&mut self, piece: &[u8]) -> Result<Vec<LineIn>, Refusal>
         ensures lines { IfOk result (λ lines.
             cut self.old piece.now ≡ (map said lines.items, self.new)) }
-        ensures short { IfSome self.new (λ bytes. length bytes ≤ MOST_LINE) }
+        ensures short { IfSome self.new (λ bytes. length bytes ≤ MAX_LINE) }
         ensures unchanged { OnErr result (self.new ≡ self.old) }
         ensures memory { IsOkUnless result Refusal.OutOfMemory }
     {
@@ -104,13 +104,13 @@ impl Lines {
     /// The unfinished line goes on, with no newline in the part.
     fn add(&mut self, part: &[u8]) -> Result<(), AllocError>
         ensures ok { OnOk result (self.new ≡ fold longer self.old part.now) }
-        ensures short { IfSome self.new (λ bytes. length bytes ≤ MOST_LINE) }
+        ensures short { IfSome self.new (λ bytes. length bytes ≤ MAX_LINE) }
         ensures err { OnErr result (self.new ≡ self.old) }
     {
         let LineIn::Text(bytes) = &mut self.unfinished else {
             return Ok(());
         };
-        if part.len() > MOST_LINE - bytes.len() {
+        if part.len() > MAX_LINE - bytes.len() {
             self.unfinished = LineIn::TooLong;
             return Ok(());
         }

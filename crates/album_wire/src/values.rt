@@ -9,7 +9,7 @@ use crate::shapes::EntryShape;
 use album_access::{AceFlags, Mask};
 use album_items::{Content, Title};
 use album_lists::{AccessList, Ace, Member, Name, Who, user_name};
-use album_stamps::{MOST_ENTRIES, MOST_MEMBERS, Refusal};
+use album_stamps::{MAX_ENTRIES, MAX_MEMBERS, Refusal};
 use bytes::Bytes;
 use hex::FromHexError;
 use std::alloc::Global;
@@ -19,7 +19,7 @@ use std::alloc::Global;
 pub(crate) fn access_list(alloc: Global, shapes: &[EntryShape]) -> Result<AccessList, Refusal>
     ensures { Gives (λ list. list) result (entries_read (map spelled_entry shapes.now)) }
 {
-    if shapes.len() > MOST_ENTRIES {
+    if shapes.len() > MAX_ENTRIES {
         return Err(Refusal::ListFull);
     }
     let entries = each_entry(alloc, shapes)?;
@@ -77,7 +77,7 @@ fn flags(number: u64) -> Result<AceFlags, Refusal>
 pub(crate) fn members(alloc: Global, texts: &[&str]) -> Result<Vec<Member>, Refusal>
     ensures { Gives (λ members. members.items) result (members_read (map (λ t. t.now) texts.now)) }
 {
-    if texts.len() > MOST_MEMBERS {
+    if texts.len() > MAX_MEMBERS {
         return Err(Refusal::ListFull);
     }
     each_member(alloc, texts)

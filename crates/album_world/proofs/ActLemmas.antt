@@ -27,7 +27,7 @@ use Rattle.album_terminate.specs.declared.deciding.StampState.TheVariants as sta
 use Rattle.album_partition.specs.declared.marks.Mark.{Mark}
 use Rattle.album_partition.specs.declared.marks.Mark.TheVariants.{Prepared, Committed, Discarded, Trimmed}
 use Rattle.album_partition.specs.Votes.{NotedVote, new_vote, heard, has_vote}
-use Rattle.album_partition.specs.Answers.{Action, nothing, says, marks, marks_and_says, prepare_by, commit_by, check_by, get_by, to_get, mark_by, to_part, to_prepared, to_vote, to_status, to_request, to_reply, to_body, action_of}
+use Rattle.album_partition.specs.Answers.{Action, nothing, says, marks, marks_and_says, prepare_by, commit_by, check_by, get_by, to_get, mark_by, deliver_to_partition, to_prepared, to_vote, to_status, to_request, to_reply, to_body, action_of}
 use Rattle.album_partition.specs.Partition.{PartitionState, value_at, stamp_for, read_at}
 use Rattle.album_partition.specs.Proper.{is_proper}
 use Rattle.album_partition.specs.Marks.{prepares, commits, state_by, state_of, is_pending, is_full, value_in, version, mark_items, items_at, IsPromisedAgainst}
@@ -277,7 +277,7 @@ module _ (o : Opening) (some : 0 < o.parts) (w : World) (k : IsKept o w) (p : �
       go false f = subst (λ (z : NotedVote). IsPreparedIn (history w z.part) z.stamp) (some_same f) d
 
   part_action : (t q : ℕ) → state_of h.marks t ≡ state.Pending → IsPreparedIn (history w q) t
-      → IsAction o w p h.marks m (to_part h q t)
+      → IsAction o w p h.marks m (deliver_to_partition h q t)
   part_action t q u d = go (have_told (q ∷ heard h.votes t) (others_of h.number h.parts (items_at h.marks t))) refl
     where
       go : (b : Bool) → have_told (q ∷ heard h.votes t) (others_of h.number h.parts (items_at h.marks t)) ≡ b

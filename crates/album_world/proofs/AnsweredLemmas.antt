@@ -7,7 +7,7 @@ use Rattle.album_items.specs.declared.openings.Opening.{Opening}
 use Rattle.album_partition.specs.Marks.{commits, discards}
 use Rattle.album_partition.specs.Partition.{PartitionState}
 use Rattle.album_partition.specs.declared.marks.Mark.{Mark}
-use Rattle.album_reader.specs.Answers.{Answer as Row}
+use Rattle.album_reader.specs.Answers.{ReadVersion}
 use Rattle.album_client.specs.Terms.{Terms, terms_of}
 use Rattle.album_world.specs.declared.events.Event.{Event}
 use Rattle.album_world.specs.State.{history_in}
@@ -26,7 +26,7 @@ use Rattle.album_world.proofs.AskedLemmas.{always_requested}
 use Rattle.album_world.proofs.PromiseLemmas.{views_are_fresh}
 
 -- what is fresh from later partitions is fresh from earlier ones
-fresh_before : (t : Terms) (w : World) (later earlier : List PartitionState) (rows : List Row)
+fresh_before : (t : Terms) (w : World) (later earlier : List PartitionState) (rows : List ReadVersion)
     → AreAtOrAfter later earlier → IsFreshFrom t w later rows → IsFreshFrom t w earlier rows
 fresh_before t w later earlier rows after fresh row l by begun wrote committed =
     let p = place_of t.parts row.item in

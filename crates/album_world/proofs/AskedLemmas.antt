@@ -4,7 +4,7 @@ use Rattle.std.specs.List.{slice_get}
 use Rattle.album_stamps.specs.Clocks.{clock_after_next, next_of}
 use Rattle.album_stamps.specs.Outcome.{◌>>=◌}
 use Rattle.album_stamps.specs.Stamps.{is_client}
-use Rattle.album_stamps.specs.declared.limits.TheConstants.{MOST_READS, MOST_READ_ITEMS}
+use Rattle.album_stamps.specs.declared.limits.TheConstants.{MAX_READS, MAX_READ_ITEMS}
 use Rattle.album_stamps.specs.declared.refusals.Refusal.{Refusal}
 use Rattle.album_stamps.specs.declared.refusals.Refusal.TheVariants as refusal
 use Rattle.album_items.specs.Openings.{is_opening}
@@ -17,12 +17,12 @@ use Rattle.album_partition.specs.Partition.{PartitionState}
 use Rattle.album_partition.specs.Sweeps.{swept}
 use Rattle.album_partition.specs.Trims.{trimmed}
 use Rattle.album_partition.specs.declared.marks.Mark.{Mark}
-use Rattle.album_reader.specs.Answers.{Answer as Found}
+use Rattle.album_reader.specs.Answers.{ReadVersion}
 use Rattle.album_reader.specs.Rounds.{Step, stepped}
 use Rattle.album_reader.specs.Rounds.Step.{Same, Next, Done, Gone}
 use Rattle.album_views.specs.Asks.{objects_of}
 use Rattle.album_views.specs.Checks.{refusal_of}
-use Rattle.album_views.specs.Naming.{names_of}
+use Rattle.album_views.specs.ReadSets.{names_of}
 use Rattle.album_views.specs.Steps.{again}
 use Rattle.album_views.specs.Steps.{stepped as viewed}
 use Rattle.album_views.specs.Views.{ViewingState, is_closed}
@@ -45,10 +45,10 @@ use Rattle.album_writer.specs.declared.told.Told.{Told as Heard}
 use Rattle.album_writer.specs.declared.told.Told.TheVariants as told
 use Rattle.album_writer.specs.declared.answers.Answer.{Answer}
 use Rattle.album_writer.specs.declared.answers.Answer.TheVariants as answer
-use Rattle.album_client.specs.declared.clients.Doing.{Doing}
-use Rattle.album_client.specs.declared.clients.Doing.TheVariants as doing
+use Rattle.album_client.specs.declared.clients.Phase.{Phase}
+use Rattle.album_client.specs.declared.clients.Phase.TheVariants as phase
 use Rattle.album_client.specs.Terms.{Terms, terms_of}
-use Rattle.album_client.specs.Askings.{Asking}
+use Rattle.album_client.specs.Askings.{PendingAsk}
 use Rattle.album_client.specs.Clients.{Client}
 use Rattle.album_client.specs.Grants.{served_for}
 use Rattle.album_client.specs.Turns.{Transaction, Ended, Turn, sends, read_begins, ask_ends, round_for, write_begins, writes_unless, draws_by, grants, rules_by, clock_after_rows, read_ends, read_turn, prepare_turn, commit_turn}
@@ -104,12 +104,12 @@ module _ (o : Opening) (w : World) (k : IsKept o w) (c : ℕ) (q : IsRequestedBu
     some = λ a l. none_some l;
   }
 
-  reads_on : (asking : Asking) → ReadsFor w c asking → (f : Doing) (sent : List Message)
+  reads_on : (asking : PendingAsk) → ReadsFor w c asking → (f : Phase) (sent : List Message)
       → ((v : World) → ReadsFor v c asking → IsUnder v c f)
-      → IsHad w c (sends (record x { doing = f }) sent)
+      → IsHad w c (sends (record x { phase = f }) sent)
   reads_on asking u f sent is =
-      let turn = sends (record x { doing = f }) sent in
-      let h = quiet_for (record x { doing = f }) sent u.asked in
+      let turn = sends (record x { phase = f }) sent in
+      let h = quiet_for (record x { phase = f }) sent u.asked in
       let next = changed w (AtClient c turn) in
       let does : ReadsFor next c asking = record {
         asked = asked_on begun_here turn u.asked;
@@ -124,12 +124,12 @@ module _ (o : Opening) (w : World) (k : IsKept o w) (c : ℕ) (q : IsRequestedBu
         λ a l. none_some l,
       )
 
-  writes_on : (z y : WritingState) → y.stamp ≡ z.stamp → WritesFor w c z → (f : Doing) (sent : List Message)
+  writes_on : (z y : WritingState) → y.stamp ≡ z.stamp → WritesFor w c z → (f : Phase) (sent : List Message)
       → ((v : World) → WritesFor v c y → IsUnder v c f)
-      → IsHad w c (sends (record x { doing = f }) sent)
+      → IsHad w c (sends (record x { phase = f }) sent)
   writes_on z y stamp u f sent is =
-      let turn = sends (record x { doing = f }) sent in
-      let h = quiet_for (record x { doing = f }) sent u.asked in
+      let turn = sends (record x { phase = f }) sent in
+      let h = quiet_for (record x { phase = f }) sent u.asked in
       let next = changed w (AtClient c turn) in
       let does : WritesFor next c y = record {
         asked = asked_on begun_here turn u.asked;
@@ -167,7 +167,7 @@ module _ (o : Opening) (w : World) (k : IsKept o w) (c : ℕ) (q : IsRequestedBu
 
   -- ---- a read is over
 
-  module _ (asking : Asking) (u : ReadsFor w c asking) (rows : Option (List Found)) (tag : ℕ) where
+  module _ (asking : PendingAsk) (u : ReadsFor w c asking) (rows : Option (List ReadVersion)) (tag : ℕ) where
     abbrev ended : Ended
     ended = record { ask = asking.viewing.ask; principal = asking.principal; rows = rows }
 
@@ -322,7 +322,7 @@ module _ (o : Opening) (w : World) (k : IsKept o w) (c : ℕ) (q : IsRequestedBu
 
     again_had : ((p : ℕ) → BeganFrom w begun_here.partitions p) → (items : List ℕ)
         → IsHad w c (read_ends t x tag asking rows (again asking.viewing items))
-    again_had began items = go (nat_le MOST_READS (asking.viewing.reads + 1))
+    again_had began items = go (nat_le MAX_READS (asking.viewing.reads + 1))
       where
         go : (f : Bool) → IsHad w c (read_ends t x tag asking rows
             (if f then Busy Rounds
@@ -330,8 +330,8 @@ module _ (o : Opening) (w : World) (k : IsKept o w) (c : ℕ) (q : IsRequestedBu
         go true = tells_had x number own None (answer.Busy Rounds) (λ ws e. e)
         go false = reads_again began (record { ask = asking.viewing.ask; reads = asking.viewing.reads + 1 }) items refl
 
-  done_had : (asking : Asking) → ReadsFor w c asking → ((p : ℕ) → BeganFrom w begun_here.partitions p) → (tag : ℕ)
-      → (rows : List Found) → IsHad w c (read_ends t x tag asking (Some rows) (viewed asking.viewing rows))
+  done_had : (asking : PendingAsk) → ReadsFor w c asking → ((p : ℕ) → BeganFrom w begun_here.partitions p) → (tag : ℕ)
+      → (rows : List ReadVersion) → IsHad w c (read_ends t x tag asking (Some rows) (viewed asking.viewing rows))
   done_had asking u began tag rows = go (is_closed asking.viewing.ask rows)
     where
       wide : (f : Bool) → IsHad w c (read_ends t x tag asking (Some rows)
@@ -341,7 +341,7 @@ module _ (o : Opening) (w : World) (k : IsKept o w) (c : ℕ) (q : IsRequestedBu
 
       go : (f : Bool) → IsHad w c (read_ends t x tag asking (Some rows)
           (if f then Closed (record { ask = asking.viewing.ask; rows = rows }) else
-          (if nat_lt MOST_READ_ITEMS (length (names_of rows asking.viewing.ask)) then Busy Wide else again
+          (if nat_lt MAX_READ_ITEMS (length (names_of rows asking.viewing.ask)) then Busy Wide else again
           asking.viewing (names_of rows asking.viewing.ask))))
       go true =
           let basis = basis_on t.policy asking.principal rows in
@@ -352,12 +352,12 @@ module _ (o : Opening) (w : World) (k : IsKept o w) (c : ℕ) (q : IsRequestedBu
             principal = asking.principal;
             policy = t.policy;
           }) refl refl (ruling_of basis asking.viewing.ask)
-      go false = wide (nat_lt MOST_READ_ITEMS (length (names_of rows asking.viewing.ask)))
+      go false = wide (nat_lt MAX_READ_ITEMS (length (names_of rows asking.viewing.ask)))
 
-  reading_had : (asking : Asking) → ReadsFor w c asking → ((p : ℕ) → BeganFrom w begun_here.partitions p) → (tag : ℕ)
+  reading_had : (asking : PendingAsk) → ReadsFor w c asking → ((p : ℕ) → BeganFrom w begun_here.partitions p) → (tag : ℕ)
       → (s : Step) → IsHad w c (read_turn t x tag asking s)
-  reading_had asking u began tag (Same round) = reads_on asking u (doing.Reads asking round) [] (λ v d. d)
-  reading_had asking u began tag (Next round sent) = reads_on asking u (doing.Reads asking round) sent (λ v d. d)
+  reading_had asking u began tag (Same round) = reads_on asking u (phase.Reads asking round) [] (λ v d. d)
+  reading_had asking u began tag (Next round sent) = reads_on asking u (phase.Reads asking round) sent (λ v d. d)
   reading_had asking u began tag (Done rows) = done_had asking u began tag rows
   reading_had asking u began tag (Gone items) = again_had asking u None tag began items
 
@@ -368,13 +368,13 @@ module _ (o : Opening) (w : World) (k : IsKept o w) (c : ℕ) (q : IsRequestedBu
   preparing_had z u from told.Prepared = go (answered_by z from).awaited
     where
       go : (awaited : List ℕ) → IsHad w c (prepare_turn x z.tag (prepares_left (answered_by z from) awaited))
-      go [] = writes_on z (commit_round (answered_by z from)) refl u (doing.Commits (commit_round (answered_by z from)))
+      go [] = writes_on z (commit_round (answered_by z from)) refl u (phase.Commits (commit_round (answered_by z from)))
           (commits_of (commit_round (answered_by z from))) (λ v d. d)
-      go (p ∷ ps) = writes_on z (answered_by z from) refl u (doing.Prepares (answered_by z from)) [] (λ v d. d)
+      go (p ∷ ps) = writes_on z (answered_by z from) refl u (phase.Prepares (answered_by z from)) [] (λ v d. d)
   preparing_had z u from told.Discarded = outcome_had z u z.tag (answer.Aborted z.stamp) (λ ws e. e)
   preparing_had z u from told.Full = outcome_had z u z.tag (answer.Unsettled z.stamp refusal.Full) (λ ws e. e)
-  preparing_had z u from told.Committed = writes_on z z refl u (doing.Prepares z) [] (λ v d. d)
-  preparing_had z u from told.Nothing = writes_on z z refl u (doing.Prepares z) [] (λ v d. d)
+  preparing_had z u from told.Committed = writes_on z z refl u (phase.Prepares z) [] (λ v d. d)
+  preparing_had z u from told.Nothing = writes_on z z refl u (phase.Prepares z) [] (λ v d. d)
 
   committing_had : (z : WritingState) → WritesFor w c z → (from : Node) (what : Heard)
       → IsHad w c (commit_turn x z.tag (commits_by z from what))
@@ -382,17 +382,17 @@ module _ (o : Opening) (w : World) (k : IsKept o w) (c : ℕ) (q : IsRequestedBu
     where
       go : (awaited : List ℕ) → IsHad w c (commit_turn x z.tag (commits_left (answered_by z from) awaited))
       go [] = outcome_had z u z.tag (answer.Committed (answered_by z from).stamp) (λ ws e. e)
-      go (p ∷ ps) = writes_on z (answered_by z from) refl u (doing.Commits (answered_by z from)) [] (λ v d. d)
-  committing_had z u from told.Prepared = writes_on z z refl u (doing.Commits z) [] (λ v d. d)
-  committing_had z u from told.Discarded = writes_on z z refl u (doing.Commits z) [] (λ v d. d)
-  committing_had z u from told.Full = writes_on z z refl u (doing.Commits z) [] (λ v d. d)
-  committing_had z u from told.Nothing = writes_on z z refl u (doing.Commits z) [] (λ v d. d)
+      go (p ∷ ps) = writes_on z (answered_by z from) refl u (phase.Commits (answered_by z from)) [] (λ v d. d)
+  committing_had z u from told.Prepared = writes_on z z refl u (phase.Commits z) [] (λ v d. d)
+  committing_had z u from told.Discarded = writes_on z z refl u (phase.Commits z) [] (λ v d. d)
+  committing_had z u from told.Full = writes_on z z refl u (phase.Commits z) [] (λ v d. d)
+  committing_had z u from told.Nothing = writes_on z z refl u (phase.Commits z) [] (λ v d. d)
 
   -- ---- a request
 
   -- it is the client's last one, and its read begins with the partitions as they are
   asked_had : (tag : ℕ) (b : Asked) → last_asked w.past.asked c ≡ Some b → b.writes ≡ [] → b.answers ≡ []
-      → b.partitions ≡ w.now.partitions → (asking : Asking) → b.ask ≡ asking.viewing.ask
+      → b.partitions ≡ w.now.partitions → (asking : PendingAsk) → b.ask ≡ asking.viewing.ask
       → b.principal ≡ asking.principal → (items : List ℕ) → IsHad w c (read_begins t x tag asking items)
   asked_had tag b last unwritten unanswered at asking ask principal items =
       let turn = read_begins t x tag asking items in
@@ -449,9 +449,9 @@ module _ (w : World) (q : IsRequested w) (partitions : List PartitionState) (mes
     some = u.some;
   }
 
-  alike_under : (c : ℕ) (f : Doing) → IsUnder w c f → IsUnder alike c f
-  alike_under c (doing.Idle tag) u = u
-  alike_under c (doing.Reads asking round) u = record {
+  alike_under : (c : ℕ) (f : Phase) → IsUnder w c f → IsUnder alike c f
+  alike_under c (phase.Idle tag) u = u
+  alike_under c (phase.Reads asking round) u = record {
     asked = u.asked;
     last = u.last;
     ask = u.ask;
@@ -460,8 +460,8 @@ module _ (w : World) (q : IsRequested w) (partitions : List PartitionState) (mes
     unanswered = u.unanswered;
     later = u.later;
   }
-  alike_under c (doing.Prepares z) u = alike_writes c z u
-  alike_under c (doing.Commits z) u = alike_writes c z u
+  alike_under c (phase.Prepares z) u = alike_writes c z u
+  alike_under c (phase.Commits z) u = alike_writes c z u
 
   still_requested : IsRequested alike
   still_requested = record {
@@ -470,7 +470,7 @@ module _ (w : World) (q : IsRequested w) (partitions : List PartitionState) (mes
         record { asked = d.asked; made = d.made; answers = d.answers; is = d.is };
     begun = λ r i. let d = q.begun r i in record { asked = d.asked; made = d.made; writes = d.writes };
     turns = q.turns;
-    at = λ c. alike_under c (client_at w.now.clients c).doing (q.at c);
+    at = λ c. alike_under c (client_at w.now.clients c).phase (q.at c);
   }
 
 -- a request more, which its client is to have its turn for
@@ -500,9 +500,9 @@ module _ (w : World) (q : IsRequested w) (c : ℕ) (who : Principal) (ask : Ask)
     some = u.some;
   }
 
-  under_more : (d : ℕ) → eqb c d ≡ false → (f : Doing) → IsUnder w d f → IsUnder more d f
-  under_more d ne (doing.Idle tag) u = λ a e. u a (sym (beside_last d ne) ∙ e)
-  under_more d ne (doing.Reads asking round) u = record {
+  under_more : (d : ℕ) → eqb c d ≡ false → (f : Phase) → IsUnder w d f → IsUnder more d f
+  under_more d ne (phase.Idle tag) u = λ a e. u a (sym (beside_last d ne) ∙ e)
+  under_more d ne (phase.Reads asking round) u = record {
     asked = u.asked;
     last = beside_last d ne ∙ u.last;
     ask = u.ask;
@@ -511,8 +511,8 @@ module _ (w : World) (q : IsRequested w) (c : ℕ) (who : Principal) (ask : Ask)
     unanswered = u.unanswered;
     later = u.later;
   }
-  under_more d ne (doing.Prepares z) u = writes_more d ne z u
-  under_more d ne (doing.Commits z) u = writes_more d ne z u
+  under_more d ne (phase.Prepares z) u = writes_more d ne z u
+  under_more d ne (phase.Commits z) u = writes_more d ne z u
 
   new_alone : IsAlone more request
   new_alone = record {
@@ -534,7 +534,7 @@ module _ (w : World) (q : IsRequested w) (c : ℕ) (who : Principal) (ask : Ask)
     begun = λ r i. let d = q.begun r i in
         record { asked = d.asked; made = there d.made; writes = d.writes };
     turns = (λ b i e. all_answered w.past.asked c q.turns idle b i e, q.turns);
-    at = λ d ne. under_more d ne (client_at w.now.clients d).doing (q.at d);
+    at = λ d ne. under_more d ne (client_at w.now.clients d).phase (q.at d);
   }
 
   request_last : last_asked more.past.asked c ≡ Some request
@@ -566,29 +566,29 @@ module _ (o : Opening) (some : 0 < o.parts) (w : World) (k : IsKept o w) (q : Is
   unless_by e true r g h = q
   unless_by e false r g h = h
 
-  asks_had : (c : ℕ) (who : Principal) (ask : Ask) (f : Doing) → IsUnder w c f
+  asks_had : (c : ℕ) (who : Principal) (ask : Ask) (f : Phase) → IsUnder w c f
       → IsKeptBy w (event.Ask c who ask) (asks_by ts c (client_at w.now.clients c) who ask f)
-  asks_had c who ask (doing.Idle tag) u = go (refusal_of ask who)
+  asks_had c who ask (phase.Idle tag) u = go (refusal_of ask who)
     where
       go : (f : Option Refusal) → IsKeptBy w (event.Ask c who ask) (asks_unless ts c (client_at w.now.clients c) tag who ask f)
       go (Some r) = q
       go None = asked_had o (requested w (event.Ask c who ask)) (request_kept o w k (new_request w c who ask)) c
           (requested_but w q c who ask u) tag (new_request w c who ask) (request_last w q c who ask u) refl refl refl
           (record { viewing = record { ask = ask; reads = 0 }; principal = who }) refl refl (objects_of ask)
-  asks_had c who ask (doing.Reads v r) u = q
-  asks_had c who ask (doing.Prepares z) u = q
-  asks_had c who ask (doing.Commits z) u = q
+  asks_had c who ask (phase.Reads v r) u = q
+  asks_had c who ask (phase.Prepares z) u = q
+  asks_had c who ask (phase.Commits z) u = q
 
-  client_had : (c : ℕ) (m : Message) (f : Doing)
+  client_had : (c : ℕ) (m : Message) (f : Phase)
       → IsDoing o w c (last_begun w.past.begun c).partitions f → IsUnder w c f
       → IsRequested (changed w (client_takes_by ts c (client_at w.now.clients c) m f)) ×
       AnswersLast (changed w (client_takes_by ts c (client_at w.now.clients c) m f))
       (client_takes_by ts c (client_at w.now.clients c) m f)
-  client_had c m (doing.Idle tag) kept u = (q, tt)
-  client_had c m (doing.Reads asking r) kept u = reading_had o w k c (but c) asking u kept.begun r.asker.tag
+  client_had c m (phase.Idle tag) kept u = (q, tt)
+  client_had c m (phase.Reads asking r) kept u = reading_had o w k c (but c) asking u kept.begun r.asker.tag
       (stepped r m)
-  client_had c m (doing.Prepares z) kept u = preparing_had o w k c (but c) z u m.from (told_of z m)
-  client_had c m (doing.Commits z) kept u = committing_had o w k c (but c) z u m.from (told_of z m)
+  client_had c m (phase.Prepares z) kept u = preparing_had o w k c (but c) z u m.from (told_of z m)
+  client_had c m (phase.Commits z) kept u = committing_had o w k c (but c) z u m.from (told_of z m)
 
   arrival_had : (n : ℕ) (m : Message) (to : Node) → IsKeptBy w (event.Deliver n) (Ok (arrives ts w.now m to))
   arrival_had n m (Part p) = go (slice_get w.now.partitions p)
@@ -600,9 +600,9 @@ module _ (o : Opening) (some : 0 < o.parts) (w : World) (k : IsKept o w) (q : Is
     where
       go : (f : Bool) → IsKeptBy w (event.Deliver n)
           (Ok (if f then Nothing else client_takes_by ts c (client_at w.now.clients c) m
-          (client_at w.now.clients c).doing))
+          (client_at w.now.clients c).phase))
       go true = (q, tt)
-      go false = client_had c m (client_at w.now.clients c).doing (k.clients c).doing (q.at c)
+      go false = client_had c m (client_at w.now.clients c).phase (k.clients c).phase (q.at c)
 
   delivery_had : (n : ℕ) (f : Option Message) → IsKeptBy w (event.Deliver n) (delivers ts w.now f)
   delivery_had n None = q
@@ -630,7 +630,7 @@ module _ (o : Opening) (some : 0 < o.parts) (w : World) (k : IsKept o w) (q : Is
   event_had (event.Ask c who ask) =
       unless_by (event.Ask c who ask) (not (is_client c)) refusal.BadRequest _
       (unless_by (event.Ask c who ask) (is_stopped w.now c) refusal.Stopped _
-      (asks_had c who ask (client_at w.now.clients c).doing (q.at c)))
+      (asks_had c who ask (client_at w.now.clients c).phase (q.at c)))
   event_had (event.Deliver n) = delivery_had n (message_of w.now.messages n)
   event_had (event.Sweep p s) = sweep_had p s (slice_get w.now.partitions p)
   event_had (event.Stop c) = unless_by (event.Stop c) (is_stopped w.now c) refusal.Stopped (Ok (Stops c))

@@ -1,12 +1,12 @@
 -- What led to each write, to each answer and to each note, and that it lasts.
 use Rattle.std.proofs.Common.{◌≡◌, ℕ, ◌<◌, ◌≤◌, ◌+◌, ◌*◌, Bool, true, false, cond, eqb, nat_lt, List, [], ◌∷◌, ◌++◌, Option, Some, None, option_to_list, option_map, inl, inr, ⊎_elim, sym, ap, ◌∙◌, subst, refl, arith, eqb-true, ltb-true, le_refl, le_trans, if◌then◌else◌}
-use Rattle.album_stamps.specs.declared.limits.TheConstants.{CLIENTS, MOST_READS}
+use Rattle.album_stamps.specs.declared.limits.TheConstants.{CLIENTS, MAX_READS}
 use Rattle.album_stamps.specs.declared.refusals.Refusal.{Refusal}
 use Rattle.album_stamps.specs.declared.refusals.Refusal.TheVariants as refusal
 use Rattle.album_items.specs.declared.openings.Opening.{Opening}
 use Rattle.album_calls.specs.declared.messages.Message.{Message}
 use Rattle.album_partition.specs.Partition.{PartitionState}
-use Rattle.album_reader.specs.Answers.{Answer as Found}
+use Rattle.album_reader.specs.Answers.{ReadVersion}
 use Rattle.album_views.specs.Checks.{refusal_of}
 use Rattle.album_views.specs.Views.{IsView}
 use Rattle.album_views.specs.declared.viewing.Why.{Why}
@@ -16,10 +16,10 @@ use Rattle.album_permits.specs.declared.notes.Note.{Note}
 use Rattle.album_writer.specs.Writing.{WritingState, places_in}
 use Rattle.album_writer.specs.declared.answers.Answer.{Answer}
 use Rattle.album_writer.specs.declared.answers.Answer.TheVariants as answer
-use Rattle.album_client.specs.declared.clients.Doing.{Doing}
-use Rattle.album_client.specs.declared.clients.Doing.TheVariants as doing
+use Rattle.album_client.specs.declared.clients.Phase.{Phase}
+use Rattle.album_client.specs.declared.clients.Phase.TheVariants as phase
 use Rattle.album_client.specs.Terms.{Terms, terms_of}
-use Rattle.album_client.specs.Askings.{Asking}
+use Rattle.album_client.specs.Askings.{PendingAsk}
 use Rattle.album_client.specs.Clients.{Client}
 use Rattle.album_client.specs.Turns.{Transaction, Ended, Turn}
 use Rattle.album_world.specs.State.{client_at, with_number}
@@ -60,7 +60,7 @@ IsLed t w told (answer.Refused why) = IsOnView t w told.client told.last
 -- a client's write was begun on the view that it had read last
 pub record IsWriteOn (t : Terms) (w : World) (c : ℕ) (z : WritingState) (T : Transaction → Type 0) : Type 0 where
   pub read : Read
-  pub rows : List Found
+  pub rows : List ReadVersion
   pub last : last_read w.past.reads c ≡ Some read
   pub made : In read w.past.reads
   pub own : read.begun.client ≡ c
@@ -81,23 +81,23 @@ pub record IsWriteOn (t : Terms) (w : World) (c : ℕ) (z : WritingState) (T : T
   pub is : T by
 
 -- the viewing counts the reads that were made for the ask before this one
-pub record IsCount (w : World) (c : ℕ) (asking : Asking) : Type 0 where
+pub record IsCount (w : World) (c : ℕ) (asking : PendingAsk) : Type 0 where
   pub taken : refusal_of asking.viewing.ask asking.principal ≡ None
   pub count : (last_begun w.past.begun c).nth ≡ asking.viewing.reads + 1
-  pub few : asking.viewing.reads < MOST_READS
+  pub few : asking.viewing.reads < MAX_READS
 
-abbrev pub IsAt : Terms → World → ℕ → Doing → Type 0
-IsAt t w c (doing.Idle tag) = Unit {0}
-IsAt t w c (doing.Reads asking round) = IsCount w c asking
-IsAt t w c (doing.Prepares z) = IsWriteOn t w c z (λ by. by.tag ≡ z.tag)
-IsAt t w c (doing.Commits z) = IsWriteOn t w c z (λ by. Unit {0})
+abbrev pub IsAt : Terms → World → ℕ → Phase → Type 0
+IsAt t w c (phase.Idle tag) = Unit {0}
+IsAt t w c (phase.Reads asking round) = IsCount w c asking
+IsAt t w c (phase.Prepares z) = IsWriteOn t w c z (λ by. by.tag ≡ z.tag)
+IsAt t w c (phase.Commits z) = IsWriteOn t w c z (λ by. Unit {0})
 
 pub record IsBooked (t : Terms) (w : World) : Type 0 where
   pub granted : (by : Transaction) → In by w.past.transactions → IsGranted t w by
   pub led : (told : Told) → In told w.past.told → IsLed t w told told.answer
   pub noting : (told : Told) → In told w.past.told → IsNotedFor w told told.answer
   pub noted : (n : Noted) → In n w.past.noted → IsOnView t w n.client n.last (λ case. Notes case n.notes)
-  pub at : (c : ℕ) → IsAt t w c (client_at w.now.clients c).doing
+  pub at : (c : ℕ) → IsAt t w c (client_at w.now.clients c).phase
 
 -- ---- what lasts
 
@@ -249,13 +249,13 @@ module _ (t : Terms) (w1 w2 : World) (g : Adds w1 w2) where
     is = h.is;
   }
 
-  pub at_adds : (c : ℕ) (f : Doing) → last_begun w2.past.begun c ≡ last_begun w1.past.begun c
+  pub at_adds : (c : ℕ) (f : Phase) → last_begun w2.past.begun c ≡ last_begun w1.past.begun c
       → last_read w2.past.reads c ≡ last_read w1.past.reads c → IsAt t w1 c f → IsAt t w2 c f
-  at_adds c (doing.Idle tag) n same h = tt
-  at_adds c (doing.Reads asking round) n same h =
+  at_adds c (phase.Idle tag) n same h = tt
+  at_adds c (phase.Reads asking round) n same h =
       record { taken = h.taken; count = ap (λ (z : Begun). z.nth) n ∙ h.count; few = h.few }
-  at_adds c (doing.Prepares z) n same h = write_adds c z (λ by. by.tag ≡ z.tag) same h
-  at_adds c (doing.Commits z) n same h = write_adds c z (λ by. Unit {0}) same h
+  at_adds c (phase.Prepares z) n same h = write_adds c z (λ by. by.tag ≡ z.tag) same h
+  at_adds c (phase.Commits z) n same h = write_adds c z (λ by. Unit {0}) same h
 
 -- where notes were told, whatever the answer is
 pub noting_by : (w : World) (told : Told) (a : Answer) → HasNotes w told → IsNotedFor w told a
@@ -274,7 +274,7 @@ same_booked : (t : Terms) (w next : World) → Adds w next → IsBooked t w
     → ((r : Transaction) → In r next.past.transactions → In r w.past.transactions)
     → ((told : Told) → In told next.past.told → In told w.past.told)
     → ((n : Noted) → In n next.past.noted → In n w.past.noted)
-    → ((c : ℕ) → IsAt t next c (client_at next.now.clients c).doing) → IsBooked t next
+    → ((c : ℕ) → IsAt t next c (client_at next.now.clients c).phase) → IsBooked t next
 same_booked t w next g b rs ts ns at = record {
   granted = λ r l. granted_adds t w next g r (b.granted r (rs r l));
   led = λ told l. led_adds t w next g told told.answer (b.led told (ts told l));
@@ -300,7 +300,7 @@ part_booked t w b p h sent =
     let next = changed w (AtPart p h sent) in
     let g = part_adds w p h sent in
     same_booked t w next g b (λ r l. l) (λ told l. l) (λ n l. l)
-    (λ c. at_adds t w next g c (client_at w.now.clients c).doing refl refl (b.at c))
+    (λ c. at_adds t w next g c (client_at w.now.clients c).phase refl refl (b.at c))
 
 -- who was stopped, and what was asked, is nothing to what is booked
 module _ (t : Terms) (w : World) (b : IsBooked t w) (stopped : List ℕ) (asked : List Asked) where
@@ -319,7 +319,7 @@ module _ (t : Terms) (w : World) (b : IsBooked t w) (stopped : List ℕ) (asked 
 
   still_booked : IsBooked t alike
   still_booked = same_booked t w alike alike_adds b (λ r l. l) (λ told l. l) (λ n l. l)
-      (λ d. at_adds t w alike alike_adds d (client_at w.now.clients d).doing refl refl (b.at d))
+      (λ d. at_adds t w alike alike_adds d (client_at w.now.clients d).phase refl refl (b.at d))
 
 pub stop_booked : (t : Terms) (w : World) → IsBooked t w → (c : ℕ) → IsBooked t (changed w (Stops c))
 stop_booked t w b c = still_booked t w b (with_number c w.now.stopped) w.past.asked
@@ -391,7 +391,7 @@ module _ (o : Opening) (w : World) (k : IsKept o w) (b : IsBooked (terms_of o) w
           (in_cases w.past.transactions (option_to_list t.writes) l);
     }
 
-    pub turn_booked : IsAt (terms_of o) next c t.client.doing
+    pub turn_booked : IsAt (terms_of o) next c t.client.phase
         → ((r : Transaction) → t.writes ≡ Some r → IsGranted (terms_of o) next r)
         → ((a : Answer) → t.answer ≡ Some a → IsLed (terms_of o) next (told_to (reads_after w.past c t) c a) a)
         → ((a : Answer) → t.answer ≡ Some a → IsNotedFor next (told_to (reads_after w.past c t) c a) a)
@@ -419,11 +419,11 @@ module _ (o : Opening) (w : World) (k : IsKept o w) (b : IsBooked (terms_of o) w
           (in_cases w.past.noted (option_to_list (option_map (noted_of (reads_after w.past c t) c) t.noted)) h);
       at = λ d. ⊎_elim
           (λ (e : (c ≡ d) × (client_at next.now.clients d ≡ t.client)).
-          subst (λ (z : Client). IsAt (terms_of o) next d z.doing) (sym e.1)
-          (subst (λ (z : ℕ). IsAt (terms_of o) next z t.client.doing) e.0 does))
+          subst (λ (z : Client). IsAt (terms_of o) next d z.phase) (sym e.1)
+          (subst (λ (z : ℕ). IsAt (terms_of o) next z t.client.phase) e.0 does))
           (λ (e : (eqb c d ≡ false) × (client_at next.now.clients d ≡ client_at w.now.clients d)).
-          subst (λ (z : Client). IsAt (terms_of o) next d z.doing) (sym e.1)
-          (at_adds (terms_of o) w next turn_adds d (client_at w.now.clients d).doing
+          subst (λ (z : Client). IsAt (terms_of o) next d z.phase) (sym e.1)
+          (at_adds (terms_of o) w next turn_adds d (client_at w.now.clients d).phase
           (begun_other t.reads c d (nth_after w.past c t.over) w.now.partitions w.past.begun e.0)
           (last_other c d begun_here t.over w.past.reads (begun_client w.past.begun c) e.0) (b.at d)))
           (client_cases o w k c t number own d);

@@ -6,8 +6,8 @@ use Rattle.album_eval.specs.declared.facts.Principal.{Principal}
 use Rattle.album_views.specs.declared.asks.Ask.{Ask}
 use Rattle.album_lists.specs.Whos.{or_else}
 use Rattle.album_views.specs.Checks.{refusal_of, flaw_of}
-use Rattle.album_client.specs.declared.clients.Doing.{Doing}
-use Rattle.album_client.specs.declared.clients.Doing.TheVariants.{Idle, Reads, Prepares, Commits}
+use Rattle.album_client.specs.declared.clients.Phase.{Phase}
+use Rattle.album_client.specs.declared.clients.Phase.TheVariants.{Idle, Reads, Prepares, Commits}
 use Rattle.album_client.specs.Terms.{Terms}
 use Rattle.album_client.specs.Clients.{Client}
 use Rattle.album_world.specs.Moves.{idle_tag}
@@ -31,24 +31,24 @@ check_takes_none ask principal e h q = first _ _ _ _ _ e q h
 -- ---- what may be asked
 
 module _ (terms : Terms) (n : ℕ) (x : Client) (principal : Principal) (ask : Ask) where
-  idle_by : (f : Doing) → IsOk (asks_by terms n x principal ask f) → idle_tag f ≡ None → ⊥
+  idle_by : (f : Phase) → IsOk (asks_by terms n x principal ask f) → idle_tag f ≡ None → ⊥
   idle_by (Idle tag) h e = absurd (cc)
   idle_by (Reads asking round) h e = absurd (cc)
   idle_by (Prepares writing) h e = absurd (cc)
   idle_by (Commits writing) h e = absurd (cc)
 
-  pub is_idle : IsOk (asks_of terms n x principal ask) → idle_tag x.doing ≡ None → ⊥
-  is_idle h e = idle_by x.doing h e
+  pub is_idle : IsOk (asks_of terms n x principal ask) → idle_tag x.phase ≡ None → ⊥
+  is_idle h e = idle_by x.phase h e
 
   taken_unless : (tag : ℕ) (r : Option Refusal) → IsOk (asks_unless terms n x tag principal ask r) → r ≡ None
   taken_unless tag (Some e) h = absurd (cc)
   taken_unless tag None h = refl
 
-  taken_by : (f : Doing) → IsOk (asks_by terms n x principal ask f) → refusal_of ask principal ≡ None
+  taken_by : (f : Phase) → IsOk (asks_by terms n x principal ask f) → refusal_of ask principal ≡ None
   taken_by (Idle tag) h = taken_unless tag (refusal_of ask principal) h
   taken_by (Reads asking round) h = absurd (cc)
   taken_by (Prepares writing) h = absurd (cc)
   taken_by (Commits writing) h = absurd (cc)
 
   pub is_taken : IsOk (asks_of terms n x principal ask) → refusal_of ask principal ≡ None
-  is_taken h = taken_by x.doing h
+  is_taken h = taken_by x.phase h

@@ -2,7 +2,7 @@
 use Rattle.std.proofs.Common.{◌≡◌, ℕ, ◌≤◌, ◌+◌, ◌*◌, Bool, true, false, cond, eqb, ◌==◌, ◌&&◌, not, nat_lt, List, [], ◌∷◌, Option, Some, None, Result, Ok, Err, ◌⊎◌, inl, inr, ⊎_elim, sym, ap, ◌∙◌, subst, refl, arith, true≢false, eqb-true, eq-eqb, le_refl, le_trans, if◌then◌else◌}
 use Rattle.std.specs.List.{list_any}
 use Rattle.std.specs.Option.{option_and_then}
-use Rattle.album_stamps.specs.declared.limits.TheConstants.{GREATEST_COUNTER}
+use Rattle.album_stamps.specs.declared.limits.TheConstants.{MAX_COUNTER}
 use Rattle.album_stamps.specs.declared.refusals.Refusal.{Refusal}
 use Rattle.album_stamps.specs.declared.refusals.Refusal.TheVariants as refusal
 use Rattle.album_stamps.specs.Stamps.{stamp_number, counter_of}
@@ -16,7 +16,7 @@ use Rattle.album_calls.specs.declared.nodes.Node.{Node}
 use Rattle.album_calls.specs.declared.nodes.Node.TheVariants.{Part, Client as ToClient}
 use Rattle.album_calls.specs.declared.replies.Reply.{Reply}
 use Rattle.album_calls.specs.declared.replies.Reply.TheVariants as reply
-use Rattle.album_reader.specs.Answers.{Answer as Found, body_version, is_answer, if_answer, answers_there, are_there}
+use Rattle.album_reader.specs.Answers.{ReadVersion, body_version, is_answer, if_answer, answers_there, are_there}
 use Rattle.album_reader.specs.Rounds.{RoundState, has_item, has_answer, lacks, if_lacking, new_answer, put_answer, are_in_order, no_answers}
 use Rattle.album_reader.specs.Snapshots.{items_read}
 use Rattle.album_reader.proofs.Rounds.{items_read-in_order}
@@ -54,23 +54,23 @@ client_other (y ∷ cs) x d ne = go (eqb y.number x.number) refl (client_other c
 
 -- ---- clocks
 
-pub rows_client : (clock : ClockState) (rows : List Found) → (clock_after_rows clock rows).client ≡ clock.client
+pub rows_client : (clock : ClockState) (rows : List ReadVersion) → (clock_after_rows clock rows).client ≡ clock.client
 rows_client clock [] = refl
 rows_client clock (f ∷ rows) = rows_client (clock_after_see clock f.stamp) rows
 
-pub rows_raise : (clock : ClockState) (rows : List Found) → clock.counter ≤ (clock_after_rows clock rows).counter
+pub rows_raise : (clock : ClockState) (rows : List ReadVersion) → clock.counter ≤ (clock_after_rows clock rows).counter
 rows_raise clock [] = le_refl _
 rows_raise clock (f ∷ rows) = let l : clock.counter ≤ (clock_after_see clock f.stamp).counter = omega arith in
     le_trans l (rows_raise (clock_after_see clock f.stamp) rows)
 
 -- a clock that has seen a snapshot is at no lower counter than any stamp in it
-pub rows_seen : (clock : ClockState) (rows : List Found) (row : Found) → In row rows
+pub rows_seen : (clock : ClockState) (rows : List ReadVersion) (row : ReadVersion) → In row rows
     → counter_of row.stamp ≤ (clock_after_rows clock rows).counter
 rows_seen clock [] row h = in_nil h
 rows_seen clock (f ∷ rows) row h = ⊎_elim
     (λ (e : row ≡ f).
     let l : counter_of f.stamp ≤ (clock_after_see clock f.stamp).counter = omega arith in
-    subst (λ (z : Found). counter_of z.stamp ≤ (clock_after_rows (clock_after_see clock f.stamp) rows).counter)
+    subst (λ (z : ReadVersion). counter_of z.stamp ≤ (clock_after_rows (clock_after_see clock f.stamp) rows).counter)
     (sym e) (le_trans l (rows_raise (clock_after_see clock f.stamp) rows)))
     (λ i. rows_seen (clock_after_see clock f.stamp) rows row i)
     (in_uncons h)
@@ -84,16 +84,16 @@ ok_same : {x y : ℕ} → (let a : Result ℕ Refusal = Ok x in a) ≡ Ok y → 
 ok_same e = cc
 
 pub draw_is : (clock : ClockState) (stamp : ℕ) → next_of clock ≡ Ok stamp → IsDraw clock stamp
-draw_is clock stamp h = go (nat_lt clock.counter GREATEST_COUNTER) refl h
+draw_is clock stamp h = go (nat_lt clock.counter MAX_COUNTER) refl h
   where
-    go : (b : Bool) → nat_lt clock.counter GREATEST_COUNTER ≡ b
+    go : (b : Bool) → nat_lt clock.counter MAX_COUNTER ≡ b
         → (if b then Ok (stamp_number (clock.counter + 1) clock.client) else Err refusal.StampsSpent) ≡ Ok stamp
         → IsDraw clock stamp
     go true e k = record { stamp_is = sym (ok_same k); counter = rw e refl; client = rw e refl }
     go false e k = absurd (cc)
 
 pub next_client : (clock : ClockState) → (clock_after_next clock).client ≡ clock.client
-next_client clock = go (nat_lt clock.counter GREATEST_COUNTER)
+next_client clock = go (nat_lt clock.counter MAX_COUNTER)
   where
     go : (b : Bool) → (if b then (let z : ClockState = record clock { counter = clock.counter + 1 } in z) else
         clock).client ≡ clock.client
@@ -101,7 +101,7 @@ next_client clock = go (nat_lt clock.counter GREATEST_COUNTER)
     go false = refl
 
 pub next_raise : (clock : ClockState) → clock.counter ≤ (clock_after_next clock).counter
-next_raise clock = go (nat_lt clock.counter GREATEST_COUNTER)
+next_raise clock = go (nat_lt clock.counter MAX_COUNTER)
   where
     go : (b : Bool) → clock.counter ≤
         (if b then (let z : ClockState = record clock { counter = clock.counter + 1 } in z) else clock).counter
@@ -110,22 +110,22 @@ next_raise clock = go (nat_lt clock.counter GREATEST_COUNTER)
 
 -- ---- the answers of a round
 
-pub there_in : (founds : List (Option Found)) (f : Found) → In f (answers_there founds) → In (Some f) founds
+pub there_in : (founds : List (Option ReadVersion)) (f : ReadVersion) → In f (answers_there founds) → In (Some f) founds
 there_in [] f h = in_nil h
 there_in (None ∷ founds) f h = there (there_in founds f h)
 there_in (Some g ∷ founds) f h = ⊎_elim
-    (λ (e : f ≡ g). subst (λ (z : Found). In (Some z) (Some g ∷ founds)) (sym e) here)
+    (λ (e : f ≡ g). subst (λ (z : ReadVersion). In (Some z) (Some g ∷ founds)) (sym e) here)
     (λ k. there (there_in founds f k)) (in_uncons h)
 
 -- each item has its answer
-pub each_item : (items : List ℕ) (founds : List (Option Found)) → are_in_order items founds ≡ true
-    → are_there founds ≡ true → (i : ℕ) → In i items → (f : Found) × In f (answers_there founds) × (f.item ≡ i)
+pub each_item : (items : List ℕ) (founds : List (Option ReadVersion)) → are_in_order items founds ≡ true
+    → are_there founds ≡ true → (i : ℕ) → In i items → (f : ReadVersion) × In f (answers_there founds) × (f.item ≡ i)
 each_item items founds own all i h =
     let is : items ≡ items_read (answers_there founds) = items_read-in_order items founds own all in
-    let r = in_map (λ (row : Found). row.item) (answers_there founds) (subst (λ (z : List ℕ). In i z) is h) in
+    let r = in_map (λ (row : ReadVersion). row.item) (answers_there founds) (subst (λ (z : List ℕ). In i z) is h) in
     (r.0, r.1, sym r.2)
 
-own_in : (items : List ℕ) (founds : List (Option Found)) (f : Found) → are_in_order items founds ≡ true
+own_in : (items : List ℕ) (founds : List (Option ReadVersion)) (f : ReadVersion) → are_in_order items founds ≡ true
     → In (Some f) founds → In f.item items
 own_in [] [] f own h = in_nil h
 own_in [] (g ∷ founds) f own h = absurd (true≢false (sym own))
@@ -134,12 +134,12 @@ own_in (item ∷ items) (None ∷ founds) f own h = ⊎_elim (λ (e : Some f ≡
     (λ k. there (own_in items founds f own k)) (in_uncons h)
 own_in (item ∷ items) (Some g ∷ founds) f own h = ⊎_elim
     (λ (e : Some f ≡ Some g). subst (λ (z : ℕ). In z (item ∷ items))
-    (sym (ap (λ (z : Found). z.item) (some_same e)
+    (sym (ap (λ (z : ReadVersion). z.item) (some_same e)
     ∙ eqb-true g.item item (and_left (g.item == item) (are_in_order items founds) own))) here)
     (λ k. there (own_in items founds f (and_right (g.item == item) (are_in_order items founds) own) k))
     (in_uncons h)
 
-pub own_item : (items : List ℕ) (founds : List (Option Found)) → are_in_order items founds ≡ true → (f : Found)
+pub own_item : (items : List ℕ) (founds : List (Option ReadVersion)) → are_in_order items founds ≡ true → (f : ReadVersion)
     → In f (answers_there founds) → In f.item items
 own_item items founds own f h = own_in items founds f own (there_in founds f h)
 
@@ -147,13 +147,13 @@ pub own_nothing : (items : List ℕ) → are_in_order items (no_answers items) �
 own_nothing [] = refl
 own_nothing (item ∷ items) = own_nothing items
 
-pub none_found : (items : List ℕ) (f : Found) {R : Type 0} → In (Some f) (no_answers items) → R
+pub none_found : (items : List ℕ) (f : ReadVersion) {R : Type 0} → In (Some f) (no_answers items) → R
 none_found [] f h = in_nil h
 none_found (item ∷ items) f h = ⊎_elim (λ (e : Some f ≡ None). none_some (sym e)) (λ k. none_found items f k)
     (in_uncons h)
 
 -- an answer that is there with one more was there, or is that one
-pub put_cases : (a : Found) (items : List ℕ) (founds : List (Option Found)) (f : Found)
+pub put_cases : (a : ReadVersion) (items : List ℕ) (founds : List (Option ReadVersion)) (f : ReadVersion)
     → In (Some f) (put_answer a items founds) → In (Some f) founds ⊎ (f ≡ a)
 put_cases a [] founds f h = inl h
 put_cases a (item ∷ items) [] f h = in_nil h
@@ -163,17 +163,17 @@ put_cases a (item ∷ items) (old ∷ founds) f h = go (a.item == item) (in_unco
         → (In (Some f) (put_answer a items founds) → In (Some f) founds ⊎ (f ≡ a))
         → In (Some f) (old ∷ founds) ⊎ (f ≡ a)
     go true (inl e) rest = inr (some_same e)
-    go false (inl e) rest = inl (subst (λ (z : Option Found). In (Some f) (z ∷ founds)) e here)
+    go false (inl e) rest = inl (subst (λ (z : Option ReadVersion). In (Some f) (z ∷ founds)) e here)
     go b (inr k) rest = ⊎_elim (λ l. inl (there l)) inr (rest k)
 
-pub put_own : (a : Found) (items : List ℕ) (founds : List (Option Found)) → are_in_order items founds ≡ true
+pub put_own : (a : ReadVersion) (items : List ℕ) (founds : List (Option ReadVersion)) → are_in_order items founds ≡ true
     → are_in_order items (put_answer a items founds) ≡ true
 put_own a [] [] own = refl
 put_own a [] (old ∷ founds) own = own
 put_own a (item ∷ items) [] own = own
 put_own a (item ∷ items) (old ∷ founds) own = go (a.item == item) refl old own (put_own a items founds)
   where
-    go : (b : Bool) → (a.item == item) ≡ b → (old : Option Found) → are_in_order (item ∷ items) (old ∷ founds) ≡ true
+    go : (b : Bool) → (a.item == item) ≡ b → (old : Option ReadVersion) → are_in_order (item ∷ items) (old ∷ founds) ≡ true
         → (are_in_order items founds ≡ true → are_in_order items (put_answer a items founds) ≡ true)
         → are_in_order (item ∷ items) ((if b then Some a else old) ∷ put_answer a items founds) ≡ true
     go true e None f rest = and_both (a.item == item) _ e (rest f)
@@ -184,7 +184,7 @@ put_own a (item ∷ items) (old ∷ founds) own = go (a.item == item) refl old o
         (rest (and_right (g.item == item) (are_in_order items founds) f))
 
 -- what a message brings that counts
-pub record IsFoundBy (r : RoundState) (m : Message) (f : Found) : Type 0 where
+pub record IsFoundBy (r : RoundState) (m : Message) (f : ReadVersion) : Type 0 where
   pub tag_is : m.tag ≡ r.asker.tag
   pub to : m.to ≡ ToClient r.asker.client
   pub from : m.from ≡ Part (place_of r.asker.parts f.item)
@@ -199,9 +199,9 @@ client_is : (n : Node) (c : ℕ) → is_client n c ≡ true → n ≡ ToClient c
 client_is (Part q) c h = absurd (true≢false (sym h))
 client_is (ToClient d) c h = ap ToClient (eqb-true d c h)
 
-version_is : (r : Reply) (f : Found) → body_version (body.Reply r) ≡ Some f → r ≡ reply.Version f.item f.stamp f.value
+version_is : (r : Reply) (f : ReadVersion) → body_version (body.Reply r) ≡ Some f → r ≡ reply.Version f.item f.stamp f.value
 version_is (reply.Version j t v) f h = subst
-    (λ (z : Found). reply.Version j t v ≡ reply.Version z.item z.stamp z.value) (some_same h) refl
+    (λ (z : ReadVersion). reply.Version j t v ≡ reply.Version z.item z.stamp z.value) (some_same h) refl
 version_is (reply.Prepared t) f h = none_some h
 version_is (reply.Committed t) f h = none_some h
 version_is (reply.Discarded t) f h = none_some h
@@ -211,7 +211,7 @@ version_is reply.Clash f h = none_some h
 version_is (reply.Full t) f h = none_some h
 version_is (reply.Gone i) f h = none_some h
 
-version_in_is : (b : Body) (f : Found) → body_version b ≡ Some f → b ≡ body.Reply (reply.Version f.item f.stamp f.value)
+version_in_is : (b : Body) (f : ReadVersion) → body_version b ≡ Some f → b ≡ body.Reply (reply.Version f.item f.stamp f.value)
 version_in_is (body.Request r) f h = none_some h
 version_in_is (body.Reply r) f h = ap body.Reply (version_is r f h)
 
@@ -219,10 +219,10 @@ has_in : (items : List ℕ) (i : ℕ) → has_item items i ≡ true → In i ite
 has_in items i h = let r = in_any (λ other. i == other) items h in subst (λ (z : ℕ). In z items)
     (sym (eqb-true i r.0 r.2)) r.1
 
-pub found_is : (r : RoundState) (m : Message) (f : Found) → new_answer r m ≡ Some f → IsFoundBy r m f
+pub found_is : (r : RoundState) (m : Message) (f : ReadVersion) → new_answer r m ≡ Some f → IsFoundBy r m f
 found_is r m f h = version (body_version m.body) refl h
   where
-    lacking : (g : Found) → body_version m.body ≡ Some g → is_answer r.asker m g.item ≡ true → (b : Bool)
+    lacking : (g : ReadVersion) → body_version m.body ≡ Some g → is_answer r.asker m g.item ≡ true → (b : Bool)
         → lacks r g.item ≡ b → (if b then Some g else None) ≡ Some f → IsFoundBy r m f
     lacking g told own false e k = none_some k
     lacking g told own true e k =
@@ -240,12 +240,12 @@ found_is r m f h = version (body_version m.body) refl h
               (and_left (has_item r.items g.item) (not (has_answer (answers_there r.answers) g.item)) e);
         })
 
-    answers : (g : Found) → body_version m.body ≡ Some g → (b : Bool) → is_answer r.asker m g.item ≡ b
+    answers : (g : ReadVersion) → body_version m.body ≡ Some g → (b : Bool) → is_answer r.asker m g.item ≡ b
         → option_and_then (if_lacking r) (if b then Some g else None) ≡ Some f → IsFoundBy r m f
     answers g told false e k = none_some k
     answers g told true e k = lacking g told e (lacks r g.item) refl k
 
-    version : (v : Option Found) → body_version m.body ≡ v
+    version : (v : Option ReadVersion) → body_version m.body ≡ v
         → option_and_then (if_lacking r) (option_and_then (if_answer r.asker m) v) ≡ Some f → IsFoundBy r m f
     version None e k = none_some k
     version (Some g) e k = answers g e (is_answer r.asker m g.item) refl k

@@ -19,7 +19,7 @@ use Rattle.album_partition.specs.declared.marks.Mark.{Mark}
 use Rattle.album_partition.specs.Partition.{PartitionState}
 use Rattle.album_partition.specs.Marks.{commits, IsPromisedAgainst}
 use Rattle.album_partition.proofs.GrowthLemmas.{promised_stays}
-use Rattle.album_reader.specs.Answers.{Answer as Found}
+use Rattle.album_reader.specs.Answers.{ReadVersion}
 use Rattle.album_writer.specs.declared.answers.Answer.{Answer}
 use Rattle.album_writer.specs.declared.answers.Answer.TheVariants as answer
 use Rattle.album_client.specs.Turns.{Transaction}
@@ -160,7 +160,7 @@ module _ (o : Opening) (w1 w2 : World) (g : Grows o w1 w2) where
   second_round_grows began ts i s h =
       record { fresh = h.fresh; from = h.from; above = λ t k. no_later_grows i s t (h.above t k) }
 
-  pub founds_grows : (P Q : ℕ → ℕ → Type 0) → ((i s : ℕ) → P i s → Q i s) → (founds : List (Option Found))
+  pub founds_grows : (P Q : ℕ → ℕ → Type 0) → ((i s : ℕ) → P i s → Q i s) → (founds : List (Option ReadVersion))
       → AreFound o w1 P founds → AreFound o w2 Q founds
   founds_grows P Q more founds h = λ f k. let a = h f k in
       (more f.item f.stamp a.0, value_grows f.item f.stamp f.value a.1)
@@ -179,7 +179,7 @@ module _ (o : Opening) (w1 w2 : World) (g : Grows o w1 w2) where
     here = ⊎_elim inl (λ v. inr (v.0, wrote_grows (place_of o.parts i) h.stamp i v.0 v.1)) h.here;
   }
 
-  pub read_grows : (began : List PartitionState) (fs : List Found) → IsRead o w1 began fs → IsRead o w2 began fs
+  pub read_grows : (began : List PartitionState) (fs : List ReadVersion) → IsRead o w1 began fs → IsRead o w2 began fs
   read_grows began fs h = record {
     found = λ f k. let d = h.found f k in
         record {

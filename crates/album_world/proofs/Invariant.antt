@@ -22,15 +22,15 @@ use Rattle.album_partition.specs.declared.marks.Mark.{Mark}
 use Rattle.album_partition.specs.Votes.{NotedVote}
 use Rattle.album_partition.specs.Partition.{PartitionState, IsPartition}
 use Rattle.album_partition.specs.Marks.{commits, discards, state_of, is_full, value_in, is_legal, IsPromisedAgainst}
-use Rattle.album_reader.specs.Answers.{Answer as Found}
+use Rattle.album_reader.specs.Answers.{ReadVersion}
 use Rattle.album_reader.specs.Rounds.{RoundState, are_in_order}
 use Rattle.album_items.specs.Places.{places_of, rows_placed_at}
 use Rattle.album_items.specs.Transactions.{items_written}
 use Rattle.album_writer.specs.Writing.{WritingState, places_in}
 use Rattle.album_writer.specs.declared.answers.Answer.{Answer}
 use Rattle.album_writer.specs.declared.answers.Answer.TheVariants as answer
-use Rattle.album_client.specs.declared.clients.Doing.{Doing}
-use Rattle.album_client.specs.declared.clients.Doing.TheVariants as doing
+use Rattle.album_client.specs.declared.clients.Phase.{Phase}
+use Rattle.album_client.specs.declared.clients.Phase.TheVariants as phase
 use Rattle.album_client.specs.Clients.{Client, tag_of}
 use Rattle.album_client.specs.Turns.{Transaction}
 use Rattle.album_world.specs.State.{history_in, client_at}
@@ -134,7 +134,7 @@ IsFine o w from to (body.Reply r) = IsSay o w from r
 -- ---- tags
 
 abbrev pub tag_at : World → ℕ → ℕ
-tag_at w c = tag_of (client_at w.now.clients c).doing
+tag_at w c = tag_of (client_at w.now.clients c).phase
 
 -- no tag is ahead of its client
 abbrev pub IsTagged : World → Node → ℕ → Type 0
@@ -219,8 +219,8 @@ pub record HasFresh (o : Opening) (w : World) (began : List PartitionState) (ts 
   pub here : (stamp ≡ 0) ⊎ ((v : Value) × (wrote (history w (place_of o.parts i)) stamp i ≡ Some v))
 
 -- each answer that is there is what was told
-abbrev pub AreFound : Opening → World → (ℕ → ℕ → Type 0) → List (Option Found) → Type 0
-AreFound o w P founds = (f : Found) → In (Some f) founds → P f.item f.stamp × IsValue o w f.item f.stamp f.value
+abbrev pub AreFound : Opening → World → (ℕ → ℕ → Type 0) → List (Option ReadVersion) → Type 0
+AreFound o w P founds = (f : ReadVersion) → In (Some f) founds → P f.item f.stamp × IsValue o w f.item f.stamp f.value
 
 pub record IsAsking (o : Opening) (w : World) (c : ℕ) (began : List PartitionState) (r : RoundState) : Type 0 where
   pub asked : IsAsked w c r.asker.tag []
@@ -265,27 +265,27 @@ HasPrepared w p t = IsPreparedIn (history w p) t
 abbrev pub HasCommitted : World → ℕ → ℕ → Type 0
 HasCommitted w p t = IsCommittedAt w t p
 
-abbrev pub IsDoing : Opening → World → ℕ → List PartitionState → Doing → Type 0
-IsDoing o w c began (doing.Idle tag) = Unit {0}
-IsDoing o w c began (doing.Reads asking round) = IsReading o w c began round
-IsDoing o w c began (doing.Prepares writing) = IsWriting o w c writing (HasPrepared w)
-IsDoing o w c began (doing.Commits writing) = IsWriting o w c writing (HasCommitted w)
+abbrev pub IsDoing : Opening → World → ℕ → List PartitionState → Phase → Type 0
+IsDoing o w c began (phase.Idle tag) = Unit {0}
+IsDoing o w c began (phase.Reads asking round) = IsReading o w c began round
+IsDoing o w c began (phase.Prepares writing) = IsWriting o w c writing (HasPrepared w)
+IsDoing o w c began (phase.Commits writing) = IsWriting o w c writing (HasCommitted w)
 
 pub record IsClient (o : Opening) (w : World) (c : ℕ) (x : Client) (began : List PartitionState) : Type 0 where
   pub number : x.number ≡ c
   pub clock : x.clock.client ≡ c
-  pub doing : IsDoing o w c began x.doing
+  pub phase : IsDoing o w c began x.phase
 
 -- ---- snapshots and answers
 
-pub record IsFound (o : Opening) (w : World) (began : List PartitionState) (f : Found) : Type 0 where
+pub record IsFound (o : Opening) (w : World) (began : List PartitionState) (f : ReadVersion) : Type 0 where
   pub fresh : IsFreshAt o began f.item f.stamp
   pub value : IsValue o w f.item f.stamp f.value
   pub committed : IsZeroOrCommitted w f.stamp
 
-pub record IsRead (o : Opening) (w : World) (began : List PartitionState) (fs : List Found) : Type 0 where
-  pub found : (f : Found) → In f fs → IsFound o w began f
-  pub above : (f g : Found) → In f fs → In g fs → (g.stamp ≡ 0) ⊎ IsNoLater w f.item f.stamp g.stamp
+pub record IsRead (o : Opening) (w : World) (began : List PartitionState) (fs : List ReadVersion) : Type 0 where
+  pub found : (f : ReadVersion) → In f fs → IsFound o w began f
+  pub above : (f g : ReadVersion) → In f fs → In g fs → (g.stamp ≡ 0) ⊎ IsNoLater w f.item f.stamp g.stamp
   pub begun : (p : ℕ) → HasBegun w began p
 
 pub record IsUnsettled (o : Opening) (w : World) (t : ℕ) : Type 0 where
@@ -335,6 +335,6 @@ pub record IsKept (o : Opening) (w : World) : Type 0 where
   pub drawn : (r : Transaction) → In r w.past.transactions → IsDrawn w r
   pub unique : (r s : Transaction) → In r w.past.transactions → In s w.past.transactions → r.stamp ≡ s.stamp → r ≡ s
   pub clients : (c : ℕ) → IsClient o w c (client_at w.now.clients c) (last_begun w.past.begun c).partitions
-  pub reads : (f : Read) (rows : List Found) → In f w.past.reads → f.rows ≡ Some rows
+  pub reads : (f : Read) (rows : List ReadVersion) → In f w.past.reads → f.rows ≡ Some rows
       → IsRead o w f.begun.partitions rows
   pub answers : (t : Told) → In t w.past.told → IsAnswer o w t.answer

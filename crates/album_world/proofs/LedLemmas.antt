@@ -4,7 +4,7 @@ use Rattle.std.proofs.lemmas.Bool.{leb-true, leb-false}
 use Rattle.album_stamps.specs.Clocks.{ClockState, clock_after_next, next_of}
 use Rattle.album_stamps.proofs.Drawing.{next-greater}
 use Rattle.album_stamps.specs.Stamps.{is_client}
-use Rattle.album_stamps.specs.declared.limits.TheConstants.{CLIENTS, MOST_READS, MOST_READ_ITEMS, GREATEST_COUNTER}
+use Rattle.album_stamps.specs.declared.limits.TheConstants.{CLIENTS, MAX_READS, MAX_READ_ITEMS, MAX_COUNTER}
 use Rattle.album_stamps.specs.declared.refusals.Refusal.{Refusal}
 use Rattle.album_stamps.specs.declared.refusals.Refusal.TheVariants as refusal
 use Rattle.album_items.specs.declared.openings.Opening.{Opening}
@@ -13,11 +13,11 @@ use Rattle.album_calls.specs.declared.messages.Message.{Message}
 use Rattle.album_calls.specs.declared.nodes.Node.TheVariants.{Client as ToClient}
 use Rattle.album_calls.specs.declared.replies.Reply.TheVariants as reply
 use Rattle.album_eval.specs.declared.facts.Principal.{Principal}
-use Rattle.album_reader.specs.Answers.{Answer as Found}
+use Rattle.album_reader.specs.Answers.{ReadVersion}
 use Rattle.album_reader.specs.Rounds.{Step, stepped}
 use Rattle.album_reader.specs.Rounds.Step.{Same, Next, Done, Gone}
 use Rattle.album_views.specs.Checks.{refusal_of}
-use Rattle.album_views.specs.Naming.{names_of}
+use Rattle.album_views.specs.ReadSets.{names_of}
 use Rattle.album_views.specs.Steps.{again}
 use Rattle.album_views.specs.Steps.{stepped as viewed}
 use Rattle.album_views.specs.Views.{ViewingState, IsView, IsClosed, is_closed}
@@ -44,10 +44,10 @@ use Rattle.album_writer.specs.declared.told.Told.{Told as Heard}
 use Rattle.album_writer.specs.declared.told.Told.TheVariants as told
 use Rattle.album_writer.specs.declared.answers.Answer.{Answer}
 use Rattle.album_writer.specs.declared.answers.Answer.TheVariants as answer
-use Rattle.album_client.specs.declared.clients.Doing.{Doing}
-use Rattle.album_client.specs.declared.clients.Doing.TheVariants as doing
+use Rattle.album_client.specs.declared.clients.Phase.{Phase}
+use Rattle.album_client.specs.declared.clients.Phase.TheVariants as phase
 use Rattle.album_client.specs.Terms.{Terms, terms_of}
-use Rattle.album_client.specs.Askings.{Asking}
+use Rattle.album_client.specs.Askings.{PendingAsk}
 use Rattle.album_client.specs.Clients.{Client}
 use Rattle.album_client.specs.Grants.{served_for}
 use Rattle.album_client.specs.Turns.{Transaction, Ended, Turn, still, sends, read_begins, ask_ends, write_begins, writes_unless, draws_by, grants, rules_by, clock_after_rows, read_ends, read_turn, prepare_turn, commit_turn}
@@ -84,7 +84,7 @@ module _ (o : Opening) (w : World) (k : IsKept o w) (b : IsBooked (terms_of o) w
   own = (k.clients c).clock
 
   -- nothing is told
-  pub quiet_booked : (y : Client) → y.number ≡ x.number → y.clock ≡ x.clock → IsAt t w c y.doing
+  pub quiet_booked : (y : Client) → y.number ≡ x.number → y.clock ≡ x.clock → IsAt t w c y.phase
       → (sent : List Message) → IsBooked t (changed w (AtClient c (sends y sent)))
   quiet_booked y same clock does sent =
       let n : y.number ≡ c = same ∙ number in
@@ -92,7 +92,7 @@ module _ (o : Opening) (w : World) (k : IsKept o w) (b : IsBooked (terms_of o) w
       let up : x.clock.counter ≤ y.clock.counter = le_of_eq (ap (λ (z : ClockState). z.counter) (sym clock)) in
       turn_booked o w k b c (sends y sent) n m up (λ r l. none_some l)
       (at_adds t w (changed w (AtClient c (sends y sent)))
-      (turn_adds o w k b c (sends y sent) n m up (λ r l. none_some l)) c y.doing refl refl does)
+      (turn_adds o w k b c (sends y sent) n m up (λ r l. none_some l)) c y.phase refl refl does)
       (λ r l. none_some l) (λ a l. none_some l) (λ a l. none_some l) (λ a l. none_some l)
 
   -- a write is over
@@ -112,21 +112,21 @@ module _ (o : Opening) (w : World) (k : IsKept o w) (b : IsBooked (terms_of o) w
 
   -- ---- a read that is over
 
-  module _ (asking : Asking) (counted : IsCount w c asking) (low : 0 < c) (high : c < 65536) (tag : ℕ) where
+  module _ (asking : PendingAsk) (counted : IsCount w c asking) (low : 0 < c) (high : c < 65536) (tag : ℕ) where
     abbrev begun_here : Begun
     begun_here = last_begun w.past.begun c
 
-    abbrev ended : Option (List Found) → Ended
+    abbrev ended : Option (List ReadVersion) → Ended
     ended rows = record { ask = asking.viewing.ask; principal = asking.principal; rows = rows }
 
-    abbrev read_now : Option (List Found) → Read
+    abbrev read_now : Option (List ReadVersion) → Read
     read_now rows = read_over begun_here (ended rows)
 
-    is_last : (rows : Option (List Found)) → last_read (read_now rows ∷ w.past.reads) c ≡ Some (read_now rows)
+    is_last : (rows : Option (List ReadVersion)) → last_read (read_now rows ∷ w.past.reads) c ≡ Some (read_now rows)
     is_last rows = last_here c begun_here (ended rows) w.past.reads (begun_client w.past.begun c)
 
     -- there is no view
-    busy_booked : (why : Why) (rows : Option (List Found))
+    busy_booked : (why : Why) (rows : Option (List ReadVersion))
         → ((v : World) → In (read_now rows) v.past.reads
         → IsLed t v (told_to (read_now rows ∷ w.past.reads) c (answer.Busy why)) (answer.Busy why))
         → IsBooked t (changed w (AtClient c (read_ends t x tag asking rows (Busy why))))
@@ -139,15 +139,15 @@ module _ (o : Opening) (w : World) (k : IsKept o w) (b : IsBooked (terms_of o) w
         (λ z l. subst (λ (y : Answer). IsNotedFor next (told_to (read_now rows ∷ w.past.reads) c y) y) (some_same l) tt)
         (λ a l. none_some l)
 
-    again_booked : (rows : Option (List Found)) → ((read_now rows).rows ≡ None) ⊎ IsNarrow (read_now rows)
+    again_booked : (rows : Option (List ReadVersion)) → ((read_now rows).rows ≡ None) ⊎ IsNarrow (read_now rows)
         → (items : List ℕ)
         → IsBooked t (changed w (AtClient c (read_ends t x tag asking rows (again asking.viewing items))))
-    again_booked rows vain items = go (nat_le MOST_READS (asking.viewing.reads + 1)) refl
+    again_booked rows vain items = go (nat_le MAX_READS (asking.viewing.reads + 1)) refl
       where
         later : ViewingState
         later = record { ask = asking.viewing.ask; reads = asking.viewing.reads + 1 }
 
-        go : (f : Bool) → nat_le MOST_READS (asking.viewing.reads + 1) ≡ f
+        go : (f : Bool) → nat_le MAX_READS (asking.viewing.reads + 1) ≡ f
             → IsBooked t (changed w
             (AtClient c (read_ends t x tag asking rows
             (if f then Busy Rounds else Again (record { ask = asking.viewing.ask; reads = asking.viewing.reads + 1 })
@@ -158,8 +158,8 @@ module _ (o : Opening) (w : World) (k : IsKept o w) (b : IsBooked (terms_of o) w
           made = contains made;
           own = begun_client w.past.begun c;
           cause = record {
-            nth = (let a : MOST_READS ≤ asking.viewing.reads + 1 = leb-true MOST_READS (asking.viewing.reads + 1) e in
-                let d : asking.viewing.reads < MOST_READS = counted.few in
+            nth = (let a : MAX_READS ≤ asking.viewing.reads + 1 = leb-true MAX_READS (asking.viewing.reads + 1) e in
+                let d : asking.viewing.reads < MAX_READS = counted.few in
                 let f : begun_here.nth ≡ asking.viewing.reads + 1 = counted.count in
                 omega arith);
             in_vain = vain;
@@ -177,14 +177,14 @@ module _ (o : Opening) (w : World) (k : IsKept o w) (b : IsBooked (terms_of o) w
             (record {
               taken = counted.taken;
               count = here_now ∙ ap (λ (z : ℕ). z + 1) counted.count;
-              few = (let a : asking.viewing.reads + 1 < MOST_READS = leb-false MOST_READS (asking.viewing.reads + 1) e
+              few = (let a : asking.viewing.reads + 1 < MAX_READS = leb-false MAX_READS (asking.viewing.reads + 1) e
                   in a);
             })
             (λ r l. none_some l) (λ a l. none_some l) (λ a l. none_some l) (λ a l. none_some l)
 
     -- ---- a view
 
-    module _ (rows : List Found) (closed : IsClosed asking.viewing.ask rows) where
+    module _ (rows : List ReadVersion) (closed : IsClosed asking.viewing.ask rows) where
       abbrev here_read : Read
       here_read = read_now (Some rows)
 
@@ -242,7 +242,7 @@ module _ (o : Opening) (w : World) (k : IsKept o w) (b : IsBooked (terms_of o) w
 
       tells_booked : (y : Client) → y.number ≡ c → y.clock.client ≡ c → x.clock.counter ≤ y.clock.counter → (a : Answer)
           → ((v : World) → In here_read v.past.reads
-          → client_at v.now.clients c ≡ (record y { doing = doing.Idle tag })
+          → client_at v.now.clients c ≡ (record y { phase = phase.Idle tag })
           → v.past.transactions ≡ w.past.transactions ++ [] → IsLed t v (told_to (here_read ∷ w.past.reads) c a) a)
           → IsBooked t (changed w (AtClient c (over_with (ask_ends y tag a))))
       tells_booked y ny oy up a led =
@@ -277,7 +277,7 @@ module _ (o : Opening) (w : World) (k : IsKept o w) (b : IsBooked (terms_of o) w
           d : IsDraw seen.clock stamp
           d = draw_is seen.clock stamp is_next
 
-          later : (row : Found) → In row rows → row.stamp < stamp
+          later : (row : ReadVersion) → In row rows → row.stamp < stamp
           later row i = subst (λ (f : Result ℕ Refusal). IfOk f (λ s. row.stamp < s)) is_next
               (next-greater seen.clock row.stamp (rows_seen x.clock rows row i))
 
@@ -289,7 +289,7 @@ module _ (o : Opening) (w : World) (k : IsKept o w) (b : IsBooked (terms_of o) w
           is = d.stamp_is ∙ ap (λ (z : ℕ). z * 65536 + seen.clock.client) (sym d.counter)
               ∙ ap (λ (z : ℕ). drawn.clock.counter * 65536 + z) seen_own
 
-          drawn_by : (v : World) (g : Doing) → client_at v.now.clients c ≡ (record drawn { doing = g })
+          drawn_by : (v : World) (g : Phase) → client_at v.now.clients c ≡ (record drawn { phase = g })
               → IsDrawnBy v c stamp
           drawn_by v g e = record {
             counter = drawn.clock.counter;
@@ -327,7 +327,7 @@ module _ (o : Opening) (w : World) (k : IsKept o w) (b : IsBooked (terms_of o) w
                   record {
                     stamp = stamp;
                     full = full;
-                    drawn = drawn_by v (doing.Idle tag) at;
+                    drawn = drawn_by v (phase.Idle tag) at;
                     unused = λ r l e. ⊎_elim (λ i. unused r i e)
                         (λ i. in_nil i) (in_cases w.past.transactions []
                         (subst (λ (z : List Transaction). In r z) none (within _ l)));
@@ -388,7 +388,7 @@ module _ (o : Opening) (w : World) (k : IsKept o w) (b : IsBooked (terms_of o) w
                   room = room;
                   told = refl;
                 };
-                drawn = subst (λ (z : ℕ). IsDrawnBy next z stamp) (sym number) (drawn_by next turn.client.doing same);
+                drawn = subst (λ (z : ℕ). IsDrawnBy next z stamp) (sym number) (drawn_by next turn.client.phase same);
                 later = λ row i. later row (within rows i);
               }))
               (λ a l. none_some l)
@@ -410,7 +410,7 @@ module _ (o : Opening) (w : World) (k : IsKept o w) (b : IsBooked (terms_of o) w
               granted,
               inr (
                 spent.0,
-                subst (λ (z : Client). GREATEST_COUNTER ≤ z.clock.counter) (sym at)
+                subst (λ (z : Client). MAX_COUNTER ≤ z.clock.counter) (sym at)
                     (le_trans spent.1 (next_raise seen.clock)),
               ),
             ))
@@ -434,12 +434,12 @@ module _ (o : Opening) (w : World) (k : IsKept o w) (b : IsBooked (terms_of o) w
 
     -- ---- a snapshot
 
-    done_booked : (rows : List Found)
+    done_booked : (rows : List ReadVersion)
         → IsBooked t (changed w (AtClient c (read_ends t x tag asking (Some rows) (viewed asking.viewing rows))))
     done_booked rows = go (is_closed asking.viewing.ask rows) refl
       where
         wide : (IsClosed asking.viewing.ask rows → ⊥) → (f : Bool)
-            → nat_lt MOST_READ_ITEMS (length (names_of rows asking.viewing.ask)) ≡ f
+            → nat_lt MAX_READ_ITEMS (length (names_of rows asking.viewing.ask)) ≡ f
             → IsBooked t (changed w
             (AtClient c (read_ends t x tag asking (Some rows)
             (if f then Busy Wide else again asking.viewing (names_of rows asking.viewing.ask)))))
@@ -451,32 +451,32 @@ module _ (o : Opening) (w : World) (k : IsKept o w) (b : IsBooked (terms_of o) w
           cause = record {
             rows = rows;
             lacking = record { shown = refl; lacking = unclosed };
-            wide = ltb-true MOST_READ_ITEMS _ e;
+            wide = ltb-true MAX_READ_ITEMS _ e;
           };
         })
         wide unclosed false e = again_booked (Some rows)
             (inr (record {
               rows = rows;
               lacking = record { shown = refl; lacking = unclosed };
-              narrow = ltb-false MOST_READ_ITEMS _ e;
+              narrow = ltb-false MAX_READ_ITEMS _ e;
             })) (names_of rows asking.viewing.ask)
 
         go : (f : Bool) → is_closed asking.viewing.ask rows ≡ f
             → IsBooked t (changed w
             (AtClient c (read_ends t x tag asking (Some rows)
             (if f then Closed (record { ask = asking.viewing.ask; rows = rows }) else
-            (if nat_lt MOST_READ_ITEMS (length (names_of rows asking.viewing.ask)) then Busy Wide else again
+            (if nat_lt MAX_READ_ITEMS (length (names_of rows asking.viewing.ask)) then Busy Wide else again
             asking.viewing (names_of rows asking.viewing.ask))))))
         go true e = rules_booked rows (closed-is rows asking.viewing.ask e)
             (ruling_of (basis_on t.policy asking.principal rows) asking.viewing.ask) refl
         go false e = wide (not-closed rows asking.viewing.ask e)
-            (nat_lt MOST_READ_ITEMS (length (names_of rows asking.viewing.ask))) refl
+            (nat_lt MAX_READ_ITEMS (length (names_of rows asking.viewing.ask))) refl
 
     -- ---- a message in a read
 
     reading_booked : (step : Step) → IsBooked t (changed w (AtClient c (read_turn t x tag asking step)))
-    reading_booked (Same round) = quiet_booked (record x { doing = doing.Reads asking round }) refl refl counted []
-    reading_booked (Next round messages) = quiet_booked (record x { doing = doing.Reads asking round }) refl refl
+    reading_booked (Same round) = quiet_booked (record x { phase = phase.Reads asking round }) refl refl counted []
+    reading_booked (Next round messages) = quiet_booked (record x { phase = phase.Reads asking round }) refl refl
         counted messages
     reading_booked (Done rows) = done_booked rows
     reading_booked (Gone items) = again_booked None (inl refl) items
@@ -523,10 +523,10 @@ module _ (o : Opening) (w : World) (k : IsKept o w) (b : IsBooked (terms_of o) w
   }
 
   abbrev preparing : WritingState → Client
-  preparing z = record x { doing = doing.Prepares z }
+  preparing z = record x { phase = phase.Prepares z }
 
   abbrev committing : WritingState → Client
-  committing z = record x { doing = doing.Commits z }
+  committing z = record x { phase = phase.Commits z }
 
   -- the round goes on with the same write
   same_write : (z y : WritingState) (T S : Transaction → Type 0) → y.stamp ≡ z.stamp → places_in y ≡ places_in z
@@ -620,20 +620,20 @@ module _ (o : Opening) (w : World) (k : IsKept o w) (b : IsBooked (terms_of o) w
 
   -- ---- whatever it does
 
-  by_booked : (m : Message) → In m w.now.messages → (f : Doing)
+  by_booked : (m : Message) → In m w.now.messages → (f : Phase)
       → IsDoing o w c (last_begun w.past.begun c).partitions f → IsAt t w c f
       → IsBooked t (changed w (client_takes_by t c x m f))
-  by_booked m sent (doing.Idle tag) kept h = b
-  by_booked m sent (doing.Reads asking r) kept h = reading_booked asking h kept.low kept.high r.asker.tag (stepped r m)
-  by_booked m sent (doing.Prepares z) kept h = prepared_booked m sent z h (told_of z m) refl
-  by_booked m sent (doing.Commits z) kept h = committed_booked m sent z h (told_of z m) refl
+  by_booked m sent (phase.Idle tag) kept h = b
+  by_booked m sent (phase.Reads asking r) kept h = reading_booked asking h kept.low kept.high r.asker.tag (stepped r m)
+  by_booked m sent (phase.Prepares z) kept h = prepared_booked m sent z h (told_of z m) refl
+  by_booked m sent (phase.Commits z) kept h = committed_booked m sent z h (told_of z m) refl
 
   pub message_booked : (m : Message) → In m w.now.messages → IsBooked t (changed w (client_takes t w.now c x m))
   message_booked m sent = go (is_stopped w.now c)
     where
-      go : (f : Bool) → IsBooked t (changed w (if f then Nothing else client_takes_by t c x m x.doing))
+      go : (f : Bool) → IsBooked t (changed w (if f then Nothing else client_takes_by t c x m x.phase))
       go true = b
-      go false = by_booked m sent x.doing (k.clients c).doing (b.at c)
+      go false = by_booked m sent x.phase (k.clients c).phase (b.at c)
 
   -- an ask begins
   pub asked_booked : (tag : ℕ) (ask : Ask) (who : Principal) → refusal_of ask who ≡ None → (items : List ℕ)

@@ -30,15 +30,15 @@ use Rattle.album_writer.specs.Writing.{WritingState, places_in}
 use Rattle.album_writer.specs.Told.{told_of}
 use Rattle.album_writer.specs.declared.told.Told.{Told}
 use Rattle.album_writer.specs.declared.told.Told.TheVariants as told
-use Rattle.album_client.specs.declared.clients.Doing.{Doing}
-use Rattle.album_client.specs.declared.clients.Doing.TheVariants as doing
-use Rattle.album_client.specs.declared.moves.Moved.{Moved}
+use Rattle.album_client.specs.declared.clients.Phase.{Phase}
+use Rattle.album_client.specs.declared.clients.Phase.TheVariants as phase
+use Rattle.album_client.specs.declared.transitions.Transition.{Transition}
 use Rattle.album_client.specs.Terms.{Terms}
-use Rattle.album_client.specs.Askings.{Asking}
+use Rattle.album_client.specs.Askings.{PendingAsk}
 use Rattle.album_client.specs.Clients.{Client}
 use Rattle.album_client.specs.Grants.{served_for}
 use Rattle.album_client.specs.Turns.{turn_of, is_waiting, IsTakenBy, Turn, read_begins, writes_unless, draws_by, grants, rules_by, clock_after_rows, views_by, read_turn, prepare_turn, commit_turn}
-use Rattle.album_client.specs.Moves.{IsMoved}
+use Rattle.album_client.specs.Transitions.{IsMoved}
 use Rattle.album_client.proofs.MoveLemmas.{just_commits}
 use Rattle.album_world.specs.declared.outs.Out.{Out}
 use Rattle.album_world.specs.declared.outs.Out.TheVariants as out
@@ -76,9 +76,9 @@ none_committed x tag writing message = by (told_of writing message)
 
 -- ---- what a client did doesn't matter to what it does next
 
-module _ (terms : Terms) (x : Client) (d : Doing) where
+module _ (terms : Terms) (x : Client) (d : Phase) where
   abbrev pub idle : Client
-  idle = record x { doing = d }
+  idle = record x { phase = d }
 
   same_unless : (k : ClockState) (tag : ℕ) (permit : PermitState) (stamp : ℕ) (f : Bool)
       → writes_unless terms (record idle { clock = k }) tag permit stamp f
@@ -109,7 +109,7 @@ module _ (terms : Terms) (x : Client) (d : Doing) where
       (same_rules (clock_after_rows x.clock view.rows) tag _ (ruling_of (basis_on terms.policy who view.rows) view.ask))
   same_views tag who (Busy why) = refl
 
-  same_read : (tag : ℕ) (asking : Asking) (f : ReadStep)
+  same_read : (tag : ℕ) (asking : PendingAsk) (f : ReadStep)
       → read_turn terms idle tag asking f ≡ read_turn terms x tag asking f
   same_read tag asking (Same round) = refl
   same_read tag asking (Next round messages) = refl
@@ -133,11 +133,11 @@ module _ (terms : Terms) (x : Client) (d : Doing) where
   same_commit tag (Ends outcome) = refl
 
   -- nor to what a message does
-  pub same_turn : (message : Message) (f : Doing) → turn_of terms idle message f ≡ turn_of terms x message f
-  same_turn message (doing.Idle tag) = refl
-  same_turn message (doing.Reads asking round) = same_read round.asker.tag asking (stepped round message)
-  same_turn message (doing.Prepares writing) = same_prepare writing.tag (prepare_stepped writing message)
-  same_turn message (doing.Commits writing) = same_commit writing.tag (commit_stepped writing message)
+  pub same_turn : (message : Message) (f : Phase) → turn_of terms idle message f ≡ turn_of terms x message f
+  same_turn message (phase.Idle tag) = refl
+  same_turn message (phase.Reads asking round) = same_read round.asker.tag asking (stepped round message)
+  same_turn message (phase.Prepares writing) = same_prepare writing.tag (prepare_stepped writing message)
+  same_turn message (phase.Commits writing) = same_commit writing.tag (commit_stepped writing message)
 
 -- ---- it stays the same client
 
@@ -169,7 +169,7 @@ module _ (terms : Terms) (x : Client) where
       number_rules (clock_after_rows x.clock view.rows) tag _ (ruling_of (basis_on terms.policy who view.rows) view.ask)
   number_views tag who (Busy why) = refl
 
-  number_read : (tag : ℕ) (asking : Asking) (f : ReadStep)
+  number_read : (tag : ℕ) (asking : PendingAsk) (f : ReadStep)
       → (read_turn terms x tag asking f).client.number ≡ x.number
   number_read tag asking (Same round) = refl
   number_read tag asking (Next round messages) = refl
@@ -186,19 +186,19 @@ number_commit x tag (Waits writing) = refl
 number_commit x tag (Decides writing messages) = refl
 number_commit x tag (Ends outcome) = refl
 
-pub number_turn : (terms : Terms) (x : Client) (message : Message) (f : Doing)
+pub number_turn : (terms : Terms) (x : Client) (message : Message) (f : Phase)
     → (turn_of terms x message f).client.number ≡ x.number
-number_turn terms x message (doing.Idle tag) = refl
-number_turn terms x message (doing.Reads asking round) =
+number_turn terms x message (phase.Idle tag) = refl
+number_turn terms x message (phase.Reads asking round) =
     number_read terms x round.asker.tag asking (stepped round message)
-number_turn terms x message (doing.Prepares writing) =
+number_turn terms x message (phase.Prepares writing) =
     number_prepare x writing.tag (prepare_stepped writing message)
-number_turn terms x message (doing.Commits writing) = number_commit x writing.tag (commit_stepped writing message)
+number_turn terms x message (phase.Commits writing) = number_commit x writing.tag (commit_stepped writing message)
 
 -- ---- what is told
 
 -- all that is told of what it has moved to
-pub told_is : (before one number : ℕ) (turn : Turn) (moved : Moved) (outs : List Out) → one ≡ number
+pub told_is : (before one number : ℕ) (turn : Turn) (moved : Transition) (outs : List Out) → one ≡ number
     → IsMoved turn moved
     → outs
     ≡ map (out.Noted one) moved.notes.items
@@ -207,7 +207,7 @@ pub told_is : (before one number : ℕ) (turn : Turn) (moved : Moved) (outs : Li
 told_is before one number turn moved outs same is e = rw (← same, ← is.noted, ← is.sent, ← is.answer) e
 
 -- a turn in which nothing is noted
-pub untold_is : (before one : ℕ) (x new : Client) (turn : Turn) (moved : Moved) (outs : List Out) → one ≡ x.number
+pub untold_is : (before one : ℕ) (x new : Client) (turn : Turn) (moved : Transition) (outs : List Out) → one ≡ x.number
     → turn.noted ≡ None → IsMoved turn moved → new ≡ moved.client
     → outs
     ≡ numbers_after before (length moved.sent.items) ++ option_to_list (option_map (out.Answered one) moved.answer)
@@ -220,21 +220,21 @@ untold_is before one x new turn moved outs same none is now e = record {
 
 -- ---- an ask
 
-idle_is : (f : Doing) (tag : ℕ) → idle_tag f ≡ Some tag → f ≡ doing.Idle tag
-idle_is (doing.Idle tag) other e = cc
-idle_is (doing.Reads asking round) other e = absurd (cc)
-idle_is (doing.Prepares writing) other e = absurd (cc)
-idle_is (doing.Commits writing) other e = absurd (cc)
+idle_is : (f : Phase) (tag : ℕ) → idle_tag f ≡ Some tag → f ≡ phase.Idle tag
+idle_is (phase.Idle tag) other e = cc
+idle_is (phase.Reads asking round) other e = absurd (cc)
+idle_is (phase.Prepares writing) other e = absurd (cc)
+idle_is (phase.Commits writing) other e = absurd (cc)
 
 -- it has asked
 pub asked_done : (before : ℕ) (terms : Terms) (x new : Client) (who : Principal) (a : Ask) (tag : ℕ)
-    (sent : List Message) (outs : List Out) → idle_tag x.doing ≡ Some tag → refusal_of a who ≡ None
+    (sent : List Message) (outs : List Out) → idle_tag x.phase ≡ Some tag → refusal_of a who ≡ None
     → IsTurned before x.number
     (read_begins terms x tag (record { viewing = record { ask = a; reads = 0 }; principal = who }) (objects_of a))
     new sent outs
-    → IsOkAnd (asks_by terms x.number x who a x.doing) (λ change. IsChangedBy before x change new sent outs)
+    → IsOkAnd (asks_by terms x.number x who a x.phase) (λ change. IsChangedBy before x change new sent outs)
 asked_done before terms x new who a tag sent outs idles taken is =
-    rw (idle_is x.doing tag idles, taken) (refl, is)
+    rw (idle_is x.phase tag idles, taken) (refl, is)
 
 -- ---- a message
 
@@ -249,55 +249,55 @@ unnoted_commit x tag (Waits writing) = refl
 unnoted_commit x tag (Decides writing messages) = refl
 unnoted_commit x tag (Ends outcome) = refl
 
-pub unnoted : (terms : Terms) (x : Client) (message : Message) (f : Doing) → is_writing f ≡ true
+pub unnoted : (terms : Terms) (x : Client) (message : Message) (f : Phase) → is_writing f ≡ true
     → (turn_of terms x message f).noted ≡ None
-unnoted terms x message (doing.Idle tag) w = absurd (cc)
-unnoted terms x message (doing.Reads asking round) w = absurd (cc)
-unnoted terms x message (doing.Prepares writing) w =
+unnoted terms x message (phase.Idle tag) w = absurd (cc)
+unnoted terms x message (phase.Reads asking round) w = absurd (cc)
+unnoted terms x message (phase.Prepares writing) w =
     unnoted_prepare x writing.tag (prepare_stepped writing message)
-unnoted terms x message (doing.Commits writing) w = unnoted_commit x writing.tag (commit_stepped writing message)
+unnoted terms x message (phase.Commits writing) w = unnoted_commit x writing.tag (commit_stepped writing message)
 
-pub writes_none : (f : Doing) → is_writing f ≡ true → idle_tag f ≡ None
-writes_none (doing.Idle tag) w = absurd (cc)
-writes_none (doing.Reads asking round) w = absurd (cc)
-writes_none (doing.Prepares writing) w = refl
-writes_none (doing.Commits writing) w = refl
+pub writes_none : (f : Phase) → is_writing f ≡ true → idle_tag f ≡ None
+writes_none (phase.Idle tag) w = absurd (cc)
+writes_none (phase.Reads asking round) w = absurd (cc)
+writes_none (phase.Prepares writing) w = refl
+writes_none (phase.Commits writing) w = refl
 
-pub reads_none : (f : Doing) (asking : Asking) (round : RoundState) → doing.Reads asking round ≡ f → idle_tag f ≡ None
+pub reads_none : (f : Phase) (asking : PendingAsk) (round : RoundState) → phase.Reads asking round ≡ f → idle_tag f ≡ None
 reads_none f asking round e = sym (ap idle_tag e)
 
 -- what it goes on from does what the client did
-pub moved_so : (terms : Terms) (x y : Client) (d f : Doing) (message : Message) (moved : Moved)
-    → y ≡ record x { doing = d } → f ≡ x.doing → IsMoved (turn_of terms y message f) moved
-    → IsMoved (turn_of terms x message x.doing) moved
+pub moved_so : (terms : Terms) (x y : Client) (d f : Phase) (message : Message) (moved : Transition)
+    → y ≡ record x { phase = d } → f ≡ x.phase → IsMoved (turn_of terms y message f) moved
+    → IsMoved (turn_of terms x message x.phase) moved
 moved_so terms x y d f message moved at same is =
-    subst (λ (t : Turn). IsMoved t moved) (same_turn terms x d message x.doing) (rw (at, same) at is)
+    subst (λ (t : Turn). IsMoved t moved) (same_turn terms x d message x.phase) (rw (at, same) at is)
 
 -- it has taken a message, where it wasn't idle
 pub taken_done : (before : ℕ) (terms : Terms) (x new : Client) (message : Message) (sent : List Message)
-    (outs : List Out) → idle_tag x.doing ≡ None
-    → IsTurned before x.number (turn_of terms x message x.doing) new sent outs
-    → IsChangedBy before x (client_takes_by terms x.number x message x.doing) new sent outs
-taken_done before terms x new message sent outs busy turned = go x.doing busy turned
+    (outs : List Out) → idle_tag x.phase ≡ None
+    → IsTurned before x.number (turn_of terms x message x.phase) new sent outs
+    → IsChangedBy before x (client_takes_by terms x.number x message x.phase) new sent outs
+taken_done before terms x new message sent outs busy turned = go x.phase busy turned
   where
-    go : (f : Doing) → idle_tag f ≡ None → IsTurned before x.number (turn_of terms x message f) new sent outs
+    go : (f : Phase) → idle_tag f ≡ None → IsTurned before x.number (turn_of terms x message f) new sent outs
         → IsChangedBy before x (client_takes_by terms x.number x message f) new sent outs
-    go (doing.Idle tag) e is = absurd (cc)
-    go (doing.Reads asking round) e is = (refl, is)
-    go (doing.Prepares writing) e is = (refl, is)
-    go (doing.Commits writing) e is = (refl, is)
+    go (phase.Idle tag) e is = absurd (cc)
+    go (phase.Reads asking round) e is = (refl, is)
+    go (phase.Prepares writing) e is = (refl, is)
+    go (phase.Commits writing) e is = (refl, is)
 
 -- a message that ends no round, where nothing comes of it but that this is done
-pub waits_done : (terms : Terms) (before : ℕ) (x : Client) (new : Doing) (message : Message)
-    → is_waiting x.doing message ≡ true → IsTakenBy x.doing message new
-    → IsChangedBy before x (client_takes_by terms x.number x message x.doing) (record x { doing = new }) [] []
+pub waits_done : (terms : Terms) (before : ℕ) (x : Client) (new : Phase) (message : Message)
+    → is_waiting x.phase message ≡ true → IsTakenBy x.phase message new
+    → IsChangedBy before x (client_takes_by terms x.number x message x.phase) (record x { phase = new }) [] []
 waits_done terms before x new message waiting taken =
-    taken_done before terms x (record x { doing = new }) message [] [] (busy x.doing waiting)
-    (subst (λ (t : Turn). IsTurned before x.number t (record x { doing = new }) [] []) (sym (taken terms x))
+    taken_done before terms x (record x { phase = new }) message [] [] (busy x.phase waiting)
+    (subst (λ (t : Turn). IsTurned before x.number t (record x { phase = new }) [] []) (sym (taken terms x))
     (record { client = refl; sent_is = refl; told = refl }))
   where
-    busy : (f : Doing) → is_waiting f message ≡ true → idle_tag f ≡ None
-    busy (doing.Idle tag) e = absurd (cc)
-    busy (doing.Reads asking round) e = refl
-    busy (doing.Prepares writing) e = absurd (cc)
-    busy (doing.Commits writing) e = absurd (cc)
+    busy : (f : Phase) → is_waiting f message ≡ true → idle_tag f ≡ None
+    busy (phase.Idle tag) e = absurd (cc)
+    busy (phase.Reads asking round) e = refl
+    busy (phase.Prepares writing) e = absurd (cc)
+    busy (phase.Commits writing) e = absurd (cc)

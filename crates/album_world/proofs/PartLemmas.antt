@@ -18,7 +18,7 @@ use Rattle.album_calls.specs.declared.nodes.Vote.TheVariants as vote
 use Rattle.album_calls.specs.declared.requests.Request.TheVariants.{Check}
 use Rattle.album_calls.specs.declared.replies.Reply.{Reply}
 use Rattle.album_calls.specs.declared.replies.Reply.TheVariants as reply
-use Rattle.album_terminate.specs.Asking.{check_to}
+use Rattle.album_terminate.specs.PendingAsk.{check_to}
 use Rattle.album_terminate.specs.declared.deciding.StampState.TheVariants as state
 use Rattle.album_partition.specs.declared.marks.Mark.{Mark}
 use Rattle.album_partition.specs.declared.marks.Mark.TheVariants.{Prepared, Committed, Discarded, Trimmed}
@@ -36,8 +36,8 @@ use Rattle.album_versions.specs.Best.{best_of}
 use Rattle.album_reader.specs.Rounds.{RoundState}
 use Rattle.album_writer.specs.Writing.{WritingState}
 use Rattle.album_items.specs.Transactions.{items_written}
-use Rattle.album_client.specs.declared.clients.Doing.{Doing}
-use Rattle.album_client.specs.declared.clients.Doing.TheVariants as doing
+use Rattle.album_client.specs.declared.clients.Phase.{Phase}
+use Rattle.album_client.specs.declared.clients.Phase.TheVariants as phase
 use Rattle.album_world.proofs.ListLemmas.{In}
 use Rattle.album_world.specs.State.{marks_of, history_in, client_at}
 use Rattle.album_world.specs.Past.{World, last_begun}
@@ -449,9 +449,9 @@ module _ (o : Opening) (w : World) (k : IsKept o w) (p : ℕ) (h : PartitionStat
       told = λ q l. ⊎_elim inl (λ e. inr (more q z.stamp e)) (d.told q l);
     }
 
-    doing_all : (c : ℕ) (began : List PartitionState) (f : Doing) → IsDoing o w c began f → IsDoing o next c began f
-    doing_all c began (doing.Idle tag) d = tt
-    doing_all c began (doing.Reads asking round) d = record {
+    doing_all : (c : ℕ) (began : List PartitionState) (f : Phase) → IsDoing o w c began f → IsDoing o next c began f
+    doing_all c began (phase.Idle tag) d = tt
+    doing_all c began (phase.Reads asking round) d = record {
       low = d.low;
       high = d.high;
       parts = d.parts;
@@ -460,9 +460,9 @@ module _ (o : Opening) (w : World) (k : IsKept o w) (p : ℕ) (h : PartitionStat
       begun = λ q. begun_grows o w next grows began q (d.begun q);
       round = round_all c began round d.begun round.stamps d.round;
     }
-    doing_all c began (doing.Prepares z) d = writing_all c z (HasPrepared w) (HasPrepared next)
+    doing_all c began (phase.Prepares z) d = writing_all c z (HasPrepared w) (HasPrepared next)
         (λ q t e. prepared_grows o w next grows q t e) d
-    doing_all c began (doing.Commits z) d = writing_all c z (HasCommitted w) (HasCommitted next)
+    doing_all c began (phase.Commits z) d = writing_all c z (HasCommitted w) (HasCommitted next)
         (λ q t e. any_grows o w next grows (commits t) q e) d
 
     pub at_part_kept : IsKept o next
@@ -489,8 +489,8 @@ module _ (o : Opening) (w : World) (k : IsKept o w) (p : ℕ) (h : PartitionStat
           record {
             number = d.number;
             clock = d.clock;
-            doing = doing_all c (last_begun w.past.begun c).partitions
-                (client_at w.now.clients c).doing d.doing;
+            phase = doing_all c (last_begun w.past.begun c).partitions
+                (client_at w.now.clients c).phase d.phase;
           };
       reads = λ f rows l e. read_grows o w next grows f.begun.partitions rows (k.reads f rows l e);
       answers = λ t l. answer_grows o w next grows t.answer (k.answers t l);

@@ -8,7 +8,7 @@ use Rattle.album_terminate.specs.Deciding.{have_told}
 use Rattle.album_partition.specs.Votes.{NotedVote, heard}
 use Rattle.album_partition.specs.Marks.{value_in}
 use Rattle.album_items.specs.Places.{lies_at, is_other, others_of, places_of, rows_placed_at}
-use Rattle.album_reader.specs.Answers.{Answer as Found}
+use Rattle.album_reader.specs.Answers.{ReadVersion}
 use Rattle.album_reader.specs.StampSets.{with_stamp, with_stamps, stamps_of}
 use Rattle.album_items.specs.Transactions.{items_written}
 use Rattle.album_world.proofs.ListLemmas.{In}
@@ -158,28 +158,28 @@ in_with s u (t ∷ ts) h = go (nat_lt s t) (s == t) h (in_with s u ts)
     go false false k rec = ⊎_elim (λ (e : u ≡ t). inr (subst (λ (z : ℕ). In z (t ∷ ts)) (sym e) here))
         (λ l. ⊎_elim inl (λ m. inr (there m)) (rec l)) (in_uncons k)
 
-all_there : (ts : List ℕ) (fs : List Found) (u : ℕ) → In u ts → In u (with_stamps ts fs)
+all_there : (ts : List ℕ) (fs : List ReadVersion) (u : ℕ) → In u ts → In u (with_stamps ts fs)
 all_there ts [] u h = h
 all_there ts (f ∷ fs) u h = all_there (with_stamp f.stamp ts) fs u (with_there f.stamp u ts h)
 
-with_in : (ts : List ℕ) (fs : List Found) (f : Found) → In f fs → In f.stamp (with_stamps ts fs)
+with_in : (ts : List ℕ) (fs : List ReadVersion) (f : ReadVersion) → In f fs → In f.stamp (with_stamps ts fs)
 with_in ts [] f h = in_nil h
 with_in ts (g ∷ fs) f h = ⊎_elim
     (λ (e : f ≡ g). all_there (with_stamp g.stamp ts) fs f.stamp
-    (subst (λ (z : Found). In z.stamp (with_stamp g.stamp ts)) (sym e) (with_here g.stamp ts)))
+    (subst (λ (z : ReadVersion). In z.stamp (with_stamp g.stamp ts)) (sym e) (with_here g.stamp ts)))
     (λ k. with_in (with_stamp g.stamp ts) fs f k)
     (in_uncons h)
 
-with_cases : (ts : List ℕ) (fs : List Found) (u : ℕ) → In u (with_stamps ts fs)
-    → In u ts ⊎ ((f : Found) × In f fs × (u ≡ f.stamp))
+with_cases : (ts : List ℕ) (fs : List ReadVersion) (u : ℕ) → In u (with_stamps ts fs)
+    → In u ts ⊎ ((f : ReadVersion) × In f fs × (u ≡ f.stamp))
 with_cases ts [] u h = inl h
 with_cases ts (f ∷ fs) u h = ⊎_elim
     (λ k. ⊎_elim (λ (e : u ≡ f.stamp). inr (f, here, e)) inl (in_with f.stamp u ts k))
     (λ r. inr (r.0, there r.1, r.2))
     (with_cases (with_stamp f.stamp ts) fs u h)
 
-pub stamp_in : (fs : List Found) (f : Found) → In f fs → In f.stamp (stamps_of fs)
+pub stamp_in : (fs : List ReadVersion) (f : ReadVersion) → In f fs → In f.stamp (stamps_of fs)
 stamp_in fs f h = with_in [] fs f h
 
-pub in_stamps : (fs : List Found) (u : ℕ) → In u (stamps_of fs) → (f : Found) × In f fs × (u ≡ f.stamp)
+pub in_stamps : (fs : List ReadVersion) (u : ℕ) → In u (stamps_of fs) → (f : ReadVersion) × In f fs × (u ≡ f.stamp)
 in_stamps fs u h = ⊎_elim (λ n. in_nil n) (λ r. r) (with_cases [] fs u h)

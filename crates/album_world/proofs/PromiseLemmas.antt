@@ -25,8 +25,8 @@ use Rattle.album_views.specs.declared.asks.Ask.{Ask}
 use Rattle.album_permits.proofs.Agreeing.{ruling-alike}
 use Rattle.album_permits.specs.Permits.{PermitState, IsPermit}
 use Rattle.album_permits.specs.declared.findings.Finding.{Finding}
-use Rattle.album_client.specs.declared.clients.Doing.{Doing}
-use Rattle.album_client.specs.declared.clients.Doing.TheVariants as doing
+use Rattle.album_client.specs.declared.clients.Phase.{Phase}
+use Rattle.album_client.specs.declared.clients.Phase.TheVariants as phase
 use Rattle.album_client.specs.Terms.{Terms, terms_of}
 use Rattle.album_client.specs.Turns.{Transaction}
 use Rattle.album_world.specs.declared.events.Event.{Event}
@@ -76,12 +76,12 @@ module _ (o : Opening) (some : 0 < o.parts) (w : World) (k : IsKept o w) (b : Is
         asked_booked o (requested w (event.Ask c who ask)) (request_kept o w k a) (request_booked t w b a) c tag ask who e
         (objects_of ask)
 
-    asks_booked : (f : Doing) → IsBooked t (changed_by w (event.Ask c who ask)
+    asks_booked : (f : Phase) → IsBooked t (changed_by w (event.Ask c who ask)
         (asks_by t c (client_at w.now.clients c) who ask f))
-    asks_booked (doing.Idle tag) = refused_booked tag (refusal_of ask who) refl
-    asks_booked (doing.Reads v r) = b
-    asks_booked (doing.Prepares z) = b
-    asks_booked (doing.Commits z) = b
+    asks_booked (phase.Idle tag) = refused_booked tag (refusal_of ask who) refl
+    asks_booked (phase.Reads v r) = b
+    asks_booked (phase.Prepares z) = b
+    asks_booked (phase.Commits z) = b
 
   takes_booked : (p : ℕ) (m : Message) (f : Option PartitionState) → IsBooked t (changed w (part_takes p m f))
   takes_booked p m None = b
@@ -118,7 +118,7 @@ module _ (o : Opening) (some : 0 < o.parts) (w : World) (k : IsKept o w) (b : Is
   event_booked (event.Ask c who ask) =
       unless_booked (event.Ask c who ask) (not (is_client c)) refusal.BadRequest _
       (unless_booked (event.Ask c who ask) (is_stopped w.now c) refusal.Stopped _
-      (asks_booked c who ask (client_at w.now.clients c).doing))
+      (asks_booked c who ask (client_at w.now.clients c).phase))
   event_booked (event.Deliver n) = delivery_booked n (message_of w.now.messages n) (λ m e. message_in o some w k n m e)
   event_booked (event.Sweep p s) = sweeps_booked p s (slice_get w.now.partitions p)
   event_booked (event.Stop c) = unless_booked (event.Stop c) (is_stopped w.now c) refusal.Stopped (Ok (Stops c))

@@ -1,4 +1,4 @@
--- Clients in the order of their first asks, for `Register`: a client stands where its number does, or nowhere.
+-- Clients in the order of their first asks, for `Clients`: a client stands where its number does, or nowhere.
 use Rattle.std.proofs.Common.{◌≡◌, ℕ, zero, suc, ◌+◌, ◌<◌, Bool, true, false, cond, not, ◌||◌, ◌==◌, ltb, List, [], ◌∷◌, ◌++◌, map, length, set, get_or, Option, Some, None, position, Result, Ok, Err, IsOk, IsOkAnd, IfOk, OnErr, IfSome, refl, sym, ap, ◌∙◌, subst, arith}
 use Rattle.std.specs.List.{list_any, position_or_len}
 use Rattle.std.proofs.lemmas.Bool.{eqb-true, ltb-true}

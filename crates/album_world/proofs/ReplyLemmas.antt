@@ -19,7 +19,7 @@ use Rattle.album_calls.specs.declared.replies.Reply.TheVariants as reply
 use Rattle.album_eval.specs.declared.facts.Principal.{Principal}
 use Rattle.album_partition.specs.Partition.{PartitionState}
 use Rattle.album_partition.proofs.LegalLemmas.{committed_was_prepared}
-use Rattle.album_reader.specs.Answers.{Asker, Answer as Found, answers_there, are_there}
+use Rattle.album_reader.specs.Answers.{Asker, ReadVersion, answers_there, are_there}
 use Rattle.album_reader.specs.Rounds.{RoundState, get_of, gets_of, next_asker, second_round, new_answer, with_answer, end_by, end_of, outcome, taken, is_gone}
 use Rattle.album_reader.specs.Rounds.Step.{Same, Gone}
 use Rattle.album_reader.specs.StampSets.{stamps_of}
@@ -43,10 +43,10 @@ use Rattle.album_writer.specs.declared.told.Told.{Told}
 use Rattle.album_writer.specs.declared.told.Told.TheVariants as told
 use Rattle.album_writer.specs.declared.answers.Answer.{Answer}
 use Rattle.album_writer.specs.declared.answers.Answer.TheVariants as answer
-use Rattle.album_client.specs.declared.clients.Doing.{Doing}
-use Rattle.album_client.specs.declared.clients.Doing.TheVariants as doing
+use Rattle.album_client.specs.declared.clients.Phase.{Phase}
+use Rattle.album_client.specs.declared.clients.Phase.TheVariants as phase
 use Rattle.album_client.specs.Terms.{terms_of}
-use Rattle.album_client.specs.Askings.{Asking}
+use Rattle.album_client.specs.Askings.{PendingAsk}
 use Rattle.album_client.specs.Clients.{Client, tag_of}
 use Rattle.album_client.specs.Grants.{served_for}
 use Rattle.album_client.specs.Turns.{Transaction, Ended, Turn, still, sends, asker_at, read_begins, ask_ends, round_for, write_begins, writes_unless, draws_by, grants, rules_by, clock_after_rows, views_by, read_turn, prepare_turn, commit_turn}
@@ -67,10 +67,10 @@ use Rattle.album_world.proofs.WroteLemmas.{written_here}
 use Rattle.album_world.proofs.TurnLemmas.{IsSent, IsNew, turn_kept, turn_grows, doing_lasts}
 
 node_tag : (w : World) (n : Node) (c g : ℕ) → n ≡ ToClient c → IsTagged w n g
-    → g ≤ tag_of (client_at w.now.clients c).doing
+    → g ≤ tag_of (client_at w.now.clients c).phase
 node_tag w (Part p) c g e h = absurd (cc)
 node_tag w (ToClient d) c g e h = let q : d ≡ c = cc in subst
-    (λ (z : ℕ). g ≤ tag_of (client_at w.now.clients z).doing) q h
+    (λ (z : ℕ). g ≤ tag_of (client_at w.now.clients z).phase) q h
 
 part_apart : {p c : ℕ} {R : Type 0} → Part p ≡ ToClient c → R
 part_apart e = absurd (cc)
@@ -92,43 +92,43 @@ module _ (o : Opening) (some : 0 < o.parts) (w : World) (k : IsKept o w) (c : �
   own : x.clock.client ≡ c
   own = (k.clients c).clock
 
-  no_old_from : (g : ℕ) → tag_of x.doing ≡ g → (m : Message) → In m w.now.messages → m.from ≡ ToClient c
+  no_old_from : (g : ℕ) → tag_of x.phase ≡ g → (m : Message) → In m w.now.messages → m.from ≡ ToClient c
       → m.tag ≡ g + 1 → ⊥
   no_old_from g tag m i f e =
-      let l : m.tag ≤ tag_of x.doing = node_tag w m.from c m.tag f (k.from m i) in
-      let q : tag_of x.doing ≡ g = tag in
+      let l : m.tag ≤ tag_of x.phase = node_tag w m.from c m.tag f (k.from m i) in
+      let q : tag_of x.phase ≡ g = tag in
       let d : m.tag ≡ g + 1 = e in
       omega arith
 
-  no_old_to : (g : ℕ) → tag_of x.doing ≡ g → (m : Message) → In m w.now.messages → m.to ≡ ToClient c → m.tag ≡ g + 1 → ⊥
+  no_old_to : (g : ℕ) → tag_of x.phase ≡ g → (m : Message) → In m w.now.messages → m.to ≡ ToClient c → m.tag ≡ g + 1 → ⊥
   no_old_to g tag m i f e =
-      let l : m.tag ≤ tag_of x.doing = node_tag w m.to c m.tag f (k.to m i) in
-      let q : tag_of x.doing ≡ g = tag in
+      let l : m.tag ≤ tag_of x.phase = node_tag w m.to c m.tag f (k.to m i) in
+      let q : tag_of x.phase ≡ g = tag in
       let d : m.tag ≡ g + 1 = e in
       omega arith
 
-  tag_next : (g : ℕ) → tag_of x.doing ≡ g → tag_of x.doing ≤ g + 1
+  tag_next : (g : ℕ) → tag_of x.phase ≡ g → tag_of x.phase ≤ g + 1
   tag_next g tag = omega arith
 
   -- ---- nothing is sent and nothing is told
 
-  pub stays_kept : (y : Client) → y.number ≡ x.number → y.clock ≡ x.clock → tag_of x.doing ≡ tag_of y.doing
-      → IsDoing o w c began y.doing → IsKept o (changed w (AtClient c (still y)))
+  pub stays_kept : (y : Client) → y.number ≡ x.number → y.clock ≡ x.clock → tag_of x.phase ≡ tag_of y.phase
+      → IsDoing o w c began y.phase → IsKept o (changed w (AtClient c (still y)))
   stays_kept y same clock tag does =
       let t = still y in
       let n : y.number ≡ c = same ∙ number in
       let m : y.clock.client ≡ c = ap (λ (z : ClockState). z.client) clock ∙ own in
-      let lt : tag_of x.doing ≤ tag_of y.doing = le_of_eq tag in
+      let lt : tag_of x.phase ≤ tag_of y.phase = le_of_eq tag in
       let lc : x.clock.counter ≤ y.clock.counter = le_of_eq (ap (λ (z : ClockState). z.counter) (sym clock)) in
       turn_kept o w k c t n m lt lc (λ m l. in_nil l)
       (doing_lasts o w k c t n m (turn_grows o w k c t n m lt lc) c began (λ m l. in_nil l)
-      (λ m l. in_nil l) y.doing does)
+      (λ m l. in_nil l) y.phase does)
       (λ r l. none_some l) (λ d rows l. none_some l) (λ a l. none_some l)
 
   -- ---- what is sent
 
   -- the Gets of a new round
-  asks : (t : Turn) (g : ℕ) → tag_of x.doing ≡ g → (a : Asker) → a.tag ≡ g + 1 → (items ts : List ℕ)
+  asks : (t : Turn) (g : ℕ) → tag_of x.phase ≡ g → (a : Asker) → a.tag ≡ g + 1 → (items ts : List ℕ)
       → t.sent ≡ gets_of a ts items → IsAsked (changed w (AtClient c t)) c (g + 1) ts
   asks t g tag a at items ts e = record {
     at = λ m l f q. ⊎_elim
@@ -138,7 +138,7 @@ module _ (o : Opening) (some : 0 < o.parts) (w : World) (k : IsKept o w) (c : �
         (in_cases w.now.messages t.sent l);
   }
 
-  unanswered : (t : Turn) (g : ℕ) → tag_of x.doing ≡ g → (a : Asker) → (items ts : List ℕ) (P : ℕ → ℕ → Type 0)
+  unanswered : (t : Turn) (g : ℕ) → tag_of x.phase ≡ g → (a : Asker) → (items ts : List ℕ) (P : ℕ → ℕ → Type 0)
       → t.sent ≡ gets_of a ts items → IsAnswered (changed w (AtClient c t)) c (g + 1) P
   unanswered t g tag a items ts P e = record {
     at = λ m l f q. ⊎_elim
@@ -176,15 +176,15 @@ module _ (o : Opening) (some : 0 < o.parts) (w : World) (k : IsKept o w) (c : �
 
   module _ (y : Client) (ny : y.number ≡ c) (oy : y.clock.client ≡ c) (up : x.clock.counter ≤ y.clock.counter)
       (e : Option Ended) (n : Option (List Note))
-      (reads : (d : Ended) (rows : List Found) → e ≡ Some d → d.rows ≡ Some rows → IsRead o w began rows) (tag : ℕ)
-      (was : tag_of x.doing ≡ tag) where
+      (reads : (d : Ended) (rows : List ReadVersion) → e ≡ Some d → d.rows ≡ Some rows → IsRead o w began rows) (tag : ℕ)
+      (was : tag_of x.phase ≡ tag) where
     ends_kept : (a : Answer) → IsAnswer o w a → IsKept o (changed w (AtClient c (with_past (ask_ends y tag a) e n)))
     ends_kept a d =
         turn_kept o w k c (with_past (ask_ends y tag a) e n) ny oy (le_of_eq was) up (λ m i. in_nil i) tt
         (λ r i. none_some i) reads
         (λ b i. subst (IsAnswer o w) (some_same i) d)
 
-    reads_kept : 0 < c → c < 65536 → (asking : Asking) (items : List ℕ)
+    reads_kept : 0 < c → c < 65536 → (asking : PendingAsk) (items : List ℕ)
         → IsKept o (changed w (AtClient c (with_past (read_begins (terms_of o) y tag asking items) e n)))
     reads_kept low high asking items =
         let t = with_past (read_begins (terms_of o) y tag asking items) e n in
@@ -196,7 +196,7 @@ module _ (o : Opening) (some : 0 < o.parts) (w : World) (k : IsKept o w) (c : �
         (last_begun w.past.begun c)).partitions) (self_eqb c) in
         turn_kept o w k c t ny oy (tag_next tag was) up
         (λ m i. gets_sent next a (tag + 1) ny refl [] items m i)
-        (subst (λ (z : List PartitionState). IsDoing o next c z t.client.doing) (sym here_now)
+        (subst (λ (z : List PartitionState). IsDoing o next c z t.client.phase) (sym here_now)
         (record {
           low = low;
           high = high;
@@ -263,8 +263,8 @@ module _ (o : Opening) (some : 0 < o.parts) (w : World) (k : IsKept o w) (c : �
 
   module _ (y : Client) (ny : y.number ≡ c) (oy : y.clock.client ≡ c) (up : x.clock.counter ≤ y.clock.counter)
       (e : Option Ended) (n : Option (List Note))
-      (reads : (d : Ended) (rows : List Found) → e ≡ Some d → d.rows ≡ Some rows → IsRead o w began rows) (tag : ℕ)
-      (was : tag_of x.doing ≡ tag) (low : 0 < c) (high : c < 65536) where
+      (reads : (d : Ended) (rows : List ReadVersion) → e ≡ Some d → d.rows ≡ Some rows → IsRead o w began rows) (tag : ℕ)
+      (was : tag_of x.phase ≡ tag) (low : 0 < c) (high : c < 65536) where
     abbrev drawn : Client
     drawn = record y { clock = clock_after_next y.clock }
 
@@ -295,8 +295,8 @@ module _ (o : Opening) (some : 0 < o.parts) (w : World) (k : IsKept o w) (c : �
     rules_kept permit (finding.Missing object) = ends_kept y ny oy up e n reads tag was (answer.Missing object) tt
 
   views_kept : 0 < c → c < 65536 → (e : Option Ended)
-      → ((d : Ended) (rows : List Found) → e ≡ Some d → d.rows ≡ Some rows → IsRead o w began rows)
-      → (tag : ℕ) → tag_of x.doing ≡ tag → (who : Principal) (step : ViewStep)
+      → ((d : Ended) (rows : List ReadVersion) → e ≡ Some d → d.rows ≡ Some rows → IsRead o w began rows)
+      → (tag : ℕ) → tag_of x.phase ≡ tag → (who : Principal) (step : ViewStep)
       → IsKept o (changed w (AtClient c (record (views_by (terms_of o) x tag who step) { over = e })))
   views_kept low high e reads tag was who (Again viewing items) = reads_kept x number own (le_refl _) e None reads tag
       was low high (record { viewing = viewing; principal = who }) items
@@ -311,11 +311,11 @@ module _ (o : Opening) (some : 0 < o.parts) (w : World) (k : IsKept o w) (c : �
 
   -- ---- a message in a read
 
-  module _ (asking : Asking) where
+  module _ (asking : PendingAsk) where
     abbrev reading : RoundState → Client
-    reading r = record x { doing = doing.Reads asking r }
+    reading r = record x { phase = phase.Reads asking r }
 
-    fetch_kept : (r : RoundState) → IsReading o w c began r → tag_of x.doing ≡ r.asker.tag → IsAsking o w c began r
+    fetch_kept : (r : RoundState) → IsReading o w c began r → tag_of x.phase ≡ r.asker.tag → IsAsking o w c began r
         → are_there r.answers ≡ true
         → IsKept o (changed w
         (AtClient c (sends (reading (second_round r (stamps_of (answers_there r.answers))))
@@ -345,7 +345,7 @@ module _ (o : Opening) (some : 0 < o.parts) (w : World) (k : IsKept o w) (c : �
         })
         (λ s i. none_some i) (λ d rows i. none_some i) (λ b i. none_some i)
       where
-        found : (f : Found) → In f (answers_there r.answers)
+        found : (f : ReadVersion) → In f (answers_there r.answers)
             → FirstRound o w began f.item f.stamp × IsValue o w f.item f.stamp f.value
         found f l = a.founds f (there_in r.answers f l)
 
@@ -382,12 +382,12 @@ module _ (o : Opening) (some : 0 < o.parts) (w : World) (k : IsKept o w) (c : �
       begun = h.begun;
     }
       where
-        found : (f : Found) → In f (answers_there r.answers)
+        found : (f : ReadVersion) → In f (answers_there r.answers)
             → SecondRound o w began ts f.item f.stamp × IsValue o w f.item f.stamp f.value
         found f l = a.founds f (there_in r.answers f l)
 
     -- a round with one more answer
-    round_with : (r : RoundState) (m : Message) → In m w.now.messages → IsReading o w c began r → (f : Found)
+    round_with : (r : RoundState) (m : Message) → In m w.now.messages → IsReading o w c began r → (f : ReadVersion)
         → IsFoundBy r m f → IsReading o w c began (with_answer r f)
     round_with r m sent h f b = record {
       low = h.low;
@@ -409,7 +409,7 @@ module _ (o : Opening) (some : 0 < o.parts) (w : World) (k : IsKept o w) (c : �
           founds = λ g l. ⊎_elim
               (λ i. a.founds g i)
               (λ (i : g ≡ f). subst
-              (λ (z : Found). FirstRound o w began z.item z.stamp × IsValue o w z.item z.stamp z.value) (sym i) (
+              (λ (z : ReadVersion). FirstRound o w began z.item z.stamp × IsValue o w z.item z.stamp z.value) (sym i) (
                 subst (TellsWith (FirstRound o w began)) b.says
                     (a.answered.at m sent (b.to ∙ ap ToClient h.client) b.tag_is),
                 value,
@@ -426,7 +426,7 @@ module _ (o : Opening) (some : 0 < o.parts) (w : World) (k : IsKept o w) (c : �
               → SecondRound o w began ts f.item f.stamp = subst
               (TellsWith (λ j s. In j r.items → SecondRound o w began ts j s)) b.says
               (a.answered.at m sent (b.to ∙ ap ToClient h.client) b.tag_is) in
-              subst (λ (z : Found). SecondRound o w began ts z.item z.stamp × IsValue o w z.item z.stamp z.value)
+              subst (λ (z : ReadVersion). SecondRound o w began ts z.item z.stamp × IsValue o w z.item z.stamp z.value)
               (sym i) (d b.asked, value))
               (put_cases f r.items r.answers g l);
           stamps = a.stamps;
@@ -434,7 +434,7 @@ module _ (o : Opening) (some : 0 < o.parts) (w : World) (k : IsKept o w) (c : �
         }
 
     -- how a round ends
-    end_kept : (r : RoundState) → IsReading o w c began r → tag_of x.doing ≡ r.asker.tag → are_there r.answers ≡ true
+    end_kept : (r : RoundState) → IsReading o w c began r → tag_of x.phase ≡ r.asker.tag → are_there r.answers ≡ true
         → (f : Option (List ℕ)) → IsRound o w c began r f
         → IsKept o (changed w
         (AtClient c (read_turn (terms_of o) x r.asker.tag asking (end_by f r (answers_there r.answers)))))
@@ -443,11 +443,11 @@ module _ (o : Opening) (some : 0 < o.parts) (w : World) (k : IsKept o w) (c : �
         let rows = answers_there r.answers in
         views_kept h.low h.high
         (Some (record { ask = asking.viewing.ask; principal = asking.principal; rows = Some rows }))
-        (λ d rs i q. subst (λ (z : List Found). IsRead o w began z)
+        (λ d rs i q. subst (λ (z : List ReadVersion). IsRead o w began z)
         (some_same (ap (λ (z : Ended). z.rows) (some_same i) ∙ q)) (is_read r ts h a))
         r.asker.tag tag asking.principal (viewed asking.viewing rows)
 
-    outcome_kept : (r : RoundState) → IsReading o w c began r → tag_of x.doing ≡ r.asker.tag → (b : Bool)
+    outcome_kept : (r : RoundState) → IsReading o w c began r → tag_of x.phase ≡ r.asker.tag → (b : Bool)
         → are_there r.answers ≡ b
         → IsKept o (changed w
         (AtClient c (read_turn (terms_of o) x r.asker.tag asking
@@ -456,17 +456,17 @@ module _ (o : Opening) (some : 0 < o.parts) (w : World) (k : IsKept o w) (c : �
     outcome_kept r h tag false all = stays_kept (reading r) refl refl tag h
 
     reading_kept : (r : RoundState) (m : Message) → In m w.now.messages → IsReading o w c began r
-        → tag_of x.doing ≡ r.asker.tag → (f : Option Found) → new_answer r m ≡ f
+        → tag_of x.phase ≡ r.asker.tag → (f : Option ReadVersion) → new_answer r m ≡ f
         → IsKept o (changed w
         (AtClient c (read_turn (terms_of o) x r.asker.tag asking
-        (option_map_or (λ (a : Found). outcome (with_answer r a)) f (Same r)))))
+        (option_map_or (λ (a : ReadVersion). outcome (with_answer r a)) f (Same r)))))
     reading_kept r m sent h tag None e = stays_kept (reading r) refl refl tag h
     reading_kept r m sent h tag (Some f) e = outcome_kept (with_answer r f)
         (round_with r m sent h f (found_is r m f e)) tag (are_there (with_answer r f).answers) refl
 
     -- an item is gone: nothing was read
     message_read : (r : RoundState) (m : Message) → In m w.now.messages → IsReading o w c began r
-        → tag_of x.doing ≡ r.asker.tag → (b : Bool)
+        → tag_of x.phase ≡ r.asker.tag → (b : Bool)
         → IsKept o (changed w
         (AtClient c (read_turn (terms_of o) x r.asker.tag asking (if b then Gone r.items else taken r m))))
     message_read r m sent h tag false = reading_kept r m sent h tag (new_answer r m) refl
@@ -524,9 +524,9 @@ module _ (o : Opening) (some : 0 < o.parts) (w : World) (k : IsKept o w) (c : �
   }
 
   abbrev committing : WritingState → Client
-  committing z = record x { doing = doing.Commits z }
+  committing z = record x { phase = phase.Commits z }
 
-  commit_kept : (z : WritingState) → tag_of x.doing ≡ z.tag → IsWriting o w c z (HasPrepared w) → IsSettled o w z.stamp
+  commit_kept : (z : WritingState) → tag_of x.phase ≡ z.tag → IsWriting o w c z (HasPrepared w) → IsSettled o w z.stamp
       → IsKept o (changed w (AtClient c (sends (committing (commit_round z)) (commits_of (commit_round z)))))
   commit_kept z tag h s =
       let t = sends (committing (commit_round z)) (commits_of (commit_round z)) in
@@ -552,17 +552,17 @@ module _ (o : Opening) (some : 0 < o.parts) (w : World) (k : IsKept o w) (c : �
       })
       (λ r i. none_some i) (λ d rows i. none_some i) (λ b i. none_some i)
 
-  outcome_ends : (tag : ℕ) → tag_of x.doing ≡ tag → (a : Answer) → IsAnswer o w a
+  outcome_ends : (tag : ℕ) → tag_of x.phase ≡ tag → (a : Answer) → IsAnswer o w a
       → IsKept o (changed w (AtClient c (ask_ends x tag a)))
   outcome_ends tag was a d = ends_kept x number own (le_refl _) None None (λ d rows i q. none_some i) tag was a d
 
-  module _ (m : Message) (sent : In m w.now.messages) (z : WritingState) (tag : tag_of x.doing ≡ z.tag) where
+  module _ (m : Message) (sent : In m w.now.messages) (z : WritingState) (tag : tag_of x.phase ≡ z.tag) where
     says_from : (b : Body) (part : ℕ) → m.from ≡ Part part → m.body ≡ b → IsFine o w (Part part) m.to b
     says_from b part f e = subst (λ (a : Node). IsFine o w a m.to b) f
         (subst (λ (a : Body). IsFine o w m.from m.to a) e (k.fine m sent))
 
     abbrev preparing : WritingState → Client
-    preparing h = record x { doing = doing.Prepares h }
+    preparing h = record x { phase = phase.Prepares h }
 
     commits_kept : (h : WritingState) → h.tag ≡ z.tag → IsWriting o w c h (HasPrepared w) → (awaited : List ℕ)
         → h.awaited ≡ awaited → IsKept o (changed w (AtClient c (prepare_turn x z.tag (prepares_left h awaited))))
@@ -619,21 +619,21 @@ module _ (o : Opening) (some : 0 < o.parts) (w : World) (k : IsKept o w) (c : �
 
   -- ---- whatever it does
 
-  by_kept : (m : Message) → In m w.now.messages → (f : Doing) → x.doing ≡ f → IsDoing o w c began f
+  by_kept : (m : Message) → In m w.now.messages → (f : Phase) → x.phase ≡ f → IsDoing o w c began f
       → IsKept o (changed w (client_takes_by (terms_of o) c x m f))
-  by_kept m sent (doing.Idle tag) e h = k
-  by_kept m sent (doing.Reads asking r) e h = message_read asking r m sent h (ap tag_of e) (is_gone r m)
-  by_kept m sent (doing.Prepares z) e h = prepared_kept m sent z (ap tag_of e) h (told_of z m) refl
-  by_kept m sent (doing.Commits z) e h = committed_kept m sent z (ap tag_of e) h (told_of z m) refl
+  by_kept m sent (phase.Idle tag) e h = k
+  by_kept m sent (phase.Reads asking r) e h = message_read asking r m sent h (ap tag_of e) (is_gone r m)
+  by_kept m sent (phase.Prepares z) e h = prepared_kept m sent z (ap tag_of e) h (told_of z m) refl
+  by_kept m sent (phase.Commits z) e h = committed_kept m sent z (ap tag_of e) h (told_of z m) refl
 
   pub message_kept : (m : Message) → In m w.now.messages → IsKept o (changed w (client_takes (terms_of o) w.now c x m))
   message_kept m sent = go (is_stopped w.now c)
     where
-      go : (b : Bool) → IsKept o (changed w (if b then Nothing else client_takes_by (terms_of o) c x m x.doing))
+      go : (b : Bool) → IsKept o (changed w (if b then Nothing else client_takes_by (terms_of o) c x m x.phase))
       go true = k
-      go false = by_kept m sent x.doing refl (k.clients c).doing
+      go false = by_kept m sent x.phase refl (k.clients c).phase
 
-  pub asked_kept : 0 < c → c < 65536 → (tag : ℕ) → tag_of x.doing ≡ tag → (asking : Asking) (items : List ℕ)
+  pub asked_kept : 0 < c → c < 65536 → (tag : ℕ) → tag_of x.phase ≡ tag → (asking : PendingAsk) (items : List ℕ)
       → IsKept o (changed w (AtClient c (read_begins (terms_of o) x tag asking items)))
   asked_kept low high tag was asking items = reads_kept x number own (le_refl _) None None
       (λ d rows i q. none_some i) tag was low high asking items

@@ -3,9 +3,9 @@ use Rattle.std.proofs.Common.{◌≡◌, ℕ, ◌≤◌, Bool, true, false, eqb,
 use Rattle.album_items.specs.declared.openings.Opening.{Opening}
 use Rattle.album_writer.specs.Writing.{WritingState}
 use Rattle.album_writer.specs.declared.answers.Answer.{Answer}
-use Rattle.album_client.specs.declared.clients.Doing.{Doing}
-use Rattle.album_client.specs.declared.clients.Doing.TheVariants as doing
-use Rattle.album_client.specs.Askings.{Asking}
+use Rattle.album_client.specs.declared.clients.Phase.{Phase}
+use Rattle.album_client.specs.declared.clients.Phase.TheVariants as phase
+use Rattle.album_client.specs.Askings.{PendingAsk}
 use Rattle.album_client.specs.Clients.{Client}
 use Rattle.album_client.specs.Turns.{Transaction, Ended, Turn}
 use Rattle.album_world.specs.State.{client_at}
@@ -59,7 +59,7 @@ pub record IsForOne (w : World) (r : Transaction) : Type 0 where
   pub writes : In r asked.writes
 
 -- a client that reads has not answered its last request
-pub record ReadsFor (w : World) (c : ℕ) (asking : Asking) : Type 0 where
+pub record ReadsFor (w : World) (c : ℕ) (asking : PendingAsk) : Type 0 where
   pub asked : Asked
   pub last : last_asked w.past.asked c ≡ Some asked
   pub ask : asked.ask ≡ asking.viewing.ask
@@ -80,11 +80,11 @@ pub record WritesFor (w : World) (c : ℕ) (z : WritingState) : Type 0 where
   pub some : last_read w.past.reads c ≡ None → ⊥
 
 -- the last request of one that is idle is answered
-abbrev pub IsUnder : World → ℕ → Doing → Type 0
-IsUnder w c (doing.Idle tag) = (a : Asked) → last_asked w.past.asked c ≡ Some a → length a.answers ≡ 1
-IsUnder w c (doing.Reads asking round) = ReadsFor w c asking
-IsUnder w c (doing.Prepares z) = WritesFor w c z
-IsUnder w c (doing.Commits z) = WritesFor w c z
+abbrev pub IsUnder : World → ℕ → Phase → Type 0
+IsUnder w c (phase.Idle tag) = (a : Asked) → last_asked w.past.asked c ≡ Some a → length a.answers ≡ 1
+IsUnder w c (phase.Reads asking round) = ReadsFor w c asking
+IsUnder w c (phase.Prepares z) = WritesFor w c z
+IsUnder w c (phase.Commits z) = WritesFor w c z
 
 -- those before the last one of a client are answered
 abbrev pub AreInTurn : List Asked → Type 0
@@ -98,14 +98,14 @@ pub record IsRequestedBut (w : World) (c : ℕ) : Type 0 where
   pub told : (x : Told) → In x w.past.told → IsToOne w x
   pub begun : (r : Transaction) → In r w.past.transactions → IsForOne w r
   pub turns : AreInTurn w.past.asked
-  pub at : (d : ℕ) → eqb c d ≡ false → IsUnder w d (client_at w.now.clients d).doing
+  pub at : (d : ℕ) → eqb c d ≡ false → IsUnder w d (client_at w.now.clients d).phase
 
 pub record IsRequested (w : World) : Type 0 where
   pub alone : (a : Asked) → In a w.past.asked → IsAlone w a
   pub told : (x : Told) → In x w.past.told → IsToOne w x
   pub begun : (r : Transaction) → In r w.past.transactions → IsForOne w r
   pub turns : AreInTurn w.past.asked
-  pub at : (c : ℕ) → IsUnder w c (client_at w.now.clients c).doing
+  pub at : (c : ℕ) → IsUnder w c (client_at w.now.clients c).phase
 
 -- ---- the last request, and that it goes on
 
@@ -400,9 +400,9 @@ module _ (o : Opening) (w : World) (k : IsKept o w) (c : ℕ) (q : IsRequestedBu
       }
 
   -- what another client does is under its own request
-  beside : (d : ℕ) → eqb c d ≡ false → (f : Doing) → IsUnder w d f → IsUnder next d f
-  beside d ne (doing.Idle tag) u = λ a e. u a (sym (last_beside begun_here c t w.past.asked d ne) ∙ e)
-  beside d ne (doing.Reads asking round) u = record {
+  beside : (d : ℕ) → eqb c d ≡ false → (f : Phase) → IsUnder w d f → IsUnder next d f
+  beside d ne (phase.Idle tag) u = λ a e. u a (sym (last_beside begun_here c t w.past.asked d ne) ∙ e)
+  beside d ne (phase.Reads asking round) u = record {
     asked = u.asked;
     last = last_beside begun_here c t w.past.asked d ne ∙ u.last;
     ask = u.ask;
@@ -412,10 +412,10 @@ module _ (o : Opening) (w : World) (k : IsKept o w) (c : ℕ) (q : IsRequestedBu
     later = subst (λ (z : Begun). AreAtOrAfter z.partitions u.asked.partitions)
         (sym (begun_other t.reads c d (nth_after w.past c t.over) w.now.partitions w.past.begun ne)) u.later;
   }
-  beside d ne (doing.Prepares z) u = writes_beside d ne z u
-  beside d ne (doing.Commits z) u = writes_beside d ne z u
+  beside d ne (phase.Prepares z) u = writes_beside d ne z u
+  beside d ne (phase.Commits z) u = writes_beside d ne z u
 
-  pub turn_requested : IsUnder next c t.client.doing → IsRequested next
+  pub turn_requested : IsUnder next c t.client.phase → IsRequested next
   turn_requested does = record {
     alone = λ a i. ⊎_elim
         (λ j. alone_lasts w next lasts a (q.alone a j))
@@ -443,11 +443,11 @@ module _ (o : Opening) (w : World) (k : IsKept o w) (c : ℕ) (q : IsRequestedBu
     turns = turns_after begun_here c t w.past.asked b last q.turns;
     at = λ d. ⊎_elim
         (λ (e : (c ≡ d) × (client_at next.now.clients d ≡ t.client)).
-        subst (λ (z : Client). IsUnder next d z.doing) (sym e.1)
-        (subst (λ (z : ℕ). IsUnder next z t.client.doing) e.0 does))
+        subst (λ (z : Client). IsUnder next d z.phase) (sym e.1)
+        (subst (λ (z : ℕ). IsUnder next z t.client.phase) e.0 does))
         (λ (e : (eqb c d ≡ false) × (client_at next.now.clients d ≡ client_at w.now.clients d)).
-        subst (λ (z : Client). IsUnder next d z.doing) (sym e.1)
-        (beside d e.0 (client_at w.now.clients d).doing (q.at d e.0)))
+        subst (λ (z : Client). IsUnder next d z.phase) (sym e.1)
+        (beside d e.0 (client_at w.now.clients d).phase (q.at d e.0)))
         (client_cases o w k c t number own d);
   }
 

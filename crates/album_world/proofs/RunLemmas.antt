@@ -3,7 +3,7 @@ use Rattle.std.proofs.Common.{◌≡◌, ℕ, zero, suc, ◌<◌, ◌≤◌, Boo
 use Rattle.std.proofs.lemmas.Bool.{leb-true}
 use Rattle.std.specs.List.{slice_get, list_all}
 use Rattle.album_stamps.specs.Stamps.{is_client}
-use Rattle.album_stamps.specs.declared.limits.TheConstants.{CLIENTS, MOST_PARTS, LEAST_MARKS, MOST_MARKS}
+use Rattle.album_stamps.specs.declared.limits.TheConstants.{CLIENTS, MAX_PARTS, MIN_MARKS, MAX_MARKS}
 use Rattle.album_stamps.specs.declared.refusals.Refusal.{Refusal}
 use Rattle.album_stamps.specs.declared.refusals.Refusal.TheVariants as refusal
 use Rattle.album_items.specs.Places.{rows_placed_at}
@@ -19,8 +19,8 @@ use Rattle.album_views.specs.Asks.{objects_of}
 use Rattle.album_views.specs.Checks.{refusal_of}
 use Rattle.album_views.specs.declared.asks.Ask.{Ask}
 use Rattle.album_client.specs.Clients.{tag_of}
-use Rattle.album_client.specs.declared.clients.Doing.{Doing}
-use Rattle.album_client.specs.declared.clients.Doing.TheVariants as doing
+use Rattle.album_client.specs.declared.clients.Phase.{Phase}
+use Rattle.album_client.specs.declared.clients.Phase.TheVariants as phase
 use Rattle.album_client.specs.Terms.{terms_of}
 use Rattle.album_world.specs.declared.events.Event.{Event}
 use Rattle.album_world.specs.declared.events.Event.TheVariants as event
@@ -41,9 +41,9 @@ use Rattle.album_world.proofs.ReplyLemmas.{asked_kept, message_kept}
 
 pub record IsOpening (o : Opening) : Type 0 where
   pub some : 1 ≤ o.parts
-  pub few : o.parts ≤ MOST_PARTS
-  pub low : LEAST_MARKS ≤ o.limit
-  pub high : o.limit ≤ MOST_MARKS
+  pub few : o.parts ≤ MAX_PARTS
+  pub low : MIN_MARKS ≤ o.limit
+  pub high : o.limit ≤ MAX_MARKS
 
 pub opening_is : (o : Opening) → is_opening o ≡ true → IsOpening o
 opening_is o is =
@@ -54,10 +54,10 @@ opening_is o is =
     let parts = and_left (has_parts o.parts) (has_limit o.limit) both in
     let limit = and_right (has_parts o.parts) (has_limit o.limit) both in
     record {
-      some = leb-true 1 o.parts (and_left (nat_le 1 o.parts) (nat_le o.parts MOST_PARTS) parts);
-      few = leb-true o.parts MOST_PARTS (and_right (nat_le 1 o.parts) (nat_le o.parts MOST_PARTS) parts);
-      low = leb-true LEAST_MARKS o.limit (and_left (nat_le LEAST_MARKS o.limit) (nat_le o.limit MOST_MARKS) limit);
-      high = leb-true o.limit MOST_MARKS (and_right (nat_le LEAST_MARKS o.limit) (nat_le o.limit MOST_MARKS) limit);
+      some = leb-true 1 o.parts (and_left (nat_le 1 o.parts) (nat_le o.parts MAX_PARTS) parts);
+      few = leb-true o.parts MAX_PARTS (and_right (nat_le 1 o.parts) (nat_le o.parts MAX_PARTS) parts);
+      low = leb-true MIN_MARKS o.limit (and_left (nat_le MIN_MARKS o.limit) (nat_le o.limit MAX_MARKS) limit);
+      high = leb-true o.limit MAX_MARKS (and_right (nat_le MIN_MARKS o.limit) (nat_le o.limit MAX_MARKS) limit);
     }
 
 module _ (o : Opening) (is : IsOpening o) where
@@ -108,7 +108,7 @@ module _ (o : Opening) (is : IsOpening o) where
     to = λ m h. in_nil h;
     drawn = λ r h. in_nil h;
     unique = λ r s h. in_nil h;
-    clients = λ c. record { number = refl; clock = refl; doing = tt };
+    clients = λ c. record { number = refl; clock = refl; phase = tt };
     reads = λ f rows h. in_nil h;
     answers = λ t h. in_nil h;
   }
@@ -127,7 +127,7 @@ module _ (o : Opening) (some : 0 < o.parts) (w : World) (k : IsKept o w) where
   not_false false e = absurd (true≢false e)
 
   module _ (c : ℕ) (low : 0 < c) (high : c < 65536) (who : Principal) (ask : Ask) where
-    refused_kept : (tag : ℕ) → tag_of (client_at w.now.clients c).doing ≡ tag → (f : Option Refusal)
+    refused_kept : (tag : ℕ) → tag_of (client_at w.now.clients c).phase ≡ tag → (f : Option Refusal)
         → IsKept o (changed_by w (event.Ask c who ask)
         (asks_unless (terms_of o) c (client_at w.now.clients c) tag who ask f))
     refused_kept tag e (Some r) = k
@@ -135,13 +135,13 @@ module _ (o : Opening) (some : 0 < o.parts) (w : World) (k : IsKept o w) where
         (request_kept o w k (new_request w c who ask)) c low high tag e
         (record { viewing = record { ask = ask; reads = 0 }; principal = who }) (objects_of ask)
 
-    asks_kept : (f : Doing) → (client_at w.now.clients c).doing ≡ f
+    asks_kept : (f : Phase) → (client_at w.now.clients c).phase ≡ f
         → IsKept o (changed_by w (event.Ask c who ask)
         (asks_by (terms_of o) c (client_at w.now.clients c) who ask f))
-    asks_kept (doing.Idle tag) e = refused_kept tag (ap tag_of e) (refusal_of ask who)
-    asks_kept (doing.Reads v r) e = k
-    asks_kept (doing.Prepares z) e = k
-    asks_kept (doing.Commits z) e = k
+    asks_kept (phase.Idle tag) e = refused_kept tag (ap tag_of e) (refusal_of ask who)
+    asks_kept (phase.Reads v r) e = k
+    asks_kept (phase.Prepares z) e = k
+    asks_kept (phase.Commits z) e = k
 
   takes_kept : (p : ℕ) (m : Message) → In m w.now.messages → m.to ≡ Part p → (f : Option PartitionState)
       → slice_get w.now.partitions p ≡ f → IsKept o (changed w (part_takes p m f))
@@ -179,7 +179,7 @@ module _ (o : Opening) (some : 0 < o.parts) (w : World) (k : IsKept o w) where
       unless_kept (event.Ask c who ask) (is_stopped w.now c) refusal.Stopped _ (λ f.
       asks_kept c (ltb-true 0 c (and_left (nat_lt 0 c) (nat_lt c CLIENTS) known))
       (ltb-true c CLIENTS (and_right (nat_lt 0 c) (nat_lt c CLIENTS) known)) who ask
-      (client_at w.now.clients c).doing refl))
+      (client_at w.now.clients c).phase refl))
   event_kept (event.Deliver n) = delivery_kept n (message_of w.now.messages n) (λ m e. message_in n m e)
   event_kept (event.Sweep p t) = sweeps_kept p t (slice_get w.now.partitions p) refl
   event_kept (event.Stop c) = unless_kept (event.Stop c) (is_stopped w.now c) refusal.Stopped (Ok (Stops c))

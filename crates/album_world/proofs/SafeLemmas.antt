@@ -11,7 +11,7 @@ use Rattle.album_partition.specs.declared.marks.Mark.TheVariants.{Prepared}
 use Rattle.album_partition.specs.Partition.{PartitionState}
 use Rattle.album_partition.specs.Marks.{prepares, commits, value_in, IsPromisedAgainst}
 use Rattle.album_partition.proofs.StateLemmas.{unknown_tells}
-use Rattle.album_reader.specs.Answers.{Answer as Found}
+use Rattle.album_reader.specs.Answers.{ReadVersion}
 use Rattle.album_client.specs.Terms.{terms_of}
 use Rattle.album_client.specs.Turns.{Transaction}
 use Rattle.album_world.specs.State.{history_in}
@@ -29,7 +29,7 @@ use Rattle.album_world.proofs.WroteLemmas.{written_by, apart}
 module _ (o : Opening) (w : World) (k : IsKept o w) where
   -- ---- snapshots
 
-  whole : (began : List PartitionState) (fs : List Found) → IsRead o w began fs → (f g : Found) → In f fs → In g fs
+  whole : (began : List PartitionState) (fs : List ReadVersion) → IsRead o w began fs → (f g : ReadVersion) → In f fs → In g fs
       → IsFracturedBy w f g → ⊥
   whole began fs d f g fi gi x =
       ⊎_elim
@@ -44,7 +44,7 @@ module _ (o : Opening) (w : World) (k : IsKept o w) where
       omega arith)
       (d.above g f gi fi)
 
-  written : (began : List PartitionState) (fs : List Found) → IsRead o w began fs → (f : Found) → In f fs
+  written : (began : List PartitionState) (fs : List ReadVersion) → IsRead o w began fs → (f : ReadVersion) → In f fs
       → IsWritten o w f
   written began fs d f h =
       let g = d.found f h in
@@ -71,7 +71,7 @@ module _ (o : Opening) (w : World) (k : IsKept o w) where
         written = λ row i. written f.begun.partitions rows d row (within rows i);
       }
 
-  fresh : (began : List PartitionState) (fs : List Found) → IsRead o w began fs → (f : Found) → In f fs
+  fresh : (began : List PartitionState) (fs : List ReadVersion) → IsRead o w began fs → (f : ReadVersion) → In f fs
       → IsFreshRow (terms_of o) w began f
   fresh began fs d f h r begun_ wrote_it c =
       let begun = within w.past.transactions begun_ in

@@ -5,8 +5,8 @@ use Rattle.album_partition.specs.Partition.{PartitionState}
 use Rattle.album_partition.specs.Marks.{commits}
 use Rattle.album_reader.specs.Rounds.{RoundState}
 use Rattle.album_writer.specs.Writing.{WritingState}
-use Rattle.album_client.specs.declared.clients.Doing.{Doing}
-use Rattle.album_client.specs.declared.clients.Doing.TheVariants as doing
+use Rattle.album_client.specs.declared.clients.Phase.{Phase}
+use Rattle.album_client.specs.declared.clients.Phase.TheVariants as phase
 use Rattle.album_world.specs.State.{client_at, with_number}
 use Rattle.album_world.specs.Past.{Asked, World, last_begun}
 use Rattle.album_world.specs.Changes.Change.{Stops}
@@ -65,9 +65,9 @@ module _ (o : Opening) (w : World) (k : IsKept o w) (stopped : List ℕ) (asked 
     told = λ q l. ⊎_elim inl (λ e. inr (more q x.stamp e)) (h.told q l);
   }
 
-  doing_lasts : (d : ℕ) (began : List PartitionState) (f : Doing) → IsDoing o w d began f → IsDoing o next d began f
-  doing_lasts d began (doing.Idle tag) h = tt
-  doing_lasts d began (doing.Reads asking r) h = record {
+  doing_lasts : (d : ℕ) (began : List PartitionState) (f : Phase) → IsDoing o w d began f → IsDoing o next d began f
+  doing_lasts d began (phase.Idle tag) h = tt
+  doing_lasts d began (phase.Reads asking r) h = record {
     low = h.low;
     high = h.high;
     parts = h.parts;
@@ -76,9 +76,9 @@ module _ (o : Opening) (w : World) (k : IsKept o w) (stopped : List ℕ) (asked 
     begun = λ p. begun_grows o w next grows began p (h.begun p);
     round = round_lasts d began r r.stamps h.round;
   }
-  doing_lasts d began (doing.Prepares x) h = writing_lasts d x (HasPrepared w) (HasPrepared next)
+  doing_lasts d began (phase.Prepares x) h = writing_lasts d x (HasPrepared w) (HasPrepared next)
       (λ q u e. prepared_grows o w next grows q u e) h
-  doing_lasts d began (doing.Commits x) h = writing_lasts d x (HasCommitted w) (HasCommitted next)
+  doing_lasts d began (phase.Commits x) h = writing_lasts d x (HasCommitted w) (HasCommitted next)
       (λ q u e. any_grows o w next grows (commits u) q e) h
 
   same_kept : IsKept o next
@@ -95,8 +95,8 @@ module _ (o : Opening) (w : World) (k : IsKept o w) (stopped : List ℕ) (asked 
         record {
           number = q.number;
           clock = q.clock;
-          doing = doing_lasts d (last_begun w.past.begun d).partitions
-              (client_at w.now.clients d).doing q.doing;
+          phase = doing_lasts d (last_begun w.past.begun d).partitions
+              (client_at w.now.clients d).phase q.phase;
         };
     reads = λ f rows l e. read_grows o w next grows f.begun.partitions rows (k.reads f rows l e);
     answers = λ t l. answer_grows o w next grows t.answer (k.answers t l);

@@ -30,10 +30,10 @@ use Rattle.album_permits.specs.declared.findings.Finding.TheVariants as finding
 use Rattle.album_permits.specs.declared.serving.Served.{Served}
 use Rattle.album_writer.specs.Rounds.{WriteStep, prepare_stepped, commit_stepped}
 use Rattle.album_writer.specs.Rounds.WriteStep.{Waits, Commits, Ends}
-use Rattle.album_client.specs.declared.clients.Doing.{Doing}
-use Rattle.album_client.specs.declared.clients.Doing.TheVariants as doing
+use Rattle.album_client.specs.declared.clients.Phase.{Phase}
+use Rattle.album_client.specs.declared.clients.Phase.TheVariants as phase
 use Rattle.album_client.specs.Terms.{Terms}
-use Rattle.album_client.specs.Askings.{Asking}
+use Rattle.album_client.specs.Askings.{PendingAsk}
 use Rattle.album_client.specs.Clients.{Client}
 use Rattle.album_client.specs.Grants.{served_for}
 use Rattle.album_client.specs.Turns.{Transaction, Ended, Turn, ask_ends, write_begins, writes_unless, draws_by, grants, rules_by, clock_after_rows, views_by, read_turn, prepare_turn, commit_turn}
@@ -172,7 +172,7 @@ module _ (terms : Terms) (now : Now) (c : ℕ) where
     drawn = λ by e. let g = d.drawn by e in record { is = g.is; above = g.above };
   }
 
-  read_tidy : (asking : Asking) (tag : ℕ) (s : Step) → IsTidy x (read_turn terms x tag asking s)
+  read_tidy : (asking : PendingAsk) (tag : ℕ) (s : Step) → IsTidy x (read_turn terms x tag asking s)
   read_tidy asking tag (Same round) = same_tidy _ refl refl (λ a e. none_some e) refl
   read_tidy asking tag (Next round sent) = same_tidy _ refl refl (λ a e. none_some e) refl
   read_tidy asking tag (Done rows) =
@@ -190,34 +190,34 @@ module _ (terms : Terms) (now : Now) (c : ℕ) where
   commit_tidy tag (Commits z sent) = same_tidy _ refl refl (λ a e. none_some e) refl
   commit_tidy tag (Ends outcome) = same_tidy _ refl refl (λ a e. refl) refl
 
-  takes_by_tidy : (m : Message) → is_stopped now c ≡ false → (f : Doing) → AreTidy now (client_takes_by terms c x m f)
-  takes_by_tidy m awake (doing.Idle tag) = tt
-  takes_by_tidy m awake (doing.Reads asking r) = (read_tidy asking r.asker.tag (stepped r m), awake)
-  takes_by_tidy m awake (doing.Prepares z) = (prepare_tidy z.tag (prepare_stepped z m), awake)
-  takes_by_tidy m awake (doing.Commits z) = (commit_tidy z.tag (commit_stepped z m), awake)
+  takes_by_tidy : (m : Message) → is_stopped now c ≡ false → (f : Phase) → AreTidy now (client_takes_by terms c x m f)
+  takes_by_tidy m awake (phase.Idle tag) = tt
+  takes_by_tidy m awake (phase.Reads asking r) = (read_tidy asking r.asker.tag (stepped r m), awake)
+  takes_by_tidy m awake (phase.Prepares z) = (prepare_tidy z.tag (prepare_stepped z m), awake)
+  takes_by_tidy m awake (phase.Commits z) = (commit_tidy z.tag (commit_stepped z m), awake)
 
   client_tidy : (m : Message) → AreTidy now (client_takes terms now c x m)
   client_tidy m = go (is_stopped now c) refl
     where
-      go : (f : Bool) → is_stopped now c ≡ f → AreTidy now (if f then Nothing else client_takes_by terms c x m x.doing)
+      go : (f : Bool) → is_stopped now c ≡ f → AreTidy now (if f then Nothing else client_takes_by terms c x m x.phase)
       go true awake = tt
-      go false awake = takes_by_tidy m awake x.doing
+      go false awake = takes_by_tidy m awake x.phase
 
   unless_tidy : (f : Bool) (r : Refusal) (g : Result Change Refusal) → (f ≡ false → AreTidyIn now g)
       → AreTidyIn now (if f then Err r else g)
   unless_tidy true r g h = tt
   unless_tidy false r g h = h refl
 
-  asks_tidy : (who : Principal) (ask : Ask) → is_stopped now c ≡ false → (f : Doing)
+  asks_tidy : (who : Principal) (ask : Ask) → is_stopped now c ≡ false → (f : Phase)
       → AreTidyIn now (asks_by terms c x who ask f)
-  asks_tidy who ask awake (doing.Idle tag) = go (refusal_of ask who)
+  asks_tidy who ask awake (phase.Idle tag) = go (refusal_of ask who)
     where
       go : (f : Option Refusal) → AreTidyIn now (asks_unless terms c x tag who ask f)
       go (Some r) = tt
       go None = (same_tidy _ refl refl (λ a e. none_some e) refl, awake)
-  asks_tidy who ask awake (doing.Reads v r) = tt
-  asks_tidy who ask awake (doing.Prepares z) = tt
-  asks_tidy who ask awake (doing.Commits z) = tt
+  asks_tidy who ask awake (phase.Reads v r) = tt
+  asks_tidy who ask awake (phase.Prepares z) = tt
+  asks_tidy who ask awake (phase.Commits z) = tt
 
 arrival_tidy : (terms : Terms) (now : Now) (m : Message) (n : Node) → AreTidy now (arrives terms now m n)
 arrival_tidy terms now m (Part p) = go (slice_get now.partitions p)
@@ -231,7 +231,7 @@ event_tidy : (terms : Terms) (now : Now) (e : Event) → AreTidyIn now (change_o
 event_tidy terms now (event.Ask c who ask) =
     unless_tidy terms now c (not (is_client c)) refusal.BadRequest _
     (λ known. unless_tidy terms now c (is_stopped now c) refusal.Stopped _
-    (λ awake. asks_tidy terms now c who ask awake (client_at now.clients c).doing))
+    (λ awake. asks_tidy terms now c who ask awake (client_at now.clients c).phase))
 event_tidy terms now (event.Deliver n) = go (message_of now.messages n)
   where
     go : (f : Option Message) → AreTidyIn now (delivers terms now f)

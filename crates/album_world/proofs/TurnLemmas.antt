@@ -6,12 +6,12 @@ use Rattle.album_calls.specs.declared.messages.Message.{Message}
 use Rattle.album_calls.specs.declared.nodes.Node.TheVariants.{Part, Client as ToClient}
 use Rattle.album_partition.specs.Partition.{PartitionState}
 use Rattle.album_partition.specs.Marks.{commits}
-use Rattle.album_reader.specs.Answers.{Answer as Found}
+use Rattle.album_reader.specs.Answers.{ReadVersion}
 use Rattle.album_reader.specs.Rounds.{RoundState}
 use Rattle.album_writer.specs.Writing.{WritingState}
 use Rattle.album_writer.specs.declared.answers.Answer.{Answer}
-use Rattle.album_client.specs.declared.clients.Doing.{Doing}
-use Rattle.album_client.specs.declared.clients.Doing.TheVariants as doing
+use Rattle.album_client.specs.declared.clients.Phase.{Phase}
+use Rattle.album_client.specs.declared.clients.Phase.TheVariants as phase
 use Rattle.album_client.specs.Clients.{Client, tag_of}
 use Rattle.album_client.specs.Turns.{Transaction, Ended, Turn}
 use Rattle.album_world.proofs.ListLemmas.{In}
@@ -70,7 +70,7 @@ module _ (o : Opening) (w : World) (k : IsKept o w) (c : ℕ) (t : Turn) (number
       (ne, client_other w.now.clients t.client d (subst (λ (z : ℕ). eqb z d ≡ false) (sym number) ne)))
       (same_or_not c d)
 
-  pub turn_grows : tag_of old.doing ≤ tag_of t.client.doing → old.clock.counter ≤ t.client.clock.counter
+  pub turn_grows : tag_of old.phase ≤ tag_of t.client.phase → old.clock.counter ≤ t.client.clock.counter
       → Grows o w next
   turn_grows tag clock = record {
     more = λ p. ([], sym (append-nil _));
@@ -78,10 +78,10 @@ module _ (o : Opening) (w : World) (k : IsKept o w) (c : ℕ) (t : Turn) (number
     full = λ p u h. record { unknown = h.unknown; full = h.full };
     tags = λ d. ⊎_elim
         (λ (e : (c ≡ d) × (client_at next.now.clients d ≡ t.client)).
-        subst (λ (z : Client). tag_at w d ≤ tag_of z.doing) (sym e.1)
-        (subst (λ (z : ℕ). tag_at w z ≤ tag_of t.client.doing) e.0 tag))
+        subst (λ (z : Client). tag_at w d ≤ tag_of z.phase) (sym e.1)
+        (subst (λ (z : ℕ). tag_at w z ≤ tag_of t.client.phase) e.0 tag))
         (λ (e : (eqb c d ≡ false) × (client_at next.now.clients d ≡ client_at w.now.clients d)).
-        subst (λ (z : Client). tag_at w d ≤ tag_of z.doing) (sym e.1) (le_refl _))
+        subst (λ (z : Client). tag_at w d ≤ tag_of z.phase) (sym e.1) (le_refl _))
         (client_cases d);
     clocks = λ d. ⊎_elim
         (λ (e : (c ≡ d) × (client_at next.now.clients d ≡ t.client)).
@@ -139,9 +139,9 @@ module _ (o : Opening) (w : World) (k : IsKept o w) (c : ℕ) (t : Turn) (number
     }
 
     -- what a client does lasts where it sends and is sent nothing
-    pub doing_lasts : (f : Doing) → IsDoing o w d began f → IsDoing o next d began f
-    doing_lasts (doing.Idle tag) h = tt
-    doing_lasts (doing.Reads asking r) h = record {
+    pub doing_lasts : (f : Phase) → IsDoing o w d began f → IsDoing o next d began f
+    doing_lasts (phase.Idle tag) h = tt
+    doing_lasts (phase.Reads asking r) h = record {
       low = h.low;
       high = h.high;
       parts = h.parts;
@@ -150,9 +150,9 @@ module _ (o : Opening) (w : World) (k : IsKept o w) (c : ℕ) (t : Turn) (number
       begun = λ p. begun_grows o w next gr began p (h.begun p);
       round = round_lasts r r.stamps h.round;
     }
-    doing_lasts (doing.Prepares x) h = writing_lasts x (HasPrepared w) (HasPrepared next)
+    doing_lasts (phase.Prepares x) h = writing_lasts x (HasPrepared w) (HasPrepared next)
         (λ q u e. prepared_grows o w next gr q u e) h
-    doing_lasts (doing.Commits x) h = writing_lasts x (HasCommitted w) (HasCommitted next)
+    doing_lasts (phase.Commits x) h = writing_lasts x (HasCommitted w) (HasCommitted next)
         (λ q u e. any_grows o w next gr (commits u) q e) h
 
   pub not_same : (r s : Transaction) → In r w.past.transactions → IsNew c old.clock.counter t s → r.stamp ≡ s.stamp → ⊥
@@ -167,11 +167,11 @@ module _ (o : Opening) (w : World) (k : IsKept o w) (c : ℕ) (t : Turn) (number
       same d.old in
       omega arith
 
-  pub turn_kept : tag_of old.doing ≤ tag_of t.client.doing → old.clock.counter ≤ t.client.clock.counter
-      → ((m : Message) → In m t.sent → IsSent o next c (tag_of t.client.doing) m)
-      → IsDoing o next c (last_begun next.past.begun c).partitions t.client.doing
+  pub turn_kept : tag_of old.phase ≤ tag_of t.client.phase → old.clock.counter ≤ t.client.clock.counter
+      → ((m : Message) → In m t.sent → IsSent o next c (tag_of t.client.phase) m)
+      → IsDoing o next c (last_begun next.past.begun c).partitions t.client.phase
       → ((r : Transaction) → t.writes ≡ Some r → IsNew c old.clock.counter t r)
-      → ((e : Ended) (rows : List Found) → t.over ≡ Some e → e.rows ≡ Some rows
+      → ((e : Ended) (rows : List ReadVersion) → t.over ≡ Some e → e.rows ≡ Some rows
       → IsRead o w (last_begun w.past.begun c).partitions rows)
       → ((a : Answer) → t.answer ≡ Some a → IsAnswer o w a)
       → IsKept o next
@@ -188,7 +188,7 @@ module _ (o : Opening) (w : World) (k : IsKept o w) (c : ℕ) (t : Turn) (number
         from = λ m h. ⊎_elim
             (λ l. tagged_grows o w next gr m.from m.tag (k.from m l))
             (λ l. let s = sent m l in subst (λ (z : Message). IsTagged next z.from z.tag) (sym s.is)
-            (subst (λ (z : Client). tag_of t.client.doing ≤ tag_of z.doing) (sym same_now) (le_refl _)))
+            (subst (λ (z : Client). tag_of t.client.phase ≤ tag_of z.phase) (sym same_now) (le_refl _)))
             (in_cases w.now.messages t.sent h);
         to = λ m h. ⊎_elim
             (λ l. tagged_grows o w next gr m.to m.tag (k.to m l))
@@ -219,7 +219,7 @@ module _ (o : Opening) (w : World) (k : IsKept o w) (c : ℕ) (t : Turn) (number
             (λ (e : (c ≡ d) × (client_at next.now.clients d ≡ t.client)).
             subst (λ (z : Client). IsClient o next d z (last_begun next.past.begun d).partitions) (sym e.1)
             (subst (λ (z : ℕ). IsClient o next z t.client (last_begun next.past.begun z).partitions) e.0
-            (record { number = number; clock = own; doing = does })))
+            (record { number = number; clock = own; phase = does })))
             (λ (e : (eqb c d ≡ false) × (client_at next.now.clients d ≡ client_at w.now.clients d)).
             let x = client_at w.now.clients d in
             let q = k.clients d in
@@ -229,10 +229,10 @@ module _ (o : Opening) (w : World) (k : IsKept o w) (c : ℕ) (t : Turn) (number
             (record {
               number = q.number;
               clock = q.clock;
-              doing = doing_lasts gr d (last_begun w.past.begun d).partitions
+              phase = doing_lasts gr d (last_begun w.past.begun d).partitions
                   (λ m l f. let s = sent m l in apart c d e.0 (client_is (ap (λ (z : Message). z.from) (sym s.is) ∙ f)))
                   (λ m l f. let s = sent m l in part_not_client (ap (λ (z : Message). z.to) (sym s.is) ∙ f))
-                  x.doing q.doing;
+                  x.phase q.phase;
             })))
             (client_cases d);
         reads = λ f rows h e. ⊎_elim

@@ -16,9 +16,9 @@ use Rattle.album_items.specs.ItemIds.{picture, album, list}
 use Rattle.album_items.specs.declared.openings.Opening.{Opening}
 use Rattle.album_items.specs.declared.values.Head.{Head}
 use Rattle.album_items.specs.declared.values.Value.TheVariants as value
-use Rattle.album_reader.specs.Answers.{Answer as Row}
+use Rattle.album_reader.specs.Answers.{ReadVersion}
 use Rattle.album_views.specs.Checks.{flaw_of}
-use Rattle.album_views.specs.Naming.{first_names, names_of}
+use Rattle.album_views.specs.ReadSets.{first_names, names_of}
 use Rattle.album_views.specs.Seen.{seen}
 use Rattle.album_views.specs.Views.{is_closed}
 use Rattle.album_views.specs.declared.asks.Ask.TheVariants as ask
@@ -26,9 +26,9 @@ use Rattle.album_listing.specs.GroupsFound.{groups_found}
 use Rattle.album_listing.specs.Masks.{WRITE_ATTRIBUTES}
 use Rattle.album_eval.specs.declared.verdicts.Verdict.TheVariants.{DeniedAtEnd}
 use Rattle.album_permits.specs.declared.serving.Served.TheVariants as served
-use Rattle.album_client.specs.declared.clients.Doing.TheVariants.{Idle}
+use Rattle.album_client.specs.declared.clients.Phase.TheVariants.{Idle}
 use Rattle.album_client.specs.Terms.{terms_of}
-use Rattle.album_client.specs.Askings.{Asking}
+use Rattle.album_client.specs.Askings.{PendingAsk}
 use Rattle.album_client.specs.Clients.{Client, newcomer}
 use Rattle.album_client.specs.Turns.{read_turn}
 use Rattle.album_world.specs.declared.events.Event.{Event}
@@ -100,7 +100,7 @@ add_picture = event.Ask 1 amy (ask.AddPicture (album 0) (66 ∷ []) [])
 -- the stamps of what was read, of the last read first
 abbrev stamps_read : List Event → List (Option (List ℕ))
 stamps_read events =
-    map (λ (read : Read). option_map (λ rows. map (λ (row : Row). row.stamp) rows) read.rows)
+    map (λ (read : Read). option_map (λ rows. map (λ (row : ReadVersion). row.stamp) rows) read.rows)
     (run_of (opening 1000) events).past.reads
 
 -- the Commit to the album's partition is lost; bo reads the picture and the album, and both have the write
@@ -148,13 +148,13 @@ gone = refl
 
 -- bo's client, and its ask to read the picture, for which so many reads were made
 abbrev reader : Client
-reader = record (newcomer 2) { doing = Idle 15 }
+reader = record (newcomer 2) { phase = Idle 15 }
 
-abbrev asked : ℕ → Asking
+abbrev asked : ℕ → PendingAsk
 asked reads = record { viewing = record { ask = ask.Read (picture 0); reads = reads }; principal = bo }
 
 -- the picture was read, and not its list
-abbrev picture_alone : List Row
+abbrev picture_alone : List ReadVersion
 picture_alone = record {
   item = picture 0;
   stamp = 0;

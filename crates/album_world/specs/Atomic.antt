@@ -5,13 +5,13 @@ use Rattle.album_items.specs.declared.openings.Opening.{Opening}
 use Rattle.album_items.specs.declared.values.Value.{Value}
 use Rattle.album_items.specs.declared.values.Value.TheVariants.{Missing}
 use Rattle.album_partition.specs.Marks.{value_in}
-use Rattle.album_reader.specs.Answers.{Answer as Row}
+use Rattle.album_reader.specs.Answers.{ReadVersion}
 use Rattle.album_client.specs.Turns.{Transaction}
 use Rattle.album_world.specs.Past.{Read, World}
 use Rattle.album_world.specs.Committing.{IsCommitted}
 
 -- a committed transaction wrote both items, and one is read at its stamp, and the other at a smaller one
-pub record IsFracturedBy (world : World) (one other : Row) : Type 0 where
+pub record IsFracturedBy (world : World) (one other : ReadVersion) : Type 0 where
   pub by : Transaction
   pub begun : Contains world.past.transactions by
   pub committed : IsCommitted world by.stamp
@@ -25,7 +25,7 @@ abbrev pub first_value : Opening → ℕ → Value
 first_value opening item = unwrap_or (value_in opening.items item) Missing
 
 -- a committed transaction wrote the value to the item at the stamp
-pub record IsWrittenBy (world : World) (row : Row) : Type 0 where
+pub record IsWrittenBy (world : World) (row : ReadVersion) : Type 0 where
   pub by : Transaction
   pub begun : Contains world.past.transactions by
   pub committed : IsCommitted world by.stamp
@@ -33,17 +33,17 @@ pub record IsWrittenBy (world : World) (row : Row) : Type 0 where
   pub wrote : value_in by.writes row.item ≡ Some row.value
 
 -- it is the item's first value at 0, or what a committed transaction wrote
-abbrev pub IsWritten : Opening → World → Row → Type 0
+abbrev pub IsWritten : Opening → World → ReadVersion → Type 0
 IsWritten opening world row =
     ((row.stamp ≡ 0) × (row.value ≡ first_value opening row.item)) ⊎ IsWrittenBy world row
 
 -- no two rows fracture the snapshot, and each was written
-pub record IsReadAtomic (opening : Opening) (world : World) (rows : List Row) : Type 0 where
-  pub whole : (one other : Row) → Contains rows one → Contains rows other → IsFracturedBy world one other → ⊥
-  pub written : (row : Row) → Contains rows row → IsWritten opening world row
+pub record IsReadAtomic (opening : Opening) (world : World) (rows : List ReadVersion) : Type 0 where
+  pub whole : (one other : ReadVersion) → Contains rows one → Contains rows other → IsFracturedBy world one other → ⊥
+  pub written : (row : ReadVersion) → Contains rows row → IsWritten opening world row
 
 -- each snapshot that a client ever finished is read atomic, and so each view
 abbrev pub ViewsAreReadAtomic : Opening → World → Type 0
 ViewsAreReadAtomic opening world =
-    (read : Read) (rows : List Row) → Contains world.past.reads read → read.rows ≡ Some rows
+    (read : Read) (rows : List ReadVersion) → Contains world.past.reads read → read.rows ≡ Some rows
     → IsReadAtomic opening world rows

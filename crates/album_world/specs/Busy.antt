@@ -1,8 +1,8 @@
 -- Busy has its cause: an ask has no view only where it looks at too much, or where eight reads did not do.
 use Rattle.std.specs.Prelude.{◌≡◌, ◌<◌, ◌≤◌, ◌⊎◌, List, Some, None, length, Contains}
-use Rattle.album_stamps.specs.declared.limits.TheConstants.{MOST_READ_ITEMS, MOST_READS}
-use Rattle.album_reader.specs.Answers.{Answer as Row}
-use Rattle.album_views.specs.Naming.{names_of}
+use Rattle.album_stamps.specs.declared.limits.TheConstants.{MAX_READ_ITEMS, MAX_READS}
+use Rattle.album_reader.specs.Answers.{ReadVersion}
+use Rattle.album_views.specs.ReadSets.{names_of}
 use Rattle.album_views.specs.Views.{IsClosed}
 use Rattle.album_views.specs.declared.viewing.Why.{Why}
 use Rattle.album_views.specs.declared.viewing.Why.TheVariants.{Rounds, Wide}
@@ -11,25 +11,25 @@ use Rattle.album_writer.specs.declared.answers.Answer.{Answer}
 use Rattle.album_writer.specs.declared.answers.Answer.TheVariants as answer
 
 -- the snapshot of the read is not closed
-pub record IsOpen (read : Read) (rows : List Row) : Type 0 where
+pub record IsOpen (read : Read) (rows : List ReadVersion) : Type 0 where
   pub shown : read.rows ≡ Some rows
   pub lacking : IsClosed read.ask rows → ⊥
 
 -- and it names more items than can be read
 pub record IsWide (read : Read) : Type 0 where
-  pub rows : List Row
+  pub rows : List ReadVersion
   pub lacking : IsOpen read rows
-  pub wide : MOST_READ_ITEMS < length (names_of rows read.ask)
+  pub wide : MAX_READ_ITEMS < length (names_of rows read.ask)
 
 -- or not more
 pub record IsNarrow (read : Read) : Type 0 where
-  pub rows : List Row
+  pub rows : List ReadVersion
   pub lacking : IsOpen read rows
-  pub narrow : length (names_of rows read.ask) ≤ MOST_READ_ITEMS
+  pub narrow : length (names_of rows read.ask) ≤ MAX_READ_ITEMS
 
 -- it was the last read that the ask may have, and an item was gone, or its snapshot is not closed
 pub record IsLastRead (read : Read) : Type 0 where
-  pub nth : read.begun.nth ≡ MOST_READS
+  pub nth : read.begun.nth ≡ MAX_READS
   pub in_vain : (read.rows ≡ None) ⊎ IsNarrow read
 
 abbrev pub IsCause : Why → Read → Type 0

@@ -18,8 +18,8 @@ use Rattle.album_views.specs.Asks.{objects_of}
 use Rattle.album_views.specs.Checks.{refusal_of}
 use Rattle.album_views.specs.declared.asks.Ask.{Ask}
 use Rattle.album_writer.specs.Rounds.{prepare_stepped, commit_stepped}
-use Rattle.album_client.specs.declared.clients.Doing.{Doing}
-use Rattle.album_client.specs.declared.clients.Doing.TheVariants.{Idle, Reads, Prepares, Commits}
+use Rattle.album_client.specs.declared.clients.Phase.{Phase}
+use Rattle.album_client.specs.declared.clients.Phase.TheVariants.{Idle, Reads, Prepares, Commits}
 use Rattle.album_client.specs.Terms.{Terms}
 use Rattle.album_client.specs.Clients.{Client}
 use Rattle.album_client.specs.Turns.{Turn, read_begins, read_turn, prepare_turn, commit_turn}
@@ -44,7 +44,7 @@ asks_unless terms number client tag principal ask None =
     (record { viewing = record { ask = ask; reads = 0 }; principal = principal }) (objects_of ask)))
 
 -- a client has one ask at a time
-abbrev pub asks_by : Terms → ℕ → Client → Principal → Ask → Doing → Result Change Refusal
+abbrev pub asks_by : Terms → ℕ → Client → Principal → Ask → Phase → Result Change Refusal
 asks_by terms number client principal ask (Idle tag) =
     asks_unless terms number client tag principal ask (refusal_of ask principal)
 asks_by terms number client principal ask (Reads asking round) = Err ClientBusy
@@ -57,7 +57,7 @@ abbrev pub asks : Terms → Now → ℕ → Principal → Ask → Result Change 
 asks terms now number principal ask =
     if not (is_client number) then Err BadRequest
     else if is_stopped now number then Err Stopped
-    else asks_by terms number (client_at now.clients number) principal ask (client_at now.clients number).doing
+    else asks_by terms number (client_at now.clients number) principal ask (client_at now.clients number).phase
 
 -- ---- a message
 
@@ -68,7 +68,7 @@ part_takes part message (Some partition) =
     AtPart part (after partition message) (option_to_list (answer partition message))
 
 -- to an idle client it does nothing
-abbrev pub client_takes_by : Terms → ℕ → Client → Message → Doing → Change
+abbrev pub client_takes_by : Terms → ℕ → Client → Message → Phase → Change
 client_takes_by terms number client message (Idle tag) = Nothing
 client_takes_by terms number client message (Reads asking round) =
     AtClient number (read_turn terms client round.asker.tag asking (stepped round message))
@@ -80,7 +80,7 @@ client_takes_by terms number client message (Commits writing) =
 -- nor to a stopped one
 abbrev pub client_takes : Terms → Now → ℕ → Client → Message → Change
 client_takes terms now number client message =
-    if is_stopped now number then Nothing else client_takes_by terms number client message client.doing
+    if is_stopped now number then Nothing else client_takes_by terms number client message client.phase
 
 -- whoever it is sent to takes it
 abbrev pub arrives : Terms → Now → Message → Node → Change

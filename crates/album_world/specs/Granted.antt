@@ -6,7 +6,7 @@ use Rattle.album_partition.specs.Marks.{value_in, version}
 use Rattle.album_permits.specs.Permits.{IsPermit}
 use Rattle.album_permits.specs.Writes.{AreWrites}
 use Rattle.album_views.specs.Views.{IsView}
-use Rattle.album_reader.specs.Answers.{Answer as Row}
+use Rattle.album_reader.specs.Answers.{ReadVersion}
 use Rattle.album_permits.specs.Permits.{permit_on}
 use Rattle.album_client.specs.Terms.{Terms}
 use Rattle.album_client.specs.Turns.{Transaction}
@@ -25,7 +25,7 @@ pub record IsDrawnBy (world : World) (client stamp : ℕ) : Type 0 where
 -- clock drew, and which is greater than each that the view shows, the ask writes just what the transaction writes.
 pub record IsGranted (terms : Terms) (world : World) (by : Transaction) : Type 0 where
   pub read : Read
-  pub rows : List Row
+  pub rows : List ReadVersion
   pub made : Contains world.past.reads read
   pub own : read.begun.client ≡ by.client
   pub shown : read.rows ≡ Some rows
@@ -34,7 +34,7 @@ pub record IsGranted (terms : Terms) (world : World) (by : Transaction) : Type 0
   pub granted : IsPermit by.permit
   pub writes : AreWrites (record { permit = by.permit; stamp = by.stamp }) by.writes
   pub drawn : IsDrawnBy world by.client by.stamp
-  pub later : (row : Row) → Contains rows row → row.stamp < by.stamp
+  pub later : (row : ReadVersion) → Contains rows row → row.stamp < by.stamp
 
 -- just one transaction has the stamp, and it writes the value to the item
 pub record IsOfOne (world : World) (item stamp : ℕ) (value : Value) : Type 0 where

@@ -2,8 +2,8 @@
 use Rattle.std.specs.Prelude.{◌≡◌, ℕ, Bool, true, false, List, [], length, Option, Some, None}
 use Rattle.album_calls.specs.declared.messages.Message.{Message}
 use Rattle.album_writer.specs.Writing.{places_in}
-use Rattle.album_client.specs.declared.clients.Doing.{Doing}
-use Rattle.album_client.specs.declared.clients.Doing.TheVariants.{Idle, Reads, Prepares, Commits}
+use Rattle.album_client.specs.declared.clients.Phase.{Phase}
+use Rattle.album_client.specs.declared.clients.Phase.TheVariants.{Idle, Reads, Prepares, Commits}
 use Rattle.album_client.specs.Clients.{Client}
 use Rattle.album_client.specs.Turns.{Turn}
 use Rattle.album_world.specs.declared.outs.Out.{Out}
@@ -14,21 +14,21 @@ use Rattle.album_world.specs.Runs.{outs_of_turn}
 -- ---- what it does
 
 -- the tag of its last round, if it is idle
-abbrev pub idle_tag : Doing → Option ℕ
+abbrev pub idle_tag : Phase → Option ℕ
 idle_tag (Idle tag) = Some tag
 idle_tag (Reads asking round) = None
 idle_tag (Prepares writing) = None
 idle_tag (Commits writing) = None
 
 -- it writes
-abbrev pub is_writing : Doing → Bool
+abbrev pub is_writing : Phase → Bool
 is_writing (Idle tag) = false
 is_writing (Reads asking round) = false
 is_writing (Prepares writing) = true
 is_writing (Commits writing) = true
 
 -- so many messages it may send by what comes of a message in a write: the Commits
-abbrev pub room_of : Doing → ℕ
+abbrev pub room_of : Phase → ℕ
 room_of (Idle tag) = 0
 room_of (Reads asking round) = 0
 room_of (Prepares writing) = length (places_in writing)

@@ -1,6 +1,6 @@
 -- Outcomes are true: how a write ended is how it stands at the partitions, for good.
 use Rattle.std.specs.Prelude.{◌≡◌, ℕ, ◌≤◌, ◌⊎◌, true, List, Some, Contains}
-use Rattle.album_stamps.specs.declared.limits.TheConstants.{GREATEST_COUNTER}
+use Rattle.album_stamps.specs.declared.limits.TheConstants.{MAX_COUNTER}
 use Rattle.album_stamps.specs.declared.refusals.Refusal.{Refusal}
 use Rattle.album_stamps.specs.declared.refusals.Refusal.TheVariants.{AlbumFull, StampsSpent, Full}
 use Rattle.album_calls.specs.declared.messages.Body.TheVariants.{Reply}
@@ -9,7 +9,7 @@ use Rattle.album_calls.specs.declared.nodes.Node.TheVariants.{Part, Client}
 use Rattle.album_calls.specs.declared.replies.Reply.TheVariants as reply
 use Rattle.album_permits.specs.Effects.{is_full_for}
 use Rattle.album_permits.specs.Permits.{PermitState}
-use Rattle.album_reader.specs.Answers.{Answer as Row}
+use Rattle.album_reader.specs.Answers.{ReadVersion}
 use Rattle.album_client.specs.Terms.{Terms}
 use Rattle.album_client.specs.Turns.{Transaction}
 use Rattle.album_world.specs.State.{client_at}
@@ -32,7 +32,7 @@ pub record IsOfWrite (world : World) (client stamp : ℕ) (Holds : Transaction �
 pub record IsLost (world : World) (stamp : ℕ) : Type 0 where
   pub uncommitted : IsCommitted world stamp → ⊥
   pub unseen :
-      (read : Read) (rows : List Row) (row : Row) → Contains world.past.reads read → read.rows ≡ Some rows
+      (read : Read) (rows : List ReadVersion) (row : ReadVersion) → Contains world.past.reads read → read.rows ≡ Some rows
       → Contains rows row → row.stamp ≡ stamp → ⊥
 
 -- a partition of the write answered its Prepare that it is full: the reply went to its client, under the Prepare's tag
@@ -55,7 +55,7 @@ pub record IsAlbumFull (world : World) (client : ℕ) (permit : PermitState) : T
 
 -- the client's clock is spent
 abbrev pub IsSpent : World → ℕ → Type 0
-IsSpent world client = GREATEST_COUNTER ≤ (client_at world.now.clients client).clock.counter
+IsSpent world client = MAX_COUNTER ≤ (client_at world.now.clients client).clock.counter
 
 -- why a permit could not be used
 abbrev pub IsRefusedFor : World → ℕ → Refusal → PermitState → Type 0

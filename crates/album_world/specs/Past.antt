@@ -2,7 +2,7 @@
 use Rattle.std.specs.Prelude.{ℕ, ◌==◌, List, [], ◌∷◌, Option, Some, None, if◌then◌else◌}
 use Rattle.album_eval.specs.declared.facts.Principal.{Principal}
 use Rattle.album_partition.specs.Partition.{PartitionState}
-use Rattle.album_reader.specs.Answers.{Answer as Row}
+use Rattle.album_reader.specs.Answers.{ReadVersion}
 use Rattle.album_views.specs.declared.asks.Ask.{Ask}
 use Rattle.album_permits.specs.declared.notes.Note.{Note}
 use Rattle.album_client.specs.Turns.{Transaction}
@@ -22,7 +22,7 @@ pub record Read : Type 0 where
   pub begun : Begun
   pub ask : Ask
   pub principal : Principal
-  pub rows : Option (List Row)
+  pub rows : Option (List ReadVersion)
 
 -- an answer that a client was told, and the read that it had made last
 pub record Told : Type 0 where

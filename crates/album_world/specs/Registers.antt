@@ -31,11 +31,11 @@ pub record StandsAt (clients : List Client) (number index : ℕ) : Type 0 where
 
 -- the client of the number asks
 abbrev pub asks_of : Terms → ℕ → Client → Principal → Ask → Result Change Refusal
-asks_of terms number client principal ask = asks_by terms number client principal ask client.doing
+asks_of terms number client principal ask = asks_by terms number client principal ask client.phase
 
 -- the message comes to the client of the number
 abbrev pub takes_of : Terms → ℕ → Client → Message → Change
-takes_of terms number client message = client_takes_by terms number client message client.doing
+takes_of terms number client message = client_takes_by terms number client message client.phase
 
 -- a client has had its turn, and stands where it stood, or behind the others
 pub record HasTurned

@@ -2,7 +2,7 @@
 use Rattle.std.specs.Prelude.{◌≡◌, ◌≤◌, ℕ, List, [], ◌∷◌, ◌++◌, length, Some, None, Contains, AllPairs}
 use Rattle.album_partition.specs.Partition.{PartitionState}
 use Rattle.album_partition.specs.declared.marks.Mark.{Mark}
-use Rattle.album_reader.specs.Answers.{Answer as Row}
+use Rattle.album_reader.specs.Answers.{ReadVersion}
 use Rattle.album_client.specs.Terms.{Terms}
 use Rattle.album_client.specs.Turns.{Transaction}
 use Rattle.album_world.specs.Fresh.{IsFreshFrom}
@@ -26,7 +26,7 @@ pub record IsReadFor (terms : Terms) (world : World) (asked : Asked) (read : Rea
   pub ask : read.ask ≡ asked.ask
   pub principal : read.principal ≡ asked.principal
   pub later : AreAtOrAfter read.begun.partitions asked.partitions
-  pub fresh : (rows : List Row) → read.rows ≡ Some rows → IsFreshFrom terms world asked.partitions rows
+  pub fresh : (rows : List ReadVersion) → read.rows ≡ Some rows → IsFreshFrom terms world asked.partitions rows
 
 -- the client began the write for this request: by a permit to do what it asks, of the principal who asks it
 pub record IsWriteFor (world : World) (asked : Asked) (by : Transaction) : Type 0 where

@@ -1,6 +1,6 @@
 -- On which view an ask was ruled.
 use Rattle.std.specs.Prelude.{◌≡◌, ℕ, List, Option, Some, Contains}
-use Rattle.album_reader.specs.Answers.{Answer as Row}
+use Rattle.album_reader.specs.Answers.{ReadVersion}
 use Rattle.album_views.specs.Views.{IsView}
 use Rattle.album_listing.specs.Basis.{Basis, IsBasis}
 use Rattle.album_permits.specs.Findings.{ruling_of}
@@ -16,7 +16,7 @@ use Rattle.album_world.specs.Past.{Read, Told, World}
 pub record IsOnView
     (terms : Terms) (world : World) (client : ℕ) (last : Option Read) (Holds : PermitState → Type 0) : Type 0 where
   pub read : Read
-  pub rows : List Row
+  pub rows : List ReadVersion
   pub last_is : last ≡ Some read
   pub made : Contains world.past.reads read
   pub own : read.begun.client ≡ client

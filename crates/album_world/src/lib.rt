@@ -24,8 +24,8 @@ mod telling;
 mod turns;
 
 // What an event does, and the world.
+mod clients;
 mod opening;
-mod register;
 mod sending;
 mod state;
 mod stopped;

@@ -3,7 +3,7 @@ ghost use Rattle.std.specs.Prelude.{◌≡◌, ◌<◌, ◌≤◌, map, true, If
 ghost use Rattle.std.specs.List.{range_with_len};
 ghost use Rattle.album_items.specs.Openings.{is_opening};
 ghost use Rattle.album_items.specs.Places.{rows_placed_at};
-ghost use Rattle.album_stamps.specs.declared.limits.TheConstants.{MOST_PARTS};
+ghost use Rattle.album_stamps.specs.declared.limits.TheConstants.{MAX_PARTS};
 ghost use Rattle.album_client.specs.Terms.{terms_of};
 ghost use Rattle.album_world.specs.Runs.{opens};
 
@@ -67,7 +67,7 @@ fn items_at(
     part: u16,
 ) -> Result<ItemValues, Refusal>
     requires low { 1 ≤ parts }
-    requires high { parts ≤ MOST_PARTS }
+    requires high { parts ≤ MAX_PARTS }
     ensures items { IfOk result (λ items. items ≡ rows_placed_at part parts rows.now) }
     ensures memory { IsOkUnless result Refusal.OutOfMemory }
 {

@@ -5,9 +5,9 @@ ghost use Rattle.album_world.specs.Changes.{asks, change_of, client_takes, deliv
 ghost use Rattle.album_world.specs.Seen.{IsChanged, IsMade};
 ghost use Rattle.album_world.specs.State.{message_of, client_at};
 
+use crate::clients::Clients;
 use crate::events::Event;
 use crate::outs::Out;
-use crate::register::Register;
 use crate::sending::{send, send_reply, tell_sent};
 use crate::stopped::Stopped;
 use album_calls::{Message, Node};
@@ -15,7 +15,7 @@ use album_client::Terms;
 use album_eval::Principal;
 use album_items::ItemId;
 use album_partition::Partition;
-use album_stamps::{ClientNo, MOST_READ_ITEMS, Refusal, Stamp};
+use album_stamps::{ClientNo, MAX_READ_ITEMS, Refusal, Stamp};
 use album_views::Ask;
 use std::alloc::Global;
 use std::marker::Model;
@@ -26,7 +26,7 @@ use std::marker::Model;
 pub(crate) struct State {
     pub partitions: Vec<Partition>,
     pub messages: Vec<Message>,
-    pub clients: Register,
+    pub clients: Clients,
     pub stopped: Stopped,
 }
 
@@ -84,7 +84,7 @@ impl State {
             return Err(Refusal::Stopped);
         }
         self.clients.may_ask(terms, client, principal, ask)?;
-        self.messages.reserve(MOST_READ_ITEMS)?;
+        self.messages.reserve(MAX_READ_ITEMS)?;
         let before = self.messages.len() as u64;
         let (sent, outs) = self
             .clients
@@ -109,8 +109,8 @@ impl State {
             return Err(Refusal::NoSuchMessage);
         };
         let outs = match self.messages[index].to() {
-            Node::Part(part) => self.to_part(alloc, part, index)?,
-            Node::Client(client) => self.to_client(alloc, terms, client, index)?,
+            Node::Part(part) => self.deliver_to_partition(alloc, part, index)?,
+            Node::Client(client) => self.deliver_to_client(alloc, terms, client, index)?,
         };
         Ok(outs)
     }
@@ -140,7 +140,12 @@ impl State {
 
     /// The message comes to a partition.
     #[tactic(auto, using(crate::proofs::StateLemmas::part_changed, crate::proofs::StateLemmas::no_part_takes, crate::proofs::StateLemmas::part_is))]
-    fn to_part(&mut self, alloc: Global, part: u16, index: usize) -> Result<Vec<Out>, Refusal>
+    fn deliver_to_partition(
+        &mut self,
+        alloc: Global,
+        part: u16,
+        index: usize,
+    ) -> Result<Vec<Out>, Refusal>
         requires { index < length self.old.messages }
         ensures changed { (message : Sent) → slice_get self.old.messages index ≡ Some message → IfOk result
             (λ outs. IsChanged self.old (part_takes part message (slice_get self.old.partitions part))
@@ -160,7 +165,7 @@ impl State {
 
     /// The message comes to a client.
     #[tactic(auto, using(crate::proofs::StateLemmas::client_changed, crate::proofs::StateLemmas::client_still, crate::proofs::StateLemmas::message_is))]
-    fn to_client(
+    fn deliver_to_client(
         &mut self,
         alloc: Global,
         terms: Terms,
@@ -177,7 +182,7 @@ impl State {
         if self.stopped.has(client) {
             return Ok(Vec::new(alloc));
         }
-        self.messages.reserve(MOST_READ_ITEMS)?;
+        self.messages.reserve(MAX_READ_ITEMS)?;
         let before = self.messages.len() as u64;
         let (sent, outs) = self
             .clients

@@ -1,6 +1,6 @@
 // What is told of a client's turn.
 ghost use Rattle.std.specs.Prelude.{◌≡◌, ◌+◌, ◌<◌, ◌≤◌, ◌^◌, ◌++◌, map, option_map, option_to_list, vec_len, vec_capacity, IfOk};
-ghost use Rattle.album_stamps.specs.declared.limits.TheConstants.{MOST_READ_ITEMS};
+ghost use Rattle.album_stamps.specs.declared.limits.TheConstants.{MAX_READ_ITEMS};
 ghost use Rattle.album_world.specs.Runs.{numbers_after};
 
 use crate::outs::Out;
@@ -20,7 +20,7 @@ pub fn outs_of(
     answer: Option<Answer>,
 ) -> Result<Vec<Out>, AllocError>
     requires many { before < 2 ^ 63 }
-    requires few { sent ≤ MOST_READ_ITEMS }
+    requires few { sent ≤ MAX_READ_ITEMS }
     ensures { IfOk result (λ outs. outs.items ≡ map (Out.Noted number) notes.now
         ++ (numbers_after before sent ++ option_to_list (option_map (Out.Answered number) answer))) }
 {
@@ -36,7 +36,7 @@ pub fn outs_of(
 /// Tells so many messages by their numbers, and then the answer. There is room for them.
 pub fn tell(outs: &mut Vec<Out>, before: u64, number: ClientNo, sent: usize, answer: Option<Answer>)
     requires many { before < 2 ^ 63 }
-    requires few { sent ≤ MOST_READ_ITEMS }
+    requires few { sent ≤ MAX_READ_ITEMS }
     requires room { vec_len outs.old + sent + 1 ≤ vec_capacity outs.old }
     ensures { outs.new.items ≡ outs.old.items
         ++ (numbers_after before sent ++ option_to_list (option_map (Out.Answered number) answer)) }

@@ -1,8 +1,8 @@
 // What a client does at one event: it asks, or a message comes to it. Where memory runs out it stays as it was, so what
 // it goes on from is copied where it takes memory.
 ghost use Rattle.std.specs.Prelude.{◌≡◌, ◌≢◌, ◌<◌, ◌≤◌, ◌^◌, [], length, Err, IsOk, IfOk, IfErr, IsOkAnd, IsOkUnless, MatchResult, OnErr, true, ℕ};
-ghost use Rattle.album_stamps.specs.declared.limits.TheConstants.{MOST_PARTS, MOST_READ_ITEMS};
-ghost use Rattle.album_client.specs.Moves.{client_of, IsMoved};
+ghost use Rattle.album_stamps.specs.declared.limits.TheConstants.{MAX_PARTS, MAX_READ_ITEMS};
+ghost use Rattle.album_client.specs.Transitions.{client_of, IsMoved};
 ghost use Rattle.album_client.specs.Terms.{Terms as TheTerms};
 ghost use Rattle.album_client.specs.Turns.{is_waiting, Turn, turn_of};
 ghost use Rattle.album_world.specs.Changes.{client_takes_by};
@@ -12,7 +12,7 @@ ghost use Rattle.album_world.specs.Registers.{asks_of};
 use crate::outs::Out;
 use crate::telling::{outs_of, tell};
 use album_calls::Message;
-use album_client::{Actor, Client, Doing, Moved, Terms};
+use album_client::{Client, ClientStep, Phase, Terms, Transition};
 use album_eval::Principal;
 use album_stamps::Refusal;
 use album_views::Ask;
@@ -36,9 +36,9 @@ pub(crate) fn may_ask(
         (λ e. asks_of terms client.now.number client.now principal.now ask.now ≡ Err e) }
     ensures not_memory { IfErr result (λ e. e ≢ Refusal.OutOfMemory) }
 {
-    match &client.doing {
-        Doing::Idle(_) => ask.check(principal),
-        Doing::Reads(_, _) | Doing::Prepares(_) | Doing::Commits(_) => Err(Refusal::ClientBusy),
+    match &client.phase {
+        Phase::Idle(_) => ask.check(principal),
+        Phase::Reads(_, _) | Phase::Prepares(_) | Phase::Commits(_) => Err(Refusal::ClientBusy),
     }
 }
 
@@ -62,7 +62,7 @@ pub(crate) fn ask(
     ensures done { IfOk result (λ r.
         IsOkAnd (asks_of terms client.old.number client.old principal.now ask.now)
         (λ change. IsChangedBy before client.old change client.new r.0.items r.1.items)) }
-    ensures few { IfOk result (λ r. length r.0.items ≤ MOST_READ_ITEMS) }
+    ensures few { IfOk result (λ r. length r.0.items ≤ MAX_READ_ITEMS) }
     ensures number { client.new.number ≡ client.old.number }
     ensures memory { IsOkUnless result Refusal.OutOfMemory }
     ensures unchanged { OnErr result (client.new ≡ client.old) }
@@ -90,40 +90,40 @@ pub(crate) fn take(
 ) -> Result<(Vec<Message>, Vec<Out>), Refusal>
     requires { before < 2 ^ 63 }
     ensures done { IfOk result (λ r. IsChangedBy before client.old
-        (client_takes_by terms client.old.number client.old message.now client.old.doing)
+        (client_takes_by terms client.old.number client.old message.now client.old.phase)
         client.new r.0.items r.1.items) }
-    ensures few { IfOk result (λ r. length r.0.items ≤ MOST_READ_ITEMS) }
+    ensures few { IfOk result (λ r. length r.0.items ≤ MAX_READ_ITEMS) }
     ensures number { client.new.number ≡ client.old.number }
     ensures memory { IsOkUnless result Refusal.OutOfMemory }
     ensures unchanged { OnErr result (client.new ≡ client.old) }
 {
-    match &client.doing {
-        Doing::Idle(_) => Ok((Vec::new(alloc), Vec::new(alloc))),
-        Doing::Reads(asking, reading) => {
+    match &client.phase {
+        Phase::Idle(_) => Ok((Vec::new(alloc), Vec::new(alloc))),
+        Phase::Reads(asking, reading) => {
             if reading.is_ended_by(message) {
-                let doing = Doing::Reads(asking.copy()?, reading.copy()?);
-                let moved = client.actor(alloc, terms).takes(doing, message)?;
+                let phase = Phase::Reads(asking.copy()?, reading.copy()?);
+                let moved = client.actor(alloc, terms).takes(phase, message)?;
                 turn(client, alloc, before, moved)
             } else {
                 reads_on(client, message)?;
                 Ok((Vec::new(alloc), Vec::new(alloc)))
             }
         }
-        Doing::Prepares(preparing) => {
+        Phase::Prepares(preparing) => {
             let room = preparing.count();
             writes_on(client, alloc, terms, message, before, room)
         }
-        Doing::Commits(_) => writes_on(client, alloc, terms, message, before, 0),
+        Phase::Commits(_) => writes_on(client, alloc, terms, message, before, 0),
     }
 }
 
 /// The tag of the client's last round, if it is idle.
 fn idle_tag(client: &Client) -> Option<u64>
-    ensures { result ≡ idle_tag client.now.doing }
+    ensures { result ≡ idle_tag client.now.phase }
 {
-    match &client.doing {
-        Doing::Idle(tag) => Some(*tag),
-        Doing::Reads(_, _) | Doing::Prepares(_) | Doing::Commits(_) => None,
+    match &client.phase {
+        Phase::Idle(tag) => Some(*tag),
+        Phase::Reads(_, _) | Phase::Prepares(_) | Phase::Commits(_) => None,
     }
 }
 
@@ -132,16 +132,16 @@ fn turn(
     client: &mut Client,
     alloc: Global,
     before: u64,
-    moved: Moved,
+    moved: Transition,
 ) -> Result<(Vec<Message>, Vec<Out>), Refusal>
     requires { before < 2 ^ 63 }
     ensures turned { (turn : Turn) → IsMoved turn moved
         → IfOk result (λ r. IsTurned before client.old.number turn client.new r.0.items r.1.items) }
-    ensures few { IfOk result (λ r. length r.0.items ≤ MOST_READ_ITEMS) }
+    ensures few { IfOk result (λ r. length r.0.items ≤ MAX_READ_ITEMS) }
     ensures memory { IsOkUnless result Refusal.OutOfMemory }
     ensures unchanged { OnErr result (client.new ≡ client.old) }
 {
-    let Moved {
+    let Transition {
         client: next,
         notes,
         sent,
@@ -160,14 +160,14 @@ fn becomes(client: &mut Client, next: Client)
 
 /// A message comes that doesn't end the round of the client's read. It is taken in place, without a copy.
 fn reads_on(client: &mut Client, message: &Message) -> Result<(), Refusal>
-    requires { is_waiting client.old.doing message.now ≡ true }
+    requires { is_waiting client.old.phase message.now ≡ true }
     ensures done { (terms : TheTerms) (before : ℕ) → IfOk result (λ _. IsChangedBy before client.old
-        (client_takes_by terms client.old.number client.old message.now client.old.doing) client.new [] []) }
+        (client_takes_by terms client.old.number client.old message.now client.old.phase) client.new [] []) }
     ensures number { client.new.number ≡ client.old.number }
     ensures memory { IsOkUnless result Refusal.OutOfMemory }
     ensures unchanged { OnErr result (client.new ≡ client.old) }
 {
-    client.doing.waits(message)?;
+    client.phase.waits(message)?;
     Ok(())
 }
 
@@ -182,13 +182,13 @@ fn writes_on(
     room: usize,
 ) -> Result<(Vec<Message>, Vec<Out>), Refusal>
     requires many { before < 2 ^ 63 }
-    requires writing { is_writing client.old.doing ≡ true }
-    requires room { room_of client.old.doing ≤ room }
-    requires few { room ≤ MOST_PARTS }
+    requires writing { is_writing client.old.phase ≡ true }
+    requires room { room_of client.old.phase ≤ room }
+    requires few { room ≤ MAX_PARTS }
     ensures done { IfOk result (λ r. IsChangedBy before client.old
-        (client_takes_by terms client.old.number client.old message.now client.old.doing)
+        (client_takes_by terms client.old.number client.old message.now client.old.phase)
         client.new r.0.items r.1.items) }
-    ensures few { IfOk result (λ r. length r.0.items ≤ MOST_READ_ITEMS) }
+    ensures few { IfOk result (λ r. length r.0.items ≤ MAX_READ_ITEMS) }
     ensures number { client.new.number ≡ client.old.number }
     ensures memory { IsOkUnless result Refusal.OutOfMemory }
     ensures unchanged { OnErr result (client.new ≡ client.old) }
@@ -196,27 +196,27 @@ fn writes_on(
     let mut outs = Vec::with_capacity(alloc, room + 1)?;
     let number = client.number;
     let actor = client.actor(alloc, terms);
-    let doing = mem::replace(&mut client.doing, Doing::Idle(0));
-    let Moved {
+    let phase = mem::replace(&mut client.phase, Phase::Idle(0));
+    let Transition {
         client: next,
         notes: _,
         sent,
         answer,
-    } = written(actor, doing, message);
+    } = written(actor, phase, message);
     becomes(client, next);
     tell(&mut outs, before, number, sent.len(), answer);
     Ok((sent, outs))
 }
 
 /// What a message does in a write.
-fn written(actor: Actor, doing: Doing, message: &Message) -> Moved
-    requires { is_writing doing ≡ true }
-    ensures moved { IsMoved (turn_of actor.terms (client_of actor) message.now doing) result }
-    ensures room { length result.sent.items ≤ room_of doing }
+fn written(actor: ClientStep, phase: Phase, message: &Message) -> Transition
+    requires { is_writing phase ≡ true }
+    ensures moved { IsMoved (turn_of actor.terms (client_of actor) message.now phase) result }
+    ensures room { length result.sent.items ≤ room_of phase }
 {
-    match doing {
-        Doing::Prepares(preparing) => actor.prepares(preparing, message),
-        Doing::Commits(committing) => actor.commits(committing, message),
-        Doing::Idle(_) | Doing::Reads(_, _) => unreachable!(),
+    match phase {
+        Phase::Prepares(preparing) => actor.prepares(preparing, message),
+        Phase::Commits(committing) => actor.commits(committing, message),
+        Phase::Idle(_) | Phase::Reads(_, _) => unreachable!(),
     }
 }

@@ -13,10 +13,10 @@ ghost use Rattle.album_world.specs.Rulings.{RulingsHold};
 ghost use Rattle.album_world.specs.Seen.{AreStepped, GoesOn, IsDone, IsReached, OfEachPast, RunsOn, opened};
 ghost use Rattle.album_world.specs.State.{message_of};
 
+use crate::clients::Clients;
 use crate::events::Event;
 use crate::opening::{partitions_of, terms_of};
 use crate::outs::Out;
-use crate::register::Register;
 use crate::state::State;
 use crate::stopped::Stopped;
 use album_calls::Message;
@@ -61,7 +61,7 @@ impl World {
         let state = State {
             partitions,
             messages: Vec::new(alloc),
-            clients: Register::new(alloc),
+            clients: Clients::new(alloc),
             stopped: Stopped::new(alloc)?,
         };
         Ok(World {

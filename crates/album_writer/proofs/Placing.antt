@@ -7,7 +7,7 @@ use Rattle.std.proofs.lemmas.List.Elements.{at_from_Contains}
 use Rattle.std.proofs.lemmas.List.Folds.{Any-from_list_any, list_any_at}
 use Rattle.std.proofs.lemmas.List.FromFn.{length-range_with_len, get_or-range_with_len}
 use Rattle.std.proofs.lemmas.List.Kept.{AllPairs-filter}
-use Rattle.album_stamps.specs.declared.limits.TheConstants.{MOST_PARTS}
+use Rattle.album_stamps.specs.declared.limits.TheConstants.{MAX_PARTS}
 use Rattle.album_items.specs.ItemIds.{place_of, number_of, kind_of}
 use Rattle.album_items.specs.Openings.{Row}
 use Rattle.album_items.specs.Places.{is_placed, lies_at, places_of, rows_placed_at}
@@ -80,7 +80,7 @@ few-filter p (x ∷ xs) = go (p x) (few-filter p xs)
 
 -- no more than there are
 pub few_places :
-    (parts : ℕ) (items : List ℕ) → parts ≤ MOST_PARTS → length (places_of parts items) ≤ MOST_PARTS
+    (parts : ℕ) (items : List ℕ) → parts ≤ MAX_PARTS → length (places_of parts items) ≤ MAX_PARTS
 few_places parts items few =
     let kept = few-filter (λ part. lies_at part parts items) (range_with_len 0 parts) in
     omega (arith, kept, length-range_with_len 0 parts)

@@ -1,13 +1,13 @@
 -- What a write has at hand.
 use Rattle.std.specs.Prelude.{◌≡◌, ◌≢◌, ℕ, ◌+◌, ◌<◌, ◌≤◌, ◌^◌, List, []}
-use Rattle.album_stamps.specs.declared.limits.TheConstants.{MOST_PARTS}
+use Rattle.album_stamps.specs.declared.limits.TheConstants.{MAX_PARTS}
 use Rattle.album_calls.specs.declared.messages.Message.{Message}
 use Rattle.album_writer.specs.Writing.{WritingState, places_in, commit_round, commits_of}
 
 -- there are neither too few partitions nor too many, and those that are concerned are there
 pub record HasPlaces (writing : WritingState) (places : List ℕ) : Type 0 where
   pub low : 1 ≤ writing.parts
-  pub high : writing.parts ≤ MOST_PARTS
+  pub high : writing.parts ≤ MAX_PARTS
   pub same : places ≡ places_in writing
 
 -- some answer to the Prepares is awaited, and the Commits are there, with the partitions whose answers will be awaited

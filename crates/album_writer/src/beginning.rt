@@ -10,7 +10,7 @@ use crate::preparing::Preparing;
 use crate::writing::Writing;
 use album_calls::Message;
 use album_permits::Permit;
-use album_stamps::{ClientNo, MOST_PARTS, Refusal, Refused, Stamp};
+use album_stamps::{ClientNo, MAX_PARTS, Refusal, Refused, Stamp};
 use std::alloc::Global;
 
 impl Preparing {
@@ -20,7 +20,7 @@ impl Preparing {
     ///
     /// # Errors
     ///
-    /// `AlbumFull` where the album that gets a child has `MOST_CHILDREN` others, and only there; else `OutOfMemory`.
+    /// `AlbumFull` where the album that gets a child has `MAX_CHILDREN` others, and only there; else `OutOfMemory`.
     /// The permit is handed back.
     pub fn begin(
         alloc: Global,
@@ -33,7 +33,7 @@ impl Preparing {
         requires change { IsTrue (is_write permit.view.ask) }
         requires own { client_of stamp ≡ Some client }
         requires low { 1 ≤ parts }
-        requires high { parts ≤ MOST_PARTS }
+        requires high { parts ≤ MAX_PARTS }
         requires low_tag { 1 ≤ tag }
         requires high_tag { tag + 1 < 2 ^ 64 }
         ensures preparing { IfOk result (λ r. r.0 ≡ prepare_round permit stamp client tag parts) }

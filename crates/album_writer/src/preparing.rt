@@ -1,6 +1,6 @@
 // A write whose Prepares are sent.
 ghost use Rattle.std.specs.Prelude.{◌≡◌, ◌≤◌, List, [], ◌∷◌, ◌++◌, length};
-ghost use Rattle.album_stamps.specs.declared.limits.TheConstants.{MOST_PARTS};
+ghost use Rattle.album_stamps.specs.declared.limits.TheConstants.{MAX_PARTS};
 ghost use Rattle.album_calls.specs.declared.messages.Message.{Message};
 ghost use Rattle.album_writer.specs.Given.{told_round, prepare_step_after};
 ghost use Rattle.album_writer.specs.Ready.{IsReady};
@@ -113,7 +113,7 @@ impl Preparing {
     #[tactic(auto, using(crate::proofs::Placing::few_places))]
     pub fn count(&self) -> usize
         ensures count { result ≡ length (places_in self.now) }
-        ensures few { result ≤ MOST_PARTS }
+        ensures few { result ≤ MAX_PARTS }
     {
         self.writing.places().len()
     }

@@ -7,7 +7,7 @@ ghost use Rattle.album_writer.specs.Writing.{prepare_to, prepares_of, commit_to,
 use crate::writing::Writing;
 use album_calls::{Body, Message, Node, Request};
 use album_items::{ItemId, ItemValues, Items, Value, place};
-use album_stamps::{MOST_PARTS, Refusal};
+use album_stamps::{MAX_PARTS, Refusal};
 use std::alloc::{AllocError, Global};
 
 impl Writing {
@@ -26,7 +26,7 @@ impl Writing {
     /// The Prepare to a partition: just the writes that are placed there, with the items of all.
     fn prepare(&self, alloc: Global, place: u16) -> Result<Message, Refusal>
         requires low { 1 ≤ self.now.parts }
-        requires high { self.now.parts ≤ MOST_PARTS }
+        requires high { self.now.parts ≤ MAX_PARTS }
         ensures message { IfOk result (λ message. message ≡ prepare_to self.now place) }
         ensures memory { IsOkUnless result Refusal.OutOfMemory }
     {
@@ -86,7 +86,7 @@ fn rows_placed_at(
     rows: &[(ItemId, Value)],
 ) -> Result<ItemValues, Refusal>
     requires low { 1 ≤ parts }
-    requires high { parts ≤ MOST_PARTS }
+    requires high { parts ≤ MAX_PARTS }
     ensures rows { IfOk result (λ placed. placed ≡ rows_placed_at number parts rows.now) }
     ensures memory { IsOkUnless result Refusal.OutOfMemory }
 {

@@ -14,7 +14,7 @@ use crate::told::Told;
 use album_calls::{Message, Node};
 use album_items::{ItemId, Value, places_of};
 use album_permits::{Permit, Writes};
-use album_stamps::{ClientNo, MOST_PARTS, Refusal, Refused, Stamp};
+use album_stamps::{ClientNo, MAX_PARTS, Refusal, Refused, Stamp};
 use std::alloc::{AllocError, Global};
 use std::marker::Model;
 
@@ -72,7 +72,7 @@ impl Writing {
         parts: u16,
     ) -> Result<Writing, Refused<Permit>>
         requires low { 1 ≤ parts }
-        requires high { parts ≤ MOST_PARTS }
+        requires high { parts ≤ MAX_PARTS }
         ensures writing { IfOk result (λ writing. writing ≡ prepare_round writes.permit writes.stamp client tag parts) }
         ensures refusal { IfErr result (λ e. e.refusal ≡ Refusal.OutOfMemory) }
         ensures given { IfErr result (λ e. e.given ≡ writes.permit) }
@@ -169,7 +169,7 @@ impl Writing {
     pub fn places(&self) -> &[u16]
         ensures places { result.now ≡ places_in self.now }
         ensures low { 1 ≤ self.now.parts }
-        ensures high { self.now.parts ≤ MOST_PARTS }
+        ensures high { self.now.parts ≤ MAX_PARTS }
     {
         self.places.as_slice()
     }
@@ -230,7 +230,7 @@ impl Writing {
 /// The partitions of the items that are written, rising, twice.
 fn places(alloc: Global, writes: &Writes, parts: u16) -> Result<(Vec<u16>, Vec<u16>), AllocError>
     requires low { 1 ≤ parts }
-    requires high { parts ≤ MOST_PARTS }
+    requires high { parts ≤ MAX_PARTS }
     ensures places { IfOk result (λ r.
         r.0.items ≡ places_of parts (items_written (effect_of writes.now.permit writes.now.stamp))) }
     ensures twice { IfOk result (λ r. r.1.items ≡ r.0.items) }

@@ -2,7 +2,7 @@
 ghost use Rattle.std.specs.Prelude.{◌≡◌, ◌≤◌, true, Bool, IfOk, if◌then◌else◌};
 ghost use Rattle.std.specs.Option.{option_copied, unwrap_or};
 ghost use Rattle.album_items.specs.declared.values.Value.TheVariants.{Missing};
-ghost use Rattle.album_partition.specs.Answers.{Does, nothing, says, marks, marks_and_says, prepare_by, commit_by, check_by, mark_by, is_same, says_version, to_body, to_request, to_prepare, to_commit, to_check, to_get, to_reply, to_status, to_vote, to_prepared, to_part, mark_with};
+ghost use Rattle.album_partition.specs.Answers.{Does, nothing, says, marks, marks_and_says, prepare_by, commit_by, check_by, mark_by, is_same, says_version, on_body, on_request, on_prepare, on_commit, on_check, on_get, on_reply, on_status, on_vote, on_prepared, on_vote_of, mark_with};
 ghost use Rattle.album_partition.specs.History.{is_kept};
 ghost use Rattle.album_partition.specs.Marks.{state_of, is_full, floor};
 ghost use Rattle.album_partition.specs.Partition.{value_at};
@@ -79,33 +79,33 @@ impl Action {
 
 impl Partition {
     /// What the message does that this node sends.
-    pub(super) fn to_body(&self, from: Node, body: &Body) -> Result<Action, AllocError>
-        ensures { Does result (to_body self.now from body.now) }
+    pub(super) fn on_body(&self, from: Node, body: &Body) -> Result<Action, AllocError>
+        ensures { Does result (on_body self.now from body.now) }
     {
         match body {
-            Body::Request(request) => self.to_request(request),
-            Body::Reply(reply) => self.to_reply(from, reply),
+            Body::Request(request) => self.on_request(request),
+            Body::Reply(reply) => self.on_reply(from, reply),
         }
     }
 
-    fn to_request(&self, request: &Request) -> Result<Action, AllocError>
-        ensures { Does result (to_request self.now request.now) }
+    fn on_request(&self, request: &Request) -> Result<Action, AllocError>
+        ensures { Does result (on_request self.now request.now) }
     {
         match request {
-            Request::Prepare(stamp, writes, items) => self.to_prepare(*stamp, writes, items),
-            Request::Commit(stamp) => Ok(self.to_commit(*stamp)),
-            Request::Get(item, stamps) => self.to_get(*item, stamps),
-            Request::Check(stamp) => Ok(self.to_check(*stamp)),
+            Request::Prepare(stamp, writes, items) => self.on_prepare(*stamp, writes, items),
+            Request::Commit(stamp) => Ok(self.on_commit(*stamp)),
+            Request::Get(item, stamps) => self.on_get(*item, stamps),
+            Request::Check(stamp) => Ok(self.on_check(*stamp)),
         }
     }
 
-    fn to_prepare(
+    fn on_prepare(
         &self,
         stamp: Stamp,
         writes: &ItemValues,
         items: &Items,
     ) -> Result<Action, AllocError>
-        ensures { Does result (to_prepare self.now stamp writes.now items.now) }
+        ensures { Does result (on_prepare self.now stamp writes.now items.now) }
     {
         if !self.is_proper(stamp, writes, items) {
             return Ok(Action::says(Reply::Clash));
@@ -166,8 +166,8 @@ impl Partition {
         self.limit < self.stored.load() + 2
     }
 
-    fn to_commit(&self, stamp: Stamp) -> Action
-        ensures { result ≡ to_commit self.now stamp }
+    fn on_commit(&self, stamp: Stamp) -> Action
+        ensures { result ≡ on_commit self.now stamp }
     {
         if stamp.value() == 0 {
             return Action::says(Reply::Clash);
@@ -175,8 +175,8 @@ impl Partition {
         commit_by(self.state(stamp), stamp)
     }
 
-    fn to_check(&self, stamp: Stamp) -> Action
-        ensures { result ≡ to_check self.now stamp }
+    fn on_check(&self, stamp: Stamp) -> Action
+        ensures { result ≡ on_check self.now stamp }
     {
         if stamp.value() == 0 {
             return Action::says(Reply::Clash);
@@ -184,8 +184,8 @@ impl Partition {
         check_by(self.is_full(), self.state(stamp), stamp)
     }
 
-    fn to_get(&self, item: ItemId, stamps: &Stamps) -> Result<Action, AllocError>
-        ensures { Does result (to_get self.now item stamps.now) }
+    fn on_get(&self, item: ItemId, stamps: &Stamps) -> Result<Action, AllocError>
+        ensures { Does result (on_get self.now item stamps.now) }
     {
         if !self.seat.has(item) {
             return Ok(Action::says(Reply::Clash));
@@ -218,11 +218,11 @@ impl Partition {
     }
 
     /// A vote is the one reply that a partition takes.
-    fn to_reply(&self, from: Node, reply: &Reply) -> Result<Action, AllocError>
-        ensures { Does result (to_reply self.now from reply.now) }
+    fn on_reply(&self, from: Node, reply: &Reply) -> Result<Action, AllocError>
+        ensures { Does result (on_reply self.now from reply.now) }
     {
         match reply {
-            Reply::Status(stamp, vote) => self.to_status(from, *stamp, *vote),
+            Reply::Status(stamp, vote) => self.on_status(from, *stamp, *vote),
             Reply::Prepared(_)
             | Reply::Committed(_)
             | Reply::Discarded(_)
@@ -235,45 +235,45 @@ impl Partition {
     }
 
     /// A vote counts where the stamp is pending here.
-    fn to_status(&self, from: Node, stamp: Stamp, vote: Vote) -> Result<Action, AllocError>
-        ensures { Does result (to_status self.now from stamp vote) }
+    fn on_status(&self, from: Node, stamp: Stamp, vote: Vote) -> Result<Action, AllocError>
+        ensures { Does result (on_status self.now from stamp vote) }
     {
         match self.state(stamp) {
-            StampState::Pending => self.to_vote(from, stamp, vote),
+            StampState::Pending => self.on_vote(from, stamp, vote),
             StampState::Unknown | StampState::Committed | StampState::Discarded => {
                 Ok(Action::nothing())
             }
         }
     }
 
-    fn to_vote(&self, from: Node, stamp: Stamp, vote: Vote) -> Result<Action, AllocError>
+    fn on_vote(&self, from: Node, stamp: Stamp, vote: Vote) -> Result<Action, AllocError>
         requires { state_of self.now.marks stamp ≡ StampState.Pending }
-        ensures { Does result (to_vote self.now from stamp vote) }
+        ensures { Does result (on_vote self.now from stamp vote) }
     {
         match vote {
-            Vote::Prepared => self.to_prepared(from, stamp),
+            Vote::Prepared => self.on_prepared(from, stamp),
             Vote::Committed => Ok(Action::marks(Mark::Committed(stamp))),
             Vote::Never => Ok(Action::marks(Mark::Discarded(stamp))),
         }
     }
 
     /// A vote Prepared counts where one of the partitions of the items tells it.
-    fn to_prepared(&self, from: Node, stamp: Stamp) -> Result<Action, AllocError>
+    fn on_prepared(&self, from: Node, stamp: Stamp) -> Result<Action, AllocError>
         requires { state_of self.now.marks stamp ≡ StampState.Pending }
-        ensures { Does result (to_prepared self.now from stamp) }
+        ensures { Does result (on_prepared self.now from stamp) }
     {
         match from {
             Node::Part(part) if self.seat.lies_at(part, self.stored.items(stamp)) => {
-                self.to_part(part, stamp)
+                self.on_vote_of(part, stamp)
             }
             Node::Part(_) | Node::Client(_) => Ok(Action::nothing()),
         }
     }
 
     /// The partition's vote is noted, and settles the stamp if it was the last that was waited for.
-    fn to_part(&self, part: u16, stamp: Stamp) -> Result<Action, AllocError>
+    fn on_vote_of(&self, part: u16, stamp: Stamp) -> Result<Action, AllocError>
         requires { state_of self.now.marks stamp ≡ StampState.Pending }
-        ensures { Does result (to_part self.now part stamp) }
+        ensures { Does result (on_vote_of self.now part stamp) }
     {
         // A vote that was heard already changes nothing: had all been heard, the stamp would not be
         // pending. So it takes no memory either.

@@ -5,4 +5,4 @@ use Rattle.album_permits.specs.Effects.{list_written}
 use Rattle.album_permits.proofs.effects.lists_written.Given as goal
 
 abbrev pub invariant-loop-new : goal.invariant-loop-new
-invariant-loop-new l = l.writes.items ≡ flat_map (list_written (seen l.sight.view.now.rows)) (take l.new-index l.lists)
+invariant-loop-new l = l.writes.items ≡ flat_map (list_written (seen l.lookup.view.now.rows)) (take l.new-index l.lists)

@@ -1,5 +1,5 @@
 use Rattle.std.proofs.Common.{ap}
-use Rattle.album_reader.specs.Answers.{Answer}
+use Rattle.album_reader.specs.Answers.{ReadVersion}
 use Rattle.album_reader.proofs.StampSets.{with_stamp-rises}
 use Rattle.album_reader.proofs.FirstAnswers.{drop-next}
 use Rattle.album_reader.proofs.answers.stamps_there.Goals as goal
@@ -15,7 +15,7 @@ loop-answer-preserved c =
       | in-Some+in_ok-add_stamp w ↦ record {
         rising = rw (w.stamps-is, w.in_ok-add_stamp.ensures) (with_stamp-rises _ _ c.loop-answer.invariant.rising);
         rest =
-            rw (w.stamps-is, w.in_ok-add_stamp.ensures, ap (λ (a : Answer). a.stamp) w.answer.view_is)
+            rw (w.stamps-is, w.in_ok-add_stamp.ensures, ap (λ (a : ReadVersion). a.stamp) w.answer.view_is)
             (rw (next, w.in-Some.is) at c.loop-answer.invariant.rest);
       }
       | in_default w ↦ record {

@@ -1,8 +1,8 @@
 use Rattle.album_server.proofs.serving.serve_opened.Given as goal
 
 -- the desk, the policy and the ledgers that were opened here
-abbrev pub ghosts-serve_at-J-Naming : goal.ghosts-serve_at-J-Naming
-ghosts-serve_at-J-Naming g a = record {
+abbrev pub ghosts-serve_at-J-ServiceNames : goal.ghosts-serve_at-J-ServiceNames
+ghosts-serve_at-J-ServiceNames g a = record {
   table = a.opened.desk.table;
   terms = a.opened.desk.terms;
   policy = a.opened.policy;

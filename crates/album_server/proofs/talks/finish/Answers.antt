@@ -8,8 +8,8 @@ use Rattle.album_server.proofs.talks.finish.Goals as goal
 -- the input ends in a newline
 pub returns-in-None-clause-ok : goal.returns-in-None-clause-ok
 returns-in-None-clause-ok g c =
-    let limit = g.J.Naming.terms.limit in
-    let policy = g.J.Naming.policy in
+    let limit = g.J.ServiceNames.terms.limit in
+    let policy = g.J.ServiceNames.policy in
     let written = g.W.Write.contents c.args.writer.now in
     subst (λ (ls : List Line). Writes (Talks limit policy (record { who = c.args.who.now; session = c.args.session.now }) ls
     (record { who = c.args.who.now; session = c.args.session.now })) written written) c.in-None.ensures
@@ -19,7 +19,7 @@ returns-in-None-clause-ok g c =
 pub returns-in-Some-clause-ok : goal.returns-in-Some-clause-ok
 returns-in-Some-clause-ok g c =
     subst (λ (ls : List Line). OnOk c.answer_lines.result (Writes
-    (Talks g.J.Naming.terms.limit g.J.Naming.policy (record { who = c.args.who.now; session = c.args.session.now }) ls
+    (Talks g.J.ServiceNames.terms.limit g.J.ServiceNames.policy (record { who = c.args.who.now; session = c.args.session.now }) ls
     (record { who = c.answer_lines.new.who; session = c.answer_lines.new.session }))
     (g.W.Write.contents c.args.writer.now) (g.W.Write.contents c.answer_lines.new.writer)))
     c.in-Some.ensures c.answer_lines.ensures.ok
@@ -27,7 +27,7 @@ returns-in-Some-clause-ok g c =
 pub returns-in-Some-clause-fault : goal.returns-in-Some-clause-fault
 returns-in-Some-clause-fault g c =
     subst (λ (ls : List Line). IfErr c.answer_lines.result (λ fault. Writes
-    (IsLeftBy fault (MayTalk g.J.Naming.terms.limit g.J.Naming.policy
+    (IsLeftBy fault (MayTalk g.J.ServiceNames.terms.limit g.J.ServiceNames.policy
     (record { who = c.args.who.now; session = c.args.session.now })) ls)
     (g.W.Write.contents c.args.writer.now) (g.W.Write.contents c.answer_lines.new.writer)))
     c.in-Some.ensures c.answer_lines.ensures.fault

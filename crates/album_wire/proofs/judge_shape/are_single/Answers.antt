@@ -3,7 +3,7 @@ use Rattle.std.specs.Ordering.{nat_cmp}
 use Rattle.std.specs.BTreeSet as set
 use Rattle.album_wire.specs.JudgeShape.{numbers, spelled_group}
 use Rattle.album_wire.proofs.Distinct.{none_seen, first_new, numbers_from, are_new, new_from_added}
-use Rattle.album_wire.proofs.judge_shape.are_single.Goals as goal
+use Rattle.album_wire.proofs.judge_shape.are_distinct.Goals as goal
 
 pub loop-group-init : goal.loop-group-init
 loop-group-init c =

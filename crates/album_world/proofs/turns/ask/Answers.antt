@@ -1,7 +1,7 @@
 use Rattle.std.proofs.Common.{◌≡◌, Some, ap, refl, rules}
 use Rattle.std.proofs.lemmas.Result.{IfOk-weaker}
 use Rattle.album_views.specs.Asks.{objects_of}
-use Rattle.album_client.specs.Askings.{Asking}
+use Rattle.album_client.specs.Askings.{PendingAsk}
 use Rattle.album_client.specs.Clients.{Client}
 use Rattle.album_client.specs.Turns.{read_begins}
 use Rattle.album_world.specs.Moves.{idle_tag}
@@ -14,8 +14,8 @@ use Rattle.album_world.proofs.turns.ask.Goals as goal
 pub returns-clause-done : goal.returns-clause-done
 returns-clause-done c =
     let x = c.args.client.now in
-    let asking : Asking = record { viewing = record { ask = c.args.ask.now; reads = 0 }; principal = c.args.principal.now } in
-    let idles : idle_tag x.doing ≡ Some c.in-Some.tag = search rules in
+    let asking : PendingAsk = record { viewing = record { ask = c.args.ask.now; reads = 0 }; principal = c.args.principal.now } in
+    let idles : idle_tag x.phase ≡ Some c.in-Some.tag = search rules in
     let number = ap (λ (y : Client). y.number) c.actor.ensures.client in
     let clock = ap (λ (y : Client). y.clock) c.actor.ensures.client in
     let is = rw (c.actor.ensures.terms, number, clock, c.in_ok-copy.ensures.copy, c.in_ok-copy-2.ensures.copy) at c.in_ok-moved.ensures.moved in
@@ -28,8 +28,8 @@ returns-clause-done c =
 pub returns-clause-number : goal.returns-clause-number
 returns-clause-number c =
     let x = c.args.client.now in
-    let asking : Asking = record { viewing = record { ask = c.args.ask.now; reads = 0 }; principal = c.args.principal.now } in
-    let idles : idle_tag x.doing ≡ Some c.in-Some.tag = search rules in
+    let asking : PendingAsk = record { viewing = record { ask = c.args.ask.now; reads = 0 }; principal = c.args.principal.now } in
+    let idles : idle_tag x.phase ≡ Some c.in-Some.tag = search rules in
     let number = ap (λ (y : Client). y.number) c.actor.ensures.client in
     let clock = ap (λ (y : Client). y.clock) c.actor.ensures.client in
     let is = rw (c.actor.ensures.terms, number, clock, c.in_ok-copy.ensures.copy, c.in_ok-copy-2.ensures.copy) at c.in_ok-moved.ensures.moved in

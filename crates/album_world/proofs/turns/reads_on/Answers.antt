@@ -10,10 +10,10 @@ use Rattle.album_world.proofs.turns.reads_on.Goals as goal
 pub returns-clause-done : goal.returns-clause-done
 returns-clause-done c = λ terms before.
     let m = c.args.message.now in
-    let inside : Client = record { number = c.client.inside.number; clock = c.client.inside.clock; doing = c.client.inside.doing } in
-    let new : Client = record { number = c.client.inside.number; clock = c.client.inside.clock; doing = c.waits.new.self } in
-    let waiting : is_waiting c.client.inside.doing m ≡ true =
-    ap (λ (y : Client). is_waiting y.doing m) c.client.view_is ∙ c.requires in
-    subst (λ (y : Client). IsChangedBy before y (client_takes_by terms y.number y m y.doing) new [] []) c.client.view_is
+    let inside : Client = record { number = c.client.inside.number; clock = c.client.inside.clock; phase = c.client.inside.phase } in
+    let new : Client = record { number = c.client.inside.number; clock = c.client.inside.clock; phase = c.waits.new.self } in
+    let waiting : is_waiting c.client.inside.phase m ≡ true =
+    ap (λ (y : Client). is_waiting y.phase m) c.client.view_is ∙ c.requires in
+    subst (λ (y : Client). IsChangedBy before y (client_takes_by terms y.number y m y.phase) new [] []) c.client.view_is
     (waits_done terms before inside c.waits.new.self m waiting
     (c.in_ok-waits.ensures.taken (c.in_ok-waits.ensures.test ∙ waiting)))

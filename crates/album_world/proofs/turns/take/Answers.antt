@@ -1,8 +1,8 @@
 use Rattle.std.proofs.Common.{◌≡◌, ap, sym, ◌∙◌}
 use Rattle.std.proofs.lemmas.Result.{IfOk-weaker}
-use Rattle.album_client.specs.declared.clients.Doing.TheVariants as doing
+use Rattle.album_client.specs.declared.clients.Phase.TheVariants as phase
 use Rattle.album_client.specs.Clients.{Client}
-use Rattle.album_client.specs.Moves.{client_of}
+use Rattle.album_client.specs.Transitions.{client_of}
 use Rattle.album_client.specs.Turns.{turn_of}
 use Rattle.album_world.proofs.MoveLemmas.{moved_so, number_turn, reads_none, taken_done}
 use Rattle.album_world.proofs.RegisterLemmas.{turned_number}
@@ -12,34 +12,34 @@ use Rattle.album_world.proofs.turns.take.Goals as goal
 pub returns-in_ok-moved-in-Reads-clause-done : goal.returns-in_ok-moved-in-Reads-clause-done
 returns-in_ok-moved-in-Reads-clause-done c =
     let x = c.args.client.now in
-    let does : doing.Reads c.in-Reads.asking c.in-Reads.reading ≡ x.doing =
-    sym c.in-Reads.is ∙ ap (λ (y : Client). y.doing) c.client.view_is in
+    let does : phase.Reads c.in-Reads.asking c.in-Reads.reading ≡ x.phase =
+    sym c.in-Reads.is ∙ ap (λ (y : Client). y.phase) c.client.view_is in
     let asking = c.in_ok-copy-in-Reads.field-0 in
     let round = c.in_ok-copy-in-Reads-2.field-0 in
-    let same : doing.Reads asking round ≡ x.doing =
+    let same : phase.Reads asking round ≡ x.phase =
     rw (c.in_ok-copy-in-Reads.ensures.copy, c.in_ok-copy-in-Reads-2.ensures.copy) does in
     let moved = rw c.actor.ensures.terms at c.in_ok-moved-in-Reads.ensures.moved in
     let is =
-    moved_so c.args.terms x (client_of c.actor.result) (doing.Idle 0) (doing.Reads asking round) c.args.message.now
+    moved_so c.args.terms x (client_of c.actor.result) (phase.Idle 0) (phase.Reads asking round) c.args.message.now
     c.in_ok-moved-in-Reads.moved c.actor.ensures.client same moved in
     IfOk-weaker c.turn.result _ _ (λ r turned.
     taken_done c.args.before c.args.terms x c.turn.new.client c.args.message.now r.0.items r.1.items
-    (reads_none x.doing c.in-Reads.asking c.in-Reads.reading does) turned)
-    (c.turn.ensures.turned (turn_of c.args.terms x c.args.message.now x.doing) is)
+    (reads_none x.phase c.in-Reads.asking c.in-Reads.reading does) turned)
+    (c.turn.ensures.turned (turn_of c.args.terms x c.args.message.now x.phase) is)
 
 pub returns-in_ok-moved-in-Reads-clause-number : goal.returns-in_ok-moved-in-Reads-clause-number
 returns-in_ok-moved-in-Reads-clause-number c =
     let x = c.args.client.now in
-    let does : doing.Reads c.in-Reads.asking c.in-Reads.reading ≡ x.doing =
-    sym c.in-Reads.is ∙ ap (λ (y : Client). y.doing) c.client.view_is in
+    let does : phase.Reads c.in-Reads.asking c.in-Reads.reading ≡ x.phase =
+    sym c.in-Reads.is ∙ ap (λ (y : Client). y.phase) c.client.view_is in
     let asking = c.in_ok-copy-in-Reads.field-0 in
     let round = c.in_ok-copy-in-Reads-2.field-0 in
-    let same : doing.Reads asking round ≡ x.doing =
+    let same : phase.Reads asking round ≡ x.phase =
     rw (c.in_ok-copy-in-Reads.ensures.copy, c.in_ok-copy-in-Reads-2.ensures.copy) does in
     let moved = rw c.actor.ensures.terms at c.in_ok-moved-in-Reads.ensures.moved in
     let is =
-    moved_so c.args.terms x (client_of c.actor.result) (doing.Idle 0) (doing.Reads asking round) c.args.message.now
+    moved_so c.args.terms x (client_of c.actor.result) (phase.Idle 0) (phase.Reads asking round) c.args.message.now
     c.in_ok-moved-in-Reads.moved c.actor.ensures.client same moved in
-    turned_number c.turn.result x c.turn.new.client (turn_of c.args.terms x c.args.message.now x.doing) c.args.before
-    (λ r. r.0.items) (λ r. r.1.items) (number_turn c.args.terms x c.args.message.now x.doing)
-    (c.turn.ensures.turned (turn_of c.args.terms x c.args.message.now x.doing) is) c.turn.ensures.unchanged
+    turned_number c.turn.result x c.turn.new.client (turn_of c.args.terms x c.args.message.now x.phase) c.args.before
+    (λ r. r.0.items) (λ r. r.1.items) (number_turn c.args.terms x c.args.message.now x.phase)
+    (c.turn.ensures.turned (turn_of c.args.terms x c.args.message.now x.phase) is) c.turn.ensures.unchanged

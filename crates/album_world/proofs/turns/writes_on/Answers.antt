@@ -1,7 +1,7 @@
 use Rattle.std.proofs.Common.{◌≡◌, length, ap, rules, ◌∙◌}
-use Rattle.album_client.specs.declared.clients.Doing.TheVariants as doing
+use Rattle.album_client.specs.declared.clients.Phase.TheVariants as phase
 use Rattle.album_client.specs.Clients.{Client}
-use Rattle.album_client.specs.Moves.{client_of}
+use Rattle.album_client.specs.Transitions.{client_of}
 use Rattle.album_client.specs.Turns.{turn_of}
 use Rattle.album_world.proofs.MoveLemmas.{moved_so, number_turn, taken_done, unnoted, untold_is, writes_none}
 use Rattle.album_world.proofs.turns.writes_on.Goals as goal
@@ -10,28 +10,28 @@ use Rattle.album_world.proofs.turns.writes_on.Goals as goal
 pub returns-clause-done : goal.returns-clause-done
 returns-clause-done c =
     let x = c.args.client.now in
-    let does : c.replace-doing.result ≡ x.doing =
-    c.replace-doing.ensures.value ∙ ap (λ (y : Client). y.doing) c.client.view_is in
+    let does : c.replace-phase.result ≡ x.phase =
+    c.replace-phase.ensures.value ∙ ap (λ (y : Client). y.phase) c.client.view_is in
     let moved = rw c.actor-actor.ensures.terms at c.written-next.ensures.moved in
     let is =
-    moved_so c.args.terms x (client_of c.actor-actor.result) (doing.Idle 0) c.replace-doing.result c.args.message.now
+    moved_so c.args.terms x (client_of c.actor-actor.result) (phase.Idle 0) c.replace-phase.result c.args.message.now
     c.written-next.result c.actor-actor.ensures.client does moved in
     let count : c.len.result ≡ length c.written-next.result.sent.items = search rules in
     let outs = rw (c.in_ok-outs.ensures.items, count) at c.tell.ensures in
     taken_done c.args.before c.args.terms x c.becomes.new.client c.args.message.now
-    c.written-next.result.sent.items c.tell.new.outs.items (writes_none x.doing c.requires.writing)
-    (untold_is c.args.before _ x c.becomes.new.client (turn_of c.args.terms x c.args.message.now x.doing)
+    c.written-next.result.sent.items c.tell.new.outs.items (writes_none x.phase c.requires.writing)
+    (untold_is c.args.before _ x c.becomes.new.client (turn_of c.args.terms x c.args.message.now x.phase)
     c.written-next.result c.tell.new.outs.items (ap (λ (y : Client). y.number) c.client.view_is)
-    (unnoted c.args.terms x c.args.message.now x.doing c.requires.writing) is c.becomes.ensures outs)
+    (unnoted c.args.terms x c.args.message.now x.phase c.requires.writing) is c.becomes.ensures outs)
 
 pub returns-clause-number : goal.returns-clause-number
 returns-clause-number c =
     let x = c.args.client.now in
-    let does : c.replace-doing.result ≡ x.doing =
-    c.replace-doing.ensures.value ∙ ap (λ (y : Client). y.doing) c.client.view_is in
+    let does : c.replace-phase.result ≡ x.phase =
+    c.replace-phase.ensures.value ∙ ap (λ (y : Client). y.phase) c.client.view_is in
     let moved = rw c.actor-actor.ensures.terms at c.written-next.ensures.moved in
     let is =
-    moved_so c.args.terms x (client_of c.actor-actor.result) (doing.Idle 0) c.replace-doing.result c.args.message.now
+    moved_so c.args.terms x (client_of c.actor-actor.result) (phase.Idle 0) c.replace-phase.result c.args.message.now
     c.written-next.result c.actor-actor.ensures.client does moved in
     ap (λ (y : Client). y.number) (c.becomes.ensures ∙ is.client)
-    ∙ number_turn c.args.terms x c.args.message.now x.doing
+    ∙ number_turn c.args.terms x c.args.message.now x.phase

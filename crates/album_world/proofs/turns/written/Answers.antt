@@ -1,4 +1,4 @@
-use Rattle.album_client.specs.Moves.{client_of}
+use Rattle.album_client.specs.Transitions.{client_of}
 use Rattle.album_world.proofs.MoveLemmas.{few_prepared, none_committed}
 use Rattle.album_world.proofs.turns.written.Goals as goal
 

@@ -1,6 +1,6 @@
 use Rattle.std.proofs.Common.{◌≡◌, List, Option, None, ap, ◌∙◌, set}
 use Rattle.std.proofs.lemmas.Result.{IfOk-weaker}
-use Rattle.album_reader.specs.Answers.{Answer}
+use Rattle.album_reader.specs.Answers.{ReadVersion}
 use Rattle.album_reader.specs.contracts.round.Round.{the_view}
 use Rattle.album_reader.proofs.Rounds.{set_back}
 use Rattle.album_reader.proofs.Ends.{in_order-fresh, outcome-fresh, on_err_then}
@@ -20,7 +20,7 @@ returns-then-is_err-clause-unchanged c =
     let fresh = rw (c.in-Some.field-0-is, ← c.self.view_is) at c.in-Some.ensures in
     let back : c.take_away.new.self ≡ c.self.inside.answers =
     c.take_away.ensures
-    ∙ ap (λ (os : List (Option Answer)). set os c.in-Some.field-0.index None) c.put.ensures
+    ∙ ap (λ (os : List (Option ReadVersion)). set os c.in-Some.field-0.index None) c.put.ensures
     ∙ set_back _ _ _ fresh.empty in
     rw back (on_err_then c.end-last.result c.self.view_is)
 

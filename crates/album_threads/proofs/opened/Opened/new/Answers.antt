@@ -1,5 +1,5 @@
 use Rattle.std.proofs.Common.{rules, ◌≤◌, ap, sym, subst}
-use Rattle.album_stamps.specs.declared.limits.TheConstants.{MOST_PARTS}
+use Rattle.album_stamps.specs.declared.limits.TheConstants.{MAX_PARTS}
 use Rattle.album_passes.specs.Knowledge.{Terms}
 use Rattle.album_passes.proofs.DeskLemmas.{few_parts}
 use Rattle.album_threads.specs.Opened.{AreFirst}
@@ -10,7 +10,7 @@ pub invariant_of-result : goal.invariant_of-result
 invariant_of-result c = record {
   parts_are = ap (λ (t : Terms). t.parts) c.in_ok-desk.ensures.terms;
   some = subst (λ (t : Terms). 1 ≤ t.parts) (sym c.in_ok-desk.ensures.terms) (some_parts c.args.opening.now (search rules));
-  few = subst (λ (t : Terms). t.parts ≤ MOST_PARTS) (sym c.in_ok-desk.ensures.terms) (few_parts c.args.opening.now (search rules));
+  few = subst (λ (t : Terms). t.parts ≤ MAX_PARTS) (sym c.in_ok-desk.ensures.terms) (few_parts c.args.opening.now (search rules));
   owned = c.in_ok-desk.ensures.owners;
   opened = subst (λ (t : Terms). AreFirst t t.parts c.in_ok-partitions.partitions.items) (sym c.in_ok-desk.ensures.terms) (c.in_ok-partitions.ensures.partitions c.args.sessions);
   first = c.in_ok-desk.ensures.pass;

@@ -1,5 +1,5 @@
 use Rattle.std.proofs.Common.{◌≤◌, ap, ◌∙◌, subst}
-use Rattle.album_stamps.specs.declared.limits.TheConstants.{MOST_PARTS}
+use Rattle.album_stamps.specs.declared.limits.TheConstants.{MAX_PARTS}
 use Rattle.album_passes.specs.Knowledge.{Terms}
 use Rattle.album_threads.specs.Opened.{OpenedState}
 use Rattle.album_threads.proofs.StartLemmas.{owners_first, partitions_first}
@@ -8,15 +8,15 @@ use Rattle.album_threads.proofs.service.Service.open.Goals as goal
 pub start_all-started-requires-clause-few : goal.start_all-started-requires-clause-few
 start_all-started-requires-clause-few g c = λ κs apart.
     let terms = ap (λ (o : OpenedState). o.desk.terms) (c.opened.view_is ∙ c.requires.named) in
-    subst (λ (t : Terms). t.parts ≤ MOST_PARTS) terms c.opened.invariant.few
+    subst (λ (t : Terms). t.parts ≤ MAX_PARTS) terms c.opened.invariant.few
 
 pub start_all-started-requires-clause-owners : goal.start_all-started-requires-clause-owners
 start_all-started-requires-clause-owners g c = λ κs apart.
     let named = c.opened.view_is ∙ c.requires.named in
-    owners_first c.opened.inside.desk g.J.Naming.table g.J.Naming.terms _ (ap (λ (o : OpenedState). o.desk.table) named)
+    owners_first c.opened.inside.desk g.J.ServiceNames.table g.J.ServiceNames.terms _ (ap (λ (o : OpenedState). o.desk.table) named)
     (ap (λ (o : OpenedState). o.desk.terms) named) c.opened.invariant.owned
 
 pub start_all-started-requires-clause-partitions : goal.start_all-started-requires-clause-partitions
 start_all-started-requires-clause-partitions g c = λ κs apart.
     let terms = ap (λ (o : OpenedState). o.desk.terms) (c.opened.view_is ∙ c.requires.named) in
-    partitions_first c.opened.inside.desk.terms g.J.Naming.terms _ terms c.opened.invariant.opened
+    partitions_first c.opened.inside.desk.terms g.J.ServiceNames.terms _ terms c.opened.invariant.opened

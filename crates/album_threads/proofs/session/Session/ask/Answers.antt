@@ -11,7 +11,7 @@ pub loop-preserved : goal.loop-preserved
 loop-preserved g c =
     let outset : Outset = record { principal = c.args.principal.now; ask = c.args.ask; session = c.args.self.now } in
     record {
-      way = subst (IsLed g.J.Naming.terms.limit g.J.Naming.policy outset c.goes_on.new.self) c.in-Awaits.is
+      way = subst (IsLed g.J.ServiceNames.terms.limit g.J.ServiceNames.policy outset c.goes_on.new.self) c.in-Awaits.is
           (c.in_ok-answer.ensures.way outset (c.waits-heard.ensures.way outset c.loop.invariant.way));
     }
 
@@ -30,7 +30,7 @@ returns-in_err-answer-clause-unbegun g c =
 pub returns-in-Answered-clause-rests : goal.returns-in-Answered-clause-rests
 returns-in-Answered-clause-rests g c =
     let outset : Outset = record { principal = c.args.principal.now; ask = c.args.ask; session = c.args.self.now } in
-    subst (IsLed g.J.Naming.terms.limit g.J.Naming.policy outset c.goes_on.new.self) c.in-Answered.is
+    subst (IsLed g.J.ServiceNames.terms.limit g.J.ServiceNames.policy outset c.goes_on.new.self) c.in-Answered.is
     (c.in_ok-answer.ensures.way outset (c.waits-heard.ensures.way outset c.loop.invariant.way))
 
 pub returns-in-Answered-clause-grown : goal.returns-in-Answered-clause-grown

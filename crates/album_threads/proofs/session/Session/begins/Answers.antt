@@ -1,12 +1,12 @@
 use Rattle.std.proofs.Common.{rules, ◌≡◌, All, List, None, sym, subst, ap, ◌∙◌}
 use Rattle.album_calls.specs.declared.messages.Message.{Message}
 use Rattle.album_client.specs.Clients.{IsProper}
-use Rattle.album_client.specs.Moves.{client_of}
+use Rattle.album_client.specs.Transitions.{client_of}
 use Rattle.album_client.specs.Terms.{Terms}
-use Rattle.album_client.specs.declared.clients.Doing.{Doing}
+use Rattle.album_client.specs.declared.clients.Phase.{Phase}
 use Rattle.album_eval.specs.declared.facts.Principal.{Principal}
 use Rattle.album_passes.specs.Cuts.{Cut, IsSound}
-use Rattle.album_threads.specs.Letters.{Shows}
+use Rattle.album_threads.specs.Envelopes.{Shows}
 use Rattle.album_threads.specs.Phases.{IsUnderWay}
 use Rattle.album_threads.specs.Sessions.{CallerState, SessionState}
 use Rattle.album_threads.proofs.ReadingLemmas.{reads_begin, shown_first}
@@ -16,11 +16,11 @@ use Rattle.album_views.specs.Checks.{refusal_of}
 pub ask-requires : goal.ask-requires
 ask-requires g c =
     let moved = c.in_ok-moved.moved in
-    let proper : IsProper c.in_ok-moved.moved.client.doing = search rules in
+    let proper : IsProper c.in_ok-moved.moved.client.phase = search rules in
     record {
-      shown = subst (All (Shows c.self.inside.caller.cut)) (sym c.work_of-doing.ensures.sent)
+      shown = subst (All (Shows c.self.inside.channel.cut)) (sym c.work_of-phase.ensures.sent)
           (subst (λ (s : SessionState). All (Shows s.cut) moved.sent.items) (sym c.self.view_is)
-          (shown_first g.J.Naming.policy c.in_ok-copy.field-0 c.args.ask c.args.self.now c.actor.result.terms
+          (shown_first g.J.ServiceNames.policy c.in_ok-copy.field-0 c.args.ask c.args.self.now c.actor.result.terms
           (client_of c.actor.result) c.self.inside.tag
           moved c.in_ok-moved.ensures.moved proper));
     }
@@ -29,32 +29,32 @@ pub returns-clause-way : goal.returns-clause-way
 returns-clause-way g c =
     let now = c.args.self.now in
     let moved = c.in_ok-moved.moved in
-    let proper : IsProper c.in_ok-moved.moved.client.doing = search rules in
+    let proper : IsProper c.in_ok-moved.moved.client.phase = search rules in
     let copied = c.in_ok-copy.ensures.copy in
     let parts = ap (λ (t : Terms). t.parts) c.actor.ensures.terms in
     let begins =
-    reads_begin g.J.Naming.policy c.in_ok-copy.field-0 c.args.ask now c.actor.result.terms (client_of c.actor.result)
+    reads_begin g.J.ServiceNames.policy c.in_ok-copy.field-0 c.args.ask now c.actor.result.terms (client_of c.actor.result)
     c.self.inside.tag moved
     c.in_ok-moved.ensures.moved proper parts (subst (λ (p : Principal). refusal_of c.args.ask p ≡ None) (sym copied)
     c.requires.taken)
     (subst (λ (s : SessionState). IsSound s.cut) c.self.view_is c.is_sound.ensures) in
     let w =
-    subst (λ (p : Principal). IsUnderWay g.J.Naming.policy (record { principal = p; ask = c.args.ask; session = now })
-    now now.cut moved.sent.items moved.client.doing)
+    subst (λ (p : Principal). IsUnderWay g.J.ServiceNames.policy (record { principal = p; ask = c.args.ask; session = now })
+    now now.cut moved.sent.items moved.client.phase)
     copied begins in
-    let with : CallerState → SessionState = λ caller. record {
-      client = caller.client;
+    let with : CallerState → SessionState = λ channel. record {
+      client = channel.client;
       counter = c.self.inside.clock.counter;
-      cut = caller.cut;
+      cut = channel.cut;
       share = c.self.inside.share;
     } in
     let same = ap with c.ask-2.ensures.same ∙ c.self.view_is in
     subst
-    (λ (y : SessionState × Cut × List Message × Doing). IsUnderWay g.J.Naming.policy
+    (λ (y : SessionState × Cut × List Message × Phase). IsUnderWay g.J.ServiceNames.policy
     (record { principal = c.args.principal.now; ask = c.args.ask; session = now }) y.0 y.1 y.2 y.3)
     (λ i. (
       sym same i,
       sym (c.in_ok-asked.ensures.begun ∙ ap (λ (s : SessionState). s.cut) c.self.view_is) i,
-      sym (c.in_ok-asked.ensures.sent ∙ c.work_of-doing.ensures.sent) i,
-      sym c.work_of-doing.ensures.doing i,
+      sym (c.in_ok-asked.ensures.sent ∙ c.work_of-phase.ensures.sent) i,
+      sym c.work_of-phase.ensures.phase i,
     )) w

@@ -1,6 +1,6 @@
 use Rattle.std.proofs.Common.{subst}
 use Rattle.album_client.specs.Clients.{Client}
-use Rattle.album_client.specs.Moves.{client_of}
+use Rattle.album_client.specs.Transitions.{client_of}
 use Rattle.album_client.specs.Terms.{Terms}
 use Rattle.album_threads.specs.Turns.{IsTaken}
 use Rattle.album_threads.proofs.TurnLemmas.{taken_so}
@@ -9,8 +9,8 @@ use Rattle.album_threads.proofs.session.Session.gives.Goals as goal
 pub returns-clause-taken : goal.returns-clause-taken
 returns-clause-taken g c =
     subst
-    (λ (y : Terms × Client). IsTaken g.J.Naming.terms.limit c.args.asked.now.begun.cut c.args.self.now.cut c.args.asked.now.sent.items y.0 y.1
-    c.args.doing c.in_ok-moved.moved)
+    (λ (y : Terms × Client). IsTaken g.J.ServiceNames.terms.limit c.args.asked.now.begun.cut c.args.self.now.cut c.args.asked.now.sent.items y.0 y.1
+    c.args.phase c.in_ok-moved.moved)
     (λ i. (c.actor.ensures.terms i, c.actor.ensures.client i))
-    (taken_so g.J.Naming.terms.limit c.args.asked.now.begun.cut c.args.self.now.cut c.args.asked.now.sent.items c.actor.result.terms
-    (client_of c.actor.result) c.args.doing c.args.heard c.in_ok-moved.moved c.requires.replied c.in_ok-moved.ensures.moved)
+    (taken_so g.J.ServiceNames.terms.limit c.args.asked.now.begun.cut c.args.self.now.cut c.args.asked.now.sent.items c.actor.result.terms
+    (client_of c.actor.result) c.args.phase c.args.heard c.in_ok-moved.moved c.requires.replied c.in_ok-moved.ensures.moved)

@@ -1,7 +1,7 @@
 use Rattle.std.proofs.Common.{All, List, sym, subst}
 use Rattle.album_calls.specs.declared.messages.Message.{Message}
-use Rattle.album_client.specs.declared.clients.Doing.{Doing}
-use Rattle.album_threads.specs.Letters.{Shows}
+use Rattle.album_client.specs.declared.clients.Phase.{Phase}
+use Rattle.album_threads.specs.Envelopes.{Shows}
 use Rattle.album_threads.specs.Phases.{IsUnderWay}
 use Rattle.album_threads.specs.Sending.{announced_by, sent_at, sent_last, IsFree, IsAnnouncedBy}
 use Rattle.album_threads.specs.Sessions.{AnnouncesNothing}
@@ -15,73 +15,73 @@ use Rattle.album_threads.proofs.session.Session.goes_on.Goals as goal
 -- no word comes
 pub returns-in-Err-clause-way : goal.returns-in-Err-clause-way
 returns-in-Err-clause-way g c = λ outset w.
-    cut_led g.J.Naming.terms.limit g.J.Naming.policy outset w.before c.args.self.now c.args.asked.begun.cut c.args.asked.sent.items c.args.doing
+    cut_led g.J.ServiceNames.terms.limit g.J.ServiceNames.policy outset w.before c.args.self.now c.args.asked.begun.cut c.args.asked.sent.items c.args.phase
     c.in-Err.why c.cut_off.result w.way w.heard c.in-Err.ensures.refused c.stamp-stamp.result c.stamp-stamp.ensures
     c.cut_off.ensures.begun c.cut_off.ensures.before
 
 pub returns-in-Err-clause-unbegun : goal.returns-in-Err-clause-unbegun
 returns-in-Err-clause-unbegun g c = λ outset w.
-    unbegun_cut g.J.Naming.terms.limit g.J.Naming.policy outset w.before c.args.self.now c.args.asked.begun.cut c.args.asked.sent.items c.args.doing
+    unbegun_cut g.J.ServiceNames.terms.limit g.J.ServiceNames.policy outset w.before c.args.self.now c.args.asked.begun.cut c.args.asked.sent.items c.args.phase
     c.cut_off.result w.way w.heard c.stamp-stamp.result c.stamp-stamp.ensures c.cut_off.ensures.unbegun
 
 -- a reply comes, and the client's clock goes no way back
 pub takes_over-requires : goal.takes_over-requires
 takes_over-requires g c =
     let t = c.in-Ok.ensures.taken in
-    let moved = moved_clock (terms_in g.J.Naming.policy c.args.self.now) (actor_in c.args.self.now) t.reply c.args.doing c.in-Ok.moved t.is in
+    let moved = moved_clock (terms_in g.J.ServiceNames.policy c.args.self.now) (actor_in c.args.self.now) t.reply c.args.phase c.in-Ok.moved t.is in
     record { own = moved.0; risen = moved.1 }
 
 -- there is no memory for what is noted of it
 pub returns-in_err-answer-clause-unbegun : goal.returns-in_err-answer-clause-unbegun
 returns-in_err-answer-clause-unbegun g c = λ outset w.
     on_refusal c.from_residual.result (AnnouncesNothing outset.session c.takes_over.new.self)
-    (unbegun_noted g.J.Naming.terms.limit g.J.Naming.policy outset w.before c.args.self.now c.takes_over.new.self c.args.asked.begun.cut
-    c.args.asked.sent.items c.args.doing c.in-Ok.moved w.way w.heard c.takes_over.ensures.cut c.in-Ok.ensures.taken c.in_err-answer.ensures.noted)
+    (unbegun_noted g.J.ServiceNames.terms.limit g.J.ServiceNames.policy outset w.before c.args.self.now c.takes_over.new.self c.args.asked.begun.cut
+    c.args.asked.sent.items c.args.phase c.in-Ok.moved w.way w.heard c.takes_over.ensures.cut c.in-Ok.ensures.taken c.in_err-answer.ensures.noted)
 
 -- it answers the ask
 pub returns-in-Answers-clause-way : goal.returns-in-Answers-clause-way
 returns-in-Answers-clause-way g c = λ outset w.
     let o = c.in_ok-answer.ensures in
-    let turned = subst (IsTurned c.in-Ok.moved.client.doing c.in-Ok.moved.sent.items c.in-Ok.moved.answer) c.in-Answers.is o.turned in
-    told_rests g.J.Naming.terms.limit g.J.Naming.policy outset c.takes_over.new.self c.args.asked.begun.cut c.args.asked.sent.items c.in-Ok.moved
+    let turned = subst (IsTurned c.in-Ok.moved.client.phase c.in-Ok.moved.sent.items c.in-Ok.moved.answer) c.in-Answers.is o.turned in
+    told_rests g.J.ServiceNames.terms.limit g.J.ServiceNames.policy outset c.takes_over.new.self c.args.asked.begun.cut c.args.asked.sent.items c.in-Ok.moved
     c.in-Answers.answer turned
-    (led_on g.J.Naming.terms.limit g.J.Naming.policy outset w.before c.args.self.now c.takes_over.new.self c.args.asked.begun.cut
-    c.args.asked.sent.items c.args.doing c.in-Ok.moved w.heard c.in-Ok.ensures.taken c.takes_over.ensures.client c.takes_over.ensures.cut o.counter
+    (led_on g.J.ServiceNames.terms.limit g.J.ServiceNames.policy outset w.before c.args.self.now c.takes_over.new.self c.args.asked.begun.cut
+    c.args.asked.sent.items c.args.phase c.in-Ok.moved w.heard c.in-Ok.ensures.taken c.takes_over.ensures.client c.takes_over.ensures.cut o.counter
     w.way c.in-Ok.ensures.proper o.shared o.spent)
 
 pub returns-in-Answers-clause-on : goal.returns-in-Answers-clause-on
 returns-in-Answers-clause-on g c =
     let o = c.in_ok-answer.ensures in
-    on_moved g.J.Naming.terms.limit g.J.Naming.policy c.args.self.now c.takes_over.new.self c.args.asked.begun.cut c.args.asked.sent.items
-    c.args.doing c.in-Ok.moved c.in-Ok.ensures.taken c.takes_over.ensures.client c.takes_over.ensures.cut o.counter
+    on_moved g.J.ServiceNames.terms.limit g.J.ServiceNames.policy c.args.self.now c.takes_over.new.self c.args.asked.begun.cut c.args.asked.sent.items
+    c.args.phase c.in-Ok.moved c.in-Ok.ensures.taken c.takes_over.ensures.client c.takes_over.ensures.cut o.counter
 
 -- it goes on
 pub sends-requires : goal.sends-requires
 sends-requires g c =
     let w = c.requires.way.1 in
     let o = c.in_ok-answer.ensures in
-    let turned = subst (IsTurned c.in-Ok.moved.client.doing c.in-Ok.moved.sent.items c.in-Ok.moved.answer) c.in-Sends.is o.turned in
-    let led = led_on g.J.Naming.terms.limit g.J.Naming.policy c.requires.way.0 w.before c.args.self.now c.takes_over.new.self c.args.asked.begun.cut
-    c.args.asked.sent.items c.args.doing c.in-Ok.moved w.heard c.in-Ok.ensures.taken c.takes_over.ensures.client c.takes_over.ensures.cut o.counter
+    let turned = subst (IsTurned c.in-Ok.moved.client.phase c.in-Ok.moved.sent.items c.in-Ok.moved.answer) c.in-Sends.is o.turned in
+    let led = led_on g.J.ServiceNames.terms.limit g.J.ServiceNames.policy c.requires.way.0 w.before c.args.self.now c.takes_over.new.self c.args.asked.begun.cut
+    c.args.asked.sent.items c.args.phase c.in-Ok.moved w.heard c.in-Ok.ensures.taken c.takes_over.ensures.client c.takes_over.ensures.cut o.counter
     w.way c.in-Ok.ensures.proper o.shared o.spent in
     record {
       free = subst (IsFree c.takes_over.new.self) (sym turned.2)
-          (free_of g.J.Naming.terms.limit g.J.Naming.policy c.requires.way.0 c.takes_over.new.self c.args.asked.begun.cut c.args.asked.sent.items c.in-Ok.moved turned.0 led);
+          (free_of g.J.ServiceNames.terms.limit g.J.ServiceNames.policy c.requires.way.0 c.takes_over.new.self c.args.asked.begun.cut c.args.asked.sent.items c.in-Ok.moved turned.0 led);
       shown = subst (λ (ms : List Message). All (Shows (announced_by c.takes_over.new.self.cut ms)) ms) (sym turned.2)
-          (shown_of g.J.Naming.terms.limit g.J.Naming.policy c.requires.way.0 c.takes_over.new.self c.args.asked.begun.cut c.args.asked.sent.items c.in-Ok.moved turned.0 led);
+          (shown_of g.J.ServiceNames.terms.limit g.J.ServiceNames.policy c.requires.way.0 c.takes_over.new.self c.args.asked.begun.cut c.args.asked.sent.items c.in-Ok.moved turned.0 led);
     }
 
 pub returns-in-Sends-clause-way : goal.returns-in-Sends-clause-way
 returns-in-Sends-clause-way g c = λ outset w.
     let o = c.in_ok-answer.ensures in
-    let turned = subst (IsTurned c.in-Ok.moved.client.doing c.in-Ok.moved.sent.items c.in-Ok.moved.answer) c.in-Sends.is o.turned in
-    let led = led_on g.J.Naming.terms.limit g.J.Naming.policy outset w.before c.args.self.now c.takes_over.new.self c.args.asked.begun.cut
-    c.args.asked.sent.items c.args.doing c.in-Ok.moved w.heard c.in-Ok.ensures.taken c.takes_over.ensures.client c.takes_over.ensures.cut o.counter
+    let turned = subst (IsTurned c.in-Ok.moved.client.phase c.in-Ok.moved.sent.items c.in-Ok.moved.answer) c.in-Sends.is o.turned in
+    let led = led_on g.J.ServiceNames.terms.limit g.J.ServiceNames.policy outset w.before c.args.self.now c.takes_over.new.self c.args.asked.begun.cut
+    c.args.asked.sent.items c.args.phase c.in-Ok.moved w.heard c.in-Ok.ensures.taken c.takes_over.ensures.client c.takes_over.ensures.cut o.counter
     w.way c.in-Ok.ensures.proper o.shared o.spent in
-    let goes = goes_of g.J.Naming.terms.limit g.J.Naming.policy outset c.takes_over.new.self c.args.asked.begun.cut c.args.asked.sent.items c.in-Ok.moved turned.0 led
+    let goes = goes_of g.J.ServiceNames.terms.limit g.J.ServiceNames.policy outset c.takes_over.new.self c.args.asked.begun.cut c.args.asked.sent.items c.in-Ok.moved turned.0 led
     c.sends.new.self (subst (IsAnnouncedBy c.takes_over.new.self c.sends.new.self) turned.2 c.sends.ensures.announced) in
-    all_led g.J.Naming.terms.limit g.J.Naming.policy outset c.args.asked c.in-Sends.doing c.in-Sends.sent.items c.sends.new.self
-    (subst (λ (z : List Message × Doing). IsUnderWay g.J.Naming.policy outset c.sends.new.self (sent_at c.args.asked.begun.cut c.sends.new.self.cut z.0)
+    all_led g.J.ServiceNames.terms.limit g.J.ServiceNames.policy outset c.args.asked c.in-Sends.phase c.in-Sends.sent.items c.sends.new.self
+    (subst (λ (z : List Message × Phase). IsUnderWay g.J.ServiceNames.policy outset c.sends.new.self (sent_at c.args.asked.begun.cut c.sends.new.self.cut z.0)
     (sent_last c.args.asked.sent.items z.0) z.1) (λ i. (sym turned.2 i, sym turned.1 i)) goes)
     c.sends.result c.sends.ensures.way
 
@@ -89,21 +89,21 @@ pub returns-in-Sends-clause-on : goal.returns-in-Sends-clause-on
 returns-in-Sends-clause-on g c =
     let o = c.in_ok-answer.ensures in
     on_trans c.args.self.now c.takes_over.new.self c.sends.new.self
-    (on_moved g.J.Naming.terms.limit g.J.Naming.policy c.args.self.now c.takes_over.new.self c.args.asked.begun.cut c.args.asked.sent.items
-    c.args.doing c.in-Ok.moved c.in-Ok.ensures.taken c.takes_over.ensures.client c.takes_over.ensures.cut o.counter)
+    (on_moved g.J.ServiceNames.terms.limit g.J.ServiceNames.policy c.args.self.now c.takes_over.new.self c.args.asked.begun.cut c.args.asked.sent.items
+    c.args.phase c.in-Ok.moved c.in-Ok.ensures.taken c.takes_over.ensures.client c.takes_over.ensures.cut o.counter)
     (on_announced c.takes_over.new.self c.sends.new.self c.in-Sends.sent.items c.sends.ensures.announced)
 
 pub returns-in-Sends-clause-unbegun : goal.returns-in-Sends-clause-unbegun
 returns-in-Sends-clause-unbegun g c = λ outset w.
     let o = c.in_ok-answer.ensures in
-    let turned = subst (IsTurned c.in-Ok.moved.client.doing c.in-Ok.moved.sent.items c.in-Ok.moved.answer) c.in-Sends.is o.turned in
-    let led = led_on g.J.Naming.terms.limit g.J.Naming.policy outset w.before c.args.self.now c.takes_over.new.self c.args.asked.begun.cut
-    c.args.asked.sent.items c.args.doing c.in-Ok.moved w.heard c.in-Ok.ensures.taken c.takes_over.ensures.client c.takes_over.ensures.cut o.counter
+    let turned = subst (IsTurned c.in-Ok.moved.client.phase c.in-Ok.moved.sent.items c.in-Ok.moved.answer) c.in-Sends.is o.turned in
+    let led = led_on g.J.ServiceNames.terms.limit g.J.ServiceNames.policy outset w.before c.args.self.now c.takes_over.new.self c.args.asked.begun.cut
+    c.args.asked.sent.items c.args.phase c.in-Ok.moved w.heard c.in-Ok.ensures.taken c.takes_over.ensures.client c.takes_over.ensures.cut o.counter
     w.way c.in-Ok.ensures.proper o.shared o.spent in
-    let goes = goes_of g.J.Naming.terms.limit g.J.Naming.policy outset c.takes_over.new.self c.args.asked.begun.cut c.args.asked.sent.items c.in-Ok.moved turned.0 led
+    let goes = goes_of g.J.ServiceNames.terms.limit g.J.ServiceNames.policy outset c.takes_over.new.self c.args.asked.begun.cut c.args.asked.sent.items c.in-Ok.moved turned.0 led
     c.sends.new.self (subst (IsAnnouncedBy c.takes_over.new.self c.sends.new.self) turned.2 c.sends.ensures.announced) in
-    unbegun_sent g.J.Naming.terms.limit g.J.Naming.policy outset c.sends.new.self
-    (sent_at c.args.asked.begun.cut c.sends.new.self.cut c.in-Sends.sent.items) (sent_last c.args.asked.sent.items c.in-Sends.sent.items) c.in-Sends.doing c.sends.result
-    (subst (λ (z : List Message × Doing). IsUnderWay g.J.Naming.policy outset c.sends.new.self (sent_at c.args.asked.begun.cut c.sends.new.self.cut z.0)
+    unbegun_sent g.J.ServiceNames.terms.limit g.J.ServiceNames.policy outset c.sends.new.self
+    (sent_at c.args.asked.begun.cut c.sends.new.self.cut c.in-Sends.sent.items) (sent_last c.args.asked.sent.items c.in-Sends.sent.items) c.in-Sends.phase c.sends.result
+    (subst (λ (z : List Message × Phase). IsUnderWay g.J.ServiceNames.policy outset c.sends.new.self (sent_at c.args.asked.begun.cut c.sends.new.self.cut z.0)
     (sent_last c.args.asked.sent.items z.0) z.1) (λ i. (sym turned.2 i, sym turned.1 i)) goes)
     c.sends.ensures.unbegun

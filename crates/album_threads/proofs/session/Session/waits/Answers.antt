@@ -1,5 +1,5 @@
 use Rattle.std.proofs.Common.{subst, sym}
-use Rattle.album_client.specs.declared.clients.Doing.{Doing}
+use Rattle.album_client.specs.declared.clients.Phase.{Phase}
 use Rattle.album_threads.specs.Phases.{IsUnderWay}
 use Rattle.album_threads.proofs.MovedLemmas.{on_heard}
 use Rattle.album_threads.proofs.session.Session.waits.Goals as goal
@@ -14,7 +14,7 @@ loop-preserved g c = record {
 pub returns-in-Some-waits_once-clause-way : goal.returns-in-Some-waits_once-clause-way
 returns-in-Some-waits_once-clause-way g c = λ outset w. record {
   before = c.loop.self;
-  way = subst (λ (d : Doing). IsUnderWay g.J.Naming.policy outset c.loop.self c.args.asked.now.begun.cut c.args.asked.now.sent.items d)
+  way = subst (λ (d : Phase). IsUnderWay g.J.ServiceNames.policy outset c.loop.self c.args.asked.now.begun.cut c.args.asked.now.sent.items d)
       (sym c.in-Some-waits_once.ensures.left) (c.loop.invariant.way outset w);
   heard = c.waits_once.ensures.heard;
 }

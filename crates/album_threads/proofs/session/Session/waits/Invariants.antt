@@ -4,7 +4,7 @@ use Rattle.album_threads.proofs.session.Session.waits.Given as goal
 
 abbrev pub invariant-loop : goal.invariant-loop
 invariant-loop g l = record {
-  way : (outset : Outset) → IsUnderWay g.J.Naming.policy outset l.fn.self l.fn.asked.begun.cut l.fn.asked.sent.items l.fn.doing
-      → IsUnderWay g.J.Naming.policy outset l.self l.fn.asked.begun.cut l.fn.asked.sent.items l.doing;
+  way : (outset : Outset) → IsUnderWay g.J.ServiceNames.policy outset l.fn.self l.fn.asked.begun.cut l.fn.asked.sent.items l.fn.phase
+      → IsUnderWay g.J.ServiceNames.policy outset l.self l.fn.asked.begun.cut l.fn.asked.sent.items l.phase;
   on : IsOn l.fn.self l.self;
 }

@@ -1,0 +1,29 @@
+-- A client in code: where it goes on from, and what it has become.
+use Rattle.std.specs.Prelude.{◌≡◌, [], None}
+use Rattle.std.specs.Option.{unwrap_or}
+use Rattle.album_eval.specs.declared.facts.Principal.{Principal}
+use Rattle.album_views.specs.Checks.{refusal_of}
+use Rattle.album_views.specs.declared.viewing.ViewStep.{ViewStep}
+use Rattle.album_views.specs.declared.viewing.ViewStep.TheVariants.{Again, Closed, Busy}
+use Rattle.album_client.specs.declared.clients.Phase.TheVariants.{Idle}
+use Rattle.album_client.specs.declared.transitions.Transition.{Transition}
+use Rattle.album_client.specs.declared.transitions.ClientStep.{ClientStep}
+use Rattle.album_client.specs.Clients.{Client}
+use Rattle.album_client.specs.Turns.{Turn}
+
+-- the client that acts, as if it were idle: what it does doesn't matter to where it goes
+abbrev pub client_of : ClientStep → Client
+client_of actor = record { number = actor.number; clock = actor.clock; phase = Idle 0 }
+
+-- who reads may ask what is asked by the step
+abbrev pub IsTakenOf : Principal → ViewStep → Type 0
+IsTakenOf principal (Again viewing items) = refusal_of viewing.ask principal ≡ None
+IsTakenOf principal (Closed view) = refusal_of view.ask principal ≡ None
+IsTakenOf principal (Busy why) = Unit {0}
+
+-- what it has become and what it tells, without what is for contracts alone
+pub record IsMoved (turn : Turn) (moved : Transition) : Type 0 where
+  pub client : moved.client ≡ turn.client
+  pub noted : moved.notes.items ≡ unwrap_or turn.noted []
+  pub sent : moved.sent.items ≡ turn.sent
+  pub answer : moved.answer ≡ turn.answer

@@ -1,0 +1,57 @@
+// An ask that has no view yet.
+ghost use Rattle.std.specs.Prelude.{◌≡◌, None, IfOk, IsOkUnless};
+ghost use Rattle.album_views.specs.Checks.{refusal_of};
+
+use album_eval::Principal;
+use album_stamps::Refusal;
+use album_views::Viewing;
+use std::marker::Model;
+
+/// An ask that has no view yet, and for whom it is asked: by a principal who may ask it.
+#[derive(Drop)]
+pub struct PendingAsk {
+    viewing: Viewing,
+    principal: Principal,
+}
+
+impl Model for PendingAsk {
+    ghost use Rattle.album_client.specs.Askings.{PendingAsk as State, IsTaken};
+
+    ghost Value = { State };
+
+    ghost view = { λ a. record { viewing = a.viewing; principal = a.principal } };
+
+    ghost invariant = { λ a. IsTaken (record { viewing = a.viewing; principal = a.principal }) };
+}
+
+impl PendingAsk {
+    ghost use Rattle.album_client.specs.Askings.{IsTaken};
+
+    /// This viewing for the principal.
+    pub(crate) fn of(viewing: Viewing, principal: Principal) -> PendingAsk
+        requires { refusal_of viewing.ask principal ≡ None }
+        ensures { result ≡ record { viewing = viewing; principal = principal } }
+    {
+        PendingAsk { viewing, principal }
+    }
+
+    /// The viewing, and for whom it is asked.
+    pub(crate) fn into_parts(self) -> (Viewing, Principal)
+        ensures viewing { result.0 ≡ self.viewing }
+        ensures principal { result.1 ≡ self.principal }
+        ensures taken { IsTaken self }
+    {
+        let PendingAsk { viewing, principal } = self;
+        (viewing, principal)
+    }
+
+    /// The same asking once more, or `OutOfMemory`.
+    pub fn copy(&self) -> Result<PendingAsk, Refusal>
+        ensures copy { IfOk result (λ asking. asking ≡ self.now) }
+        ensures memory { IsOkUnless result Refusal.OutOfMemory }
+    {
+        let viewing = self.viewing.copy()?;
+        let principal = self.principal.copy()?;
+        Ok(PendingAsk { viewing, principal })
+    }
+}

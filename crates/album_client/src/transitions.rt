@@ -1,0 +1,119 @@
+// Where a client goes on from, and what it has become.
+ghost use Rattle.std.specs.Prelude.{◌≡◌, ◌≤◌, [], length};
+ghost use Rattle.album_stamps.specs.declared.limits.TheConstants.{MAX_READ_ITEMS};
+
+use crate::clients::{Client, Phase};
+use crate::terms::Terms;
+use album_calls::Message;
+use album_permits::Note;
+use album_stamps::{ClientNo, Clock};
+use album_writer::Answer;
+use std::alloc::Global;
+
+/// What a client has become, and what it tells.
+#[derive(Drop)]
+pub struct Transition {
+    pub client: Client,
+    pub notes: Vec<Note>,
+    pub sent: Vec<Message>,
+    pub answer: Option<Answer>,
+    ghost few: { length sent.items ≤ MAX_READ_ITEMS },
+}
+
+impl Transition {
+    /// The same with these notes.
+    pub(crate) fn noting(self, notes: Vec<Note>) -> Transition
+        ensures client { result.client ≡ self.client }
+        ensures notes { result.notes ≡ notes }
+        ensures sent { result.sent ≡ self.sent }
+        ensures answer { result.answer ≡ self.answer }
+    {
+        let Transition {
+            client,
+            notes: earlier,
+            sent,
+            answer,
+        } = self;
+        drop(earlier);
+        Transition {
+            client,
+            notes,
+            sent,
+            answer,
+        }
+    }
+}
+
+/// A client with its clock, whatever it does, and the terms on which it asks.
+#[derive(Clone, Copy)]
+pub struct ClientStep {
+    pub alloc: Global,
+    pub terms: Terms,
+    pub number: ClientNo,
+    pub clock: Clock,
+    ghost own: { clock.client ≡ number },
+}
+
+impl Client {
+    ghost use Rattle.album_client.specs.Transitions.{client_of};
+
+    /// Where it goes on from, on these terms.
+    pub fn actor(&self, alloc: Global, terms: Terms) -> ClientStep
+        ensures client { client_of result ≡ record self.now { phase = Phase.Idle 0 } }
+        ensures terms { result.terms ≡ terms }
+    {
+        ClientStep {
+            alloc,
+            terms,
+            number: self.number,
+            clock: self.clock,
+        }
+    }
+}
+
+impl ClientStep {
+    ghost use Rattle.album_client.specs.Transitions.{client_of, IsMoved};
+    ghost use Rattle.album_client.specs.Turns.{ask_ends};
+
+    /// The same once more, for whoever goes on from here several times: a value that is `Copy` and holds one with a
+    /// Model is not copied where it is passed.
+    pub fn again(&self) -> ClientStep
+        ensures client { client_of result ≡ client_of self.now }
+        ensures terms { result.terms ≡ self.now.terms }
+    {
+        ClientStep {
+            alloc: self.alloc,
+            terms: self.terms,
+            number: self.number,
+            clock: self.clock,
+        }
+    }
+
+    /// The client does this from now on, and sends and answers so.
+    pub(crate) fn with(self, phase: Phase, sent: Vec<Message>, answer: Option<Answer>) -> Transition
+        requires { length sent.items ≤ MAX_READ_ITEMS }
+        ensures client { result.client ≡ record (client_of self) { phase = phase } }
+        ensures notes { result.notes.items ≡ [] }
+        ensures sent { result.sent ≡ sent }
+        ensures answer { result.answer ≡ answer }
+    {
+        let client = Client {
+            number: self.number,
+            clock: self.clock,
+            phase,
+        };
+        Transition {
+            client,
+            notes: Vec::new(self.alloc),
+            sent,
+            answer,
+        }
+    }
+
+    /// The ask is answered.
+    pub(crate) fn ask_ends(self, tag: u64, answer: Answer) -> Transition
+        ensures { IsMoved (ask_ends (client_of self) tag answer) result }
+    {
+        self.with(Phase::Idle(tag), Vec::new(self.alloc), Some(answer))
+    }
+}

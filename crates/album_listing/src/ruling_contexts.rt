@@ -1,0 +1,88 @@
+// What is heard before a ruling: what the view shows, who asks, and the groups that this is in.
+ghost use Rattle.std.specs.Prelude.{◌≡◌, IfOk, IsOkUnless};
+ghost use Rattle.album_eval.specs.Matching.{case_of};
+ghost use Rattle.album_listing.specs.Basis.{IsBasis};
+ghost use Rattle.album_listing.specs.RulingContexts.{basis_of};
+ghost use Rattle.album_listing.specs.Reasons.{case_on, reason_of};
+
+use crate::groups::groups_in;
+use crate::reasons::{Alternative, Reason};
+use crate::view_lookups::ViewLookup;
+use album_eval::{Facts, Policy, Principal, evaluate};
+use album_items::Head;
+use album_stamps::Refusal;
+use album_views::View;
+use std::alloc::Global;
+use std::collections::BTreeSet;
+
+/// By which policy it is ruled, for whom, the groups that this is in by a view, and what the view shows.
+#[derive(Debug, Drop)]
+pub struct RulingContext<'a> {
+    policy: Policy,
+    principal: &'a Principal,
+    groups: BTreeSet<u64>,
+    lookup: ViewLookup<'a>,
+}
+
+impl<'a> RulingContext<'a> {
+    /// Hears a view. The groups are looked up here, once for all that is ruled on it.
+    ///
+    /// # Errors
+    ///
+    /// `OutOfMemory`.
+    pub fn of(
+        alloc: Global,
+        view: &'a View,
+        principal: &'a Principal,
+        policy: Policy,
+    ) -> Result<RulingContext<'a>, Refusal>
+        ensures basis { IfOk result (λ context. IsBasis policy principal.now view.now.rows (basis_of context)) }
+        ensures memory { IsOkUnless result Refusal.OutOfMemory }
+    {
+        let groups = groups_in(alloc, view, principal)?;
+        Ok(RulingContext {
+            policy,
+            principal,
+            groups,
+            lookup: ViewLookup::of(alloc, view),
+        })
+    }
+
+    /// What the view shows.
+    pub fn lookup(&self) -> &ViewLookup<'a>
+        ensures { result.now.view.now ≡ self.now.lookup.view.now }
+    {
+        &self.lookup
+    }
+
+    /// What the list of the alternative's object says of its mask, if the object is there.
+    pub fn reason(&self, alternative: Alternative) -> Option<Reason>
+        ensures { result ≡ reason_of (basis_of self.now) alternative }
+    {
+        match self.lookup.value(alternative.object).head() {
+            Some(head) => Some(Reason {
+                object: alternative.object,
+                mask: alternative.mask,
+                verdict: evaluate(
+                    self.lookup.list(head.list),
+                    &self.facts(head),
+                    alternative.mask,
+                ),
+            }),
+            None => None,
+        }
+    }
+
+    /// What the list of an object with this head is judged on.
+    pub fn facts<'b>(&'b self, head: &'b Head) -> Facts<'b>
+        ensures { case_of result ≡ case_on (basis_of self.now) head.now }
+    {
+        Facts {
+            policy: self.policy,
+            principal: self.principal,
+            owner: &head.owner,
+            head_group: head.group,
+            groups: &self.groups,
+        }
+    }
+}

@@ -1,0 +1,17 @@
+use Rattle.album_tests_lines.proofs.talk_runs.talks_alone.Given as goal
+
+-- the desk, the policy and the four ledgers that were opened here
+abbrev pub ghosts-talks_over-J-ServiceNames : goal.ghosts-talks_over-J-ServiceNames
+ghosts-talks_over-J-ServiceNames g a = record {
+  table = a.opened.desk.table;
+  terms = a.opened.desk.terms;
+  policy = a.opened.policy;
+}
+
+abbrev pub ghosts-talks_over-J-Books : goal.ghosts-talks_over-J-Books
+ghosts-talks_over-J-Books g a = record {
+  audit_ok = a.opened.books.audit_ok;
+  audit_failed = a.opened.books.audit_failed;
+  alarm_ok = a.opened.books.alarm_ok;
+  alarm_failed = a.opened.books.alarm_failed;
+}

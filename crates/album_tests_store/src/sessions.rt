@@ -1,0 +1,570 @@
+// Sessions of a running service: what they are told, how many messages a gate sees of it, and that sessions and
+// partitions go on side by side (docs/PROTOCOL.md, "A view" and "Cuts and passes").
+ghost use Rattle.std.specs.Prelude.{◌≡◌, ◌<◌};
+ghost use Rattle.album_threads.specs.Opened.{opened_as};
+
+use crate::gates::{Counting, Counts, Entered, Together};
+use crate::messages::{item_of, same, stamp_of};
+use crate::values::{Entry, list_of, picture};
+use album_access::AceType;
+use album_audit::Totals;
+use album_eval::Principal;
+use album_items::{ItemValues, Opening, Title, Value};
+use album_permits::Served;
+use album_stamps::Refusal;
+use album_threads::{Gate, Open, Opened, Service, ServiceNames, Session};
+use album_views::{Ask, NewList, NewLists};
+use album_writer::Answer;
+use std::alloc::{AllocError, Global};
+use std::marker::Brand;
+use std::process::Abort;
+use std::sync::{Arc, Wait};
+use std::test::Fail;
+use std::thread::Threads;
+use std::{thread, time};
+
+/// The owner may do anything.
+const OWNED: &[Entry] = &[(AceType::Allowed, "OWNER@", 2_032_127, 0)];
+
+/// All others may read.
+const READABLE: &[Entry] = &[
+    (AceType::Allowed, "OWNER@", 2_032_127, 0),
+    (AceType::Allowed, "EVERYONE@", 1, 0),
+];
+
+fn list(alloc: Global, entries: &[Entry]) -> Result<Value, Refusal> {
+    Ok(Value::List(list_of(alloc, entries)?))
+}
+
+/// amy's pictures at partitions 0 and 1 of three. The list of the first is of these entries and stands at partition 2,
+/// and that of the second at partition 0. Group 0, which heads both, is missing and would stand there too.
+fn opening(alloc: Global, entries: &[Entry]) -> Result<Opening, Refusal> {
+    let mut items = Vec::new(alloc);
+    items.push((item_of("picture/0")?, picture(alloc, 0)?))?;
+    items.push((item_of("picture/1")?, picture(alloc, 1)?))?;
+    items.push((item_of("list/0")?, list(alloc, entries)?))?;
+    items.push((item_of("list/1")?, list(alloc, OWNED)?))?;
+    Ok(Opening {
+        parts: 3,
+        limit: 1000,
+        policy: 1,
+        items: ItemValues::of(items),
+    })
+}
+
+/// This opening, for so many sessions.
+fn opened(alloc: Global, entries: &[Entry], sessions: u16) -> Result<Opened, Refusal>
+    requires { 0 < sessions }
+{
+    Opened::new(alloc, &opening(alloc, entries)?, sessions)
+}
+
+/// What is done with a running service, on one thread.
+trait Visit: Drop {
+    type Told;
+
+    fn visit<J: ServiceNames, R: Wait + time::Clock + Abort + Copy>(
+        self,
+        rt: &R,
+        alloc: Global,
+        service: &Service<J>,
+    ) -> Self::Told;
+}
+
+/// What comes of the visit to a service of this opening.
+fn visited<R, G, V>(
+    rt: R,
+    alloc: Global,
+    opened: Opened,
+    gate: G,
+    visit: V,
+) -> Result<V::Told, Refusal>
+where
+    R: Threads + Wait + time::Clock + Abort + Copy + Send + Sync + 'static,
+    G: Gate + Drop + Send + Sync + 'static,
+    V: Visit,
+{
+    visited_by::<Brand, R, G, V>(rt, alloc, opened, gate, visit)
+}
+
+fn visited_by<J, R, G, V>(
+    rt: R,
+    alloc: Global,
+    opened: Opened,
+    gate: G,
+    visit: V,
+) -> Result<V::Told, Refusal>
+where
+    J: ServiceNames + Send + 'static,
+    R: Threads + Wait + time::Clock + Abort + Copy + Send + Sync + 'static,
+    G: Gate + Drop + Send + Sync + 'static,
+    V: Visit,
+    requires named { opened ≡ opened_as J.table J.terms J.policy J.audit_ok J.audit_failed J.alarm_ok J.alarm_failed }
+{
+    let service = Service::<J>::open(rt, alloc, opened, gate)?;
+    let told = visit.visit(&rt, alloc, &service);
+    service.close(&rt);
+    Ok(told)
+}
+
+/// A session, which ends where it is let go.
+struct OwnedSession<J: ServiceNames, R: Wait + Copy> {
+    rt: R,
+    session: Session<J>,
+}
+
+impl<J: ServiceNames, R: Wait + Copy> Drop for OwnedSession<J, R> {
+    fn drop(self) {
+        let OwnedSession { rt, session } = self;
+        session.end(&rt);
+    }
+}
+
+/// A new session.
+fn new_guest<J: ServiceNames, R: Wait + Copy>(
+    rt: &R,
+    service: &Service<J>,
+) -> Result<OwnedSession<J, R>, Refusal> {
+    let session = service.session(rt)?;
+    Ok(OwnedSession { rt: *rt, session })
+}
+
+fn read<J: ServiceNames, R: Wait + time::Clock>(
+    rt: &R,
+    alloc: Global,
+    session: &mut Session<J>,
+    who: &str,
+) -> Result<Answer, Refusal> {
+    let principal = Principal::read(alloc, who)?;
+    let object = item_of("picture/0")?;
+    session.ask(rt, &principal, Ask::Read { object })
+}
+
+fn retitle<J: ServiceNames, R: Wait + time::Clock>(
+    rt: &R,
+    alloc: Global,
+    session: &mut Session<J>,
+    title: &str,
+) -> Result<Answer, Refusal> {
+    let principal = Principal::read(alloc, "amy@users")?;
+    let object = item_of("picture/0")?;
+    let title = Title::of(alloc, title)?;
+    session.ask(rt, &principal, Ask::Retitle { object, title })
+}
+
+/// The stamp at which it is written.
+fn committed(answer: Answer) -> Result<u64, Refusal> {
+    match answer {
+        Answer::Committed(stamp) => Ok(stamp.value()),
+        _ => Err(Refusal::Clash),
+    }
+}
+
+/// What a session does.
+#[derive(Clone, Copy)]
+enum Step {
+    /// It reads picture/0, for whom this is.
+    Read(&'static str),
+    /// It gives picture/0 this title, for amy.
+    Retitle(&'static str),
+    Pending(u16),
+    Sweep(u16, u64),
+    /// It lets versions of picture/0 go.
+    Trim(u16),
+}
+
+/// What it is told. Numbers are of partitions 0 and 2: how many messages they took for it.
+type Row = (Step, &'static str, (u64, u64));
+
+fn read_text(alloc: Global, answer: &Answer) -> Result<String, Refusal> {
+    match answer {
+        Answer::Served(
+            Served::Picture {
+                object: _,
+                stamp,
+                title,
+                content: _,
+            },
+        ) => { Ok(format!(in alloc; "{} at {}", title.as_str(), stamp.value())?) }
+        _ => Err(Refusal::Clash),
+    }
+}
+
+fn committed_text(alloc: Global, answer: Answer) -> Result<String, Refusal> {
+    let stamp = committed(answer)?;
+    Ok(format!(in alloc; "committed at {stamp}")?)
+}
+
+fn pending_text<J: ServiceNames, R: Wait + time::Clock>(
+    rt: &R,
+    alloc: Global,
+    session: &mut Session<J>,
+    part: u16,
+) -> Result<String, Refusal> {
+    let stamps = session.pending(rt, part)?;
+    Ok(format!(in alloc; "{} pending", stamps.as_slice().len())?)
+}
+
+fn text_of<J: ServiceNames, R: Wait + time::Clock>(
+    rt: &R,
+    alloc: Global,
+    session: &mut Session<J>,
+    step: Step,
+) -> Result<String, Refusal> {
+    match step {
+        Step::Read(who) => read_text(alloc, &read(rt, alloc, session, who)?),
+        Step::Retitle(title) => committed_text(alloc, retitle(rt, alloc, session, title)?),
+        Step::Pending(part) => pending_text(rt, alloc, session, part),
+        Step::Sweep(part, stamp) => {
+            session.sweep(rt, part, stamp_of(stamp)?)?;
+            Ok(String::from_str(alloc, "swept")?)
+        }
+        Step::Trim(part) => {
+            session.trim(rt, part, item_of("picture/0")?)?;
+            Ok(String::from_str(alloc, "trimmed")?)
+        }
+    }
+}
+
+/// What the session is told, or the name of the refusal.
+fn told<J: ServiceNames, R: Wait + time::Clock>(
+    rt: &R,
+    alloc: Global,
+    session: &mut Session<J>,
+    step: Step,
+) -> Result<String, Refusal> {
+    match text_of(rt, alloc, session, step) {
+        Ok(text) => Ok(text),
+        Err(refusal) => Ok(String::from_str(alloc, refusal.name())?),
+    }
+}
+
+/// The session is told so, and the partitions take so many messages for it.
+fn told_so<J: ServiceNames, R: Wait + time::Clock + Abort>(
+    rt: &R,
+    alloc: Global,
+    session: &mut Session<J>,
+    counts: &Counts,
+    rows: &[Row],
+) -> Result<(), Fail> {
+    for (step, expected, messages) in rows {
+        let before = counts.so_far();
+        same(rt, told(rt, alloc, session, *step), expected)?;
+        assert_eq!(rt; counts.since(before), *messages, "messages at {expected}");
+    }
+    Ok(())
+}
+
+/// A read reads picture/0, and then with it list/0 and group/0, in two rounds each.
+const BEFORE: &[Row] = &[(Step::Read("bo@users"), "Sea at 0", (6, 2))];
+
+/// A retitle reads the same, and then prepares and commits picture/0.
+const MEANWHILE: &[Row] = &[
+    (Step::Retitle("Bay"), "committed at 65537", (8, 2)),
+    (Step::Read("amy@users"), "Bay at 65537", (6, 2)),
+];
+
+/// The other reads what was written, although it has heard of nothing since it read last: it asks the partitions anew.
+const UNHEARD: &[Row] = &[(Step::Read("bo@users"), "Bay at 65537", (6, 2))];
+
+/// The other's write has a greater stamp than the one that it read.
+const AFTER: &[Row] = &[
+    (Step::Read("bo@users"), "Bay at 65537", (6, 2)),
+    (Step::Pending(0), "0 pending", (0, 0)),
+    (Step::Pending(3), "NoSuchPart", (0, 0)),
+    (Step::Sweep(0, 65537), "NotPrepared", (0, 0)),
+    (Step::Sweep(0, 131073), "NotPrepared", (0, 0)),
+    (Step::Sweep(3, 65537), "NoSuchPart", (0, 0)),
+    (Step::Trim(1), "Clash", (0, 0)),
+    (Step::Trim(3), "NoSuchPart", (0, 0)),
+    (Step::Trim(0), "trimmed", (0, 0)),
+    (Step::Read("bo@users"), "Bay at 65537", (6, 2)),
+    (Step::Retitle("Cove"), "committed at 131074", (8, 2)),
+];
+
+/// Two sessions are told so, before they meet and then.
+fn both_told_so<J: ServiceNames, R: Wait + time::Clock + Abort>(
+    rt: &R,
+    alloc: Global,
+    counts: &Counts,
+    one: &mut Session<J>,
+    two: &mut Session<J>,
+) -> Result<(), Fail> {
+    told_so(rt, alloc, two, counts, BEFORE)?;
+    told_so(rt, alloc, one, counts, MEANWHILE)?;
+    told_so(rt, alloc, two, counts, UNHEARD)?;
+    one.meet(two);
+    told_so(rt, alloc, two, counts, AFTER)
+}
+
+/// A visit of two sessions, while the gate counts. Their numbers are 1 and 2, there is no third, and they are told so.
+#[derive(Drop)]
+struct Two {
+    counts: Arc<Counts, Global>,
+}
+
+impl Visit for Two {
+    type Told = Result<(), Fail>;
+
+    fn visit<J: ServiceNames, R: Wait + time::Clock + Abort + Copy>(
+        self,
+        rt: &R,
+        alloc: Global,
+        service: &Service<J>,
+    ) -> Result<(), Fail> {
+        let mut one = new_guest(rt, service)?;
+        let mut two = new_guest(rt, service)?;
+        let numbers = (one.session.client().number(), two.session.client().number());
+        assert_eq!(rt; numbers, (1, 2));
+        assert_eq!(rt; new_guest(rt, service).err(), Some(Refusal::SessionsSpent));
+        both_told_so(rt, alloc, &self.counts, &mut one.session, &mut two.session)
+    }
+}
+
+/// What one session writes another reads, and each read and write takes just its messages.
+#[test]
+fn two_sessions(rt: HostRuntime) -> Result<(), Fail> {
+    let opened = opened(rt.alloc(), READABLE, 2)?;
+    let counts = Arc::new(rt.alloc(), Counts::new())?;
+    let gate = Counting {
+        counts: Arc::try_clone(&counts)?,
+    };
+    visited(rt, rt.alloc(), opened, gate, Two { counts })?
+}
+
+/// Why two asks of the session are refused.
+fn refused_twice<J: ServiceNames, R: Wait + time::Clock + Copy>(
+    rt: &R,
+    alloc: Global,
+    mut guest: OwnedSession<J, R>,
+) -> Result<(Option<Refusal>, Option<Refusal>), Refusal> {
+    let first = read(rt, alloc, &mut guest.session, "bo@users").err();
+    let second = read(rt, alloc, &mut guest.session, "bo@users").err();
+    Ok((first, second))
+}
+
+/// Why two asks of a session are refused, once the service is closed.
+fn closed_on<
+    J: ServiceNames + Send + 'static,
+    R: Threads + Wait + time::Clock + Copy + Send + 'static,
+>(rt: R, alloc: Global, opened: Opened) -> Result<(Option<Refusal>, Option<Refusal>), Refusal>
+    requires named { opened ≡ opened_as J.table J.terms J.policy J.audit_ok J.audit_failed J.alarm_ok J.alarm_failed }
+{
+    let service = Service::<J>::open(rt, alloc, opened, Open)?;
+    let guest = new_guest(&rt, &service);
+    service.close(&rt);
+    refused_twice(&rt, alloc, guest?)
+}
+
+fn refused_once_closed<R: Threads + Wait + time::Clock + Copy + Send + 'static>(
+    rt: R,
+    alloc: Global,
+) -> Result<(Option<Refusal>, Option<Refusal>), Refusal> {
+    let opened = opened(alloc, READABLE, 1)?;
+    closed_on::<Brand, R>(rt, alloc, opened)
+}
+
+/// A session outlives its service, and is told that it is closed.
+#[test]
+fn a_closed_service(rt: HostRuntime) {
+    let closed = Some(Refusal::Closed);
+    assert_eq!(rt; refused_once_closed(rt, rt.alloc()), Ok((closed, closed)));
+}
+
+fn new_list(alloc: Global, text: &str) -> Result<NewList, Refusal> {
+    let object = item_of(text)?;
+    let list = list_of(alloc, READABLE)?;
+    Ok(NewList { object, list })
+}
+
+/// Other lists for both pictures.
+fn new_lists(alloc: Global) -> Result<NewLists, Refusal> {
+    let mut lists = Vec::new(alloc);
+    lists.push(new_list(alloc, "picture/0")?)?;
+    lists.push(new_list(alloc, "picture/1")?)?;
+    Ok(NewLists::of(lists))
+}
+
+/// A visit of a session in which amy sets both lists; the stamp at which they are written.
+#[derive(Drop)]
+struct SetBoth;
+
+impl Visit for SetBoth {
+    type Told = Result<u64, Refusal>;
+
+    fn visit<J: ServiceNames, R: Wait + time::Clock + Abort + Copy>(
+        self,
+        rt: &R,
+        alloc: Global,
+        service: &Service<J>,
+    ) -> Result<u64, Refusal> {
+        let principal = Principal::read(alloc, "amy@users")?;
+        let lists = new_lists(alloc)?;
+        let mut guest = new_guest(rt, service)?;
+        committed(guest.session.ask(rt, &principal, Ask::SetLists { lists })?)
+    }
+}
+
+/// The stamp at which both lists are written, and whether partitions 0 and 1 were in their first messages at once.
+fn set_at_once<R: Threads + Wait + time::Clock + Abort + Copy + Send + Sync + 'static>(
+    rt: R,
+    alloc: Global,
+) -> Result<(u64, bool), Refusal> {
+    let opened = opened(alloc, OWNED, 1)?;
+    let entered = Arc::new(alloc, Entered::new())?;
+    let gate = Together {
+        entered: Arc::try_clone(&entered)?,
+    };
+    let stamp = visited(rt, alloc, opened, gate, SetBoth)?;
+    Ok((stamp?, entered.at_once()))
+}
+
+/// A session sends to both partitions before it waits for either, and each works on a thread of its own.
+#[test]
+fn two_partitions_at_once(rt: HostRuntime) {
+    assert_eq!(rt; set_at_once(rt, rt.alloc()), Ok((65_537, true)));
+}
+
+/// What writes attributes and is granted is audited.
+const AUDITED: &[Entry] = &[
+    (AceType::Audit, "EVERYONE@", 256, 16),
+    (AceType::Allowed, "OWNER@", 2_032_127, 0),
+];
+
+/// The stamp of the picture that is served.
+fn stamp_served(answer: &Answer) -> Result<u64, Refusal> {
+    match answer {
+        Answer::Served(
+            Served::Picture {
+                object: _,
+                stamp,
+                title: _,
+                content: _,
+            },
+        ) => { Ok(stamp.value()) }
+        _ => Err(Refusal::Clash),
+    }
+}
+
+/// Retitles picture/0 so often; the greatest stamp of them.
+fn retitle_often<J: ServiceNames, R: Wait + time::Clock>(
+    rt: &R,
+    alloc: Global,
+    session: &mut Session<J>,
+) -> Result<u64, Refusal> {
+    let mut greatest = 0;
+    for _ in 0..25u32 {
+        let stamp = committed(retitle(rt, alloc, session, "Bay")?)?;
+        greatest = stamp.max(greatest);
+    }
+    Ok(greatest)
+}
+
+/// A session that retitled, and the greatest stamp of it.
+#[derive(Drop)]
+struct Retitled<J: ServiceNames, R: Wait + Copy> {
+    guest: OwnedSession<J, R>,
+    greatest: Result<u64, Refusal>,
+}
+
+fn retitle_all<J: ServiceNames, R: Wait + time::Clock + Copy>(
+    alloc: Global,
+    mut guest: OwnedSession<J, R>,
+) -> Retitled<J, R> {
+    let rt = guest.rt;
+    let greatest = retitle_often(&rt, alloc, &mut guest.session);
+    Retitled { guest, greatest }
+}
+
+/// The one session, once it met the other, and the greatest stamp of both.
+fn met<J: ServiceNames, R: Wait + time::Clock + Copy>(
+    mut one: Retitled<J, R>,
+    mut other: Retitled<J, R>,
+) -> Retitled<J, R> {
+    one.guest.session.meet(&mut other.guest.session);
+    one.greatest = greater(one.greatest, other.greatest);
+    one
+}
+
+fn greater(one: Result<u64, Refusal>, other: Result<u64, Refusal>) -> Result<u64, Refusal> {
+    Ok(one?.max(other?))
+}
+
+/// Four sessions, each on a thread of its own, retitle picture/0 so often. The first, once it met the others, and the
+/// greatest stamp of all.
+fn retitled_at_once<J: ServiceNames + Send, R: Threads + Wait + time::Clock + Copy + Send + Sync>(
+    rt: &R,
+    alloc: Global,
+    one: OwnedSession<J, R>,
+    two: OwnedSession<J, R>,
+    three: OwnedSession<J, R>,
+    four: OwnedSession<J, R>,
+) -> Result<Retitled<J, R>, AllocError> {
+    thread::scope(
+        thread::scope_env(),
+        rt,
+        |scope| -> Result<Retitled<J, R>, AllocError> {
+            let one = scope.spawn(move || retitle_all(alloc, one))?;
+            let two = scope.spawn(move || retitle_all(alloc, two))?;
+            let three = scope.spawn(move || retitle_all(alloc, three))?;
+            let four = scope.spawn(move || retitle_all(alloc, four))?;
+            let left = met(one.join(rt), two.join(rt));
+            Ok(met(met(left, three.join(rt)), four.join(rt)))
+        },
+    )
+}
+
+/// Whether the first of four sessions, once it met the others, reads picture/0 at the greatest stamp at which they
+/// retitled it, and what the audit book has then.
+fn four_retitled<J: ServiceNames + Send, R: Threads + Wait + time::Clock + Copy + Send + Sync>(
+    rt: &R,
+    alloc: Global,
+    service: &Service<J>,
+) -> Result<(bool, Totals), Refusal> {
+    let (one, two) = (new_guest(rt, service)?, new_guest(rt, service)?);
+    let (three, four) = (new_guest(rt, service)?, new_guest(rt, service)?);
+    let Retitled {
+        mut guest,
+        greatest,
+    } = retitled_at_once(rt, alloc, one, two, three, four)?;
+    let stamp = stamp_served(&read(rt, alloc, &mut guest.session, "amy@users")?)?;
+    Ok((stamp == greatest?, service.totals(rt)))
+}
+
+/// What four sessions read and what the audit book has, before they end and as the service is closed. It is no visit,
+/// since a visit can't start threads.
+fn four_over<
+    J: ServiceNames + Send + 'static,
+    R: Threads + Wait + time::Clock + Copy + Send + Sync + 'static,
+>(rt: R, alloc: Global, opened: Opened) -> Result<(bool, Totals, Totals), Refusal>
+    requires named { opened ≡ opened_as J.table J.terms J.policy J.audit_ok J.audit_failed J.alarm_ok J.alarm_failed }
+{
+    let service = Service::<J>::open(rt, alloc, opened, Open)?;
+    let told = four_retitled(&rt, alloc, &service);
+    let closed = service.close(&rt);
+    let (is_greatest, totals) = told?;
+    Ok((is_greatest, totals, closed))
+}
+
+fn hundred_retitled<R: Threads + Wait + time::Clock + Copy + Send + Sync + 'static>(
+    rt: R,
+    alloc: Global,
+) -> Result<(bool, Totals, Totals), Refusal> {
+    let opened = opened(alloc, AUDITED, 4)?;
+    four_over::<Brand, R>(rt, alloc, opened)
+}
+
+/// Four sessions retitle a picture at once, each 25 times. Each retitle is committed, and audited once.
+#[test]
+fn four_sessions_at_once(rt: HostRuntime) {
+    let audited = Totals {
+        audit_ok: 100,
+        audit_failed: 0,
+        alarm_ok: 0,
+        alarm_failed: 0,
+    };
+    assert_eq!(rt;
+        hundred_retitled(rt, rt.alloc()),
+        Ok((true, audited, audited))
+    );
+}

@@ -1,0 +1,127 @@
+// The audit book: its totals, and how many shares it gives (docs/PROTOCOL.md, "The audit book").
+ghost use Rattle.std.specs.Prelude.{◌≡◌};
+
+use crate::store::item_of;
+use album_access::Mask;
+use album_audit::{AuditBook, Blanks, Books, Share, Totals};
+use album_permits::Note;
+use album_stamps::{ClientNo, Refusal};
+use std::marker::Brand;
+
+/// What is noted of picture/0: whether by an alarm, and whether what was asked was granted.
+type Noted = (bool, bool);
+
+/// Bo reads the picture, whose entry at index 1 audits that; then is denied its delete, which the entry at index 0
+/// raises an alarm for.
+const READ_AND_DENIED: [Noted; 2] = [(false, true), (true, false)];
+
+const EACH_KIND: [Noted; 4] = [(false, true), (false, false), (true, true), (true, false)];
+
+/// How many shares a book gives.
+const MAX_SHARES: u64 = 65_535;
+
+fn note_all<J: Books>(
+    book: &mut AuditBook<J>,
+    share: &mut Share<J>,
+    client: ClientNo,
+    notes: &[Noted],
+) -> Result<(), Refusal> {
+    for noted in notes {
+        let note = note_of(noted)?;
+        book.note(share, client, note)?;
+    }
+    Ok(())
+}
+
+/// The note of it, by the entry at index 1.
+fn note_of(noted: &Noted) -> Result<Note, Refusal> {
+    let (alarm, success) = *noted;
+    let object = item_of("picture/0")?;
+    Ok(Note {
+        object,
+        mask: Mask::READ_DATA,
+        index: 1,
+        alarm,
+        success,
+    })
+}
+
+/// The totals, once two sessions noted the one and the other and handed their shares back.
+fn totals_in<J: Books>(blanks: Blanks, one: &[Noted], other: &[Noted]) -> Result<Totals, Refusal>
+    requires names { blanks ≡ record {
+      audit_ok = J.audit_ok;
+      audit_failed = J.audit_failed;
+      alarm_ok = J.alarm_ok;
+      alarm_failed = J.alarm_failed;
+    } }
+{
+    let mut book = AuditBook::<J>::new(blanks);
+    session_in(&mut book, ClientNo::of(1), one)?;
+    session_in(&mut book, ClientNo::of(2), other)?;
+    Ok(book.totals())
+}
+
+/// One session: a share, the notes, and the share back.
+fn session_in<J: Books>(
+    book: &mut AuditBook<J>,
+    client: Option<ClientNo>,
+    notes: &[Noted],
+) -> Result<(), Refusal> {
+    let client = client.ok_or(Refusal::BadRequest)?;
+    let mut share = book.share()?;
+    let noted = note_all(book, &mut share, client, notes);
+    book.gather(share);
+    noted
+}
+
+fn totals(one: &[Noted], other: &[Noted]) -> Result<Totals, Refusal> {
+    totals_in::<Brand>(Blanks::new(), one, other)
+}
+
+/// What the share after so many is.
+fn share_after<J: Books>(blanks: Blanks, shares: u64) -> Result<(), Refusal>
+    requires names { blanks ≡ record {
+      audit_ok = J.audit_ok;
+      audit_failed = J.audit_failed;
+      alarm_ok = J.alarm_ok;
+      alarm_failed = J.alarm_failed;
+    } }
+{
+    let mut book = AuditBook::<J>::new(blanks);
+    for _ in 0..shares {
+        let share = book.share()?;
+        book.gather(share);
+    }
+    let share = book.share()?;
+    book.gather(share);
+    Ok(())
+}
+
+fn next_share(shares: u64) -> Result<(), Refusal> {
+    share_after::<Brand>(Blanks::new(), shares)
+}
+
+#[test]
+fn each_note_counts_in_its_kind(rt: HostRuntime) {
+    let audited = Totals {
+        audit_ok: 1,
+        audit_failed: 0,
+        alarm_ok: 0,
+        alarm_failed: 1,
+    };
+    let all = Totals {
+        audit_ok: 2,
+        audit_failed: 1,
+        alarm_ok: 1,
+        alarm_failed: 2,
+    };
+
+    assert_eq!(rt; totals(&READ_AND_DENIED, &[]), Ok(audited));
+    assert_eq!(rt; totals(&EACH_KIND, &READ_AND_DENIED), Ok(all));
+}
+
+#[test]
+fn a_share_for_each_client_number(rt: HostRuntime) {
+    assert_eq!(rt; next_share(MAX_SHARES - 1), Ok(()));
+    assert_eq!(rt; next_share(MAX_SHARES), Err(Refusal::SessionsSpent));
+}

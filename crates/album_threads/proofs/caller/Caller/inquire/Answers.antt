@@ -1,6 +1,0 @@
-use Rattle.std.proofs.Common.{rules}
-use Rattle.album_threads.proofs.SessionLemmas.{later_same}
-use Rattle.album_threads.proofs.caller.Caller.inquire.Goals as goal
-
-pub returns-in_err-told-clause-later : goal.returns-in_err-told-clause-later
-returns-in_err-told-clause-later g c = later_same _ _ (search rules)

@@ -1,7 +1,0 @@
-use Rattle.album_threads.proofs.SessionLemmas.{later_joined}
-use Rattle.album_threads.proofs.caller.Caller.join.Goals as goal
-
-pub returns-clause-later : goal.returns-clause-later
-returns-clause-later g c =
-    later_joined _ c.self.inside.client c.self.inside.pass c.join.new.self c.self.view_is c.self.invariant.1.number
-    c.join.ensures.grown c.join.ensures.own

@@ -1,0 +1,140 @@
+// What travels between threads: a message, and a pass that shows what it rests on.
+ghost use Rattle.std.specs.Prelude.{◌≡◌, None};
+ghost use Rattle.album_threads.specs.Envelopes.{Shows, IsAnswered};
+
+use crate::service_names::ServiceNames;
+use album_calls::Message;
+use album_passes::Pass;
+use std::marker::{Model, PhantomData};
+
+/// A message to a partition, with a pass of the desk that J names. The pass has no number, and its cut
+/// shows what has to be so where such a message is sent: that the items of a Prepare are announced,
+/// that each partition has prepared what a Commit is of, that an item of the stamp that a Check is of
+/// is placed at the partition, and of a vote the mark that it tells.
+#[derive(Drop)]
+pub struct RequestEnvelope<J: ServiceNames> {
+    message: Message,
+    pass: Pass,
+    of: PhantomData<J>,
+}
+
+impl<J: ServiceNames> Model for RequestEnvelope<J> {
+    ghost use Rattle.album_threads.specs.Envelopes.{LetterState, IsLetter};
+
+    ghost Value = { LetterState };
+
+    ghost view = { λ l. record { message = l.message; pass = l.pass } };
+
+    ghost invariant = { λ l. IsLetter J.table (record { message = l.message; pass = l.pass }) };
+}
+
+impl<J: ServiceNames> RequestEnvelope<J> {
+    /// The message with this pass.
+    pub fn new(message: Message, pass: Pass) -> RequestEnvelope<J>
+        requires of { pass.table ≡ J.table }
+        requires unnumbered { pass.number ≡ None }
+        requires shown { Shows pass.cut message }
+        ensures { result ≡ record { message = message; pass = pass } }
+    {
+        RequestEnvelope {
+            message,
+            pass,
+            of: PhantomData,
+        }
+    }
+
+    /// The message.
+    pub fn message(&self) -> &Message
+        ensures { result.now ≡ self.now.message }
+    {
+        &self.message
+    }
+
+    /// The message and the pass.
+    pub fn open(self) -> (Message, Pass)
+        ensures message { result.0 ≡ self.message }
+        ensures pass { result.1 ≡ self.pass }
+        ensures of { result.1.table ≡ J.table }
+        ensures unnumbered { result.1.number ≡ None }
+        ensures shown { Shows result.1.cut result.0 }
+    {
+        let RequestEnvelope {
+            message,
+            pass,
+            of: _,
+        } = self;
+        (message, pass)
+    }
+}
+
+/// What a partition replies, with the request that it answers and a pass of the desk that J names. The
+/// pass has no number, and its cut shows the partition just as it was when it had replied.
+#[derive(Drop)]
+pub struct ReplyEnvelope<J: ServiceNames> {
+    request: Message,
+    reply: Message,
+    pass: Pass,
+    of: PhantomData<J>,
+}
+
+impl<J: ServiceNames> Model for ReplyEnvelope<J> {
+    ghost use Rattle.album_threads.specs.Envelopes.{ResponseState, IsResponse};
+
+    ghost Value = { ResponseState };
+
+    ghost view = { λ a. record { request = a.request; reply = a.reply; pass = a.pass } };
+
+    ghost invariant = { λ a. IsResponse J.table J.terms.limit
+        (record { request = a.request; reply = a.reply; pass = a.pass }) };
+}
+
+impl<J: ServiceNames> ReplyEnvelope<J> {
+    /// The reply to the request, with this pass.
+    pub fn new(request: Message, reply: Message, pass: Pass) -> ReplyEnvelope<J>
+        requires of { pass.table ≡ J.table }
+        requires unnumbered { pass.number ≡ None }
+        requires answered { IsAnswered J.terms.limit pass.cut request reply }
+        ensures { result ≡ record { request = request; reply = reply; pass = pass } }
+    {
+        ReplyEnvelope {
+            request,
+            reply,
+            pass,
+            of: PhantomData,
+        }
+    }
+
+    /// What is replied.
+    pub fn reply(&self) -> &Message
+        ensures { result.now ≡ self.now.reply }
+    {
+        &self.reply
+    }
+
+    /// The request, what is replied, and the pass.
+    pub fn open(self) -> (Message, Message, Pass)
+        ensures request { result.0 ≡ self.request }
+        ensures reply { result.1 ≡ self.reply }
+        ensures pass { result.2 ≡ self.pass }
+        ensures of { result.2.table ≡ J.table }
+        ensures unnumbered { result.2.number ≡ None }
+        ensures answered { IsAnswered J.terms.limit result.2.cut result.0 result.1 }
+    {
+        let ReplyEnvelope {
+            request,
+            reply,
+            pass,
+            of: _,
+        } = self;
+        (request, reply, pass)
+    }
+
+    /// The reply alone, as it goes to another partition: its pass shows what it tells.
+    pub fn into_envelope(self) -> RequestEnvelope<J>
+        ensures { result ≡ record { message = self.reply; pass = self.pass } }
+    {
+        let (request, reply, pass) = self.open();
+        drop(request);
+        RequestEnvelope::new(reply, pass)
+    }
+}

@@ -1,0 +1,271 @@
+// A partition, with the owner of its history.
+ghost use Rattle.std.specs.Prelude.{◌≡◌, ◌≢◌, ◌<◌, length, map, All, option_map, None, Ok, Err, IfOk, IfErr, IfSome, OnOk, OnErr, IsOkUnless};
+ghost use Rattle.album_partition.specs.Answers.{after, answer};
+ghost use Rattle.album_partition.specs.Sweeps.{swept};
+ghost use Rattle.album_passes.specs.Cuts.{Extends, IsSound, prefix_at};
+ghost use Rattle.album_threads.specs.Controls.{Tells, TellsPending, TellsTrimmed};
+ghost use Rattle.album_threads.specs.Keepers.{IsKeeper, IsNext};
+ghost use Rattle.album_threads.specs.Envelopes.{Shows, IsAnswered};
+
+use crate::control::{Control, ControlReply, ControlRequest};
+use crate::envelopes::{ReplyEnvelope, RequestEnvelope};
+use crate::service_names::ServiceNames;
+use album_calls::{Message, Stamps};
+use album_items::ItemId;
+use album_partition::Partition;
+use album_passes::{Desk, Owner, Pass};
+use album_stamps::{Refusal, Stamp};
+use std::alloc::Global;
+use std::marker::{Model, PhantomData};
+
+/// A partition, with the owner of its history: what a partition's thread keeps. Each mark is made in
+/// both, so the owner's cut shows the partition as it is. Contracts see both.
+#[derive(Drop)]
+pub(crate) struct PartitionKeeper<J: ServiceNames> {
+    /// The partition's number.
+    part: u16,
+    partition: Partition,
+    owner: Owner,
+    of: PhantomData<J>,
+}
+
+impl<J: ServiceNames> Model for PartitionKeeper<J> {
+    ghost use Rattle.std.specs.Prelude.{◌≡◌};
+    ghost use Rattle.album_threads.specs.Keepers.{KeeperState, IsKeeper};
+
+    ghost Value = { KeeperState };
+
+    ghost view = { λ k. record { partition = k.partition; owner = k.owner } };
+
+    ghost invariant = { λ k. (k.part ≡ k.partition.number)
+        × IsKeeper J.table J.terms.limit (record { partition = k.partition; owner = k.owner }) };
+}
+
+impl<J: ServiceNames> PartitionKeeper<J> {
+    /// The partition of this number with this owner.
+    pub(crate) fn new(part: u16, partition: Partition, owner: Owner) -> PartitionKeeper<J>
+        requires number { part ≡ partition.number }
+        requires is { IsKeeper J.table J.terms.limit (record { partition = partition; owner = owner }) }
+        ensures { result ≡ record { partition = partition; owner = owner } }
+    {
+        PartitionKeeper {
+            part,
+            partition,
+            owner,
+            of: PhantomData,
+        }
+    }
+
+    /// Takes in the envelope's pass, does what its message asks, and gives the reply, if there is one:
+    /// the table of answers. The reply's pass shows the partition as it is then, and all that the
+    /// envelope's pass has seen.
+    ///
+    /// # Errors
+    ///
+    /// `OutOfMemory`. The partition stays as it is.
+    pub(crate) fn receive(
+        &mut self,
+        desk: &Desk,
+        envelope: RequestEnvelope<J>,
+    ) -> Result<Option<ReplyEnvelope<J>>, Refusal>
+        requires table { desk.now.table ≡ J.table }
+        requires terms { desk.now.terms ≡ J.terms }
+        ensures changed { OnOk result (self.new.partition ≡ after self.old.partition envelope.message) }
+        ensures answered { IfOk result (λ told. option_map (λ told. told.reply) told
+            ≡ answer self.old.partition envelope.message) }
+        ensures request { IfOk result (λ told. IfSome told (λ told. told.request ≡ envelope.message)) }
+        ensures point { IfOk result (λ told. IfSome told (λ told. told.pass.cut ≡ self.new.owner.cut)) }
+        ensures grown { Extends self.old.owner.cut self.new.owner.cut }
+        ensures heard { Extends envelope.pass.cut self.new.owner.cut }
+        ensures unchanged { OnErr result (self.new.partition ≡ self.old.partition) }
+        ensures memory { IsOkUnless result Refusal.OutOfMemory }
+    {
+        let (message, pass) = envelope.open();
+        self.hear(desk, pass);
+        match self.take(desk, &message)? {
+            None => Ok(None),
+            Some(reply) => {
+                let pass = self.owner.split(desk);
+                Ok(Some(ReplyEnvelope::new(message, reply, pass)))
+            }
+        }
+    }
+
+    /// Takes in all that the pass has seen.
+    fn hear(&mut self, desk: &Desk, pass: Pass)
+        requires table { desk.now.table ≡ J.table }
+        requires of { pass.table ≡ J.table }
+        requires unnumbered { pass.number ≡ None }
+        ensures partition { self.new.partition ≡ self.old.partition }
+        ensures grown { Extends self.old.owner.cut self.new.owner.cut }
+        ensures heard { Extends pass.cut self.new.owner.cut }
+        ensures sound { IsSound self.new.owner.cut }
+        ensures inside { self.new.owner.part < self.new.owner.cut.parts }
+    {
+        self.owner.join(desk, pass);
+    }
+
+    /// Does what the message asks, and makes its mark, if it makes one, in the owner's history too.
+    fn take(&mut self, desk: &Desk, message: &Message) -> Result<Option<Message>, Refusal>
+        requires table { desk.now.table ≡ J.table }
+        requires terms { desk.now.terms ≡ J.terms }
+        requires sound { IsSound self.old.owner.cut }
+        requires inside { self.old.owner.part < self.old.owner.cut.parts }
+        requires shown { Shows self.old.owner.cut message.now }
+        ensures changed { OnOk result (self.new.partition ≡ after self.old.partition message.now) }
+        ensures answered { IfOk result (λ reply. reply ≡ answer self.old.partition message.now) }
+        ensures told { IfOk result (λ reply. IfSome reply
+            (IsAnswered J.terms.limit self.new.owner.cut message.now)) }
+        ensures grown { Extends self.old.owner.cut self.new.owner.cut }
+        ensures unchanged { OnErr result (self.new ≡ self.old) }
+        ensures memory { IsOkUnless result Refusal.OutOfMemory }
+    {
+        let before = self.partition.history().len();
+        let reply = self.partition.receive(message)?;
+        append_next(&mut self.owner, desk, &self.partition, before);
+        Ok(reply)
+    }
+}
+
+impl<J: ServiceNames> PartitionKeeper<J> {
+    /// Takes in the question's pass, does what it asks, and gives what is told of it. The envelopes that
+    /// go to other partitions are put into `envelopes`. The pass of what is told has seen all that the
+    /// question's has.
+    pub(crate) fn inquire(
+        &mut self,
+        alloc: Global,
+        desk: &Desk,
+        question: ControlRequest<J>,
+        envelopes: &mut Vec<RequestEnvelope<J>>,
+    ) -> ControlReply<J>
+        requires table { desk.now.table ≡ J.table }
+        requires terms { desk.now.terms ≡ J.terms }
+        ensures part { result.part ≡ self.old.partition.number }
+        ensures tag { result.tag ≡ question.tag }
+        ensures inquiry { result.inquiry ≡ question.inquiry }
+        ensures point { result.pass.cut ≡ self.new.owner.cut }
+        ensures grown { Extends self.old.owner.cut self.new.owner.cut }
+        ensures heard { Extends question.pass.cut self.new.owner.cut }
+    {
+        let asked = question.inquiry();
+        let (tag, inquiry, pass) = question.open();
+        self.hear(desk, pass);
+        let told = self.answer(alloc, desk, asked, envelopes);
+        let pass = self.owner.split(desk);
+        ControlReply::new(self.part, tag, inquiry, told, pass)
+    }
+
+    /// Does what is asked, and gives what is told of it. What goes to other partitions is put into
+    /// `envelopes`.
+    fn answer(
+        &mut self,
+        alloc: Global,
+        desk: &Desk,
+        inquiry: Control,
+        envelopes: &mut Vec<RequestEnvelope<J>>,
+    ) -> Result<Stamps, Refusal>
+        requires table { desk.now.table ≡ J.table }
+        requires terms { desk.now.terms ≡ J.terms }
+        requires sound { IsSound self.old.owner.cut }
+        ensures told { Tells J.terms.limit self.new.owner.cut self.new.partition.number inquiry result }
+        ensures number { self.new.partition.number ≡ self.old.partition.number }
+        ensures grown { Extends self.old.owner.cut self.new.owner.cut }
+    {
+        match inquiry {
+            Control::Pending => self.pending(),
+            Control::Trim(item) => self.trim(alloc, desk, item),
+            Control::Sweep(stamp) => match self.sweep(alloc, desk, stamp) {
+                Err(refusal) => Err(refusal),
+                Ok(asked) => {
+                    *envelopes = asked;
+                    Ok(Stamps::of(Vec::new(alloc)))
+                }
+            },
+        }
+    }
+
+    /// The stamps that are pending.
+    fn pending(&self) -> Result<Stamps, Refusal>
+        ensures { TellsPending (prefix_at self.now.owner.cut self.now.partition.number) result }
+    {
+        match self.partition.pending() {
+            Ok(stamps) => Ok(Stamps::of(stamps)),
+            Err(refusal) => Err(refusal),
+        }
+    }
+
+    /// What goes to other partitions for a stamp that is pending, as envelopes.
+    fn sweep(
+        &mut self,
+        alloc: Global,
+        desk: &Desk,
+        stamp: Stamp,
+    ) -> Result<Vec<RequestEnvelope<J>>, Refusal>
+        requires table { desk.now.table ≡ J.table }
+        requires sound { IsSound self.old.owner.cut }
+        ensures envelopes { IfOk result (λ envelopes. swept self.old.partition stamp
+            ≡ Ok (map (λ envelope. envelope.message) envelopes.items)) }
+        ensures refused { IfErr result (λ e. e ≢ Refusal.OutOfMemory → swept self.old.partition stamp ≡ Err e) }
+        ensures shown { prefix_at self.old.owner.cut self.old.partition.number ≡ self.old.partition.marks }
+        ensures same { self.new ≡ self.old }
+    {
+        let messages = self.partition.sweep(stamp)?;
+        envelopes_of(alloc, desk, &mut self.owner, &messages)
+    }
+
+    /// Trims the item.
+    fn trim(&mut self, alloc: Global, desk: &Desk, item: ItemId) -> Result<Stamps, Refusal>
+        requires table { desk.now.table ≡ J.table }
+        requires terms { desk.now.terms ≡ J.terms }
+        ensures told { TellsTrimmed J.terms.limit self.new.owner.cut self.new.partition.number item result }
+        ensures number { self.new.partition.number ≡ self.old.partition.number }
+        ensures grown { Extends self.old.owner.cut self.new.owner.cut }
+    {
+        let before = self.partition.history().len();
+        match self.partition.trim(item) {
+            Err(refusal) => Err(refusal),
+            Ok(()) => {
+                append_next(&mut self.owner, desk, &self.partition, before);
+                Ok(Stamps::of(Vec::new(alloc)))
+            }
+        }
+    }
+}
+
+/// The messages as envelopes, with passes of the owner's.
+fn envelopes_of<J: ServiceNames>(
+    alloc: Global,
+    desk: &Desk,
+    owner: &mut Owner,
+    messages: &[Message],
+) -> Result<Vec<RequestEnvelope<J>>, Refusal>
+    requires table { desk.now.table ≡ J.table }
+    requires own { owner.old.table ≡ J.table }
+    requires shown { All (Shows owner.old.cut) messages.now }
+    ensures envelopes { IfOk result (λ envelopes. map (λ envelope. envelope.message) envelopes.items ≡ messages.now) }
+    ensures same { owner.new ≡ owner.old }
+    ensures memory { IsOkUnless result Refusal.OutOfMemory }
+{
+    let mut envelopes = Vec::new(alloc);
+    for message in messages {
+        envelopes.push(RequestEnvelope::new(message.copy()?, owner.split(desk)))?;
+    }
+    Ok(envelopes)
+}
+
+/// Makes the mark in the owner's history that the partition's has beyond it, if it has one.
+fn append_next(owner: &mut Owner, desk: &Desk, partition: &Partition, before: usize)
+    requires table { owner.old.table ≡ desk.now.table }
+    requires room { partition.now.limit ≡ desk.now.terms.limit }
+    requires before { before ≡ length (prefix_at owner.old.cut owner.old.part) }
+    requires next { IsNext owner.old.cut owner.old.part partition.now.marks }
+    ensures marks { partition.now.marks ≡ prefix_at owner.new.cut owner.old.part }
+    ensures grown { Extends owner.old.cut owner.new.cut }
+    ensures table { owner.new.table ≡ owner.old.table }
+    ensures part { owner.new.part ≡ owner.old.part }
+{
+    let marks = partition.history();
+    if before < marks.len() {
+        owner.append(desk, &marks[before]).unwrap();
+    }
+}

@@ -1,0 +1,217 @@
+// The body of a partition's thread.
+ghost use Rattle.std.specs.Prelude.{◌≡◌};
+ghost use Rattle.std.specs.Arc.{arc_value};
+
+use crate::control::{ControlReply, ControlRequest};
+use crate::envelopes::{ReplyEnvelope, RequestEnvelope};
+use crate::gate::Gate;
+use crate::mailbox::{Inbox, PartitionMail, SessionMail};
+use crate::partition::keeper::PartitionKeeper;
+use crate::service_names::ServiceNames;
+use album_calls::Node;
+use album_passes::Desk;
+use album_stamps::ClientNo;
+use crossbeam_channel::Sender;
+use std::alloc::Global;
+use std::collections::{BTreeMap, VecDeque};
+use std::sync::{Arc, Wait};
+use std::time;
+
+/// Where what is told goes.
+#[derive(Drop)]
+pub(crate) struct Ends<J: ServiceNames> {
+    alloc: Global,
+    /// Of the partitions, in the order of their numbers.
+    parts: Vec<Sender<PartitionMail<J>>>,
+    /// Of the sessions that are not over, by their numbers.
+    sessions: BTreeMap<u16, Sender<SessionMail<J>>>,
+}
+
+impl<J: ServiceNames> Ends<J> {
+    /// These partitions, and no session.
+    pub(crate) fn new(alloc: Global, parts: Vec<Sender<PartitionMail<J>>>) -> Ends<J> {
+        Ends {
+            alloc,
+            parts,
+            sessions: BTreeMap::new(alloc),
+        }
+    }
+
+    /// A session that can't be kept is never told anything.
+    fn register(&mut self, client: u16, end: Sender<SessionMail<J>>) {
+        let _ = self.sessions.insert(client, end);
+    }
+
+    fn forget(&mut self, client: u16) {
+        let _ = self.sessions.remove(&client);
+    }
+
+    /// A word that the mailbox doesn't take is lost.
+    fn tell<R: Wait>(&self, rt: &R, client: ClientNo, word: SessionMail<J>) {
+        if let Some(end) = self.sessions.get(&client.number()) {
+            let _ = end.send(rt, word);
+        }
+    }
+
+    /// The same of a envelope. It goes to a partition, or nowhere.
+    fn post<R: Wait>(&self, rt: &R, envelope: RequestEnvelope<J>) {
+        let Node::Part(part) = envelope.message().to() else {
+            return;
+        };
+        if let Some(end) = self.parts.get(usize::from(part)) {
+            let mut envelopes = Vec::new(self.alloc);
+            if envelopes.push(envelope).is_ok() {
+                let _ = end.send(rt, PartitionMail::Letters(envelopes));
+            }
+        }
+    }
+
+    /// The replies to the messages of one mail, which are all to one session, or each to a partition.
+    fn send<R: Wait>(&self, rt: &R, responses: VecDeque<ReplyEnvelope<J>>) {
+        let Some(first) = responses.front() else {
+            return;
+        };
+        match first.reply().to() {
+            Node::Client(client) => self.tell(rt, client, SessionMail::Responses(responses)),
+            Node::Part(_) => {
+                for response in responses {
+                    self.post(rt, response.into_envelope());
+                }
+            }
+        }
+    }
+
+    /// The same of a notice to the client.
+    fn notify<R: Wait>(&self, rt: &R, client: ClientNo, notice: ControlReply<J>) {
+        if let Ok(notice) = Box::new(self.alloc, notice) {
+            self.tell(rt, client, SessionMail::ControlReply(notice));
+        }
+    }
+}
+
+/// A partition at work: it, with the owner of its history, where what it tells goes, and how many
+/// messages it took.
+#[derive(Drop)]
+pub(crate) struct PartitionLoop<J: ServiceNames> {
+    part: u16,
+    keeper: PartitionKeeper<J>,
+    ends: Ends<J>,
+    number: u64,
+}
+
+impl<J: ServiceNames> PartitionLoop<J> {
+    /// The partition of this number, with its keeper, and where what it tells goes.
+    pub(crate) fn new(part: u16, keeper: PartitionKeeper<J>, ends: Ends<J>) -> PartitionLoop<J> {
+        PartitionLoop {
+            part,
+            keeper,
+            ends,
+            number: 0,
+        }
+    }
+
+    /// Takes one mail after another, until it is told to leave or all who could send one are gone.
+    pub(crate) fn attend<R: Wait + time::Clock, G: Gate>(
+        &mut self,
+        rt: &R,
+        alloc: Global,
+        desk: &Desk,
+        gate: &G,
+        inbox: &mut Inbox<PartitionMail<J>>,
+    )
+        requires table { desk.now.table ≡ J.table }
+        requires terms { desk.now.terms ≡ J.terms }
+    {
+        for _ in rt.forever() {
+            let Some(mail) = inbox.next(rt) else {
+                return;
+            };
+            if !self.take(rt, alloc, desk, gate, mail) {
+                return;
+            }
+        }
+        unreachable!()
+    }
+
+    /// Takes a mail, and tells whether to go on.
+    fn take<R: Wait, G: Gate>(
+        &mut self,
+        rt: &R,
+        alloc: Global,
+        desk: &Desk,
+        gate: &G,
+        mail: PartitionMail<J>,
+    ) -> bool
+        requires table { desk.now.table ≡ J.table }
+        requires terms { desk.now.terms ≡ J.terms }
+    {
+        match mail {
+            PartitionMail::Leave => return false,
+            PartitionMail::Register(client, end) => self.ends.register(client, end),
+            PartitionMail::Forget(client) => self.ends.forget(client),
+            PartitionMail::ControlRequest(question) => {
+                self.inquire(rt, alloc, desk, Box::into_inner(question));
+            }
+            PartitionMail::Letters(envelopes) => self.receive_all(rt, alloc, desk, gate, envelopes),
+        }
+        true
+    }
+
+    /// Takes the envelopes of a mail, one after another, and sends the replies to them as one word.
+    fn receive_all<R: Wait, G: Gate>(
+        &mut self,
+        rt: &R,
+        alloc: Global,
+        desk: &Desk,
+        gate: &G,
+        envelopes: Vec<RequestEnvelope<J>>,
+    )
+        requires table { desk.now.table ≡ J.table }
+        requires terms { desk.now.terms ≡ J.terms }
+    {
+        let (mut number, count) = (self.number, envelopes.len());
+        let mut responses = VecDeque::new(alloc);
+        let _ = responses.reserve(count);
+        for envelope in envelopes {
+            self.receive(desk, gate, envelope, &mut responses);
+        }
+        self.ends.send(rt, responses);
+        for _ in 0..count {
+            gate.leave(self.part, number);
+            number = number.saturating_add(1);
+        }
+    }
+
+    /// Takes a envelope, and adds the reply to the responses, if there is one. A envelope or a reply for which there is no
+    /// memory is lost.
+    fn receive<G: Gate>(
+        &mut self,
+        desk: &Desk,
+        gate: &G,
+        envelope: RequestEnvelope<J>,
+        responses: &mut VecDeque<ReplyEnvelope<J>>,
+    )
+        requires table { desk.now.table ≡ J.table }
+        requires terms { desk.now.terms ≡ J.terms }
+    {
+        gate.enter(self.part, self.number);
+        self.number = self.number.saturating_add(1);
+        if let Ok(Some(response)) = self.keeper.receive(desk, envelope) {
+            let _ = responses.push_back(response);
+        }
+    }
+
+    /// Takes a question, and tells who asks, once what goes to other partitions is sent.
+    fn inquire<R: Wait>(&mut self, rt: &R, alloc: Global, desk: &Desk, question: ControlRequest<J>)
+        requires table { desk.now.table ≡ J.table }
+        requires terms { desk.now.terms ≡ J.terms }
+    {
+        let client = question.client();
+        let mut envelopes = Vec::new(alloc);
+        let notice = self.keeper.inquire(alloc, desk, question, &mut envelopes);
+        for envelope in envelopes {
+            self.ends.post(rt, envelope);
+        }
+        self.ends.notify(rt, client, notice);
+    }
+}

@@ -1,0 +1,172 @@
+// Asks: a session's client, driven by what the partitions reply.
+ghost use Rattle.std.specs.Prelude.{◌≡◌, ◌≤◌, ◌⊎◌, None, Some, Err, IsTrue, IfOk, IfErr, IfSome, OnErr};
+ghost use Rattle.album_client.specs.Transitions.{client_of};
+ghost use Rattle.album_passes.specs.Cuts.{Extends};
+ghost use Rattle.album_stamps.specs.Stamps.{is_client};
+ghost use Rattle.album_views.specs.Checks.{refusal_of};
+ghost use Rattle.album_threads.specs.Asks.{IsOn};
+ghost use Rattle.album_threads.specs.Phases.{Outset, IsUnderWay};
+ghost use Rattle.album_threads.specs.Replies.{IsReplied};
+ghost use Rattle.album_threads.specs.Resting.{RestsOn};
+ghost use Rattle.album_threads.specs.Sessions.{IsNoWord, AnnouncesNothing};
+ghost use Rattle.album_threads.specs.Turns.{actor_in, terms_in, IsLed, IsSomehowWaited, IsWaited};
+
+use crate::service_names::ServiceNames;
+use crate::session::Session;
+use crate::session::asked::Asked;
+use crate::session::turn::{Turned, cut_off};
+use album_calls::Message;
+use album_client::{Client, ClientStep, Phase, Terms, Transition};
+use album_eval::Principal;
+use album_stamps::Refusal;
+use album_views::Ask;
+use album_writer::Answer;
+use std::sync::Wait;
+use std::time;
+
+/// How far an ask has come.
+#[derive(Drop)]
+pub(crate) enum Way {
+    /// It is answered.
+    Answered(Answer),
+    /// Replies to these messages are awaited, and the client does this.
+    Awaits(Asked, Phase),
+}
+
+impl<J: ServiceNames> Session<J> {
+    /// Reads what the ask looks at, rules on it by the service's policy, and serves it or writes it.
+    ///
+    /// # Errors
+    ///
+    /// That of `Ask::check`; else `Closed` or `OutOfMemory`. A write that has begun is answered.
+    pub fn ask<R: Wait + time::Clock>(
+        &mut self,
+        rt: &R,
+        principal: &Principal,
+        ask: Ask,
+    ) -> Result<Answer, Refusal>
+        ensures rests { IfOk result (RestsOn J.terms.limit J.policy principal.now ask self.old self.new) }
+        ensures checked { IfSome (refusal_of ask principal.now) (λ e. (result ≡ Err e) × (self.new ≡ self.old)) }
+        ensures refused { IfErr result (λ e. (refusal_of ask principal.now ≡ Some e) ⊎ IsNoWord e) }
+        ensures unbegun { OnErr result (AnnouncesNothing self.old self.new) }
+        ensures grown { Extends self.old.cut self.new.cut }
+        ensures client { self.new.client ≡ self.old.client }
+        ensures risen { self.old.counter ≤ self.new.counter }
+    {
+        ask.check(principal)?;
+        let (mut asked, mut phase) = self.begins(rt, principal, ask)?;
+        for _ in rt.forever() {
+            let heard = self.waits(rt, &asked, &mut phase);
+            match self.goes_on(rt, asked, phase, heard)? {
+                Way::Answered(answer) => return Ok(answer),
+                Way::Awaits(more, next) => {
+                    asked = more;
+                    phase = next;
+                }
+            }
+        }
+        unreachable!()
+    }
+
+    /// The ask begins: its first messages are sent.
+    ///
+    /// # Errors
+    ///
+    /// `Closed` or `OutOfMemory`.
+    fn begins<R: Wait>(
+        &mut self,
+        rt: &R,
+        principal: &Principal,
+        ask: Ask,
+    ) -> Result<(Asked, Phase), Refusal>
+        requires taken { refusal_of ask principal.now ≡ None }
+        ensures way { IfOk result (λ way. IsUnderWay J.policy
+            (record { principal = principal.now; ask = ask; session = self.old }) self.new
+            way.0.begun.cut way.0.sent.items way.1) }
+        ensures refused { IfErr result IsNoWord }
+        ensures same { self.new ≡ self.old }
+    {
+        self.channel.is_open()?;
+        self.channel.is_sound();
+        let moved = self.actor().asks(self.tag, principal.copy()?, ask)?;
+        let _reads = moved.client.phase.reads();
+        let (phase, sent) = work_of(moved);
+        self.tag = phase.tag();
+        let asked = self.channel.ask(rt, sent)?;
+        Ok((asked, phase))
+    }
+
+    /// The client, and the terms on which it asks.
+    pub(crate) fn actor(&self) -> ClientStep
+        ensures client { client_of result ≡ actor_in self.now }
+        ensures terms { result.terms ≡ terms_in J.policy self.now }
+        ensures some { 1 ≤ self.now.cut.parts }
+        ensures own { IsTrue (is_client self.now.client) }
+    {
+        let number = self.channel.client();
+
+        // What is true of each client's number is known once it is looked at.
+        let _number = number.number();
+        ClientStep {
+            alloc: self.alloc,
+            terms: Terms::new(self.channel.parts(), self.policy),
+            number,
+            clock: self.clock,
+        }
+    }
+
+    /// Goes on by what was heard. Once a write has begun, what cuts it off is its answer.
+    ///
+    /// # Errors
+    ///
+    /// `Closed` or `OutOfMemory`.
+    fn goes_on<R: Wait>(
+        &mut self,
+        rt: &R,
+        asked: Asked,
+        phase: Phase,
+        heard: Result<Message, Refusal>,
+    ) -> Result<Way, Refusal>
+        requires way { IsSomehowWaited J.policy self.old asked.begun.cut asked.sent.items phase }
+        requires replied { IfOk heard
+            (IsReplied J.terms.limit asked.begun.cut self.old.cut asked.sent.items) }
+        requires heard { IfErr heard IsNoWord }
+        ensures way { (outset : Outset)
+            → IsWaited J.policy outset self.old asked.begun.cut asked.sent.items phase
+            → IfOk result (IsLed J.terms.limit J.policy outset self.new) }
+        ensures refused { IfErr result IsNoWord }
+        ensures unbegun { (outset : Outset)
+            → IsWaited J.policy outset self.old asked.begun.cut asked.sent.items phase
+            → OnErr result (AnnouncesNothing outset.session self.new) }
+        ensures on { IsOn self.old self.new }
+    {
+        let stamp = phase.stamp();
+        let moved = match self.gives(&asked, phase, heard) {
+            Ok(moved) => moved,
+            Err(why) => return cut_off(stamp, why),
+        };
+        match self.takes_over(rt, moved)? {
+            Turned::Answers(answer) => Ok(Way::Answered(answer)),
+            Turned::Sends(phase, sent) => self.sends(rt, asked, phase, sent),
+        }
+    }
+}
+
+/// What the client does from then on, and what it sends.
+fn work_of(moved: Transition) -> (Phase, Vec<Message>)
+    ensures phase { result.0 ≡ moved.client.phase }
+    ensures sent { result.1.items ≡ moved.sent.items }
+{
+    let Transition {
+        client,
+        notes: _,
+        sent,
+        answer: _,
+    } = moved;
+    let Client {
+        number: _,
+        clock: _,
+        phase,
+    } = client;
+    (phase, sent)
+}

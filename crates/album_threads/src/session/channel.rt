@@ -1,0 +1,361 @@
+// Who asks the partitions: what a session has of what travels.
+ghost use Rattle.std.specs.Prelude.{◌≡◌, ◌≢◌, ◌+◌, ◌<◌, ◌≤◌, ◌^◌, IfOk, IfErr, OnOk, OnErr, IfSome, IfNone, Some, None, IsOkUnless};
+ghost use Rattle.album_stamps.specs.Stamps.{client_number};
+ghost use Rattle.album_passes.specs.Changes.{merged, announced_cut};
+ghost use Rattle.album_passes.specs.Cuts.{IsSound, Extends, announced_for};
+ghost use Rattle.std.specs.Arc.{arc_value};
+ghost use Rattle.album_stamps.specs.declared.limits.TheConstants.{MAX_PARTS};
+ghost use Rattle.album_threads.specs.Controls.{Tells};
+ghost use Rattle.album_threads.specs.Sessions.{IsCaller, IsLater, IsNoWord};
+
+use crate::control::{Control, ControlReply, ControlRequest};
+use crate::envelopes::ReplyEnvelope;
+use crate::mailbox::{Inbox, PartitionMail, SessionMail};
+use crate::service_names::ServiceNames;
+use album_calls::Stamps;
+use album_items::ItemId;
+use album_passes::{Desk, Pass, meet};
+use album_stamps::{ClientNo, Refusal, Stamp};
+use crossbeam_channel::{Receiver, SendError, Sender};
+use std::alloc::{AllocError, Global};
+use std::collections::VecDeque;
+use std::marker::Model;
+use std::sync::{Arc, Wait};
+use std::time;
+
+/// Who asks the partitions. Contracts see the client, and the cut of its pass.
+#[derive(Drop)]
+pub(crate) struct PartitionChannel<J: ServiceNames> {
+    pub(crate) alloc: Global,
+    desk: Arc<Desk, Global>,
+    pass: Pass,
+    client: ClientNo,
+    /// How many partitions there are.
+    parts: u16,
+    /// The last tag that went out.
+    tag: u64,
+    /// Whether a mailbox was found gone.
+    closed: bool,
+    /// The mailboxes of the partitions, in order.
+    to: Vec<Sender<PartitionMail<J>>>,
+    from: Inbox<SessionMail<J>>,
+    /// What was heard and not yet taken.
+    heard: VecDeque<ReplyEnvelope<J>>,
+    /// Where, among the messages of a round, the one stands to which a reply was taken last.
+    pub(crate) found: usize,
+}
+
+impl<J: ServiceNames> Model for PartitionChannel<J> {
+    ghost use Rattle.std.specs.Prelude.{◌≡◌};
+    ghost use Rattle.std.specs.Arc.{arc_value};
+    ghost use Rattle.album_threads.specs.Sessions.{CallerState, IsCaller};
+
+    ghost Value = { CallerState };
+
+    ghost view = { λ c. record { client = c.client; cut = c.pass.cut } };
+
+    ghost invariant = { λ c. ((arc_value c.desk).table ≡ J.table) × IsCaller J.table c.client c.parts c.pass };
+}
+
+impl<J: ServiceNames> PartitionChannel<J> {
+    /// This client with this pass.
+    pub(crate) fn new(
+        alloc: Global,
+        desk: Arc<Desk, Global>,
+        pass: Pass,
+        client: ClientNo,
+        parts: u16,
+        to: Vec<Sender<PartitionMail<J>>>,
+        from: Receiver<SessionMail<J>>,
+    ) -> PartitionChannel<J>
+        requires table { (arc_value desk).table ≡ J.table }
+        requires is { IsCaller J.table client parts pass }
+        ensures { result ≡ record { client = client; cut = pass.cut } }
+    {
+        PartitionChannel {
+            alloc,
+            desk,
+            pass,
+            client,
+            parts,
+            tag: 0,
+            closed: false,
+            to,
+            from: Inbox::new(from),
+            heard: VecDeque::new(alloc),
+            found: 0,
+        }
+    }
+
+    /// The client.
+    pub(crate) fn client(&self) -> ClientNo
+        ensures { result ≡ self.now.client }
+    {
+        self.client
+    }
+
+    /// How many partitions there are.
+    pub(crate) fn parts(&self) -> u16
+        ensures parts { result ≡ self.now.cut.parts }
+        ensures some { 1 ≤ result }
+        ensures few { result ≤ MAX_PARTS }
+    {
+        self.parts
+    }
+
+    /// Says what is so of each channel: what it has seen is sound.
+    pub(crate) fn is_sound(&self)
+        ensures { IsSound self.now.cut }
+    {
+        let _ = self.pass.length(0);
+    }
+
+    /// That no mailbox was found gone.
+    ///
+    /// # Errors
+    ///
+    /// `Closed`.
+    pub(crate) fn is_open(&self) -> Result<(), Refusal>
+        ensures { IsOkUnless result Refusal.Closed }
+    {
+        if self.closed {
+            return Err(Refusal::Closed);
+        }
+        Ok(())
+    }
+
+    /// Tells each partition where the session takes what it is told.
+    pub(crate) fn register<R: Wait>(
+        &self,
+        rt: &R,
+        end: Sender<SessionMail<J>>,
+    ) -> Result<(), AllocError> {
+        for mailbox in &self.to {
+            let mail = PartitionMail::Register(self.client.number(), end.clone()?);
+            if let Err(SendError::OutOfMemory(_)) = mailbox.send(rt, mail) {
+                return Err(AllocError);
+            }
+        }
+        Ok(())
+    }
+
+    /// Tells each partition that the session is over.
+    pub(crate) fn leave<R: Wait>(self, rt: &R) {
+        for mailbox in &self.to {
+            let _ = mailbox.send(rt, PartitionMail::Forget(self.client.number()));
+        }
+    }
+
+    /// A tag that did not go out yet, and the next one neither.
+    ///
+    /// # Errors
+    ///
+    /// `Closed`.
+    pub(crate) fn next_tag(&mut self) -> Result<u64, Refusal>
+        ensures low { IfOk result (λ tag. 1 ≤ tag) }
+        ensures high { IfOk result (λ tag. tag + 1 < 2 ^ 64) }
+        ensures closed { IsOkUnless result Refusal.Closed }
+        ensures same { self.new ≡ self.old }
+    {
+        if self.closed || self.tag > u64::MAX - 2 {
+            self.closed = true;
+            return Err(Refusal::Closed);
+        }
+        self.tag += 2;
+        Ok(self.tag - 1)
+    }
+
+    /// Sends to the partition.
+    pub(crate) fn send<R: Wait>(
+        &mut self,
+        rt: &R,
+        part: u16,
+        mail: PartitionMail<J>,
+    ) -> Result<(), Refusal>
+        ensures refused { IfErr result IsNoWord }
+        ensures same { self.new ≡ self.old }
+    {
+        let Some(mailbox) = self.to.get(usize::from(part)) else {
+            return Err(Refusal::Closed);
+        };
+        match mailbox.send(rt, mail) {
+            Ok(()) => Ok(()),
+            Err(SendError::OutOfMemory(_)) => Err(Refusal::OutOfMemory),
+            Err(SendError::Disconnected(_)) => {
+                self.closed = true;
+                Err(Refusal::Closed)
+            }
+        }
+    }
+
+    /// What comes next. `Closed` where all who could send are gone.
+    pub(crate) fn next<R: Wait + time::Clock>(&mut self, rt: &R) -> Result<SessionMail<J>, Refusal>
+        ensures closed { IsOkUnless result Refusal.Closed }
+        ensures same { self.new ≡ self.old }
+    {
+        match self.from.next(rt) {
+            Some(word) => Ok(word),
+            None => {
+                self.closed = true;
+                Err(Refusal::Closed)
+            }
+        }
+    }
+
+    /// The response that comes next, or `None` where it is a notice, for which nobody waits any more.
+    ///
+    /// # Errors
+    ///
+    /// `Closed`.
+    pub(crate) fn next_response<R: Wait + time::Clock>(
+        &mut self,
+        rt: &R,
+    ) -> Result<Option<ReplyEnvelope<J>>, Refusal>
+        ensures closed { IsOkUnless result Refusal.Closed }
+        ensures same { self.new ≡ self.old }
+    {
+        if let Some(response) = self.heard.pop_front() {
+            return Ok(Some(response));
+        }
+        match self.next(rt)? {
+            SessionMail::ControlReply(_) => Ok(None),
+            SessionMail::Responses(responses) => {
+                self.heard = responses;
+                Ok(self.heard.pop_front())
+            }
+        }
+    }
+
+    /// A pass with an equal cut, to go with what is sent.
+    pub(crate) fn split(&mut self) -> Pass
+        ensures cut { result.cut ≡ self.old.cut }
+        ensures of { result.table ≡ J.table }
+        ensures unnumbered { result.number ≡ None }
+        ensures sound { IsSound self.old.cut }
+        ensures same { self.new ≡ self.old }
+    {
+        self.pass.split(&self.desk)
+    }
+
+    /// Takes in all that the pass has seen.
+    pub(crate) fn join(&mut self, pass: Pass)
+        requires of { pass.table ≡ J.table }
+        requires unnumbered { pass.number ≡ None }
+        ensures cut { self.new.cut ≡ merged self.old.cut pass.cut }
+        ensures heard { Extends pass.cut self.new.cut }
+        ensures sound { IsSound self.new.cut }
+        ensures later { IsLater self.old self.new }
+    {
+        self.pass.join(&self.desk, pass);
+    }
+
+    /// Announces the items for the client's stamp.
+    pub(crate) fn announce_items(&mut self, stamp: Stamp, items: &[ItemId])
+        requires own { client_number stamp ≡ self.old.client }
+        requires fresh { announced_for self.old.cut stamp ≡ None }
+        ensures announced { announced_for self.new.cut stamp ≡ Some items.now }
+        ensures cut { self.new.cut ≡ announced_cut self.old.cut stamp items.now }
+        ensures grown { Extends self.old.cut self.new.cut }
+        ensures client { self.new.client ≡ self.old.client }
+    {
+        self.pass.announce(&self.desk, stamp, items);
+    }
+
+    /// Both take in all that the other has seen, and then have one cut.
+    pub(crate) fn meet(&mut self, other: &mut PartitionChannel<J>)
+        ensures one { IsLater self.old self.new }
+        ensures other { IsLater other.old other.new }
+        ensures same { self.new.cut ≡ other.new.cut }
+        ensures apart { self.old.client ≢ other.old.client }
+    {
+        meet(&self.desk, &mut self.pass, &mut other.pass);
+    }
+}
+
+impl<J: ServiceNames> PartitionChannel<J> {
+    /// Asks the partition, and waits for what it tells.
+    ///
+    /// # Errors
+    ///
+    /// `Closed` or `OutOfMemory`.
+    #[tactic(auto, using(crate::proofs::SessionLemmas::later_same))]
+    pub(crate) fn inquire<R: Wait + time::Clock>(
+        &mut self,
+        rt: &R,
+        part: u16,
+        inquiry: &Control,
+    ) -> Result<Result<Stamps, Refusal>, Refusal>
+        requires part { part < MAX_PARTS }
+        ensures told { IfOk result (Tells J.terms.limit self.new.cut part inquiry.now) }
+        ensures sound { OnOk result (IsSound self.new.cut) }
+        ensures refused { IfErr result IsNoWord }
+        ensures later { IsLater self.old self.new }
+    {
+        let tag = self.next_tag()?;
+        let pass = self.split();
+        let question = ControlRequest::new(self.client, tag, *inquiry, pass);
+        self.send(
+            rt,
+            part,
+            PartitionMail::ControlRequest(Box::new(self.alloc, question)?),
+        )?;
+        for _ in rt.forever() {
+            if let Some(told) = self.hear_notice(rt, part, tag, inquiry)? {
+                return Ok(told);
+            }
+        }
+        unreachable!()
+    }
+
+    /// Takes the next word, and gives what it tells, where that is told to this inquiry.
+    #[tactic(auto, using(crate::proofs::SessionLemmas::later_same))]
+    fn hear_notice<R: Wait + time::Clock>(
+        &mut self,
+        rt: &R,
+        part: u16,
+        tag: u64,
+        inquiry: &Control,
+    ) -> Result<Option<Result<Stamps, Refusal>>, Refusal>
+        requires part { part < MAX_PARTS }
+        ensures told { IfOk result (λ told. IfSome told (Tells J.terms.limit self.new.cut part inquiry.now)) }
+        ensures sound { IfOk result (λ told. IfSome told (λ _. IsSound self.new.cut)) }
+        ensures unchanged { OnErr result (self.new ≡ self.old) }
+        ensures other { IfOk result (λ told. IfNone told (self.new ≡ self.old)) }
+        ensures refused { IfErr result IsNoWord }
+        ensures later { IsLater self.old self.new }
+    {
+        match self.next(rt)? {
+            SessionMail::Responses(_) => Ok(None),
+            SessionMail::ControlReply(notice) => {
+                Ok(self.take_notice(part, tag, inquiry, Box::into_inner(notice)))
+            }
+        }
+    }
+
+    /// Takes in the notice, where it is told to this inquiry, and the partition had then made at least
+    /// the marks that were seen of it.
+    #[tactic(auto, using(crate::proofs::SessionLemmas::later_same, crate::proofs::SessionLemmas::tells_joined))]
+    fn take_notice(
+        &mut self,
+        part: u16,
+        tag: u64,
+        inquiry: &Control,
+        notice: ControlReply<J>,
+    ) -> Option<Result<Stamps, Refusal>>
+        requires part { part < MAX_PARTS }
+        ensures told { IfSome result (Tells J.terms.limit self.new.cut part inquiry.now) }
+        ensures sound { IfSome result (λ _. IsSound self.new.cut) }
+        ensures other { IfNone result (self.new ≡ self.old) }
+        ensures later { IsLater self.old self.new }
+    {
+        if !notice.is_of(part, tag, *inquiry) {
+            return None;
+        }
+        let (told, pass) = notice.open();
+        if pass.length(part) < self.pass.length(part) {
+            return None;
+        }
+        self.join(pass);
+        Some(told)
+    }
+}

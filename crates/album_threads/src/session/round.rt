@@ -1,0 +1,186 @@
+// Rounds: messages that a session sends, and the replies to them.
+ghost use Rattle.std.specs.Prelude.{◌≡◌, All, IfOk, IfErr, OnOk, IfSome, IfNone, IsOkUnless};
+ghost use Rattle.album_passes.specs.Cuts.{Extends, IsSound};
+ghost use Rattle.album_threads.specs.Envelopes.{Shows};
+ghost use Rattle.album_threads.specs.Replies.{IsReplied};
+ghost use Rattle.album_threads.specs.Sending.{announced_with, prepared_in, sent_at, sent_last, IsUnused};
+ghost use Rattle.album_threads.specs.Sessions.{IsLater, IsNoWord};
+
+use crate::envelopes::{ReplyEnvelope, RequestEnvelope};
+use crate::mailbox::PartitionMail;
+use crate::service_names::ServiceNames;
+use crate::session::asked::Asked;
+use crate::session::channel::PartitionChannel;
+use album_calls::{Body, Message, Request};
+use album_stamps::Refusal;
+use std::sync::Wait;
+use std::time;
+
+impl<J: ServiceNames> PartitionChannel<J> {
+    /// Sends the messages, all of them before an answer is awaited.
+    ///
+    /// # Errors
+    ///
+    /// `Closed` or `OutOfMemory`.
+    pub(crate) fn ask<R: Wait>(&mut self, rt: &R, messages: Vec<Message>) -> Result<Asked, Refusal>
+        requires shown { All (Shows self.old.cut) messages.items }
+        ensures sent { IfOk result (λ asked. asked.sent.items ≡ messages.items) }
+        ensures begun { IfOk result (λ asked. asked.begun.cut ≡ self.old.cut) }
+        ensures sound { IsSound self.old.cut }
+        ensures refused { IfErr result IsNoWord }
+        ensures same { self.new ≡ self.old }
+    {
+        let begun = self.split();
+        for part in 0..self.parts() {
+            self.post(rt, part, &messages)?;
+        }
+        Ok(Asked {
+            sent: messages,
+            begun,
+        })
+    }
+
+    /// Sends the messages, if there are any. Then the replies to them are awaited, and no more those to what was asked.
+    ///
+    /// # Errors
+    ///
+    /// `Closed` or `OutOfMemory`.
+    pub(crate) fn ask_more<R: Wait>(
+        &mut self,
+        rt: &R,
+        asked: Asked,
+        sent: Vec<Message>,
+    ) -> Result<Asked, Refusal>
+        requires shown { All (Shows self.old.cut) sent.items }
+        ensures sent { IfOk result (λ more. more.sent.items ≡ sent_last asked.sent.items sent.items) }
+        ensures begun { IfOk result (λ more. more.begun.cut ≡ sent_at asked.begun.cut self.old.cut sent.items) }
+        ensures refused { IfErr result IsNoWord }
+        ensures same { self.new ≡ self.old }
+    {
+        if sent.is_empty() {
+            return Ok(asked);
+        }
+        self.ask(rt, sent)
+    }
+
+    /// Announces what the message prepares, if it prepares anything.
+    pub(crate) fn announce(&mut self, message: &Message)
+        requires unused { IsUnused self.old (prepared_in message.now.body) }
+        ensures cut { self.new.cut ≡ announced_with self.old.cut (prepared_in message.now.body) }
+        ensures grown { Extends self.old.cut self.new.cut }
+        ensures client { self.new.client ≡ self.old.client }
+    {
+        match message.body() {
+            Body::Request(Request::Prepare(stamp, _, items)) => {
+                self.announce_items(*stamp, items.as_slice());
+            }
+            Body::Request(_) | Body::Reply(_) => {}
+        }
+    }
+
+    /// Sends those of the messages that go to the partition, as one mail.
+    fn post<R: Wait>(&mut self, rt: &R, part: u16, messages: &[Message]) -> Result<(), Refusal>
+        requires shown { All (Shows self.old.cut) messages.now }
+        ensures refused { IfErr result IsNoWord }
+        ensures same { self.new ≡ self.old }
+    {
+        let envelopes = self.envelopes_to(part, messages)?;
+        if envelopes.is_empty() {
+            return Ok(());
+        }
+        self.send(rt, part, PartitionMail::Letters(envelopes))
+    }
+
+    /// Those of the messages that go to the partition, each with a pass.
+    fn envelopes_to(
+        &mut self,
+        part: u16,
+        messages: &[Message],
+    ) -> Result<Vec<RequestEnvelope<J>>, Refusal>
+        requires shown { All (Shows self.old.cut) messages.now }
+        ensures memory { IsOkUnless result Refusal.OutOfMemory }
+        ensures same { self.new ≡ self.old }
+    {
+        let mut envelopes = Vec::with_capacity(self.alloc, count_to(part, messages))?;
+        for message in messages {
+            if message.to().is_part(part) {
+                envelopes.push(RequestEnvelope::new(message.copy()?, self.split()))?;
+            }
+        }
+        Ok(envelopes)
+    }
+
+    /// Waits for a reply to one of the messages that were asked.
+    ///
+    /// # Errors
+    ///
+    /// `Closed`.
+    #[tactic(auto, using(crate::proofs::SessionLemmas::later_same))]
+    pub(crate) fn hear<R: Wait + time::Clock>(
+        &mut self,
+        rt: &R,
+        asked: &Asked,
+    ) -> Result<Message, Refusal>
+        ensures replied { IfOk result (IsReplied J.terms.limit asked.now.begun.cut self.new.cut asked.now.sent.items) }
+        ensures sound { OnOk result (IsSound self.new.cut) }
+        ensures closed { IsOkUnless result Refusal.Closed }
+        ensures later { IsLater self.old self.new }
+    {
+        for _ in rt.forever() {
+            if let Some(reply) = self.hear_next(rt, asked)? {
+                return Ok(reply);
+            }
+        }
+        unreachable!()
+    }
+
+    /// Takes the next response, and gives the reply, where it is one to one of these messages.
+    #[tactic(auto, using(crate::proofs::SessionLemmas::later_same))]
+    fn hear_next<R: Wait + time::Clock>(
+        &mut self,
+        rt: &R,
+        asked: &Asked,
+    ) -> Result<Option<Message>, Refusal>
+        ensures replied { IfOk result (λ reply. IfSome reply
+            (IsReplied J.terms.limit asked.now.begun.cut self.new.cut asked.now.sent.items)) }
+        ensures sound { IfOk result (λ reply. IfSome reply (λ _. IsSound self.new.cut)) }
+        ensures other { IfOk result (λ reply. IfNone reply (self.new ≡ self.old)) }
+        ensures closed { IsOkUnless result Refusal.Closed }
+        ensures later { IsLater self.old self.new }
+    {
+        match self.next_response(rt)? {
+            None => Ok(None),
+            Some(response) => Ok(self.take(asked, response)),
+        }
+    }
+
+    /// Takes in what is replied, where it answers one of these messages, at a point of the partition's history that is
+    /// no earlier than what was seen of it when they were sent.
+    #[tactic(auto, using(crate::proofs::SessionLemmas::later_same))]
+    fn take(&mut self, asked: &Asked, response: ReplyEnvelope<J>) -> Option<Message>
+        ensures replied { IfSome result
+            (IsReplied J.terms.limit asked.now.begun.cut self.new.cut asked.now.sent.items) }
+        ensures sound { IfSome result (λ _. IsSound self.new.cut) }
+        ensures other { IfNone result (self.new ≡ self.old) }
+        ensures later { IsLater self.old self.new }
+    {
+        let (request, reply, pass) = response.open();
+        let Some(found) = asked.find(&request, self.found) else {
+            return None;
+        };
+        if !asked.is_before(&reply, &pass) {
+            return None;
+        }
+        self.found = found;
+        self.join(pass);
+        Some(reply)
+    }
+}
+
+/// How many of the messages go to the partition.
+fn count_to(part: u16, messages: &[Message]) -> usize {
+    messages
+        .iter()
+        .filter(|message| message.to().is_part(part))
+        .count()
+}

@@ -1,0 +1,287 @@
+// Turns: a session takes a reply, and does what its client has come to.
+ghost use Rattle.std.specs.Prelude.{◌≡◌, ◌≢◌, ◌≤◌, [], true, Some, None, Ok, Err, All, IfOk, IfErr, IfSome, IfNone, OnOk, OnErr, IsOkAnd, IsOkUnless};
+ghost use Rattle.album_client.specs.Clients.{stamp_at_work, IsProper};
+ghost use Rattle.album_client.specs.Transitions.{client_of, IsMoved};
+ghost use Rattle.album_client.specs.Turns.{is_waiting, turn_of, IsTakenBy};
+ghost use Rattle.album_stamps.specs.Clocks.{next_of};
+ghost use Rattle.album_stamps.specs.declared.limits.TheConstants.{MAX_COUNTER};
+ghost use Rattle.album_threads.specs.Asks.{IsHeard, IsOn, AreShared};
+ghost use Rattle.album_threads.specs.Envelopes.{Shows};
+ghost use Rattle.album_threads.specs.Phases.{Outset, IsUnderWay};
+ghost use Rattle.album_threads.specs.Replies.{IsReplied};
+ghost use Rattle.album_threads.specs.Sending.{announced_by, IsFree, IsAnnouncedBy};
+ghost use Rattle.album_threads.specs.Sessions.{IsNoWord};
+ghost use Rattle.album_threads.specs.Turns.{actor_in, terms_in, IsTaken, IsWaited, IsTurned, IsSent};
+
+use crate::service_names::ServiceNames;
+use crate::session::Session;
+use crate::session::ask::Way;
+use crate::session::asked::Asked;
+use album_calls::Message;
+use album_client::{Client, ClientStep, Phase, Transition};
+use album_stamps::{Clock, Refusal, Stamp};
+use album_writer::Answer;
+use std::sync::Wait;
+use std::time;
+
+/// What the client has come to at one reply.
+#[derive(Drop)]
+pub(crate) enum Turned {
+    /// The ask is answered.
+    Answers(Answer),
+    /// It does this from now on, and sends these messages, if any.
+    Sends(Phase, Vec<Message>),
+}
+
+impl<J: ServiceNames> Session<J> {
+    /// Takes replies in place as long as they end no round of a read, which most don't, and gives the first other one.
+    ///
+    /// # Errors
+    ///
+    /// `Closed` or `OutOfMemory`.
+    pub(crate) fn waits<R: Wait + time::Clock>(
+        &mut self,
+        rt: &R,
+        asked: &Asked,
+        phase: &mut Phase,
+    ) -> Result<Message, Refusal>
+        ensures way { (outset : Outset)
+            → IsUnderWay J.policy outset self.old asked.now.begun.cut asked.now.sent.items phase.old
+            → IsWaited J.policy outset self.new asked.now.begun.cut asked.now.sent.items phase.new }
+        ensures replied { IfOk result
+            (IsReplied J.terms.limit asked.now.begun.cut self.new.cut asked.now.sent.items) }
+        ensures refused { IfErr result IsNoWord }
+        ensures on { IsOn self.old self.new }
+    {
+        for _ in rt.forever() {
+            if let Some(heard) = self.waits_once(rt, asked, phase) {
+                return heard;
+            }
+        }
+        unreachable!()
+    }
+
+    /// Hears one reply, and takes it, where it ends no round of a read; else gives it, or why none came or was taken.
+    fn waits_once<R: Wait + time::Clock>(
+        &mut self,
+        rt: &R,
+        asked: &Asked,
+        phase: &mut Phase,
+    ) -> Option<Result<Message, Refusal>>
+        ensures way { IfNone result ((outset : Outset)
+            → IsUnderWay J.policy outset self.old asked.now.begun.cut asked.now.sent.items phase.old
+            → IsUnderWay J.policy outset self.new asked.now.begun.cut asked.now.sent.items phase.new) }
+        ensures left { IfSome result (λ _. phase.new ≡ phase.old) }
+        ensures replied { IfSome result (λ heard. IfOk heard
+            (IsReplied J.terms.limit asked.now.begun.cut self.new.cut asked.now.sent.items)) }
+        ensures refused { IfSome result (λ heard. IfErr heard IsNoWord) }
+        ensures heard { IsHeard self.old self.new }
+    {
+        let heard = self.hears(rt, asked);
+        waited(phase, heard)
+    }
+
+    /// Waits for one reply.
+    ///
+    /// # Errors
+    ///
+    /// `Closed`.
+    fn hears<R: Wait + time::Clock>(&mut self, rt: &R, asked: &Asked) -> Result<Message, Refusal>
+        ensures replied { IfOk result
+            (IsReplied J.terms.limit asked.now.begun.cut self.new.cut asked.now.sent.items) }
+        ensures closed { IsOkUnless result Refusal.Closed }
+        ensures heard { IsHeard self.old self.new }
+    {
+        let heard = self.channel.hear(rt, asked);
+        self.channel.is_sound();
+        // What is true of each session is known once it is looked at.
+        let _actor = self.actor();
+        heard
+    }
+
+    /// Gives the reply to the client.
+    ///
+    /// # Errors
+    ///
+    /// `Closed` or `OutOfMemory`.
+    pub(crate) fn gives(
+        &self,
+        asked: &Asked,
+        phase: Phase,
+        heard: Result<Message, Refusal>,
+    ) -> Result<Transition, Refusal>
+        requires replied { IfOk heard
+            (IsReplied J.terms.limit asked.now.begun.cut self.now.cut asked.now.sent.items) }
+        requires refused { IfErr heard IsNoWord }
+        ensures taken { IfOk result (IsTaken J.terms.limit asked.now.begun.cut self.now.cut asked.now.sent.items
+            (terms_in J.policy self.now) (actor_in self.now) phase) }
+        ensures proper { IfOk result (λ moved. IsProper moved.client.phase) }
+        ensures refused { IfErr result IsNoWord }
+    {
+        // What was asked is for the contract alone.
+        let _asked = asked;
+        let moved = taken(self.actor(), phase, heard)?;
+        let _reads = moved.client.phase.reads();
+        Ok(moved)
+    }
+
+    /// Adds what is noted to the audit book, before anything more is sent, and takes over the client's clock and tag.
+    ///
+    /// # Errors
+    ///
+    /// `OutOfMemory`.
+    pub(crate) fn takes_over<R: Wait>(
+        &mut self,
+        rt: &R,
+        moved: Transition,
+    ) -> Result<Turned, Refusal>
+        requires own { moved.client.clock.client ≡ self.old.client }
+        requires risen { self.old.counter ≤ moved.client.clock.counter }
+        ensures turned { IfOk result (IsTurned moved.client.phase moved.sent.items moved.answer) }
+        ensures shared { OnOk result (AreShared self.old.client self.old.share self.new.share moved.notes.items) }
+        ensures counter { OnOk result (self.new.counter ≡ moved.client.clock.counter) }
+        ensures spent { OnOk result (next_of moved.client.clock ≡ Err Refusal.StampsSpent
+            → moved.client.clock.counter ≡ MAX_COUNTER) }
+        ensures kept { OnErr result (self.new.counter ≡ self.old.counter) }
+        ensures noted { OnErr result (moved.notes.items ≢ []) }
+        ensures memory { IsOkUnless result Refusal.OutOfMemory }
+        ensures client { self.new.client ≡ self.old.client }
+        ensures cut { self.new.cut ≡ self.old.cut }
+    {
+        if let Err(why) = self.note_all(rt, &moved.notes) {
+            let_go(moved);
+            return Err(why);
+        }
+        let Transition {
+            client,
+            notes: _,
+            sent,
+            answer,
+        } = moved;
+        let Client {
+            number: _,
+            clock,
+            phase,
+        } = client;
+
+        // That a clock which draws no more is at its end is known once it is asked.
+        is_spent_at_its_end(clock);
+        self.clock = clock;
+        self.tag = phase.tag();
+        Ok(by_answer(phase, sent, answer))
+    }
+
+    /// Sends the messages, once what the first of them prepares is announced. Where there are none, replies to what was
+    /// asked are awaited further. Once a write has begun, what cuts it off is its answer.
+    ///
+    /// # Errors
+    ///
+    /// `Closed` or `OutOfMemory`.
+    pub(crate) fn sends<R: Wait>(
+        &mut self,
+        rt: &R,
+        asked: Asked,
+        phase: Phase,
+        sent: Vec<Message>,
+    ) -> Result<Way, Refusal>
+        requires free { IsFree self.old sent.items }
+        requires shown { All (Shows (announced_by self.old.cut sent.items)) sent.items }
+        ensures way { IfOk result (IsSent asked phase sent.items self.new.cut) }
+        ensures refused { IfErr result IsNoWord }
+        ensures unbegun { OnErr result (stamp_at_work phase ≡ None) }
+        ensures announced { IsAnnouncedBy self.old self.new sent.items }
+    {
+        self.announces(&sent);
+        match self.channel.ask_more(rt, asked, sent) {
+            Ok(more) => Ok(Way::Awaits(more, phase)),
+            Err(why) => cut_off(stamp_of(phase), why),
+        }
+    }
+
+    /// Announces what the first of the messages prepares, if it prepares anything.
+    fn announces(&mut self, sent: &[Message])
+        requires { IsFree self.old sent.now }
+        ensures { IsAnnouncedBy self.old self.new sent.now }
+    {
+        if let Some(first) = sent.first() {
+            self.channel.announce(first);
+        }
+        self.channel.is_sound();
+    }
+}
+
+/// Takes the reply, where it ends no round of a read; else gives it, or why none came or was taken.
+fn waited(phase: &mut Phase, heard: Result<Message, Refusal>) -> Option<Result<Message, Refusal>>
+    requires { IsOkUnless heard Refusal.Closed }
+    ensures taken { IfNone result (IsOkAnd heard (λ reply.
+        (is_waiting phase.old reply ≡ true) × IsTakenBy phase.old reply phase.new)) }
+    ensures left { IfSome result (λ _. phase.new ≡ phase.old) }
+    ensures same { IfSome result (λ given. IfOk given (λ reply. heard ≡ Ok reply)) }
+    ensures refused { IfSome result (λ given. IfErr given IsNoWord) }
+{
+    let reply = match heard {
+        Ok(reply) => reply,
+        Err(why) => return Some(Err(why)),
+    };
+    match phase.waits(&reply) {
+        Ok(true) => None,
+        Ok(false) => Some(Ok(reply)),
+        Err(why) => Some(Err(why)),
+    }
+}
+
+/// What comes of the reply, which is let go.
+fn taken(
+    actor: ClientStep,
+    phase: Phase,
+    heard: Result<Message, Refusal>,
+) -> Result<Transition, Refusal>
+    requires { IfErr heard IsNoWord }
+    ensures moved { IfOk result (λ moved. IsOkAnd heard (λ reply.
+        IsMoved (turn_of actor.terms (client_of actor) reply phase) moved)) }
+    ensures refused { IfErr result IsNoWord }
+{
+    actor.takes(phase, &heard?)
+}
+
+/// The client is let go.
+fn let_go(moved: Transition) {
+    drop(moved);
+}
+
+/// Says what is so of each clock: one that is spent stands at the greatest counter.
+fn is_spent_at_its_end(clock: Clock)
+    ensures { next_of clock ≡ Err Refusal.StampsSpent → clock.counter ≡ MAX_COUNTER }
+{
+    let mut clock = clock;
+    let _ = clock.next();
+}
+
+/// What the client has come to. Who has answered does nothing more.
+fn by_answer(phase: Phase, sent: Vec<Message>, answer: Option<Answer>) -> Turned
+    ensures { IsTurned phase sent.items answer result }
+{
+    match answer {
+        Some(answer) => Turned::Answers(answer),
+        None => Turned::Sends(phase, sent),
+    }
+}
+
+/// The stamp of the write that is under way, if there is one. The write is let go.
+fn stamp_of(phase: Phase) -> Option<Stamp>
+    ensures { result ≡ stamp_at_work phase }
+{
+    phase.stamp()
+}
+
+/// What comes of an ask that goes no further: that is the answer to it, where a write of this stamp has begun.
+pub(crate) fn cut_off(stamp: Option<Stamp>, why: Refusal) -> Result<Way, Refusal>
+    ensures begun { IfSome stamp (λ t. result ≡ Ok (Way.Answered (Answer.Unsettled t why))) }
+    ensures before { IfNone stamp (result ≡ Err why) }
+    ensures unbegun { OnErr result (stamp ≡ None) }
+{
+    match stamp {
+        Some(stamp) => Ok(Way::Answered(Answer::Unsettled(stamp, why))),
+        None => Err(why),
+    }
+}

@@ -1,6 +1,0 @@
-use Rattle.album_views.specs.Seen.{seen}
-use Rattle.album_views.proofs.Growing.{AreLookedAt}
-use Rattle.album_views.proofs.naming.names.Given as goal
-
-abbrev pub invariant-loop-index : goal.invariant-loop-index
-invariant-loop-index l = AreLookedAt (seen l.snapshot) l.ask l.index l.names.keys

@@ -1,0 +1,81 @@
+-- Which items a ruling looks at.
+use Rattle.std.specs.Prelude.{ℕ, ◌+◌, ◌==◌, List, [], ◌++◌, length, Contains}
+use Rattle.std.specs.Fn.{iterate}
+use Rattle.std.specs.List.{flat_map}
+use Rattle.indexmap.specs.IndexSet.{insert_all}
+use Rattle.album_items.specs.Values.{home_of, children_of, list_of, head_group_of, groups_in_list, groups_in_group}
+use Rattle.album_items.specs.declared.values.Value.{Value}
+use Rattle.album_reader.specs.Answers.{ReadVersion}
+use Rattle.album_views.specs.declared.asks.Ask.{Ask}
+use Rattle.album_views.specs.declared.asks.Ask.TheVariants as ask
+use Rattle.album_views.specs.Asks.{objects_of}
+use Rattle.album_views.specs.Seen.{seen}
+
+-- what an ask looks at beside its objects: the home of a picture that is deleted or moved, the children of an album
+-- that is listed
+abbrev pub relatives_of : (ℕ → Value) → Ask → List ℕ
+relatives_of seen (ask.Read object) = []
+relatives_of seen (ask.List album) = children_of (seen album)
+relatives_of seen (ask.GetList object) = []
+relatives_of seen (ask.AddPicture album title content) = []
+relatives_of seen (ask.AddAlbum album title) = []
+relatives_of seen (ask.Retitle object title) = []
+relatives_of seen (ask.Replace object content) = []
+relatives_of seen (ask.Delete object) = home_of (seen object)
+relatives_of seen (ask.Move object to) = home_of (seen object)
+relatives_of seen (ask.SetLists lists) = []
+relatives_of seen (ask.SetOwner object owner group) = []
+relatives_of seen (ask.SetMembers object members) = []
+
+-- what is ruled on: the objects of the ask, and these
+abbrev pub subjects_of : (ℕ → Value) → Ask → List ℕ
+subjects_of seen ask = objects_of ask ++ relatives_of seen ask
+
+-- ---- as a set
+
+-- What a ruling looks at: the least set that has the subjects, of each subject the list and the head group that its
+-- head names, the groups that the entries of each such list name, and the groups among the members of each group in
+-- the set. A group's own list is not in it, unless the group is a subject.
+pub data IsNamed (seen : ℕ → Value) (ask : Ask) : ℕ → Type 0 where
+  Subject : (item : ℕ) → Contains (subjects_of seen ask) item → IsNamed seen ask item
+  ListOf :
+      (subject item : ℕ) → Contains (subjects_of seen ask) subject
+      → Contains (list_of (seen subject)) item → IsNamed seen ask item
+  HeadGroupOf :
+      (subject item : ℕ) → Contains (subjects_of seen ask) subject
+      → Contains (head_group_of (seen subject)) item → IsNamed seen ask item
+  GroupInListOf :
+      (subject list item : ℕ) → Contains (subjects_of seen ask) subject
+      → Contains (list_of (seen subject)) list
+      → Contains (groups_in_list (seen list)) item → IsNamed seen ask item
+  GroupInGroup :
+      (group item : ℕ) → IsNamed seen ask group
+      → Contains (groups_in_group (seen group)) item → IsNamed seen ask item
+
+-- ---- as a list, in the order of the rules
+
+-- the list and the group that the head of an item names
+abbrev pub named_by_head : (ℕ → Value) → ℕ → List ℕ
+named_by_head seen item = list_of (seen item) ++ head_group_of (seen item)
+
+-- the groups that the entries of its list name
+abbrev pub named_by_list : (ℕ → Value) → ℕ → List ℕ
+named_by_list seen item = flat_map (λ list. groups_in_list (seen list)) (list_of (seen item))
+
+-- the subjects, then what the head of each names, then what the list of each names
+unfoldable pub first_names : (ℕ → Value) → Ask → List ℕ
+first_names seen ask =
+    subjects_of seen ask
+    ++ (flat_map (named_by_head seen) (subjects_of seen ask) ++ flat_map (named_by_list seen) (subjects_of seen ask))
+
+-- each item once, at its first index
+abbrev pub once : List ℕ → List ℕ
+once items = insert_all ◌==◌ [] items
+
+-- what names lead to: the first names, and behind them the groups among the members of each of the names
+abbrev pub grown : (ℕ → Value) → Ask → List ℕ → List ℕ
+grown seen ask names = once (first_names seen ask ++ flat_map (λ item. groups_in_group (seen item)) names)
+
+-- The names: what grows out of none. After as many turns as there are answers, and one, nothing grows any more.
+unfoldable pub names_of : List ReadVersion → Ask → List ℕ
+names_of rows ask = iterate (grown (seen rows) ask) (length rows + 1) []

@@ -1,0 +1,171 @@
+// The clients that have asked.
+ghost use Rattle.std.specs.Prelude.{◌≡◌, ◌≢◌, ◌<◌, ◌≤◌, ◌^◌, ◌++◌, ◌∷◌, false, [], length, Err, IsOk, IsOkAnd, IsOkUnless, IfOk, IfErr, IfSome, IfNone, OnOk, OnErr, MatchResult};
+ghost use Rattle.album_stamps.specs.declared.limits.TheConstants.{MAX_READ_ITEMS};
+ghost use Rattle.album_client.specs.Clients.{newcomer};
+ghost use Rattle.album_world.specs.Registers.{AreChangedBy, StandsAt, asks_of, has_number, takes_of};
+ghost use Rattle.album_world.specs.State.{client_at};
+
+use crate::outs::Out;
+use crate::turns;
+use album_calls::Message;
+use album_client::{Client, Terms};
+use album_eval::Principal;
+use album_stamps::{ClientNo, Refusal};
+use album_views::Ask;
+use indexmap::IndexSet;
+use std::alloc::{AllocError, Global};
+use std::marker::Model;
+
+/// The clients that have asked, each found by its number at once. Contracts see them in the order of their first
+/// asks.
+#[derive(Drop)]
+pub(crate) struct Clients {
+    // At the index of its number stands each client.
+    numbers: IndexSet<u16>,
+    clients: Vec<Client>,
+}
+
+impl Model for Clients {
+    ghost use Rattle.std.specs.Prelude.{◌≡◌, List};
+    ghost use Rattle.album_client.specs.Clients.{Client as State};
+    ghost use Rattle.album_world.specs.Registers.{numbers_of};
+
+    ghost Value = { List State };
+
+    ghost view = { λ r. r.clients.items };
+
+    ghost invariant = { λ r. r.numbers.keys ≡ numbers_of r.clients.items };
+}
+
+impl Clients {
+    /// None has asked.
+    pub fn new(alloc: Global) -> Clients
+        ensures { result ≡ [] }
+    {
+        Clients {
+            numbers: IndexSet::new(alloc),
+            clients: Vec::new(alloc),
+        }
+    }
+
+    /// Where the client stands, if it has asked.
+    #[tactic(auto, using(crate::proofs::RegisterLemmas::stands_if))]
+    fn index_of(&self, number: ClientNo) -> Option<usize>
+        ensures found { IfSome result (StandsAt self.now number) }
+        ensures missing { IfNone result (has_number self.now number ≡ false) }
+    {
+        self.numbers.get_index_of(&number.number())
+    }
+
+    /// Whether the client may ask this, or why not.
+    #[tactic(auto, using(crate::proofs::CheckLemmas::check_takes_none, crate::proofs::RegisterLemmas::new_client))]
+    pub fn may_ask(
+        &self,
+        terms: Terms,
+        number: ClientNo,
+        principal: &Principal,
+        ask: &Ask,
+    ) -> Result<(), Refusal>
+        ensures may { MatchResult result
+            (λ _. IsOk (asks_of terms number (client_at self.now number) principal.now ask.now))
+            (λ e. asks_of terms number (client_at self.now number) principal.now ask.now ≡ Err e) }
+        ensures not_memory { IfErr result (λ e. e ≢ Refusal.OutOfMemory) }
+    {
+        match self.index_of(number) {
+            Some(index) => turns::may_ask(&self.clients[index], terms, principal, ask),
+            None => ask.check(principal),
+        }
+    }
+
+    /// The client asks what it may ask. So many messages were sent before.
+    #[tactic(auto, using(crate::proofs::RegisterLemmas::asked, crate::proofs::RegisterLemmas::may_there, crate::proofs::RegisterLemmas::new_client, crate::proofs::RegisterLemmas::keys_set))]
+    pub fn ask(
+        &mut self,
+        alloc: Global,
+        terms: Terms,
+        number: ClientNo,
+        principal: &Principal,
+        ask: &Ask,
+        before: u64,
+    ) -> Result<(Vec<Message>, Vec<Out>), Refusal>
+        requires fits { before < 2 ^ 63 }
+        requires may { IsOk (asks_of terms number (client_at self.old number) principal.now ask.now) }
+        ensures done { IfOk result (λ told.
+            IsOkAnd (asks_of terms number (client_at self.old number) principal.now ask.now)
+            (λ change. AreChangedBy before self.old change self.new told.0.items told.1.items)) }
+        ensures few { IfOk result (λ told. length told.0.items ≤ MAX_READ_ITEMS) }
+        ensures memory { IsOkUnless result Refusal.OutOfMemory }
+        ensures unchanged { OnErr result (self.new ≡ self.old) }
+    {
+        match self.index_of(number) {
+            Some(index) => {
+                let client = &mut self.clients[index];
+                turns::ask(client, alloc, terms, principal, ask, before)
+            }
+            None => self.enter(alloc, terms, number, principal, ask, before),
+        }
+    }
+
+    /// A client asks that never asked.
+    #[tactic(auto, using(crate::proofs::RegisterLemmas::first_asked))]
+    fn enter(
+        &mut self,
+        alloc: Global,
+        terms: Terms,
+        number: ClientNo,
+        principal: &Principal,
+        ask: &Ask,
+        before: u64,
+    ) -> Result<(Vec<Message>, Vec<Out>), Refusal>
+        requires fits { before < 2 ^ 63 }
+        requires new { has_number self.old number ≡ false }
+        requires may { IsOk (asks_of terms number (newcomer number) principal.now ask.now) }
+        ensures done { IfOk result (λ told.
+            IsOkAnd (asks_of terms number (client_at self.old number) principal.now ask.now)
+            (λ change. AreChangedBy before self.old change self.new told.0.items told.1.items)) }
+        ensures few { IfOk result (λ told. length told.0.items ≤ MAX_READ_ITEMS) }
+        ensures memory { IsOkUnless result Refusal.OutOfMemory }
+        ensures unchanged { OnErr result (self.new ≡ self.old) }
+    {
+        let mut client = Client::new(number);
+        let told = turns::ask(&mut client, alloc, terms, principal, ask, before)?;
+        self.put(client)?;
+        Ok(told)
+    }
+
+    /// Puts a client behind the others, whose number none of them has.
+    #[tactic(auto, using(crate::proofs::RegisterLemmas::keys_push))]
+    fn put(&mut self, client: Client) -> Result<(), AllocError>
+        requires { has_number self.old client.number ≡ false }
+        ensures ok { OnOk result (self.new ≡ self.old ++ client ∷ []) }
+        ensures unchanged { OnErr result (self.new ≡ self.old) }
+    {
+        self.clients.reserve(1)?;
+        self.numbers.insert(client.number.number())?;
+        self.clients.push_reserved(client);
+        Ok(())
+    }
+
+    /// A message comes to the client. So many messages were sent before.
+    #[tactic(auto, using(crate::proofs::RegisterLemmas::taken, crate::proofs::RegisterLemmas::new_takes_nothing, crate::proofs::RegisterLemmas::keys_set))]
+    pub fn take(
+        &mut self,
+        alloc: Global,
+        terms: Terms,
+        number: ClientNo,
+        message: &Message,
+        before: u64,
+    ) -> Result<(Vec<Message>, Vec<Out>), Refusal>
+        requires { before < 2 ^ 63 }
+        ensures done { IfOk result (λ told. AreChangedBy before self.old
+            (takes_of terms number (client_at self.old number) message.now) self.new told.0.items told.1.items) }
+        ensures few { IfOk result (λ told. length told.0.items ≤ MAX_READ_ITEMS) }
+        ensures memory { IsOkUnless result Refusal.OutOfMemory }
+        ensures unchanged { OnErr result (self.new ≡ self.old) }
+    {
+        match self.index_of(number) {
+            Some(index) => turns::take(&mut self.clients[index], alloc, terms, message, before),
+            None => Ok((Vec::new(alloc), Vec::new(alloc))),
+        }
+    }
+}
