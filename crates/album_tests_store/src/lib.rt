@@ -1,11 +1,20 @@
 //! Tests of partitions, reads and passes that no script of `rows/replay` reaches, most of them driven by tables of
-//! messages that are spelled as short texts; and of sessions of a running service, with gates that its partitions pass.
+//! messages that are spelled as short texts; of sessions of a running service, with gates that its partitions pass; and
+//! of a world and a service in which the same happens.
 #![tactic(auto)]
 
 #[cfg(test)]
+mod conducted;
+#[cfg(test)]
+mod doors;
+#[cfg(test)]
 mod gates;
 #[cfg(test)]
+mod mails;
+#[cfg(test)]
 mod messages;
+#[cfg(test)]
+mod orders;
 #[cfg(test)]
 mod partition;
 #[cfg(test)]
@@ -15,8 +24,12 @@ mod reader;
 #[cfg(test)]
 mod refused;
 #[cfg(test)]
+mod scripts;
+#[cfg(test)]
 mod sessions;
 #[cfg(test)]
 mod terminate;
+#[cfg(test)]
+mod told;
 #[cfg(test)]
 mod values;

@@ -108,9 +108,9 @@ where
 }
 
 /// A session, which ends where it is let go.
-struct OwnedSession<J: ServiceNames, R: Wait + Copy> {
-    rt: R,
-    session: Session<J>,
+pub(crate) struct OwnedSession<J: ServiceNames, R: Wait + Copy> {
+    pub(crate) rt: R,
+    pub(crate) session: Session<J>,
 }
 
 impl<J: ServiceNames, R: Wait + Copy> Drop for OwnedSession<J, R> {
@@ -121,7 +121,7 @@ impl<J: ServiceNames, R: Wait + Copy> Drop for OwnedSession<J, R> {
 }
 
 /// A new session.
-fn new_guest<J: ServiceNames, R: Wait + Copy>(
+pub(crate) fn new_guest<J: ServiceNames, R: Wait + Copy>(
     rt: &R,
     service: &Service<J>,
 ) -> Result<OwnedSession<J, R>, Refusal> {

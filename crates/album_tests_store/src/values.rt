@@ -7,7 +7,7 @@ use bytes::Bytes;
 use std::alloc::Global;
 
 /// A head of amy's with the list of this number.
-fn head(alloc: Global, list: u64) -> Result<Head, Refusal> {
+pub fn head(alloc: Global, list: u64) -> Result<Head, Refusal> {
     Ok(Head {
         owner: Name::of(alloc, "amy")?,
         group: 0,

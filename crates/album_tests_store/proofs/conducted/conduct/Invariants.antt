@@ -1,0 +1,17 @@
+use Rattle.album_tests_store.proofs.conducted.conduct.Given as goal
+
+-- the desk, the policy and the four ledgers that were opened here
+abbrev pub ghosts-conduct_by-J-ServiceNames : goal.ghosts-conduct_by-J-ServiceNames
+ghosts-conduct_by-J-ServiceNames g a = record {
+  table = a.opened.desk.table;
+  terms = a.opened.desk.terms;
+  policy = a.opened.policy;
+}
+
+abbrev pub ghosts-conduct_by-J-Books : goal.ghosts-conduct_by-J-Books
+ghosts-conduct_by-J-Books g a = record {
+  audit_ok = a.opened.books.audit_ok;
+  audit_failed = a.opened.books.audit_failed;
+  alarm_ok = a.opened.books.alarm_ok;
+  alarm_failed = a.opened.books.alarm_failed;
+}

@@ -1,0 +1,161 @@
+// A service in which what happens is conducted, move by move: two sessions ask on threads of their own, and each
+// partition is held at its gate until it is its turn.
+ghost use Rattle.std.specs.Prelude.{◌≡◌};
+ghost use Rattle.album_threads.specs.Opened.{opened_as};
+
+use crate::doors::{Doors, Held};
+use crate::mails::Move;
+use crate::scripts::{Who, Wish, ask_of, opening};
+use crate::sessions::{OwnedSession, new_guest};
+use crate::told::{Answers, Told};
+use album_audit::Totals;
+use album_stamps::Refusal;
+use album_threads::{Opened, Service, ServiceNames};
+use std::alloc::{AllocError, Global};
+use std::marker::Brand;
+use std::sync::atomic::Ordering;
+use std::sync::{Arc, Wait};
+use std::thread::Threads;
+use std::{thread, time};
+
+/// Makes the move, and waits until what comes of it is seen.
+fn make(doors: &Doors, step: Move) {
+    match step {
+        Move::Ask(who) => {
+            doors.asks(who).fetch_add(1, Ordering::SeqCst);
+        }
+        Move::Take(part, count) => {
+            let door = doors.door(part);
+            door.open.store(count, Ordering::SeqCst);
+            doors.wait(&door.done, count);
+        }
+        Move::Await(part, count) => {
+            doors.wait(&doors.door(part).come, count.wrapping_add(1));
+        }
+    }
+}
+
+fn make_all(doors: &Doors, moves: &[Move]) {
+    for step in moves {
+        make(doors, *step);
+    }
+}
+
+/// The session asks what is wished, and what it is told is added.
+fn ask<J: ServiceNames, R: Wait + time::Clock + Copy>(
+    alloc: Global,
+    guest: &mut OwnedSession<J, R>,
+    who: Who,
+    wish: Wish,
+    answers: &mut Answers,
+) -> Result<(), Refusal> {
+    let rt = guest.rt;
+    let principal = who.principal(alloc)?;
+    let ask = ask_of(alloc, wish)?;
+    let answer = guest.session.ask(&rt, &principal, ask)?;
+    let added = answers.add(&answer);
+    drop(answer);
+    added
+}
+
+/// What the session is told to all that is wished, each of it once it is time.
+fn ask_all<J: ServiceNames, R: Wait + time::Clock + Copy>(
+    alloc: Global,
+    mut guest: OwnedSession<J, R>,
+    doors: &Doors,
+    who: Who,
+) -> Result<Answers, Refusal> {
+    let mut answers = Answers::new(alloc);
+    let mut count: u64 = 0;
+    for wish in who.wishes() {
+        count = count.wrapping_add(1);
+        doors.wait(doors.asks(who), count);
+        ask(alloc, &mut guest, who, *wish, &mut answers)?;
+    }
+    Ok(answers)
+}
+
+/// What two sessions are told.
+#[derive(Drop)]
+struct Both {
+    amy: Result<Answers, Refusal>,
+    bo: Result<Answers, Refusal>,
+}
+
+/// Two sessions ask on threads of their own, while the moves are made.
+fn both_ask<J: ServiceNames + Send, R: Threads + Wait + time::Clock + Copy + Send + Sync>(
+    rt: &R,
+    alloc: Global,
+    doors: &Doors,
+    moves: &[Move],
+    amy: OwnedSession<J, R>,
+    bo: OwnedSession<J, R>,
+) -> Result<Both, AllocError> {
+    thread::scope(
+        thread::scope_env(),
+        rt,
+        |scope| -> Result<Both, AllocError> {
+            let amy = scope.spawn(move || ask_all(alloc, amy, doors, Who::Amy))?;
+            let bo = scope.spawn(move || ask_all(alloc, bo, doors, Who::Bo))?;
+            make_all(doors, moves);
+            Ok(Both {
+                amy: amy.join(rt),
+                bo: bo.join(rt),
+            })
+        },
+    )
+}
+
+/// What two new sessions are told.
+fn new_ask<J: ServiceNames + Send, R: Threads + Wait + time::Clock + Copy + Send + Sync>(
+    rt: &R,
+    alloc: Global,
+    service: &Service<J>,
+    doors: &Doors,
+    moves: &[Move],
+) -> Result<Both, Refusal> {
+    let amy = new_guest(rt, service)?;
+    let bo = new_guest(rt, service)?;
+    Ok(both_ask(rt, alloc, doors, moves, amy, bo)?)
+}
+
+/// What they were told and what the audit book has, where nobody gave up waiting.
+fn told_of(both: Both, totals: Totals, doors: &Doors) -> Result<Told, Refusal> {
+    let Both { amy, bo } = both;
+    let (amy, bo) = (amy?, bo?);
+    if doors.has_given_up() {
+        return Err(Refusal::Closed);
+    }
+    Ok(Told {
+        amy,
+        bo,
+        granted: totals.audit_ok,
+        denied: totals.audit_failed,
+    })
+}
+
+fn conduct_by<
+    J: ServiceNames + Send + 'static,
+    R: Threads + Wait + time::Clock + Copy + Send + Sync + 'static,
+>(rt: R, alloc: Global, opened: Opened, moves: &[Move]) -> Result<Told, Refusal>
+    requires named { opened ≡ opened_as J.table J.terms J.policy J.audit_ok J.audit_failed J.alarm_ok J.alarm_failed }
+{
+    let doors = Arc::new(alloc, Doors::new())?;
+    let gate = Held {
+        doors: Arc::try_clone(&doors)?,
+    };
+    let service = Service::<J>::open(rt, alloc, opened, gate)?;
+    let both = new_ask(&rt, alloc, &service, &doors, moves);
+    let totals = service.close(&rt);
+    told_of(both?, totals, &doors)
+}
+
+/// What two sessions are told by a service in which the moves are made.
+pub fn conduct<R: Threads + Wait + time::Clock + Copy + Send + Sync + 'static>(
+    rt: R,
+    alloc: Global,
+    moves: &[Move],
+) -> Result<Told, Refusal> {
+    let opened = Opened::new(alloc, &opening(alloc)?, 2)?;
+    conduct_by::<Brand, R>(rt, alloc, opened, moves)
+}
