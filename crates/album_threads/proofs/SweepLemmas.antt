@@ -12,7 +12,7 @@ use Rattle.album_stamps.specs.declared.refusals.Refusal.TheVariants.{Clash, Full
 use Rattle.album_items.specs.ItemIds.{place_of}
 use Rattle.album_items.specs.Places.{is_placed, lies_at, is_other, others_of}
 use Rattle.album_calls.specs.declared.messages.Message.{Message}
-use Rattle.album_terminate.specs.PendingAsk.{check_to}
+use Rattle.album_terminate.specs.Asking.{check_to}
 use Rattle.album_terminate.specs.declared.deciding.StampState.TheVariants as state
 use Rattle.album_partition.specs.Marks.{prepares, state_of, is_pending, items_at, mark_items, is_full, latest, floor}
 use Rattle.album_partition.specs.Partition.{PartitionState}
