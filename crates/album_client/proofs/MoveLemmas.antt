@@ -213,10 +213,10 @@ memory_told false why e other = e
 
 -- the ask of a view is ruled on
 pub rules_done : (terms : Terms) (x y : Client) (tag : ℕ) (who : Principal) (view : ViewState) (ruled : Ruled)
-    (moved : Transition) → IsRuled terms.policy who view ruled
+    (transition : Transition) → IsRuled terms.policy who view ruled
     → y ≡ record x { clock = clock_after_rows x.clock view.rows }
     → IsMoved (record (rules_by terms y tag (record { view = view; principal = who; policy = terms.policy })
-    (told_by ruled.ruling)) { noted = Some ruled.notes.items }) moved
-    → IsMoved (rules terms x tag who view) moved
-rules_done terms x y tag who view ruled moved ruling at is =
+    (told_by ruled.ruling)) { noted = Some ruled.notes.items }) transition
+    → IsMoved (rules terms x tag who view) transition
+rules_done terms x y tag who view ruled transition ruling at is =
     rw (at, ruled_is terms.policy who view ruled ruling, noted_is terms.policy who view ruled ruling) at is

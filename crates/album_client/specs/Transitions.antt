@@ -13,7 +13,7 @@ use Rattle.album_client.specs.Turns.{Turn}
 
 -- the client that acts, as if it were idle: what it does doesn't matter to where it goes
 abbrev pub client_of : ClientStep → Client
-client_of actor = record { number = actor.number; clock = actor.clock; phase = Idle 0 }
+client_of client_step = record { number = client_step.number; clock = client_step.clock; phase = Idle 0 }
 
 -- who reads may ask what is asked by the step
 abbrev pub IsTakenOf : Principal → ViewStep → Type 0
@@ -22,8 +22,8 @@ IsTakenOf principal (Closed view) = refusal_of view.ask principal ≡ None
 IsTakenOf principal (Busy why) = Unit {0}
 
 -- what it has become and what it tells, without what is for contracts alone
-pub record IsMoved (turn : Turn) (moved : Transition) : Type 0 where
-  pub client : moved.client ≡ turn.client
-  pub noted : moved.notes.items ≡ unwrap_or turn.noted []
-  pub sent : moved.sent.items ≡ turn.sent
-  pub answer : moved.answer ≡ turn.answer
+pub record IsMoved (turn : Turn) (transition : Transition) : Type 0 where
+  pub client : transition.client ≡ turn.client
+  pub noted : transition.notes.items ≡ unwrap_or turn.noted []
+  pub sent : transition.sent.items ≡ turn.sent
+  pub answer : transition.answer ≡ turn.answer

@@ -81,8 +81,8 @@ asker_at terms client tag = record { client = client.number; tag = tag; parts = 
 
 -- a read of the items begins, in the round behind that of the tag
 abbrev pub read_begins : Terms → Client → ℕ → PendingAsk → List ℕ → Turn
-read_begins terms client tag asking items =
-    record (still (record client { phase = Reads asking (first_round (asker_at terms client (tag + 1)) items) })) {
+read_begins terms client tag pending_ask items =
+    record (still (record client { phase = Reads pending_ask (first_round (asker_at terms client (tag + 1)) items) })) {
       sent = gets_of (asker_at terms client (tag + 1)) [] items;
       reads = true;
     }
@@ -170,20 +170,20 @@ views_by terms client tag principal (Busy why) = ask_ends client tag (answer.Bus
 
 -- a read is over
 abbrev pub read_ends : Terms → Client → ℕ → PendingAsk → Option (List ReadVersion) → ViewStep → Turn
-read_ends terms client tag asking rows step =
-    record (views_by terms client tag asking.principal step) {
-      over = Some (record { ask = asking.viewing.ask; principal = asking.principal; rows = rows });
+read_ends terms client tag pending_ask rows step =
+    record (views_by terms client tag pending_ask.principal step) {
+      over = Some (record { ask = pending_ask.viewing.ask; principal = pending_ask.principal; rows = rows });
     }
 
 -- what a message does in a read
 abbrev pub read_turn : Terms → Client → ℕ → PendingAsk → ReadStep → Turn
-read_turn terms client tag asking (Same round) = still (record client { phase = Reads asking round })
-read_turn terms client tag asking (Next round messages) =
-    sends (record client { phase = Reads asking round }) messages
-read_turn terms client tag asking (Done rows) =
-    read_ends terms client tag asking (Some rows) (stepped asking.viewing rows)
-read_turn terms client tag asking (Gone items) =
-    read_ends terms client tag asking None (again asking.viewing items)
+read_turn terms client tag pending_ask (Same round) = still (record client { phase = Reads pending_ask round })
+read_turn terms client tag pending_ask (Next round messages) =
+    sends (record client { phase = Reads pending_ask round }) messages
+read_turn terms client tag pending_ask (Done rows) =
+    read_ends terms client tag pending_ask (Some rows) (stepped pending_ask.viewing rows)
+read_turn terms client tag pending_ask (Gone items) =
+    read_ends terms client tag pending_ask None (again pending_ask.viewing items)
 
 -- the answer to an ask whose write is over
 abbrev pub answer_of : Outcome → Answer
@@ -206,8 +206,8 @@ commit_turn client tag (Ends outcome) = ask_ends client tag (answer_of outcome)
 -- what comes of a message to a client that does this; to an idle one it does nothing
 abbrev pub turn_of : Terms → Client → Message → Phase → Turn
 turn_of terms client message (Idle tag) = still (record client { phase = Idle tag })
-turn_of terms client message (Reads asking round) =
-    read_turn terms client round.asker.tag asking (read_stepped round message)
+turn_of terms client message (Reads pending_ask round) =
+    read_turn terms client round.asker.tag pending_ask (read_stepped round message)
 turn_of terms client message (Prepares writing) =
     prepare_turn client writing.tag (prepare_stepped writing message)
 turn_of terms client message (Commits writing) = commit_turn client writing.tag (commit_stepped writing message)
@@ -215,7 +215,7 @@ turn_of terms client message (Commits writing) = commit_turn client writing.tag 
 -- it reads, and the message ends no round of that
 abbrev pub is_waiting : Phase → Message → Bool
 is_waiting (Idle tag) message = false
-is_waiting (Reads asking round) message = not (is_end (read_stepped round message))
+is_waiting (Reads pending_ask round) message = not (is_end (read_stepped round message))
 is_waiting (Prepares writing) message = false
 is_waiting (Commits writing) message = false
 

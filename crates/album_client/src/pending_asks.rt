@@ -45,9 +45,9 @@ impl PendingAsk {
         (viewing, principal)
     }
 
-    /// The same asking once more, or `OutOfMemory`.
+    /// The same pending_ask once more, or `OutOfMemory`.
     pub fn copy(&self) -> Result<PendingAsk, Refusal>
-        ensures copy { IfOk result (λ asking. asking ≡ self.now) }
+        ensures copy { IfOk result (λ pending_ask. pending_ask ≡ self.now) }
         ensures memory { IsOkUnless result Refusal.OutOfMemory }
     {
         let viewing = self.viewing.copy()?;

@@ -22,7 +22,7 @@ impl ClientStep {
     /// An ask that the principal may ask begins, with a read of its objects.
     pub fn asks(self, tag: u64, principal: Principal, ask: Ask) -> Result<Transition, Refusal>
         requires taken { refusal_of ask principal ≡ None }
-        ensures moved { IfOk result (IsMoved (read_begins self.terms (client_of self) tag
+        ensures transition { IfOk result (IsMoved (read_begins self.terms (client_of self) tag
             (record { viewing = record { ask = ask; reads = 0 }; principal = principal }) (objects_of ask))) }
         ensures memory { IsOkUnless result Refusal.OutOfMemory }
     {
@@ -32,26 +32,31 @@ impl ClientStep {
     }
 
     /// A read of the items begins.
-    fn read_begins(self, tag: u64, asking: PendingAsk, items: Items) -> Result<Transition, Refusal>
+    fn read_begins(
+        self,
+        tag: u64,
+        pending_ask: PendingAsk,
+        items: Items,
+    ) -> Result<Transition, Refusal>
         requires fits { tag + 2 < 2 ^ 64 }
         requires readable { AreReadable items }
-        ensures moved { IfOk result (IsMoved (read_begins self.terms (client_of self) tag asking items)) }
+        ensures transition { IfOk result (IsMoved (read_begins self.terms (client_of self) tag pending_ask items)) }
         ensures memory { IsOkUnless result Refusal.OutOfMemory }
     {
         let parts = self.terms.parts();
         let (reading, gets) = Reading::start(self.alloc, items, self.number, tag + 1, parts)?;
-        Ok(self.with(Phase::Reads(asking, reading), gets, None))
+        Ok(self.with(Phase::Reads(pending_ask, reading), gets, None))
     }
 
     /// A message comes to a client that does this. Where memory is wanting, what it did is lost: whoever is to go on
     /// from there keeps a copy.
     pub fn takes(self, phase: Phase, message: &Message) -> Result<Transition, Refusal>
-        ensures moved { IfOk result (IsMoved (turn_of self.terms (client_of self) message.now phase)) }
+        ensures transition { IfOk result (IsMoved (turn_of self.terms (client_of self) message.now phase)) }
         ensures memory { IsOkUnless result Refusal.OutOfMemory }
     {
         match phase {
             Phase::Idle(tag) => Ok(self.with(Phase::Idle(tag), Vec::new(self.alloc), None)),
-            Phase::Reads(asking, reading) => self.reads(asking, reading, message),
+            Phase::Reads(pending_ask, reading) => self.reads(pending_ask, reading, message),
             Phase::Prepares(preparing) => Ok(self.prepares(preparing, message)),
             Phase::Commits(committing) => Ok(self.commits(committing, message)),
         }
@@ -60,11 +65,11 @@ impl ClientStep {
     /// What a message does in a read.
     fn reads(
         self,
-        asking: PendingAsk,
+        pending_ask: PendingAsk,
         reading: Reading,
         message: &Message,
     ) -> Result<Transition, Refusal>
-        ensures moved { IfOk result (IsMoved (read_turn self.terms (client_of self) reading.asker.tag asking
+        ensures transition { IfOk result (IsMoved (read_turn self.terms (client_of self) reading.asker.tag pending_ask
             (stepped reading message.now))) }
         ensures memory { IsOkUnless result Refusal.OutOfMemory }
     {
@@ -72,16 +77,24 @@ impl ClientStep {
         check_tag(tag)?;
         match reading.on_reply(message)? {
             Step::Same(reading) => {
-                Ok(self.with(Phase::Reads(asking, reading), Vec::new(self.alloc), None))
+                Ok(self.with(
+                    Phase::Reads(pending_ask, reading),
+                    Vec::new(self.alloc),
+                    None,
+                ))
             }
-            Step::Next(reading, gets) => Ok(self.with(Phase::Reads(asking, reading), gets, None)),
+            Step::Next(reading, gets) => Ok(self.with(
+                Phase::Reads(pending_ask, reading),
+                gets,
+                None,
+            )),
             Step::Done(snapshot) => {
-                let (viewing, principal) = asking.into_parts();
+                let (viewing, principal) = pending_ask.into_parts();
                 let step = viewing.on_snapshot(self.alloc, snapshot)?;
                 self.views(tag, principal, step)
             }
             Step::Gone(items) => {
-                let (viewing, principal) = asking.into_parts();
+                let (viewing, principal) = pending_ask.into_parts();
                 self.views(tag, principal, viewing.on_gone(items))
             }
         }
@@ -92,7 +105,7 @@ impl ClientStep {
         requires fits { tag + 2 < 2 ^ 64 }
         requires readable { AsksReadable step }
         requires taken { IsTakenOf principal step }
-        ensures moved { IfOk result (IsMoved (views_by self.terms (client_of self) tag principal step)) }
+        ensures transition { IfOk result (IsMoved (views_by self.terms (client_of self) tag principal step)) }
         ensures memory { IsOkUnless result Refusal.OutOfMemory }
     {
         match step {

@@ -25,17 +25,17 @@ impl ClientStep {
     ) -> Result<Transition, Refusal>
         requires fits { tag + 2 < 2 ^ 64 }
         requires taken { refusal_of view.ask principal.now ≡ None }
-        ensures moved { IfOk result (IsMoved (rules self.terms (client_of self) tag principal.now view)) }
+        ensures transition { IfOk result (IsMoved (rules self.terms (client_of self) tag principal.now view)) }
         ensures memory { IsOkUnless result Refusal.OutOfMemory }
     {
         let alloc = self.alloc;
         let policy = self.terms.policy();
-        let actor = self.after(&view);
+        let client_step = self.after(&view);
         let ruled = rule_on(alloc, view, principal, policy)?;
-        actor.tells(tag, ruled)
+        client_step.tells(tag, ruled)
     }
 
-    /// The same actor once its clock has seen the view's stamps.
+    /// The same client_step once its clock has seen the view's stamps.
     fn after(self, view: &View) -> ClientStep
         ensures client { client_of result ≡ record (client_of self) {
           clock = clock_after_rows self.clock view.now.rows;
@@ -53,21 +53,21 @@ impl ClientStep {
     /// The ruling is told by its notes, and leads on.
     fn tells(self, tag: u64, ruled: Ruled) -> Result<Transition, Refusal>
         requires fits { tag + 2 < 2 ^ 64 }
-        ensures moved { (permit : PermitState) → Keeps permit.policy permit.principal permit.view ruled.ruling
+        ensures transition { (permit : PermitState) → Keeps permit.policy permit.principal permit.view ruled.ruling
             → IfOk result (IsMoved (record (rules_by self.terms (client_of self) tag permit (told_by ruled.ruling)) {
               noted = Some ruled.notes.items;
             })) }
         ensures memory { IsOkUnless result Refusal.OutOfMemory }
     {
         let Ruled { ruling, notes } = ruled;
-        let moved = self.ruled(tag, ruling)?;
-        Ok(moved.noting(notes))
+        let transition = self.ruled(tag, ruling)?;
+        Ok(transition.noting(notes))
     }
 
     /// What the ruling leads to.
     fn ruled(self, tag: u64, ruling: Ruling) -> Result<Transition, Refusal>
         requires fits { tag + 2 < 2 ^ 64 }
-        ensures moved { (permit : PermitState) → Keeps permit.policy permit.principal permit.view ruling
+        ensures transition { (permit : PermitState) → Keeps permit.policy permit.principal permit.view ruling
             → IfOk result (IsMoved (rules_by self.terms (client_of self) tag permit (told_by ruling))) }
         ensures memory { IsOkUnless result Refusal.OutOfMemory }
     {
@@ -81,7 +81,7 @@ impl ClientStep {
     /// What is granted is served, or is written.
     fn grants(self, tag: u64, permit: Permit) -> Result<Transition, Refusal>
         requires fits { tag + 2 < 2 ^ 64 }
-        ensures moved { IfOk result
+        ensures transition { IfOk result
             (IsMoved (grants self.terms (client_of self) tag permit (served_for permit permit.view.ask))) }
         ensures memory { IsOkUnless result Refusal.OutOfMemory }
     {

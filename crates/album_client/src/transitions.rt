@@ -58,7 +58,7 @@ impl Client {
     ghost use Rattle.album_client.specs.Transitions.{client_of};
 
     /// Where it goes on from, on these terms.
-    pub fn actor(&self, alloc: Global, terms: Terms) -> ClientStep
+    pub fn client_step(&self, alloc: Global, terms: Terms) -> ClientStep
         ensures client { client_of result ≡ record self.now { phase = Phase.Idle 0 } }
         ensures terms { result.terms ≡ terms }
     {

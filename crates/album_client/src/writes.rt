@@ -19,7 +19,7 @@ impl ClientStep {
     pub(crate) fn draws(mut self, tag: u64, permit: Permit) -> Result<Transition, Refusal>
         requires fits { tag + 2 < 2 ^ 64 }
         requires change { IsTrue (is_write permit.view.ask) }
-        ensures moved { IfOk result (IsMoved (draws self.terms (client_of self) tag permit)) }
+        ensures transition { IfOk result (IsMoved (draws self.terms (client_of self) tag permit)) }
         ensures memory { IsOkUnless result Refusal.OutOfMemory }
     {
         match self.clock.next() {
@@ -36,7 +36,7 @@ impl ClientStep {
         requires fits { tag + 2 < 2 ^ 64 }
         requires change { IsTrue (is_write permit.view.ask) }
         requires own { drawer_of stamp ≡ Some self.number }
-        ensures moved { IfOk result
+        ensures transition { IfOk result
             (IsMoved (writes_unless self.terms (client_of self) tag permit stamp (is_full_for permit stamp))) }
         ensures memory { IsOkUnless result Refusal.OutOfMemory }
     {

@@ -18,7 +18,7 @@ use Rattle.album_stamps.specs.declared.refusals.Refusal.TheVariants.{Full}
 use Rattle.album_threads.specs.Grounds.{IsKept}
 use Rattle.album_threads.specs.Phases.{Outset, IsUnderWay}
 use Rattle.album_threads.specs.Resting.{IsAnnounced, IsFoundOnView, IsBegun, IsUnsettledBy, RestsOn}
-use Rattle.album_threads.specs.Sessions.{SessionState, IsNoWord}
+use Rattle.album_threads.specs.Sessions.{SessionState, IsClosedOrOutOfMemory}
 use Rattle.album_threads.specs.Writes.{IsBegunOn, IsEndOf}
 use Rattle.album_threads.proofs.GroundLemmas.{seen_more}
 use Rattle.album_writer.specs.Writing.{WritingState, prepare_round}
@@ -119,7 +119,7 @@ module _ (policy : Policy) (o : Outset) where
       → IsUnderWay policy o now at sent d
       → stamp_at_work d ≡ Some t → IsAtWork now t
   at_work now at sent (phase.Idle tag) t w e = absurd w.phase
-  at_work now at sent (phase.Reads asking round) t w e = absurd (cc)
+  at_work now at sent (phase.Reads pending_ask round) t w e = absurd (cc)
   at_work now at sent (phase.Prepares writing) t w e = record {
     begun = w.phase.begun;
     granted = w.phase.granted;
@@ -136,7 +136,7 @@ module _ (policy : Policy) (o : Outset) where
 
   -- it is cut off, once more was seen
   pub cut_rests : (limit : ℕ) (a b : SessionState) (at : Cut) (sent : List Message) (d : Phase) (t : ℕ) (why : Refusal)
-      → IsUnderWay policy o a at sent d → stamp_at_work d ≡ Some t → IsNoWord why
+      → IsUnderWay policy o a at sent d → stamp_at_work d ≡ Some t → IsClosedOrOutOfMemory why
       → b.share ≡ a.share → b.counter ≡ a.counter → Extends a.cut b.cut → IsSound b.cut
       → RestsOn limit policy o.principal o.ask o.session b (answer.Unsettled t why)
   cut_rests limit a b at sent d t why w e none share counter grown s =

@@ -132,13 +132,13 @@ module _ (terms : Terms) (x : Client) where
   views_clock tag who (Closed view) = viewed_clock tag who view
   views_clock tag who (Busy why) = same_clock _ refl
 
-  read_clock : (tag : ℕ) (asking : PendingAsk) (step : Step) → IsClockOn x.clock (read_turn terms x tag asking step)
-  read_clock tag asking (Same round) = same_clock _ refl
-  read_clock tag asking (Next round messages) = same_clock _ refl
-  read_clock tag asking (Done rows) =
-      let c = views_clock tag asking.principal (viewed asking.viewing rows) in record { own = c.own; risen = c.risen }
-  read_clock tag asking (Gone items) =
-      let c = views_clock tag asking.principal (again asking.viewing items) in record { own = c.own; risen = c.risen }
+  read_clock : (tag : ℕ) (pending_ask : PendingAsk) (step : Step) → IsClockOn x.clock (read_turn terms x tag pending_ask step)
+  read_clock tag pending_ask (Same round) = same_clock _ refl
+  read_clock tag pending_ask (Next round messages) = same_clock _ refl
+  read_clock tag pending_ask (Done rows) =
+      let c = views_clock tag pending_ask.principal (viewed pending_ask.viewing rows) in record { own = c.own; risen = c.risen }
+  read_clock tag pending_ask (Gone items) =
+      let c = views_clock tag pending_ask.principal (again pending_ask.viewing items) in record { own = c.own; risen = c.risen }
 
   prepare_clock : (tag : ℕ) (step : WriteStep) → IsClockOn x.clock (prepare_turn x tag step)
   prepare_clock tag (Waits writing) = same_clock _ refl
@@ -152,13 +152,13 @@ module _ (terms : Terms) (x : Client) where
 
   turn_clock : (m : Message) (d : Phase) → IsClockOn x.clock (turn_of terms x m d)
   turn_clock m (phase.Idle tag) = same_clock _ refl
-  turn_clock m (phase.Reads asking round) = read_clock round.asker.tag asking (stepped round m)
+  turn_clock m (phase.Reads pending_ask round) = read_clock round.asker.tag pending_ask (stepped round m)
   turn_clock m (phase.Prepares writing) = prepare_clock writing.tag (prepare_stepped writing m)
   turn_clock m (phase.Commits writing) = commit_clock writing.tag (commit_stepped writing m)
 
-  pub moved_clock : (m : Message) (d : Phase) (moved : Transition) → IsMoved (turn_of terms x m d) moved
-      → (moved.client.clock.client ≡ x.clock.client) × (x.clock.counter ≤ moved.client.clock.counter)
-  moved_clock m d moved is =
+  pub moved_clock : (m : Message) (d : Phase) (transition : Transition) → IsMoved (turn_of terms x m d) transition
+      → (transition.client.clock.client ≡ x.clock.client) × (x.clock.counter ≤ transition.client.clock.counter)
+  moved_clock m d transition is =
       let c = turn_clock m d in (
         ap (λ (z : Client). z.clock.client) is.client ∙ c.own,
         subst (λ (z : Client). x.clock.counter ≤ z.clock.counter) (sym is.client) c.risen,

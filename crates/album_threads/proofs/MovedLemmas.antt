@@ -21,31 +21,31 @@ use Rattle.album_threads.proofs.SendLemmas.{last_sent, last_at}
 use Rattle.album_views.specs.Checks.{refusal_of}
 use Rattle.album_writer.specs.declared.answers.Answer.{Answer}
 
--- An ask was under way of a session; then a reply was heard, by which its client has moved, and that is noted.
-pub record IsNoted (o : Outset) (now next noted : SessionState) (moved : Transition) : Type 0 where
+-- An ask was under way of a session; then a reply was heard, by which its client has transition, and that is noted.
+pub record IsNoted (o : Outset) (now next noted : SessionState) (transition : Transition) : Type 0 where
   pub taken : refusal_of o.ask o.principal ≡ None
   pub on : IsOn o.session now
   pub sound_before : IsSound now.cut
   pub heard : IsHeard now next
-  pub proper : IsProper moved.client.phase
+  pub proper : IsProper transition.client.phase
   pub client : noted.client ≡ next.client
-  pub counter : noted.counter ≡ moved.client.clock.counter
+  pub counter : noted.counter ≡ transition.client.clock.counter
   pub cut : noted.cut ≡ next.cut
-  pub shared : AreShared next.client next.share noted.share moved.notes.items
-  pub spent : next_of moved.client.clock ≡ Err StampsSpent → moved.client.clock.counter ≡ MAX_COUNTER
+  pub shared : AreShared next.client next.share noted.share transition.notes.items
+  pub spent : next_of transition.client.clock ≡ Err StampsSpent → transition.client.clock.counter ≡ MAX_COUNTER
 
 -- the ask is answered, or goes on, once the messages are sent
 pub data IsMovedOn
-    (limit : ℕ) (policy : Policy) (o : Outset) (noted : SessionState) (at : Cut) (sent : List Message) (moved : Transition)
+    (limit : ℕ) (policy : Policy) (o : Outset) (noted : SessionState) (at : Cut) (sent : List Message) (transition : Transition)
     : Type 0 where
-  Told : (told : Answer) → moved.answer ≡ Some told → RestsOn limit policy o.principal o.ask o.session noted told
-      → IsMovedOn limit policy o noted at sent moved
-  Goes : moved.answer ≡ None → IsFree noted moved.sent.items
-      → All (Shows (announced_by noted.cut moved.sent.items)) moved.sent.items
-      → ((new : SessionState) → IsAnnouncedBy noted new moved.sent.items
-      → IsUnderWay policy o new (sent_at at new.cut moved.sent.items) (sent_last sent moved.sent.items)
-      moved.client.phase)
-      → IsMovedOn limit policy o noted at sent moved
+  Told : (told : Answer) → transition.answer ≡ Some told → RestsOn limit policy o.principal o.ask o.session noted told
+      → IsMovedOn limit policy o noted at sent transition
+  Goes : transition.answer ≡ None → IsFree noted transition.sent.items
+      → All (Shows (announced_by noted.cut transition.sent.items)) transition.sent.items
+      → ((new : SessionState) → IsAnnouncedBy noted new transition.sent.items
+      → IsUnderWay policy o new (sent_at at new.cut transition.sent.items) (sent_last sent transition.sent.items)
+      transition.client.phase)
+      → IsMovedOn limit policy o noted at sent transition
 
 -- it has seen more, and nothing else
 pub on_heard : (a b c : SessionState) → IsOn a b → IsHeard b c → IsOn a c
@@ -68,9 +68,9 @@ shared_none client a = λ i. record {
     none n = omega arith
 
 -- nothing is noted, and the clock stays
-pub heard_same : (o : Outset) (now next noted : SessionState) (moved : Transition) → IsNoted o now next noted moved
-    → moved.notes.items ≡ [] → moved.client.clock.counter ≡ next.counter → noted ≡ next
-heard_same o now next noted moved n none same = λ i. record {
+pub heard_same : (o : Outset) (now next noted : SessionState) (transition : Transition) → IsNoted o now next noted transition
+    → transition.notes.items ≡ [] → transition.client.clock.counter ≡ next.counter → noted ≡ next
+heard_same o now next noted transition n none same = λ i. record {
   client = n.client i;
   counter = (n.counter ∙ same) i;
   cut = n.cut i;
@@ -82,28 +82,28 @@ heard_same o now next noted moved n none same = λ i. record {
         (shared_none next.client next.share)
 
 module _ (limit : ℕ) (policy : Policy) (o : Outset) (noted : SessionState) (at : Cut) (sent : List Message)
-    (moved : Transition)
-    (quiet : moved.answer ≡ None) where
+    (transition : Transition)
+    (quiet : transition.answer ≡ None) where
   -- these are sent, none of which prepares anything
-  pub goes_plain : (messages : List Message) → moved.sent.items ≡ messages → prepared_first messages ≡ None
+  pub goes_plain : (messages : List Message) → transition.sent.items ≡ messages → prepared_first messages ≡ None
       → All (Shows noted.cut) messages
-      → IsUnderWay policy o noted (sent_at at noted.cut messages) (sent_last sent messages) moved.client.phase
-      → IsMovedOn limit policy o noted at sent moved
+      → IsUnderWay policy o noted (sent_at at noted.cut messages) (sent_last sent messages) transition.client.phase
+      → IsMovedOn limit policy o noted at sent transition
   goes_plain messages e plain shown w = Goes quiet free shows goes
     where
-      none : prepared_first moved.sent.items ≡ None
+      none : prepared_first transition.sent.items ≡ None
       none = ap prepared_first e ∙ plain
 
-      free : IsFree noted moved.sent.items
+      free : IsFree noted transition.sent.items
       free = subst (IsFreeFor noted) (sym none) (record { unused = tt; reached = tt })
 
-      shows : All (Shows (announced_by noted.cut moved.sent.items)) moved.sent.items
+      shows : All (Shows (announced_by noted.cut transition.sent.items)) transition.sent.items
       shows = subst (λ (y : Cut × List Message). All (Shows y.0) y.1)
           (λ i. (announced_with noted.cut (sym none i), sym e i)) shown
 
-      goes : (new : SessionState) → IsAnnouncedBy noted new moved.sent.items
-          → IsUnderWay policy o new (sent_at at new.cut moved.sent.items) (sent_last sent moved.sent.items)
-          moved.client.phase
+      goes : (new : SessionState) → IsAnnouncedBy noted new transition.sent.items
+          → IsUnderWay policy o new (sent_at at new.cut transition.sent.items) (sent_last sent transition.sent.items)
+          transition.client.phase
       goes new a =
           let cut : new.cut ≡ noted.cut = a.cut ∙ ap (announced_with noted.cut) none in
           let same : new ≡ noted = λ i. record {
@@ -114,23 +114,23 @@ module _ (limit : ℕ) (policy : Policy) (o : Outset) (noted : SessionState) (at
                 a.share i;
           } in
           subst (λ (y : SessionState × List Message). IsUnderWay policy o y.0 (sent_at at y.0.cut y.1)
-          (sent_last sent y.1) moved.client.phase)
+          (sent_last sent y.1) transition.client.phase)
           (λ i. (sym same i, sym e i)) w
 
-  pub goes_sent : (messages : List Message) → moved.sent.items ≡ messages → (messages ≡ [] → ⊥)
+  pub goes_sent : (messages : List Message) → transition.sent.items ≡ messages → (messages ≡ [] → ⊥)
       → prepared_first messages ≡ None
-      → All (Shows noted.cut) messages → IsUnderWay policy o noted noted.cut messages moved.client.phase
-      → IsMovedOn limit policy o noted at sent moved
+      → All (Shows noted.cut) messages → IsUnderWay policy o noted noted.cut messages transition.client.phase
+      → IsMovedOn limit policy o noted at sent transition
   goes_sent messages e some plain shown w =
       goes_plain messages e plain shown
-      (subst (λ (y : Cut × List Message). IsUnderWay policy o noted y.0 y.1 moved.client.phase)
+      (subst (λ (y : Cut × List Message). IsUnderWay policy o noted y.0 y.1 transition.client.phase)
       (λ i. (sym (last_at at noted.cut messages some) i, sym (last_sent sent messages some) i)) w)
 
 -- ---- by what the client has come to
 
 module _ (limit : ℕ) (policy : Policy) (o : Outset) (noted : SessionState) (at : Cut) (sent : List Message)
-    (moved : Transition) where
-  pub told_rests : (told : Answer) → moved.answer ≡ Some told → IsMovedOn limit policy o noted at sent moved
+    (transition : Transition) where
+  pub told_rests : (told : Answer) → transition.answer ≡ Some told → IsMovedOn limit policy o noted at sent transition
       → RestsOn limit policy o.principal o.ask o.session noted told
   told_rests told is (Told other same h) =
       let both : Some other ≡ Some told = sym same ∙ is in
@@ -138,18 +138,18 @@ module _ (limit : ℕ) (policy : Policy) (o : Outset) (noted : SessionState) (at
       subst (RestsOn limit policy o.principal o.ask o.session noted) one h
   told_rests told is (Goes none free shown goes) = absurd (cc)
 
-  pub free_of : moved.answer ≡ None → IsMovedOn limit policy o noted at sent moved → IsFree noted moved.sent.items
+  pub free_of : transition.answer ≡ None → IsMovedOn limit policy o noted at sent transition → IsFree noted transition.sent.items
   free_of is (Told other same h) = absurd (cc)
   free_of is (Goes none free shown goes) = free
 
-  pub shown_of : moved.answer ≡ None → IsMovedOn limit policy o noted at sent moved
-      → All (Shows (announced_by noted.cut moved.sent.items)) moved.sent.items
+  pub shown_of : transition.answer ≡ None → IsMovedOn limit policy o noted at sent transition
+      → All (Shows (announced_by noted.cut transition.sent.items)) transition.sent.items
   shown_of is (Told other same h) = absurd (cc)
   shown_of is (Goes none free shown goes) = shown
 
-  pub goes_of : moved.answer ≡ None → IsMovedOn limit policy o noted at sent moved
-      → (new : SessionState) → IsAnnouncedBy noted new moved.sent.items
-      → IsUnderWay policy o new (sent_at at new.cut moved.sent.items) (sent_last sent moved.sent.items)
-      moved.client.phase
+  pub goes_of : transition.answer ≡ None → IsMovedOn limit policy o noted at sent transition
+      → (new : SessionState) → IsAnnouncedBy noted new transition.sent.items
+      → IsUnderWay policy o new (sent_at at new.cut transition.sent.items) (sent_last sent transition.sent.items)
+      transition.client.phase
   goes_of is (Told other same h) new a = absurd (cc)
   goes_of is (Goes none free shown goes) new a = goes new a

@@ -29,7 +29,7 @@ use Rattle.album_threads.specs.Replies.{IsReplied, IsFirstOver, IsReadOf, IsOver
 use Rattle.album_threads.specs.Resting.{RestsOn}
 use Rattle.album_threads.specs.Sending.{prepared_first}
 use Rattle.album_threads.specs.Sessions.{SessionState, AnnouncesNothing}
-use Rattle.album_threads.specs.Turns.{actor_in, terms_in}
+use Rattle.album_threads.specs.Turns.{client_step_in, terms_in}
 use Rattle.album_threads.proofs.EndLemmas.{read_so, overtaken}
 use Rattle.album_threads.proofs.LookLemmas.{done_so, gone_so, looking_first, looking_next, looks_seen, looks_busy, on_self}
 use Rattle.album_threads.proofs.MovedLemmas.{IsNoted, IsMovedOn, on_heard, heard_same, goes_plain, goes_sent}
@@ -83,13 +83,13 @@ readable_viewed viewing rows flawless = go (is_closed viewing.ask rows)
 
 -- a read that begins
 reading_first : (principal : Principal) (ask : Ask) (old now : Cut) (terms : Terms) (x : Client) (tag : ℕ)
-    (asking : PendingAsk) (items : List ℕ)
-    → asking.viewing.ask ≡ ask → asking.principal ≡ principal → terms.parts ≡ now.parts
+    (pending_ask : PendingAsk) (items : List ℕ)
+    → pending_ask.viewing.ask ≡ ask → pending_ask.principal ≡ principal → terms.parts ≡ now.parts
     → IsOpen (first_round (asker_at terms x (tag + 1)) items)
-    → IsLooking old now asking.viewing items → Extends old now
-    → IsReading principal ask old now now (gets_of (asker_at terms x (tag + 1)) [] items) asking
+    → IsLooking old now pending_ask.viewing items → Extends old now
+    → IsReading principal ask old now now (gets_of (asker_at terms x (tag + 1)) [] items) pending_ask
     (first_round (asker_at terms x (tag + 1)) items)
-reading_first principal ask old now terms x tag asking items of whom parts opens looking before = record {
+reading_first principal ask old now terms x tag pending_ask items of whom parts opens looking before = record {
   of = of;
   whom = whom;
   start = now;
@@ -107,12 +107,12 @@ reading_first principal ask old now terms x tag asking items of whom parts opens
 -- ---- how an ask begins
 
 module _ (policy : Policy) (principal : Principal) (ask : Ask) (now : SessionState) (terms : Terms) (x : Client)
-    (tag : ℕ) (moved : Transition)
+    (tag : ℕ) (transition : Transition)
     (is : IsMoved (read_begins terms x tag (record {
       viewing = record { ask = ask; reads = 0 };
       principal = principal;
-    }) (objects_of ask)) moved)
-    (proper : IsProper moved.client.phase) where
+    }) (objects_of ask)) transition)
+    (proper : IsProper transition.client.phase) where
   abbrev first_asking : PendingAsk
   first_asking = record { viewing = record { ask = ask; reads = 0 }; principal = principal }
 
@@ -120,8 +120,8 @@ module _ (policy : Policy) (principal : Principal) (ask : Ask) (now : SessionSta
   opens = subst IsProper (ap (λ (z : Client). z.phase) is.client) proper
 
   pub reads_begin : terms.parts ≡ now.cut.parts → refusal_of ask principal ≡ None → IsSound now.cut
-      → IsUnderWay policy (record { principal = principal; ask = ask; session = now }) now now.cut moved.sent.items
-      moved.client.phase
+      → IsUnderWay policy (record { principal = principal; ask = ask; session = now }) now now.cut transition.sent.items
+      transition.client.phase
   reads_begin parts taken s =
       subst (λ (z : List Message × Phase). IsUnderWay policy
       (record { principal = principal; ask = ask; session = now }) now now.cut z.0 z.1)
@@ -140,18 +140,18 @@ module _ (policy : Policy) (principal : Principal) (ask : Ask) (now : SessionSta
         );
       })
 
-  pub shown_first : All (Shows now.cut) moved.sent.items
+  pub shown_first : All (Shows now.cut) transition.sent.items
   shown_first = subst (All (Shows now.cut)) (sym is.sent)
       (gets_shown now.cut (asker_at terms x (tag + 1)) [] (objects_of ask))
 
 -- ---- what comes of a reply
 
 module _ (limit : ℕ) (policy : Policy) (o : Outset) (now next noted : SessionState) (at : Cut) (sent : List Message)
-    (moved : Transition)
-    (N : IsNoted o now next noted moved) (same_share : now.share ≡ o.session.share)
+    (transition : Transition)
+    (N : IsNoted o now next noted transition) (same_share : now.share ≡ o.session.share)
     (silent_before : AnnouncesNothing o.session now) where
   abbrev After : Type 0
-  After = IsMovedOn limit policy o noted at sent moved
+  After = IsMovedOn limit policy o noted at sent transition
 
   abbrev a : Cut
   a = o.session.cut
@@ -163,7 +163,7 @@ module _ (limit : ℕ) (policy : Policy) (o : Outset) (now next noted : SessionS
   d = next.cut
 
   abbrev x : Client
-  x = actor_in next
+  x = client_step_in next
 
   abbrev terms : Terms
   terms = terms_in policy next
@@ -178,25 +178,25 @@ module _ (limit : ℕ) (policy : Policy) (o : Outset) (now next noted : SessionS
   on_next = on_heard o.session now next N.on N.heard
 
   -- nothing is noted, and the clock stays
-  module _ (none : moved.notes.items ≡ []) (clock : moved.client.clock.counter ≡ next.counter) where
+  module _ (none : transition.notes.items ≡ []) (clock : transition.client.clock.counter ≡ next.counter) where
     same : noted ≡ next
-    same = heard_same o now next noted moved N none clock
+    same = heard_same o now next noted transition N none clock
 
     -- it reads on
-    waits : (asking : PendingAsk) (round : RoundState) → moved.answer ≡ None
-        → moved.client.phase ≡ phase.Reads asking round → moved.sent.items ≡ []
-        → IsReading o.principal o.ask a at d sent asking round → After
-    waits asking round quiet is empty w =
-        goes_plain limit policy o noted at sent moved quiet [] empty refl (λ k l e. absurd (omega arith))
+    waits : (pending_ask : PendingAsk) (round : RoundState) → transition.answer ≡ None
+        → transition.client.phase ≡ phase.Reads pending_ask round → transition.sent.items ≡ []
+        → IsReading o.principal o.ask a at d sent pending_ask round → After
+    waits pending_ask round quiet is empty w =
+        goes_plain limit policy o noted at sent transition quiet [] empty refl (λ k l e. absurd (omega arith))
         (subst (λ (z : SessionState × Phase). IsUnderWay policy o z.0 at sent z.1) (λ i. (sym same i, sym is i))
         (record { taken = N.taken; on = on_next; sound = N.heard.sound; phase = (w, share, silent) }))
 
     -- it sends these messages
-    asks : (asking : PendingAsk) (round : RoundState) (messages : List Message) → moved.answer ≡ None
-        → moved.client.phase ≡ phase.Reads asking round → moved.sent.items ≡ messages → (messages ≡ [] → ⊥)
-        → IsReading o.principal o.ask a d d messages asking round → After
-    asks asking round messages quiet is sends some w =
-        goes_sent limit policy o noted at sent moved quiet messages sends some
+    asks : (pending_ask : PendingAsk) (round : RoundState) (messages : List Message) → transition.answer ≡ None
+        → transition.client.phase ≡ phase.Reads pending_ask round → transition.sent.items ≡ messages → (messages ≡ [] → ⊥)
+        → IsReading o.principal o.ask a d d messages pending_ask round → After
+    asks pending_ask round messages quiet is sends some w =
+        goes_sent limit policy o noted at sent transition quiet messages sends some
         (subst (λ (ms : List Message). prepared_first ms ≡ None) (sym w.asks)
         (gets_plain w.begun.asker (asked_stamps w.begun) w.begun.items))
         (subst (λ (z : Cut × List Message). All (Shows z.0) z.1) (λ i. (sym N.cut i, sym w.asks i))
@@ -206,7 +206,7 @@ module _ (limit : ℕ) (policy : Policy) (o : Outset) (now next noted : SessionS
         (record { taken = N.taken; on = on_next; sound = N.heard.sound; phase = (w, share, silent) }))
 
     -- there is no view
-    busy : (why : Why) → moved.answer ≡ Some (answer.Busy why) → IsBusy a d o.ask why → After
+    busy : (why : Why) → transition.answer ≡ Some (answer.Busy why) → IsBusy a d o.ask why → After
     busy why told h = Told (answer.Busy why) told (subst
         (λ (s : SessionState). RestsOn limit policy o.principal o.ask o.session s (answer.Busy why)) (sym same)
         (rests why h))
@@ -218,45 +218,45 @@ module _ (limit : ℕ) (policy : Policy) (o : Outset) (now next noted : SessionS
 
   -- there is a view
   viewed_so : (tag : ℕ) (view : ViewState) → IsViewOf a d o.ask view
-      → IsMoved (rules terms x tag o.principal view) moved → After
+      → IsMoved (rules terms x tag o.principal view) transition → After
   viewed_so tag view h is =
       let same : view ≡ record { ask = o.ask; rows = view.rows } = λ i. record { ask = h.of i; rows = view.rows } in
-      ruled_on limit policy o now next noted at sent moved N share tag view.rows
-      (subst (IsViewOf a d o.ask) same h) (subst (λ (v : ViewState). IsMoved (rules terms x tag o.principal v) moved)
+      ruled_on limit policy o now next noted at sent transition N share tag view.rows
+      (subst (IsViewOf a d o.ask) same h) (subst (λ (v : ViewState). IsMoved (rules terms x tag o.principal v) transition)
       same is)
 
   -- a read has led to this
-  module _ (start : Cut) (tag : ℕ) (asking : PendingAsk) (items : List ℕ) (of : asking.viewing.ask ≡ o.ask)
-      (whom : asking.principal ≡ o.principal)
-      (looking : IsLooking a start asking.viewing items) (before : Extends a start) (since : Extends start d) where
-    views : (f : ViewStep) → LooksOnce start d asking.viewing items f
-        → IsMoved (views_by terms x tag asking.principal f) moved → After
+  module _ (start : Cut) (tag : ℕ) (pending_ask : PendingAsk) (items : List ℕ) (of : pending_ask.viewing.ask ≡ o.ask)
+      (whom : pending_ask.principal ≡ o.principal)
+      (looking : IsLooking a start pending_ask.viewing items) (before : Extends a start) (since : Extends start d) where
+    views : (f : ViewStep) → LooksOnce start d pending_ask.viewing items f
+        → IsMoved (views_by terms x tag pending_ask.principal f) transition → After
     views (Again viewing names) led is =
         let round = first_round (asker_at terms x (tag + 1)) names in
         let does = ap (λ (z : Client). z.phase) is.client in
         let opens : IsOpen round = subst IsProper does N.proper in
         asks is.noted (ap (λ (z : Client). z.clock.counter) is.client)
-        (record { viewing = viewing; principal = asking.principal }) round
+        (record { viewing = viewing; principal = pending_ask.principal }) round
         (gets_of (asker_at terms x (tag + 1)) [] names) is.answer does is.sent (some_gets round opens [])
-        (reading_first o.principal o.ask a d terms x tag (record { viewing = viewing; principal = asking.principal })
+        (reading_first o.principal o.ask a d terms x tag (record { viewing = viewing; principal = pending_ask.principal })
         names
         (ap (λ (v : ViewingState). v.ask) led.0 ∙ of) whom refl opens
-        (looking_next a start d asking.viewing items looking before since N.heard.sound viewing names led)
+        (looking_next a start d pending_ask.viewing items looking before since N.heard.sound viewing names led)
         (extends_trans a start d before since))
     views (Closed view) led is =
-        viewed_so tag view (looks_seen a start d asking.viewing items looking before since N.heard.sound o.ask view of
+        viewed_so tag view (looks_seen a start d pending_ask.viewing items looking before since N.heard.sound o.ask view of
         led)
-        (subst (λ (p : Principal). IsMoved (rules terms x tag p view) moved) whom is)
+        (subst (λ (p : Principal). IsMoved (rules terms x tag p view) transition) whom is)
     views (Busy why) led is =
         busy is.noted (ap (λ (z : Client). z.clock.counter) is.client) why is.answer
-        (looks_busy a start d asking.viewing items looking before since N.heard.sound o.ask why of led)
+        (looks_busy a start d pending_ask.viewing items looking before since N.heard.sound o.ask why of led)
 
   -- what a step of a round leads to
-  steps : (tag : ℕ) (asking : PendingAsk) (round : RoundState) (f : Step)
-      (w : IsReading o.principal o.ask a at c sent asking round)
-      → Leads at d w.begun f → IsMoved (read_turn terms x tag asking f) moved → After
-  steps tag asking round (Same other) w led is =
-      waits is.noted (ap (λ (z : Client). z.clock.counter) is.client) asking other is.answer
+  steps : (tag : ℕ) (pending_ask : PendingAsk) (round : RoundState) (f : Step)
+      (w : IsReading o.principal o.ask a at c sent pending_ask round)
+      → Leads at d w.begun f → IsMoved (read_turn terms x tag pending_ask f) transition → After
+  steps tag pending_ask round (Same other) w led is =
+      waits is.noted (ap (λ (z : Client). z.clock.counter) is.client) pending_ask other is.answer
       (ap (λ (z : Client). z.phase) is.client) is.sent (record {
         of = w.of;
         whom = w.whom;
@@ -271,14 +271,14 @@ module _ (limit : ℕ) (policy : Policy) (o : Outset) (now next noted : SessionS
         before = w.before;
         on = extends_trans at c d w.on N.heard.grown;
       })
-  steps tag asking round (Next other gets) w led is =
-      asks is.noted (ap (λ (z : Client). z.clock.counter) is.client) asking other gets is.answer
+  steps tag pending_ask round (Next other gets) w led is =
+      asks is.noted (ap (λ (z : Client). z.clock.counter) is.client) pending_ask other gets is.answer
       (ap (λ (z : Client). z.phase) is.client) is.sent some (record {
         of = w.of;
         whom = w.whom;
         start = w.start;
         begun = other;
-        looking = subst (λ (items : List ℕ). IsLooking a w.start asking.viewing items)
+        looking = subst (λ (items : List ℕ). IsLooking a w.start pending_ask.viewing items)
             (sym (ap (λ (r : RoundState). r.items) led.next_is)) w.looking;
         which = which w.which;
         asks = led.gets_are ∙ sym (ap (λ (r : RoundState). gets_of r.asker (asked_stamps r) r.items) led.next_is);
@@ -304,7 +304,7 @@ module _ (limit : ℕ) (policy : Policy) (o : Outset) (now next noted : SessionS
           let none = led.first in
           let some = ap (λ (r : RoundState). r.stamps) F.next_is in
           absurd (cc)
-  steps tag asking round (Done rows) w led is = which w.which
+  steps tag pending_ask round (Done rows) w led is = which w.which
     where
       since : Extends at d
       since = extends_trans at c d w.on N.heard.grown
@@ -315,14 +315,14 @@ module _ (limit : ℕ) (policy : Policy) (o : Outset) (now next noted : SessionS
           let found : IsReadOf w.start d first.items rows = read_so w.start at d first w.begun gets F rows
           w.looking.sound w.sound N.heard.sound y since led.1 in
           let items : w.begun.items ≡ first.items = ap (λ (r : RoundState). r.items) F.next_is in
-          views w.start tag asking w.begun.items w.of w.whom w.looking w.before (extends_trans w.start at d y since)
-          (viewed asking.viewing rows)
-          (done_so w.start d asking.viewing w.begun.items rows (viewed asking.viewing rows) N.heard.sound
+          views w.start tag pending_ask w.begun.items w.of w.whom w.looking w.before (extends_trans w.start at d y since)
+          (viewed pending_ask.viewing rows)
+          (done_so w.start d pending_ask.viewing w.begun.items rows (viewed pending_ask.viewing rows) N.heard.sound
           w.looking.flawless
           (subst (λ (is : List ℕ). IsReadOf w.start d is rows) (sym items) found) refl
-          (readable_viewed asking.viewing rows w.looking.flawless))
+          (readable_viewed pending_ask.viewing rows w.looking.flawless))
           (record { client = is.client; noted = is.noted; sent = is.sent; answer = is.answer })
-  steps tag asking round (Gone items) w led is = which w.which
+  steps tag pending_ask round (Gone items) w led is = which w.which
     where
       since : Extends at d
       since = extends_trans at c d w.on N.heard.grown
@@ -333,17 +333,17 @@ module _ (limit : ℕ) (policy : Policy) (o : Outset) (now next noted : SessionS
           let found : IsOvertaken w.start d first.items items = overtaken w.start at d first w.begun gets F items
           w.looking.sound w.sound N.heard.sound y since led.1 in
           let same : w.begun.items ≡ items = ap (λ (r : RoundState). r.items) F.next_is ∙ sym found.items_are in
-          let looking = subst (λ (is : List ℕ). IsLooking a w.start asking.viewing is) same w.looking in
-          views w.start tag asking items w.of w.whom looking w.before (extends_trans w.start at d y since)
-          (again asking.viewing items)
-          (gone_so w.start d asking.viewing items (again asking.viewing items) found.trimmed looking.readable refl)
+          let looking = subst (λ (is : List ℕ). IsLooking a w.start pending_ask.viewing is) same w.looking in
+          views w.start tag pending_ask items w.of w.whom looking w.before (extends_trans w.start at d y since)
+          (again pending_ask.viewing items)
+          (gone_so w.start d pending_ask.viewing items (again pending_ask.viewing items) found.trimmed looking.readable refl)
           (record { client = is.client; noted = is.noted; sent = is.sent; answer = is.answer })
 
   -- what a reply leads to
-  pub read_on : (asking : PendingAsk) (round : RoundState) (m : Message)
-      → IsReading o.principal o.ask a at c sent asking round
-      → IsReplied limit at d sent m → IsMoved (read_turn terms x round.asker.tag asking (stepped round m)) moved → After
-  read_on asking round m w r is =
-      steps round.asker.tag asking round (stepped round m) w
+  pub read_on : (pending_ask : PendingAsk) (round : RoundState) (m : Message)
+      → IsReading o.principal o.ask a at c sent pending_ask round
+      → IsReplied limit at d sent m → IsMoved (read_turn terms x round.asker.tag pending_ask (stepped round m)) transition → After
+  read_on pending_ask round m w r is =
+      steps round.asker.tag pending_ask round (stepped round m) w
       (leads limit at c d w.begun round m w.on N.heard.grown (extends_trans at c d w.on N.heard.grown) w.parts
       (subst (λ (ms : List Message). IsReplied limit at d ms m) w.asks r) w.under) is

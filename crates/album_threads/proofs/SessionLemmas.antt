@@ -1,4 +1,4 @@
--- What a session has seen more. `PartitionChannel` cites `tells_joined` and the lemmas on `IsLater`, `Session` `ahead_later` and
+-- What a session has seen more. `PartitionChannel` cites `answers_joined` and the lemmas on `IsLater`, `Session` `ahead_later` and
 -- `floor_above`.
 use Rattle.std.proofs.Common.{◌≡◌, ◌≢◌, ℕ, ◌≤◌, true, List, [], ◌∷◌, ◌++◌, length, length-append, append-nil, Result, Ok, Err, Some, refl, sym, ap, ◌∙◌, subst, ⊎_elim, arith}
 use Rattle.album_stamps.specs.declared.refusals.Refusal.{Refusal}
@@ -12,11 +12,13 @@ use Rattle.album_passes.specs.Cuts.{Cut, prefix_at, IsPrefix, IsSound, Extends}
 use Rattle.album_passes.specs.Pass.{PassState}
 use Rattle.album_passes.proofs.CutLemmas.{extends_self, longer_at}
 use Rattle.album_passes.proofs.PrefixLemmas.{longer_cases}
-use Rattle.album_threads.specs.Controls.{IsUntrimmed, Tells}
+use Rattle.album_threads.specs.Controls.{IsUntrimmed, Answers}
 use Rattle.album_threads.specs.Controls.IsUntrimmed.{Elsewhere, NoRoom}
-use Rattle.album_threads.specs.Sessions.{CallerState, IsLater, IsAhead}
+use Rattle.album_threads.specs.Sessions.{ChannelState, IsLater, IsAhead}
 use Rattle.album_threads.specs.declared.control.Control.{Control}
 use Rattle.album_threads.specs.declared.control.Control.TheVariants.{Pending, Sweep, Trim}
+use Rattle.album_threads.specs.declared.control.ControlAnswer.{ControlAnswer}
+use Rattle.album_threads.specs.declared.control.ControlAnswer.TheVariants as answer
 
 -- ---- what is told, once its pass is joined
 
@@ -41,35 +43,41 @@ untrimmed_at : (limit : ℕ) (c d : Cut) (p i : ℕ) → prefix_at d p ≡ prefi
 untrimmed_at limit c d p i same parts _ (Elsewhere other) = Elsewhere (subst (λ (n : ℕ). place_of n i ≢ p) (sym parts) other)
 untrimmed_at limit c d p i same parts _ (NoRoom full) = NoRoom (subst (λ (ms : List Mark). is_full limit ms ≡ true) (sym same) full)
 
-tells_at : (limit : ℕ) (c d : Cut) (p : ℕ) → prefix_at d p ≡ prefix_at c p → d.parts ≡ c.parts → (q : Control) (told : Result (List ℕ) Refusal)
-    → Tells limit c p q told → Tells limit d p q told
-tells_at limit c d p same parts Pending (Ok stamps) h = subst (λ (ms : List Mark). ArePending ms stamps) (sym same) h
-tells_at limit c d p same parts Pending (Err why) h = h
-tells_at limit c d p same parts (Sweep t) (Ok stamps) h = subst (λ (ms : List Mark). state_of ms t ≡ state.Pending) (sym same) h
-tells_at limit c d p same parts (Sweep t) (Err why) h = λ n. ((h n).0, subst (λ (ms : List Mark). state_of ms t ≢ state.Pending) (sym same) (h n).1)
-tells_at limit c d p same parts (Trim i) (Ok stamps) h = subst (λ (ms : List Mark). floor ms i ≡ latest ms i) (sym same) h
-tells_at limit c d p same parts (Trim i) (Err why) h = λ n. untrimmed_at limit c d p i same parts why (h n)
+answers_at : (limit : ℕ) (c d : Cut) (p : ℕ) → prefix_at d p ≡ prefix_at c p → d.parts ≡ c.parts → (q : Control)
+    (result : Result ControlAnswer Refusal) → Answers limit c p q result → Answers limit d p q result
+answers_at limit c d p same parts Pending (Ok (answer.Pending stamps)) h = subst (λ (ms : List Mark). ArePending ms stamps) (sym same) h
+answers_at limit c d p same parts Pending (Ok answer.Swept) h = h
+answers_at limit c d p same parts Pending (Ok answer.Trimmed) h = h
+answers_at limit c d p same parts Pending (Err why) h = h
+answers_at limit c d p same parts (Sweep t) (Ok (answer.Pending stamps)) h = h
+answers_at limit c d p same parts (Sweep t) (Ok answer.Trimmed) h = h
+answers_at limit c d p same parts (Sweep t) (Ok answer.Swept) h = subst (λ (ms : List Mark). state_of ms t ≡ state.Pending) (sym same) h
+answers_at limit c d p same parts (Sweep t) (Err why) h = λ n. ((h n).0, subst (λ (ms : List Mark). state_of ms t ≢ state.Pending) (sym same) (h n).1)
+answers_at limit c d p same parts (Trim i) (Ok (answer.Pending stamps)) h = h
+answers_at limit c d p same parts (Trim i) (Ok answer.Swept) h = h
+answers_at limit c d p same parts (Trim i) (Ok answer.Trimmed) h = subst (λ (ms : List Mark). floor ms i ≡ latest ms i) (sym same) h
+answers_at limit c d p same parts (Trim i) (Err why) h = λ n. untrimmed_at limit c d p i same parts why (h n)
 
-pub tells_joined : (limit : ℕ) (b c d : Cut) (p : ℕ) → d ≡ merged b c → Extends c d → length (prefix_at b p) ≤ length (prefix_at c p)
-    → (q : Control) (told : Result (List ℕ) Refusal) → Tells limit c p q told → Tells limit d p q told
-tells_joined limit b c d p is x l q told h =
-    tells_at limit c d p
+pub answers_joined : (limit : ℕ) (b c d : Cut) (p : ℕ) → d ≡ merged b c → Extends c d → length (prefix_at b p) ≤ length (prefix_at c p)
+    → (q : Control) (result : Result ControlAnswer Refusal) → Answers limit c p q result → Answers limit d p q result
+answers_joined limit b c d p is x l q result h =
+    answers_at limit c d p
     (ap (λ (e : Cut). prefix_at e p) is ∙ joined_prefix b c p (subst (λ (e : Cut). Extends c e) is x) l)
-    x.parts q told h
+    x.parts q result h
 
 -- ---- what was seen later
 
-later_self : (a : CallerState) → IsLater a a
+later_self : (a : ChannelState) → IsLater a a
 later_self a = record { client = refl; grown = extends_self a.cut; own = λ n t is own. refl }
 
-pub later_same : (a b : CallerState) → b ≡ a → IsLater a b
-later_same a b e = subst (λ (c : CallerState). IsLater a c) (sym e) (later_self a)
+pub later_same : (a b : ChannelState) → b ≡ a → IsLater a b
+later_same a b e = subst (λ (c : ChannelState). IsLater a c) (sym e) (later_self a)
 
 -- who has this client and this pass has seen more with another pass, which goes on from it
-pub later_joined : (a : CallerState) (n : ℕ) (p q : PassState) → record { client = n; cut = p.cut } ≡ a → p.number ≡ Some n
+pub later_joined : (a : ChannelState) (n : ℕ) (p q : PassState) → record { client = n; cut = p.cut } ≡ a → p.number ≡ Some n
     → Extends p.cut q.cut → KeepsOwn p.number p.cut q.cut → IsLater a (record { client = n; cut = q.cut })
 later_joined a n p q view is x own =
-    subst (λ (b : CallerState). IsLater b (record { client = n; cut = q.cut })) view
+    subst (λ (b : ChannelState). IsLater b (record { client = n; cut = q.cut })) view
     (record { client = refl; grown = x; own = λ m t f g. own m t (is ∙ f) g })
 
 -- ---- a clock ahead of what is announced
@@ -77,7 +85,7 @@ later_joined a n p q view is x own =
 pub ahead_new : (n : ℕ) (c : Cut) → IsUnheard n c → IsAhead n 0 c
 ahead_new n c h = λ t own above. h t own
 
-pub ahead_later : (a b : CallerState) (counter : ℕ) → IsLater a b → IsAhead a.client counter a.cut → IsAhead b.client counter b.cut
+pub ahead_later : (a b : ChannelState) (counter : ℕ) → IsLater a b → IsAhead a.client counter a.cut → IsAhead b.client counter b.cut
 ahead_later a b counter x h = λ t own above. x.own a.client t refl (own ∙ x.client) ∙ h t (own ∙ x.client) above
 
 -- ---- a trim

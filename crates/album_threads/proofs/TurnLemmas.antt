@@ -23,8 +23,8 @@ use Rattle.album_threads.specs.Phases.{Outset, IsPhase, IsUnderWay}
 use Rattle.album_threads.specs.Replies.{IsReplied}
 use Rattle.album_threads.specs.Resting.{RestsOn}
 use Rattle.album_threads.specs.Sending.{IsAnnouncedBy, sent_at, sent_last}
-use Rattle.album_threads.specs.Sessions.{SessionState, IsNoWord, AnnouncesNothing}
-use Rattle.album_threads.specs.Turns.{actor_in, terms_in, IsTaken, IsSent, IsLed}
+use Rattle.album_threads.specs.Sessions.{SessionState, IsClosedOrOutOfMemory, AnnouncesNothing}
+use Rattle.album_threads.specs.Turns.{client_step_in, terms_in, IsTaken, IsSent, IsLed}
 use Rattle.album_threads.specs.declared.session.asked.Asked.{Asked}
 use Rattle.album_threads.specs.declared.session.ask.Way.{Way}
 use Rattle.album_threads.specs.declared.session.ask.Way.TheVariants.{Answered, Awaits}
@@ -38,38 +38,38 @@ use Rattle.album_writer.specs.Rounds.WriteStep.{Waits, Commits as Decides, Ends}
 use Rattle.album_writer.specs.declared.answers.Answer.{Answer}
 use Rattle.album_writer.specs.declared.answers.Answer.TheVariants as answer
 
-moved_on : (limit : ℕ) (policy : Policy) (o : Outset) (now next noted : SessionState) (at : Cut) (sent : List Message) (moved : Transition)
-    (d : Phase) (m : Message) → IsNoted o now next noted moved → IsPhase policy o now at sent d → IsReplied limit at next.cut sent m
-    → IsMoved (turn_of (terms_in policy next) (actor_in next) m d) moved → IsMovedOn limit policy o noted at sent moved
-moved_on limit policy o now next noted at sent moved (phase.Idle tag) m N w r is = absurd w
-moved_on limit policy o now next noted at sent moved (phase.Reads asking round) m N w r is =
-    read_on limit policy o now next noted at sent moved N w.1 w.2 asking round m w.0 r is
-moved_on limit policy o now next noted at sent moved (phase.Prepares writing) m N w r is =
-    prepared_on limit policy o now next noted at sent moved N w.since w.begun w.granted writing m w.carried r is
-moved_on limit policy o now next noted at sent moved (phase.Commits writing) m N w r is =
-    committed_on limit policy o now next noted at sent moved N w.since w.begun w.granted writing m w.carried r is
+moved_on : (limit : ℕ) (policy : Policy) (o : Outset) (now next noted : SessionState) (at : Cut) (sent : List Message) (transition : Transition)
+    (d : Phase) (m : Message) → IsNoted o now next noted transition → IsPhase policy o now at sent d → IsReplied limit at next.cut sent m
+    → IsMoved (turn_of (terms_in policy next) (client_step_in next) m d) transition → IsMovedOn limit policy o noted at sent transition
+moved_on limit policy o now next noted at sent transition (phase.Idle tag) m N w r is = absurd w
+moved_on limit policy o now next noted at sent transition (phase.Reads pending_ask round) m N w r is =
+    read_on limit policy o now next noted at sent transition N w.1 w.2 pending_ask round m w.0 r is
+moved_on limit policy o now next noted at sent transition (phase.Prepares writing) m N w r is =
+    prepared_on limit policy o now next noted at sent transition N w.since w.begun w.granted writing m w.carried r is
+moved_on limit policy o now next noted at sent transition (phase.Commits writing) m N w r is =
+    committed_on limit policy o now next noted at sent transition N w.since w.begun w.granted writing m w.carried r is
 
 -- ---- a reply
 
 -- it was heard, and has led to this
-pub taken_so : (limit : ℕ) (at now : Cut) (sent : List Message) (terms : Terms) (x : Client) (d : Phase) (heard : Result Message Refusal) (moved : Transition)
-    → IfOk heard (IsReplied limit at now sent) → IsOkAnd heard (λ reply. IsMoved (turn_of terms x reply d) moved)
-    → IsTaken limit at now sent terms x d moved
-taken_so limit at now sent terms x d (Ok reply) moved replied is = record { reply = reply; replied = replied; is = is }
-taken_so limit at now sent terms x d (Err why) moved replied is = absurd is
+pub taken_so : (limit : ℕ) (at now : Cut) (sent : List Message) (terms : Terms) (x : Client) (d : Phase) (heard : Result Message Refusal) (transition : Transition)
+    → IfOk heard (IsReplied limit at now sent) → IsOkAnd heard (λ reply. IsMoved (turn_of terms x reply d) transition)
+    → IsTaken limit at now sent terms x d transition
+taken_so limit at now sent terms x d (Ok reply) transition replied is = record { reply = reply; replied = replied; is = is }
+taken_so limit at now sent terms x d (Err why) transition replied is = absurd is
 
 -- ---- what a session has come to by it
 
-module _ (limit : ℕ) (policy : Policy) (o : Outset) (now next noted : SessionState) (at : Cut) (sent : List Message) (d : Phase) (moved : Transition)
-    (h : IsHeard now next) (t : IsTaken limit at next.cut sent (terms_in policy next) (actor_in next) d moved)
-    (client : noted.client ≡ next.client) (cut : noted.cut ≡ next.cut) (counter : noted.counter ≡ moved.client.clock.counter) where
+module _ (limit : ℕ) (policy : Policy) (o : Outset) (now next noted : SessionState) (at : Cut) (sent : List Message) (d : Phase) (transition : Transition)
+    (h : IsHeard now next) (t : IsTaken limit at next.cut sent (terms_in policy next) (client_step_in next) d transition)
+    (client : noted.client ≡ next.client) (cut : noted.cut ≡ next.cut) (counter : noted.counter ≡ transition.client.clock.counter) where
   -- the ask is answered, or goes on
-  pub led_on : IsUnderWay policy o now at sent d → IsProper moved.client.phase
-      → AreShared next.client next.share noted.share moved.notes.items
-      → (next_of moved.client.clock ≡ Err StampsSpent → moved.client.clock.counter ≡ MAX_COUNTER)
-      → IsMovedOn limit policy o noted at sent moved
+  pub led_on : IsUnderWay policy o now at sent d → IsProper transition.client.phase
+      → AreShared next.client next.share noted.share transition.notes.items
+      → (next_of transition.client.clock ≡ Err StampsSpent → transition.client.clock.counter ≡ MAX_COUNTER)
+      → IsMovedOn limit policy o noted at sent transition
   led_on w proper shared spent =
-      moved_on limit policy o now next noted at sent moved d t.reply (record {
+      moved_on limit policy o now next noted at sent transition d t.reply (record {
         taken = w.taken;
         on = w.on;
         sound_before = w.sound;
@@ -83,14 +83,14 @@ module _ (limit : ℕ) (policy : Policy) (o : Outset) (now next noted : SessionS
       }) w.phase t.replied t.is
 
 -- a session is on from what it was as the reply was heard
-pub on_moved : (limit : ℕ) (policy : Policy) (next noted : SessionState) (at : Cut) (sent : List Message) (d : Phase) (moved : Transition)
-    → IsTaken limit at next.cut sent (terms_in policy next) (actor_in next) d moved
-    → noted.client ≡ next.client → noted.cut ≡ next.cut → noted.counter ≡ moved.client.clock.counter → IsOn next noted
-on_moved limit policy next noted at sent d moved t client cut counter = record {
+pub on_moved : (limit : ℕ) (policy : Policy) (next noted : SessionState) (at : Cut) (sent : List Message) (d : Phase) (transition : Transition)
+    → IsTaken limit at next.cut sent (terms_in policy next) (client_step_in next) d transition
+    → noted.client ≡ next.client → noted.cut ≡ next.cut → noted.counter ≡ transition.client.clock.counter → IsOn next noted
+on_moved limit policy next noted at sent d transition t client cut counter = record {
   client = client;
   grown = subst (Extends next.cut) (sym cut) (extends_self next.cut);
-  risen = (let k = moved_clock (terms_in policy next) (actor_in next) t.reply d moved t.is in
-      let rises : next.counter ≤ moved.client.clock.counter = k.1 in omega (arith, counter, rises));
+  risen = (let k = moved_clock (terms_in policy next) (client_step_in next) t.reply d transition t.is in
+      let rises : next.counter ≤ transition.client.clock.counter = k.1 in omega (arith, counter, rises));
 }
 
 -- it announces and sends
@@ -109,7 +109,7 @@ on_refusal (Err e) P h = h
 module _ (limit : ℕ) (policy : Policy) (o : Outset) where
   -- no word comes to what was under way
   pub cut_led : (now next : SessionState) (at : Cut) (sent : List Message) (d : Phase) (why : Refusal) (r : Result Way Refusal) → IsUnderWay policy o now at sent d
-      → IsHeard now next → IsNoWord why → (stamp : Option ℕ) → stamp ≡ stamp_at_work d
+      → IsHeard now next → IsClosedOrOutOfMemory why → (stamp : Option ℕ) → stamp ≡ stamp_at_work d
       → IfSome stamp (λ t. r ≡ Ok (Answered (answer.Unsettled t why))) → IfNone stamp (r ≡ Err why) → IfOk r (IsLed limit policy o next)
   cut_led now next at sent d why r w h none (Some t) is begun before =
       subst (λ (z : Result Way Refusal). IfOk z (IsLed limit policy o next)) (sym begun)
@@ -132,7 +132,7 @@ module _ (limit : ℕ) (policy : Policy) (o : Outset) where
   pub unbegun_now : (now : SessionState) (at : Cut) (sent : List Message) (d : Phase) → IsUnderWay policy o now at sent d → stamp_at_work d ≡ None
       → AnnouncesNothing o.session now
   unbegun_now now at sent (phase.Idle tag) w e = absurd w.phase
-  unbegun_now now at sent (phase.Reads asking round) w e = w.phase.2
+  unbegun_now now at sent (phase.Reads pending_ask round) w e = w.phase.2
   unbegun_now now at sent (phase.Prepares writing) w e = absurd (cc)
   unbegun_now now at sent (phase.Commits writing) w e = absurd (cc)
 
@@ -146,23 +146,23 @@ module _ (limit : ℕ) (policy : Policy) (o : Outset) where
       unbegun_next now next w.on h (unbegun_now now at sent d w (sym is ∙ none))
 
   -- of a write nothing is noted
-  pub unbegun_noted : (now next noted : SessionState) (at : Cut) (sent : List Message) (d : Phase) (moved : Transition) → IsUnderWay policy o now at sent d
-      → IsHeard now next → noted.cut ≡ next.cut → IsTaken limit at next.cut sent (terms_in policy next) (actor_in next) d moved
-      → (moved.notes.items ≡ [] → ⊥) → AnnouncesNothing o.session noted
-  unbegun_noted now next noted at sent (phase.Idle tag) moved w h cut t some = absurd w.phase
-  unbegun_noted now next noted at sent (phase.Reads asking round) moved w h cut t some = λ u own.
+  pub unbegun_noted : (now next noted : SessionState) (at : Cut) (sent : List Message) (d : Phase) (transition : Transition) → IsUnderWay policy o now at sent d
+      → IsHeard now next → noted.cut ≡ next.cut → IsTaken limit at next.cut sent (terms_in policy next) (client_step_in next) d transition
+      → (transition.notes.items ≡ [] → ⊥) → AnnouncesNothing o.session noted
+  unbegun_noted now next noted at sent (phase.Idle tag) transition w h cut t some = absurd w.phase
+  unbegun_noted now next noted at sent (phase.Reads pending_ask round) transition w h cut t some = λ u own.
       ap (λ (c : Cut). announced_for c u) cut ∙ unbegun_next now next w.on h w.phase.2 u own
-  unbegun_noted now next noted at sent (phase.Prepares writing) moved w h cut t some =
+  unbegun_noted now next noted at sent (phase.Prepares writing) transition w h cut t some =
       absurd (some (t.is.noted ∙ none (prepare_stepped writing t.reply)))
     where
-      none : (f : WriteStep) → unwrap_or (prepare_turn (actor_in next) writing.tag f).noted [] ≡ []
+      none : (f : WriteStep) → unwrap_or (prepare_turn (client_step_in next) writing.tag f).noted [] ≡ []
       none (Waits other) = refl
       none (Decides other messages) = refl
       none (Ends out) = refl
-  unbegun_noted now next noted at sent (phase.Commits writing) moved w h cut t some =
+  unbegun_noted now next noted at sent (phase.Commits writing) transition w h cut t some =
       absurd (some (t.is.noted ∙ none (commit_stepped writing t.reply)))
     where
-      none : (f : WriteStep) → unwrap_or (commit_turn (actor_in next) writing.tag f).noted [] ≡ []
+      none : (f : WriteStep) → unwrap_or (commit_turn (client_step_in next) writing.tag f).noted [] ≡ []
       none (Waits other) = refl
       none (Decides other messages) = refl
       none (Ends out) = refl

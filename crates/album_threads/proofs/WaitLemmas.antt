@@ -19,34 +19,34 @@ use Rattle.album_threads.specs.Asks.{IsHeard}
 use Rattle.album_threads.specs.Phases.{Outset, IsReading, IsUnderWay}
 use Rattle.album_threads.specs.Replies.{IsReplied, Leads}
 use Rattle.album_threads.specs.Sessions.{SessionState}
-use Rattle.album_threads.specs.Turns.{actor_in, terms_in}
+use Rattle.album_threads.specs.Turns.{client_step_in, terms_in}
 use Rattle.album_threads.proofs.MovedLemmas.{on_heard}
 use Rattle.album_threads.proofs.RoundLemmas.{leads}
 
 module _ (limit : ℕ) (policy : Policy) (o : Outset) (now next : SessionState) (at : Cut) (sent : List Message) (m : Message)
     (h : IsHeard now next) (r : IsReplied limit at next.cut sent m) where
   -- it reads on
-  reads_on : (asking : PendingAsk) (round : RoundState) (new : Phase) → IsUnderWay policy o now at sent (phase.Reads asking round)
-      → is_waiting (phase.Reads asking round) m ≡ true → IsTakenBy (phase.Reads asking round) m new
+  reads_on : (pending_ask : PendingAsk) (round : RoundState) (new : Phase) → IsUnderWay policy o now at sent (phase.Reads pending_ask round)
+      → is_waiting (phase.Reads pending_ask round) m ≡ true → IsTakenBy (phase.Reads pending_ask round) m new
       → IsUnderWay policy o next at sent new
-  reads_on asking round new w waits taken =
+  reads_on pending_ask round new w waits taken =
       go (stepped round m)
       (leads limit at now.cut next.cut read.begun round m read.on h.grown since read.parts
       (subst (λ (ms : List Message). IsReplied limit at next.cut ms m) read.asks r) read.under)
       waits taken
     where
-      read : IsReading o.principal o.ask o.session.cut at now.cut sent asking round
+      read : IsReading o.principal o.ask o.session.cut at now.cut sent pending_ask round
       read = w.phase.0
 
       since : Extends at next.cut
       since = extends_trans at now.cut next.cut read.on h.grown
 
       go : (f : Step) → Leads at next.cut read.begun f → not (is_end f) ≡ true
-          → ((terms : Terms) (x : Client) → read_turn terms x round.asker.tag asking f ≡ still (record x { phase = new }))
+          → ((terms : Terms) (x : Client) → read_turn terms x round.asker.tag pending_ask f ≡ still (record x { phase = new }))
           → IsUnderWay policy o next at sent new
       go (Same other) led e t =
           subst (IsUnderWay policy o next at sent)
-          (ap (λ (y : Turn). y.client.phase) (t (terms_in policy next) (actor_in next)))
+          (ap (λ (y : Turn). y.client.phase) (t (terms_in policy next) (client_step_in next)))
           (record {
             taken = w.taken;
             on = on_heard o.session now next w.on h;
@@ -77,7 +77,7 @@ module _ (limit : ℕ) (policy : Policy) (o : Outset) (now next : SessionState) 
   pub waits_on : (d new : Phase) → IsUnderWay policy o now at sent d → is_waiting d m ≡ true → IsTakenBy d m new
       → IsUnderWay policy o next at sent new
   waits_on (phase.Idle tag) new w waits taken = absurd (cc)
-  waits_on (phase.Reads asking round) new w waits taken = reads_on asking round new w waits taken
+  waits_on (phase.Reads pending_ask round) new w waits taken = reads_on pending_ask round new w waits taken
   waits_on (phase.Prepares writing) new w waits taken = absurd (cc)
   waits_on (phase.Commits writing) new w waits taken = absurd (cc)
 

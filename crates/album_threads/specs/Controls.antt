@@ -1,4 +1,4 @@
--- What a session asks of a partition beside messages, and what the partition tells of it.
+-- Control requests of a session, and a partition's replies to them.
 use Rattle.std.specs.Prelude.{◌≡◌, ◌≢◌, ℕ, true, List, None, Result, Ok, Err}
 use Rattle.atomic_table.specs.Seated.{TableId}
 use Rattle.album_stamps.specs.declared.refusals.Refusal.{Refusal}
@@ -11,32 +11,38 @@ use Rattle.album_passes.specs.Cuts.{Cut, prefix_at}
 use Rattle.album_passes.specs.Pass.{PassState}
 use Rattle.album_threads.specs.declared.control.Control.{Control}
 use Rattle.album_threads.specs.declared.control.Control.TheVariants.{Pending, Sweep, Trim}
+use Rattle.album_threads.specs.declared.control.ControlAnswer.{ControlAnswer}
+use Rattle.album_threads.specs.declared.control.ControlAnswer.TheVariants as answer
 
--- ---- a question
+-- ---- a request
 
--- who asks, under which tag, what, and the pass that goes with it
-pub record QuestionState : Type 0 where
+-- the client that asks, its tag, what it asks, and the pass that goes with it
+pub record ControlRequestState : Type 0 where
   pub client : ℕ
   pub tag : ℕ
-  pub inquiry : Control
+  pub control : Control
   pub pass : PassState
 
 -- the pass is of this table and has no number
-pub record IsQuestion (table : TableId) (question : QuestionState) : Type 0 where
-  pub of : question.pass.table ≡ table
-  pub unnumbered : question.pass.number ≡ None
+pub record IsControlRequest (table : TableId) (request : ControlRequestState) : Type 0 where
+  pub of : request.pass.table ≡ table
+  pub unnumbered : request.pass.number ≡ None
 
--- ---- what is told
+-- ---- a reply
 
 -- these are the stamps that are pending
-abbrev pub TellsPending : List Mark → Result (List ℕ) Refusal → Type 0
-TellsPending marks (Ok stamps) = ArePending marks stamps
-TellsPending marks (Err why) = why ≡ OutOfMemory
+abbrev pub AnswersPending : List Mark → Result ControlAnswer Refusal → Type 0
+AnswersPending marks (Ok (answer.Pending stamps)) = ArePending marks stamps
+AnswersPending marks (Ok answer.Swept) = ⊥
+AnswersPending marks (Ok answer.Trimmed) = ⊥
+AnswersPending marks (Err why) = why ≡ OutOfMemory
 
 -- the stamp is pending, and the others of its partitions were asked; or it is not
-abbrev pub TellsSwept : List Mark → ℕ → Result (List ℕ) Refusal → Type 0
-TellsSwept marks stamp (Ok stamps) = state_of marks stamp ≡ state.Pending
-TellsSwept marks stamp (Err why) =
+abbrev pub AnswersSwept : List Mark → ℕ → Result ControlAnswer Refusal → Type 0
+AnswersSwept marks stamp (Ok answer.Swept) = state_of marks stamp ≡ state.Pending
+AnswersSwept marks stamp (Ok (answer.Pending stamps)) = ⊥
+AnswersSwept marks stamp (Ok answer.Trimmed) = ⊥
+AnswersSwept marks stamp (Err why) =
     why ≢ OutOfMemory → (why ≡ NotPrepared) × (state_of marks stamp ≢ state.Pending)
 
 -- why an item is not trimmed at a partition: it is placed elsewhere, or there is no room for the mark
@@ -45,26 +51,28 @@ pub data IsUntrimmed (limit : ℕ) (cut : Cut) (part item : ℕ) : Refusal → T
   NoRoom : is_full limit (prefix_at cut part) ≡ true → IsUntrimmed limit cut part item Full
 
 -- no version of the item is kept that is below its latest stamp; or why not
-abbrev pub TellsTrimmed : ℕ → Cut → ℕ → ℕ → Result (List ℕ) Refusal → Type 0
-TellsTrimmed limit cut part item (Ok stamps) = floor (prefix_at cut part) item ≡ latest (prefix_at cut part) item
-TellsTrimmed limit cut part item (Err why) = why ≢ OutOfMemory → IsUntrimmed limit cut part item why
+abbrev pub AnswersTrimmed : ℕ → Cut → ℕ → ℕ → Result ControlAnswer Refusal → Type 0
+AnswersTrimmed limit cut part item (Ok answer.Trimmed) = floor (prefix_at cut part) item ≡ latest (prefix_at cut part) item
+AnswersTrimmed limit cut part item (Ok (answer.Pending stamps)) = ⊥
+AnswersTrimmed limit cut part item (Ok answer.Swept) = ⊥
+AnswersTrimmed limit cut part item (Err why) = why ≢ OutOfMemory → IsUntrimmed limit cut part item why
 
--- what a partition tells to an inquiry, at the point of its history that the cut shows
-abbrev pub Tells : ℕ → Cut → ℕ → Control → Result (List ℕ) Refusal → Type 0
-Tells limit cut part Pending told = TellsPending (prefix_at cut part) told
-Tells limit cut part (Sweep stamp) told = TellsSwept (prefix_at cut part) stamp told
-Tells limit cut part (Trim item) told = TellsTrimmed limit cut part item told
+-- a partition's answer to a control request, at the point of its history that the cut shows
+abbrev pub Answers : ℕ → Cut → ℕ → Control → Result ControlAnswer Refusal → Type 0
+Answers limit cut part Pending result = AnswersPending (prefix_at cut part) result
+Answers limit cut part (Sweep stamp) result = AnswersSwept (prefix_at cut part) stamp result
+Answers limit cut part (Trim item) result = AnswersTrimmed limit cut part item result
 
--- which partition tells, the tag and the inquiry of the question, what is told, and the pass that goes with it
-pub record NoticeState : Type 0 where
+-- the partition that answers, the request's tag, what it asked, the answer, and the pass that goes with it
+pub record ControlReplyState : Type 0 where
   pub part : ℕ
   pub tag : ℕ
-  pub inquiry : Control
-  pub told : Result (List ℕ) Refusal
+  pub control : Control
+  pub answer : Result ControlAnswer Refusal
   pub pass : PassState
 
--- the pass is of this table and has no number, and what is told is so at the point that its cut shows
-pub record IsNotice (table : TableId) (limit : ℕ) (notice : NoticeState) : Type 0 where
-  pub of : notice.pass.table ≡ table
-  pub unnumbered : notice.pass.number ≡ None
-  pub told_so : Tells limit notice.pass.cut notice.part notice.inquiry notice.told
+-- the pass is of this table and has no number, and the answer is true at the point that its cut shows
+pub record IsControlReply (table : TableId) (limit : ℕ) (reply : ControlReplyState) : Type 0 where
+  pub of : reply.pass.table ≡ table
+  pub unnumbered : reply.pass.number ≡ None
+  pub true_there : Answers limit reply.pass.cut reply.part reply.control reply.answer

@@ -33,13 +33,13 @@ pub data IsRound (start at : Cut) (begun : RoundState) : Type 0 where
 
 -- It reads for the ask: what was read before led to no view, and this round began at a cut, where it sent its messages.
 pub record IsReading
-    (principal : Principal) (ask : Ask) (old at now : Cut) (sent : List Message) (asking : PendingAsk) (round : RoundState)
+    (principal : Principal) (ask : Ask) (old at now : Cut) (sent : List Message) (pending_ask : PendingAsk) (round : RoundState)
     : Type 0 where
-  pub of : asking.viewing.ask ≡ ask
-  pub whom : asking.principal ≡ principal
+  pub of : pending_ask.viewing.ask ≡ ask
+  pub whom : pending_ask.principal ≡ principal
   pub start : Cut
   pub begun : RoundState
-  pub looking : IsLooking old start asking.viewing begun.items
+  pub looking : IsLooking old start pending_ask.viewing begun.items
   pub which : IsRound start at begun
   pub asks : sent ≡ gets_of begun.asker (asked_stamps begun) begun.items
   pub parts : begun.asker.parts ≡ at.parts
@@ -67,7 +67,7 @@ pub record IsCommitting (at now : Cut) (sent : List Message) (begun writing : Wr
 -- what is under way of the write, by the phase
 abbrev pub IsCarried : Cut → Cut → List Message → WritingState → Phase → Type 0
 IsCarried at now sent begun (Idle tag) = ⊥
-IsCarried at now sent begun (Reads asking round) = ⊥
+IsCarried at now sent begun (Reads pending_ask round) = ⊥
 IsCarried at now sent begun (Prepares writing) = IsPreparing at now sent begun writing
 IsCarried at now sent begun (Commits writing) = IsCommitting at now sent begun writing
 
@@ -86,8 +86,8 @@ pub record IsWriting
 -- It reads, and has noted and announced nothing; or it writes.
 abbrev pub IsPhase : Policy → Outset → SessionState → Cut → List Message → Phase → Type 0
 IsPhase policy outset now at sent (Idle tag) = ⊥
-IsPhase policy outset now at sent (Reads asking round) =
-    IsReading outset.principal outset.ask outset.session.cut at now.cut sent asking round
+IsPhase policy outset now at sent (Reads pending_ask round) =
+    IsReading outset.principal outset.ask outset.session.cut at now.cut sent pending_ask round
     × (now.share ≡ outset.session.share)
     × AnnouncesNothing outset.session now
 IsPhase policy outset now at sent (Prepares writing) = IsWriting policy outset now at sent (Prepares writing)

@@ -8,7 +8,7 @@ use Rattle.album_calls.specs.declared.requests.Request.TheVariants.{Prepare, Com
 use Rattle.album_passes.specs.Changes.{announced_cut}
 use Rattle.album_passes.specs.Cuts.{Cut, Announcement, announced_for, Extends, IsSound}
 use Rattle.album_stamps.specs.Stamps.{client_number, counter_of}
-use Rattle.album_threads.specs.Sessions.{CallerState, SessionState}
+use Rattle.album_threads.specs.Sessions.{ChannelState, SessionState}
 
 -- ---- what is announced
 
@@ -38,7 +38,7 @@ abbrev pub announced_by : Cut → List Message → Cut
 announced_by cut messages = announced_with cut (prepared_first messages)
 
 -- the stamp is the client's own, and nothing is announced for it
-abbrev pub IsUnused : CallerState → Option Announcement → Type 0
+abbrev pub IsUnused : ChannelState → Option Announcement → Type 0
 IsUnused channel None = Unit {0}
 IsUnused channel (Some (stamp, items)) =
     (client_number stamp ≡ channel.client) × (announced_for channel.cut stamp ≡ None)

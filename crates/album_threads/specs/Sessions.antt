@@ -15,12 +15,12 @@ use Rattle.album_passes.specs.Pass.{PassState}
 -- ---- who asks the partitions
 
 -- the client, and what was seen
-pub record CallerState : Type 0 where
+pub record ChannelState : Type 0 where
   pub client : ℕ
   pub cut : Cut
 
 -- the pass is of this table and has the client's number, and there are so many partitions
-pub record IsCaller (table : TableId) (client parts : ℕ) (pass : PassState) : Type 0 where
+pub record IsChannel (table : TableId) (client parts : ℕ) (pass : PassState) : Type 0 where
   pub of : pass.table ≡ table
   pub number : pass.number ≡ Some client
   pub parts_are : pass.cut.parts ≡ parts
@@ -28,14 +28,14 @@ pub record IsCaller (table : TableId) (client parts : ℕ) (pass : PassState) : 
   pub few : parts ≤ MAX_PARTS
 
 -- the same client has seen more, and just that is announced of its stamps which was before
-pub record IsLater (old new : CallerState) : Type 0 where
+pub record IsLater (old new : ChannelState) : Type 0 where
   pub client : new.client ≡ old.client
   pub grown : Extends old.cut new.cut
   pub own : KeepsOwn (Some old.client) old.cut new.cut
 
 -- no word comes: there is no memory for one, or the service is closed
-abbrev pub IsNoWord : Refusal → Type 0
-IsNoWord why = (why ≡ OutOfMemory) ⊎ (why ≡ Closed)
+abbrev pub IsClosedOrOutOfMemory : Refusal → Type 0
+IsClosedOrOutOfMemory why = (why ≡ OutOfMemory) ⊎ (why ≡ Closed)
 
 -- ---- a session
 
@@ -57,7 +57,7 @@ AnnouncesNothing old new = (stamp : ℕ) → client_number stamp ≡ old.client
     → announced_for new.cut stamp ≡ announced_for old.cut stamp
 
 -- the policy is this one, and the clock is the client's, and ahead of what is announced of it
-pub record IsSession (named policy : Policy) (clock : ClockState) (channel : CallerState) : Type 0 where
+pub record IsSession (named policy : Policy) (clock : ClockState) (channel : ChannelState) : Type 0 where
   pub policy_is : policy ≡ named
   pub own : clock.client ≡ channel.client
   pub ahead : IsAhead channel.client clock.counter channel.cut

@@ -16,7 +16,7 @@ use Rattle.album_threads.specs.Phases.{Outset, IsUnderWay}
 use Rattle.album_threads.specs.Replies.{IsReplied}
 use Rattle.album_threads.specs.Resting.{RestsOn}
 use Rattle.album_threads.specs.Sending.{sent_at, sent_last}
-use Rattle.album_threads.specs.Sessions.{SessionState, IsNoWord}
+use Rattle.album_threads.specs.Sessions.{SessionState, IsClosedOrOutOfMemory}
 use Rattle.album_threads.specs.declared.session.asked.Asked.{Asked}
 use Rattle.album_threads.specs.declared.session.turn.Turned.{Turned}
 use Rattle.album_threads.specs.declared.session.turn.Turned.TheVariants.{Answers, Sends}
@@ -26,8 +26,8 @@ use Rattle.album_writer.specs.declared.answers.Answer.{Answer}
 use Rattle.album_writer.specs.declared.answers.Answer.TheVariants as answer
 
 -- a session's client, whatever it does, and the terms on which it asks
-abbrev pub actor_in : SessionState → Client
-actor_in session = record {
+abbrev pub client_step_in : SessionState → Client
+client_step_in session = record {
   number = session.client;
   clock = record { client = session.client; counter = session.counter };
   phase = Idle 0;
@@ -50,11 +50,11 @@ IsSomehowWaited policy new at sent phase = (outset : Outset) × IsWaited policy 
 
 -- a reply has come to one of the messages that were sent, and led to this
 pub record IsTaken
-    (limit : ℕ) (at now : Cut) (sent : List Message) (terms : Terms) (client : Client) (phase : Phase) (moved : Transition)
+    (limit : ℕ) (at now : Cut) (sent : List Message) (terms : Terms) (client : Client) (phase : Phase) (transition : Transition)
     : Type 0 where
   pub reply : Message
   pub replied : IsReplied limit at now sent reply
-  pub is : IsMoved (turn_of terms client reply phase) moved
+  pub is : IsMoved (turn_of terms client reply phase) transition
 
 -- the client has answered, or does this and sends these messages
 abbrev pub IsTurned : Phase → List Message → Option Answer → Turned → Type 0
@@ -66,7 +66,7 @@ pub record IsCutOff (phase : Phase) (told : Answer) : Type 0 where
   pub stamp : ℕ
   pub of : stamp_at_work phase ≡ Some stamp
   pub why : Refusal
-  pub none : IsNoWord why
+  pub none : IsClosedOrOutOfMemory why
   pub is : told ≡ answer.Unsettled stamp why
 
 -- the messages are sent, and replies are awaited; or it is cut off

@@ -1,6 +1,6 @@
-// What a session asks of a partition beside messages, and what the partition tells.
+// Control requests: what whoever runs the service asks of a partition through a session, and the partition's reply.
 ghost use Rattle.std.specs.Prelude.{◌≡◌, ◌↔◌, IsTrue, None, Option};
-ghost use Rattle.album_threads.specs.Controls.{Tells};
+ghost use Rattle.album_threads.specs.Controls.{Answers};
 
 use crate::service_names::ServiceNames;
 use album_calls::Stamps;
@@ -9,19 +9,19 @@ use album_passes::Pass;
 use album_stamps::{ClientNo, Refusal, Stamp};
 use std::marker::{Model, PhantomData};
 
-/// What a session asks of a partition beside messages.
+/// What is asked of a partition apart from messages.
 #[derive(Clone, Copy, Debug)]
 pub enum Control {
-    /// Which stamps are pending?
+    /// The stamps that are pending.
     Pending,
-    /// To ask the other partitions of the stamp's items how it stands at their side.
+    /// The partition is to ask the other partitions of the stamp's items whether they have it prepared or committed.
     Sweep(Stamp),
-    /// To let the versions of the item go that are below its latest stamp.
+    /// The partition is to drop the item's versions below its latest stamp: garbage collection.
     Trim(ItemId),
 }
 
 impl Control {
-    /// Whether it is this one.
+    /// Whether both are the same. By hand: a derived `==` isn't known to be equality over values with a Model.
     pub fn is(self, other: Control) -> bool
         ensures { IsTrue result ↔ (self ≡ other) }
     {
@@ -35,61 +35,72 @@ impl Control {
     }
 }
 
-/// An inquiry of a session, with a pass of the desk that J names. The tag is the session's own.
+/// What a partition answers to a control request that it carries out.
+#[derive(Drop)]
+pub enum ControlAnswer {
+    /// These stamps are pending, rising.
+    Pending(Stamps),
+    /// The stamp is pending, and the other partitions were asked.
+    Swept,
+    /// The item's versions below its latest stamp are dropped.
+    Trimmed,
+}
+
+/// A control request of a session, with a pass of the desk that J names. The tag is the session's own.
 #[derive(Drop)]
 pub struct ControlRequest<J: ServiceNames> {
     client: ClientNo,
     tag: u64,
-    inquiry: Control,
+    control: Control,
     pass: Pass,
     of: PhantomData<J>,
 }
 
 impl<J: ServiceNames> Model for ControlRequest<J> {
-    ghost use Rattle.album_threads.specs.Controls.{QuestionState, IsQuestion};
+    ghost use Rattle.album_threads.specs.Controls.{ControlRequestState, IsControlRequest};
 
-    ghost Value = { QuestionState };
+    ghost Value = { ControlRequestState };
 
-    ghost view = { λ q. record { client = q.client; tag = q.tag; inquiry = q.inquiry; pass = q.pass } };
+    ghost view = { λ q. record { client = q.client; tag = q.tag; control = q.control; pass = q.pass } };
 
-    ghost invariant = { λ q. IsQuestion J.table
-        (record { client = q.client; tag = q.tag; inquiry = q.inquiry; pass = q.pass }) };
+    ghost invariant = { λ q. IsControlRequest J.table
+        (record { client = q.client; tag = q.tag; control = q.control; pass = q.pass }) };
 }
 
 impl<J: ServiceNames> ControlRequest<J> {
-    /// The inquiry with this pass.
-    pub fn new(client: ClientNo, tag: u64, inquiry: Control, pass: Pass) -> ControlRequest<J>
+    /// The request with this pass.
+    pub fn new(client: ClientNo, tag: u64, control: Control, pass: Pass) -> ControlRequest<J>
         requires of { pass.table ≡ J.table }
         requires unnumbered { pass.number ≡ None }
-        ensures { result ≡ record { client = client; tag = tag; inquiry = inquiry; pass = pass } }
+        ensures { result ≡ record { client = client; tag = tag; control = control; pass = pass } }
     {
         ControlRequest {
             client,
             tag,
-            inquiry,
+            control,
             pass,
             of: PhantomData,
         }
     }
 
-    /// Who asks.
+    /// The client that asks.
     pub fn client(&self) -> ClientNo
         ensures { result ≡ self.now.client }
     {
         self.client
     }
 
-    /// What is asked.
-    pub fn inquiry(&self) -> Control
-        ensures { result ≡ self.now.inquiry }
+    /// What it asks.
+    pub fn control(&self) -> Control
+        ensures { result ≡ self.now.control }
     {
-        self.inquiry
+        self.control
     }
 
-    /// The tag, the inquiry and the pass.
+    /// Its tag, what it asks, and its pass.
     pub fn open(self) -> (u64, Control, Pass)
         ensures tag { result.0 ≡ self.tag }
-        ensures inquiry { result.1 ≡ self.inquiry }
+        ensures control { result.1 ≡ self.control }
         ensures pass { result.2 ≡ self.pass }
         ensures of { result.2.table ≡ J.table }
         ensures unnumbered { result.2.number ≡ None }
@@ -97,85 +108,85 @@ impl<J: ServiceNames> ControlRequest<J> {
         let ControlRequest {
             client: _,
             tag,
-            inquiry,
+            control,
             pass,
             of: _,
         } = self;
-        (tag, inquiry, pass)
+        (tag, control, pass)
     }
 }
 
-/// What a partition tells to an inquiry, with a pass of the desk that J names, whose cut shows the
-/// point of the partition's history at which it is so.
+/// A partition's reply to a control request. Its pass is of the desk that J names, and shows the partition's history
+/// at the point at which the reply is true.
 #[derive(Drop)]
 pub struct ControlReply<J: ServiceNames> {
     part: u16,
     tag: u64,
-    inquiry: Control,
-    told: Result<Stamps, Refusal>,
+    control: Control,
+    answer: Result<ControlAnswer, Refusal>,
     pass: Pass,
     of: PhantomData<J>,
 }
 
 impl<J: ServiceNames> Model for ControlReply<J> {
-    ghost use Rattle.album_threads.specs.Controls.{NoticeState, IsNotice};
+    ghost use Rattle.album_threads.specs.Controls.{ControlReplyState, IsControlReply};
 
-    ghost Value = { NoticeState };
+    ghost Value = { ControlReplyState };
 
-    ghost view = { λ n. record { part = n.part; tag = n.tag; inquiry = n.inquiry; told = n.told; pass = n.pass } };
+    ghost view = { λ n. record { part = n.part; tag = n.tag; control = n.control; answer = n.answer; pass = n.pass } };
 
-    ghost invariant = { λ n. IsNotice J.table J.terms.limit
-        (record { part = n.part; tag = n.tag; inquiry = n.inquiry; told = n.told; pass = n.pass }) };
+    ghost invariant = { λ n. IsControlReply J.table J.terms.limit
+        (record { part = n.part; tag = n.tag; control = n.control; answer = n.answer; pass = n.pass }) };
 }
 
 impl<J: ServiceNames> ControlReply<J> {
-    /// What this partition tells to the inquiry, with this pass.
+    /// The reply of this partition, with this pass.
     pub fn new(
         part: u16,
         tag: u64,
-        inquiry: Control,
-        told: Result<Stamps, Refusal>,
+        control: Control,
+        answer: Result<ControlAnswer, Refusal>,
         pass: Pass,
     ) -> ControlReply<J>
         requires of { pass.table ≡ J.table }
         requires unnumbered { pass.number ≡ None }
-        requires told { Tells J.terms.limit pass.cut part inquiry told }
-        ensures { result ≡ record { part = part; tag = tag; inquiry = inquiry; told = told; pass = pass } }
+        requires answer { Answers J.terms.limit pass.cut part control answer }
+        ensures { result ≡ record { part = part; tag = tag; control = control; answer = answer; pass = pass } }
     {
         ControlReply {
             part,
             tag,
-            inquiry,
-            told,
+            control,
+            answer,
             pass,
             of: PhantomData,
         }
     }
 
-    /// Whether the partition tells it to this inquiry of this tag.
-    pub fn is_of(&self, part: u16, tag: u64, inquiry: Control) -> bool
+    /// Whether it is this partition's reply to the request of this tag.
+    pub fn is_of(&self, part: u16, tag: u64, control: Control) -> bool
         ensures { IsTrue result
-            ↔ ((self.now.part ≡ part) × (self.now.tag ≡ tag) × (self.now.inquiry ≡ inquiry)) }
+            ↔ ((self.now.part ≡ part) × (self.now.tag ≡ tag) × (self.now.control ≡ control)) }
     {
-        self.part == part && self.tag == tag && self.inquiry.is(inquiry)
+        self.part == part && self.tag == tag && self.control.is(control)
     }
 
-    /// What is told, and the pass.
-    pub fn open(self) -> (Result<Stamps, Refusal>, Pass)
-        ensures told { result.0 ≡ self.told }
+    /// The answer, and the pass.
+    pub fn open(self) -> (Result<ControlAnswer, Refusal>, Pass)
+        ensures answer { result.0 ≡ self.answer }
         ensures pass { result.1 ≡ self.pass }
         ensures of { result.1.table ≡ J.table }
         ensures unnumbered { result.1.number ≡ None }
-        ensures so { Tells J.terms.limit result.1.cut self.part self.inquiry result.0 }
+        ensures so { Answers J.terms.limit result.1.cut self.part self.control result.0 }
     {
         let ControlReply {
             part: _,
             tag: _,
-            inquiry: _,
-            told,
+            control: _,
+            answer,
             pass,
             of: _,
         } = self;
-        (told, pass)
+        (answer, pass)
     }
 }

@@ -30,7 +30,7 @@ mod mailbox;
 // What holds of the answers.
 mod laws;
 
-pub use control::{Control, ControlReply, ControlRequest};
+pub use control::{Control, ControlAnswer, ControlReply, ControlRequest};
 pub use envelopes::{ReplyEnvelope, RequestEnvelope};
 pub use gate::{Gate, Open};
 pub use laws::grounds_stay;

@@ -30,7 +30,7 @@ pub(crate) enum PartitionMail<J: ServiceNames> {
     /// A session of this number begins, and takes here what it is told.
     Register(u16, Sender<SessionMail<J>>),
     /// Messages of one session, or one of another partition: those of a round that go to this partition, in order.
-    Letters(Vec<RequestEnvelope<J>>),
+    Envelopes(Vec<RequestEnvelope<J>>),
     /// What a session asks beside messages.
     ControlRequest(Box<ControlRequest<J>, Global>),
     /// The session of this number is over.
@@ -43,8 +43,8 @@ pub(crate) enum PartitionMail<J: ServiceNames> {
 #[derive(Drop)]
 pub(crate) enum SessionMail<J: ServiceNames> {
     /// The replies to the messages of one mail, in order.
-    Responses(VecDeque<ReplyEnvelope<J>>),
-    /// What is told to a question.
+    Replies(VecDeque<ReplyEnvelope<J>>),
+    /// What is told to a request.
     ControlReply(Box<ControlReply<J>, Global>),
 }
 

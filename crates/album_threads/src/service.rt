@@ -231,7 +231,7 @@ fn mailboxes_for<J: ServiceNames>(
     Ok((mailboxes, mails))
 }
 
-/// Tells each partition's thread to leave, and joins those that run.
+/// Answers each partition's thread to leave, and joins those that run.
 fn leave_all<J: ServiceNames, R: Threads + Wait>(
     rt: &R,
     mailboxes: &[Sender<PartitionMail<J>>],
@@ -245,7 +245,7 @@ fn leave_all<J: ServiceNames, R: Threads + Wait>(
     }
 }
 
-/// Tells a partition's thread to leave, again until its mailbox takes it.
+/// Answers a partition's thread to leave, again until its mailbox takes it.
 fn leave<J: ServiceNames, R: Wait>(rt: &R, mailbox: &Sender<PartitionMail<J>>) {
     for _ in rt.forever() {
         let sent = mailbox.send(rt, PartitionMail::Leave);

@@ -5,8 +5,8 @@ ghost use Rattle.album_partition.specs.Marks.{ArePending, state_of, latest, floo
 ghost use Rattle.album_passes.specs.Changes.{IsUnheard};
 ghost use Rattle.album_passes.specs.Cuts.{Extends, IsSound, prefix_at};
 ghost use Rattle.album_terminate.specs.declared.deciding.StampState.TheVariants as StampState;
-ghost use Rattle.album_threads.specs.Controls.{Tells, IsUntrimmed};
-ghost use Rattle.album_threads.specs.Sessions.{IsNoWord};
+ghost use Rattle.album_threads.specs.Controls.{Answers, IsUntrimmed};
+ghost use Rattle.album_threads.specs.Sessions.{IsClosedOrOutOfMemory};
 
 mod ask;
 mod asked;
@@ -15,7 +15,7 @@ mod note;
 mod round;
 mod turn;
 
-use crate::control::Control;
+use crate::control::{Control, ControlAnswer};
 use crate::service_names::ServiceNames;
 use crate::session::channel::PartitionChannel;
 use album_audit::{AuditBook, Share};
@@ -98,13 +98,17 @@ impl<J: ServiceNames> Session<J> {
         ensures pending { IfOk result (ArePending (prefix_at self.new.cut part)) }
         ensures nowhere { self.old.cut.parts ≤ part → result ≡ Err NoSuchPart }
         ensures untouched { self.old.cut.parts ≤ part → self.new ≡ self.old }
-        ensures refused { IfErr result (λ e. part < self.old.cut.parts → IsNoWord e) }
+        ensures refused { IfErr result (λ e. part < self.old.cut.parts → IsClosedOrOutOfMemory e) }
         ensures grown { Extends self.old.cut self.new.cut }
         ensures client { self.new.client ≡ self.old.client }
         ensures counter { self.new.counter ≡ self.old.counter }
         ensures share { self.new.share ≡ self.old.share }
     {
-        self.inquire(rt, part, &Control::Pending)?
+        match self.inquire(rt, part, &Control::Pending)?? {
+            ControlAnswer::Pending(stamps) => Ok(stamps),
+            // A partition answers each control request by its own variant: `Answers`.
+            ControlAnswer::Swept | ControlAnswer::Trimmed => unreachable!(),
+        }
     }
 
     /// Has the partition ask the others of the stamp's items how it stands at their side.
@@ -124,7 +128,7 @@ impl<J: ServiceNames> Session<J> {
             → state_of (prefix_at self.new.cut part) stamp ≢ StampState.Pending) }
         ensures nowhere { self.old.cut.parts ≤ part → result ≡ Err NoSuchPart }
         ensures untouched { self.old.cut.parts ≤ part → self.new ≡ self.old }
-        ensures refused { IfErr result (λ e. part < self.old.cut.parts → e ≢ NotPrepared → IsNoWord e) }
+        ensures refused { IfErr result (λ e. part < self.old.cut.parts → e ≢ NotPrepared → IsClosedOrOutOfMemory e) }
         ensures grown { Extends self.old.cut self.new.cut }
         ensures client { self.new.client ≡ self.old.client }
         ensures counter { self.new.counter ≡ self.old.counter }
@@ -151,7 +155,7 @@ impl<J: ServiceNames> Session<J> {
             (floor (prefix_at self.new.cut part) item ≡ latest (prefix_at self.new.cut part) item) }
         ensures floor { OnOk result
             (latest (prefix_at self.old.cut part) item ≤ floor (prefix_at self.new.cut part) item) }
-        ensures untrimmed { IfErr result (λ e. part < self.old.cut.parts → (IsNoWord e → ⊥)
+        ensures untrimmed { IfErr result (λ e. part < self.old.cut.parts → (IsClosedOrOutOfMemory e → ⊥)
             → IsUntrimmed J.terms.limit self.new.cut part item e) }
         ensures nowhere { self.old.cut.parts ≤ part → result ≡ Err NoSuchPart }
         ensures untouched { self.old.cut.parts ≤ part → self.new ≡ self.old }
@@ -164,19 +168,19 @@ impl<J: ServiceNames> Session<J> {
         Ok(())
     }
 
-    /// What the partition tells to the inquiry.
+    /// The partition's answer to the control request.
     #[tactic(auto, using(crate::proofs::SessionLemmas::ahead_later))]
     fn inquire<R: Wait + time::Clock>(
         &mut self,
         rt: &R,
         part: u16,
-        inquiry: &Control,
-    ) -> Result<Result<Stamps, Refusal>, Refusal>
-        ensures told { IfOk result (Tells J.terms.limit self.new.cut part inquiry.now) }
+        control: &Control,
+    ) -> Result<Result<ControlAnswer, Refusal>, Refusal>
+        ensures told { IfOk result (Answers J.terms.limit self.new.cut part control.now) }
         ensures sound { OnOk result (IsSound self.new.cut) }
         ensures nowhere { self.old.cut.parts ≤ part → result ≡ Err NoSuchPart }
         ensures untouched { self.old.cut.parts ≤ part → self.new ≡ self.old }
-        ensures refused { IfErr result (λ e. part < self.old.cut.parts → IsNoWord e) }
+        ensures refused { IfErr result (λ e. part < self.old.cut.parts → IsClosedOrOutOfMemory e) }
         ensures grown { Extends self.old.cut self.new.cut }
         ensures client { self.new.client ≡ self.old.client }
         ensures counter { self.new.counter ≡ self.old.counter }
@@ -185,7 +189,7 @@ impl<J: ServiceNames> Session<J> {
         if part >= self.channel.parts() {
             return Err(Refusal::NoSuchPart);
         }
-        self.channel.inquire(rt, part, inquiry)
+        self.channel.inquire(rt, part, control)
     }
 
     /// Both sessions take in all that the other has seen, and then have one cut.

@@ -104,14 +104,14 @@ module _ (o : Opening) (w : World) (k : IsKept o w) (c : ℕ) (q : IsRequestedBu
     some = λ a l. none_some l;
   }
 
-  reads_on : (asking : PendingAsk) → ReadsFor w c asking → (f : Phase) (sent : List Message)
-      → ((v : World) → ReadsFor v c asking → IsUnder v c f)
+  reads_on : (pending_ask : PendingAsk) → ReadsFor w c pending_ask → (f : Phase) (sent : List Message)
+      → ((v : World) → ReadsFor v c pending_ask → IsUnder v c f)
       → IsHad w c (sends (record x { phase = f }) sent)
-  reads_on asking u f sent is =
+  reads_on pending_ask u f sent is =
       let turn = sends (record x { phase = f }) sent in
       let h = quiet_for (record x { phase = f }) sent u.asked in
       let next = changed w (AtClient c turn) in
-      let does : ReadsFor next c asking = record {
+      let does : ReadsFor next c pending_ask = record {
         asked = asked_on begun_here turn u.asked;
         last = on_last o w k c q turn number own u.asked u.last u.unanswered h;
         ask = u.ask;
@@ -167,9 +167,9 @@ module _ (o : Opening) (w : World) (k : IsKept o w) (c : ℕ) (q : IsRequestedBu
 
   -- ---- a read is over
 
-  module _ (asking : PendingAsk) (u : ReadsFor w c asking) (rows : Option (List ReadVersion)) (tag : ℕ) where
+  module _ (pending_ask : PendingAsk) (u : ReadsFor w c pending_ask) (rows : Option (List ReadVersion)) (tag : ℕ) where
     abbrev ended : Ended
-    ended = record { ask = asking.viewing.ask; principal = asking.principal; rows = rows }
+    ended = record { ask = pending_ask.viewing.ask; principal = pending_ask.principal; rows = rows }
 
     abbrev read_now : Read
     read_now = read_over begun_here ended
@@ -219,11 +219,11 @@ module _ (o : Opening) (w : World) (k : IsKept o w) (c : ℕ) (q : IsRequestedBu
 
     -- another read begins
     reads_again : ((p : ℕ) → BeganFrom w begun_here.partitions p) → (later : ViewingState) (items : List ℕ)
-        → later.ask ≡ asking.viewing.ask
-        → IsHad w c (record (read_begins t x tag (record { viewing = later; principal = asking.principal }) items)
+        → later.ask ≡ pending_ask.viewing.ask
+        → IsHad w c (record (read_begins t x tag (record { viewing = later; principal = pending_ask.principal }) items)
         { over = Some ended })
     reads_again began later items same =
-        let turn : Turn = record (read_begins t x tag (record { viewing = later; principal = asking.principal }) items)
+        let turn : Turn = record (read_begins t x tag (record { viewing = later; principal = pending_ask.principal }) items)
         { over = Some ended } in
         let h : IsTurnFor w c turn u.asked = record {
           over = over_here turn refl;
@@ -237,7 +237,7 @@ module _ (o : Opening) (w : World) (k : IsKept o w) (c : ℕ) (q : IsRequestedBu
         (λ (f : Bool). (cond f
         (let s : Begun = record { client = c; nth = nth_after w.past c (Some ended); partitions = w.now.partitions } in s)
         begun_here).partitions) (self_eqb c) in
-        let does : ReadsFor next c (record { viewing = later; principal = asking.principal }) = record {
+        let does : ReadsFor next c (record { viewing = later; principal = pending_ask.principal }) = record {
           asked = asked_on begun_here turn u.asked;
           last = on_last o w k c q turn number own u.asked u.last u.unanswered h;
           ask = u.ask ∙ sym same;
@@ -256,7 +256,7 @@ module _ (o : Opening) (w : World) (k : IsKept o w) (c : ℕ) (q : IsRequestedBu
         )
 
     module _ (y : Client) (ny : y.number ≡ c) (oy : y.clock.client ≡ c) (n : Option (List Note)) (permit : PermitState)
-        (ask_is : permit.view.ask ≡ asking.viewing.ask) (principal_is : permit.principal ≡ asking.principal) where
+        (ask_is : permit.view.ask ≡ pending_ask.viewing.ask) (principal_is : permit.principal ≡ pending_ask.principal) where
       abbrev noting : Turn → Turn
       noting turn = with_past turn (Some ended) n
 
@@ -321,45 +321,45 @@ module _ (o : Opening) (w : World) (k : IsKept o w) (c : ℕ) (q : IsRequestedBu
       rules_had (finding.Missing object) = tells_had y ny oy n (answer.Missing object) (λ ws e. e)
 
     again_had : ((p : ℕ) → BeganFrom w begun_here.partitions p) → (items : List ℕ)
-        → IsHad w c (read_ends t x tag asking rows (again asking.viewing items))
-    again_had began items = go (nat_le MAX_READS (asking.viewing.reads + 1))
+        → IsHad w c (read_ends t x tag pending_ask rows (again pending_ask.viewing items))
+    again_had began items = go (nat_le MAX_READS (pending_ask.viewing.reads + 1))
       where
-        go : (f : Bool) → IsHad w c (read_ends t x tag asking rows
+        go : (f : Bool) → IsHad w c (read_ends t x tag pending_ask rows
             (if f then Busy Rounds
-            else Again (record { ask = asking.viewing.ask; reads = asking.viewing.reads + 1 }) items))
+            else Again (record { ask = pending_ask.viewing.ask; reads = pending_ask.viewing.reads + 1 }) items))
         go true = tells_had x number own None (answer.Busy Rounds) (λ ws e. e)
-        go false = reads_again began (record { ask = asking.viewing.ask; reads = asking.viewing.reads + 1 }) items refl
+        go false = reads_again began (record { ask = pending_ask.viewing.ask; reads = pending_ask.viewing.reads + 1 }) items refl
 
-  done_had : (asking : PendingAsk) → ReadsFor w c asking → ((p : ℕ) → BeganFrom w begun_here.partitions p) → (tag : ℕ)
-      → (rows : List ReadVersion) → IsHad w c (read_ends t x tag asking (Some rows) (viewed asking.viewing rows))
-  done_had asking u began tag rows = go (is_closed asking.viewing.ask rows)
+  done_had : (pending_ask : PendingAsk) → ReadsFor w c pending_ask → ((p : ℕ) → BeganFrom w begun_here.partitions p) → (tag : ℕ)
+      → (rows : List ReadVersion) → IsHad w c (read_ends t x tag pending_ask (Some rows) (viewed pending_ask.viewing rows))
+  done_had pending_ask u began tag rows = go (is_closed pending_ask.viewing.ask rows)
     where
-      wide : (f : Bool) → IsHad w c (read_ends t x tag asking (Some rows)
-          (if f then Busy Wide else again asking.viewing (names_of rows asking.viewing.ask)))
-      wide true = tells_had asking u (Some rows) tag x number own None (answer.Busy Wide) (λ ws e. e)
-      wide false = again_had asking u (Some rows) tag began (names_of rows asking.viewing.ask)
+      wide : (f : Bool) → IsHad w c (read_ends t x tag pending_ask (Some rows)
+          (if f then Busy Wide else again pending_ask.viewing (names_of rows pending_ask.viewing.ask)))
+      wide true = tells_had pending_ask u (Some rows) tag x number own None (answer.Busy Wide) (λ ws e. e)
+      wide false = again_had pending_ask u (Some rows) tag began (names_of rows pending_ask.viewing.ask)
 
-      go : (f : Bool) → IsHad w c (read_ends t x tag asking (Some rows)
-          (if f then Closed (record { ask = asking.viewing.ask; rows = rows }) else
-          (if nat_lt MAX_READ_ITEMS (length (names_of rows asking.viewing.ask)) then Busy Wide else again
-          asking.viewing (names_of rows asking.viewing.ask))))
+      go : (f : Bool) → IsHad w c (read_ends t x tag pending_ask (Some rows)
+          (if f then Closed (record { ask = pending_ask.viewing.ask; rows = rows }) else
+          (if nat_lt MAX_READ_ITEMS (length (names_of rows pending_ask.viewing.ask)) then Busy Wide else again
+          pending_ask.viewing (names_of rows pending_ask.viewing.ask))))
       go true =
-          let basis = basis_on t.policy asking.principal rows in
-          rules_had asking u (Some rows) tag (record x { clock = clock_after_rows x.clock rows }) number
-          (rows_client x.clock rows ∙ own) (Some (notes_of basis asking.viewing.ask))
+          let basis = basis_on t.policy pending_ask.principal rows in
+          rules_had pending_ask u (Some rows) tag (record x { clock = clock_after_rows x.clock rows }) number
+          (rows_client x.clock rows ∙ own) (Some (notes_of basis pending_ask.viewing.ask))
           (record {
-            view = record { ask = asking.viewing.ask; rows = rows };
-            principal = asking.principal;
+            view = record { ask = pending_ask.viewing.ask; rows = rows };
+            principal = pending_ask.principal;
             policy = t.policy;
-          }) refl refl (ruling_of basis asking.viewing.ask)
-      go false = wide (nat_lt MAX_READ_ITEMS (length (names_of rows asking.viewing.ask)))
+          }) refl refl (ruling_of basis pending_ask.viewing.ask)
+      go false = wide (nat_lt MAX_READ_ITEMS (length (names_of rows pending_ask.viewing.ask)))
 
-  reading_had : (asking : PendingAsk) → ReadsFor w c asking → ((p : ℕ) → BeganFrom w begun_here.partitions p) → (tag : ℕ)
-      → (s : Step) → IsHad w c (read_turn t x tag asking s)
-  reading_had asking u began tag (Same round) = reads_on asking u (phase.Reads asking round) [] (λ v d. d)
-  reading_had asking u began tag (Next round sent) = reads_on asking u (phase.Reads asking round) sent (λ v d. d)
-  reading_had asking u began tag (Done rows) = done_had asking u began tag rows
-  reading_had asking u began tag (Gone items) = again_had asking u None tag began items
+  reading_had : (pending_ask : PendingAsk) → ReadsFor w c pending_ask → ((p : ℕ) → BeganFrom w begun_here.partitions p) → (tag : ℕ)
+      → (s : Step) → IsHad w c (read_turn t x tag pending_ask s)
+  reading_had pending_ask u began tag (Same round) = reads_on pending_ask u (phase.Reads pending_ask round) [] (λ v d. d)
+  reading_had pending_ask u began tag (Next round sent) = reads_on pending_ask u (phase.Reads pending_ask round) sent (λ v d. d)
+  reading_had pending_ask u began tag (Done rows) = done_had pending_ask u began tag rows
+  reading_had pending_ask u began tag (Gone items) = again_had pending_ask u None tag began items
 
   -- ---- a message in a write
 
@@ -392,10 +392,10 @@ module _ (o : Opening) (w : World) (k : IsKept o w) (c : ℕ) (q : IsRequestedBu
 
   -- it is the client's last one, and its read begins with the partitions as they are
   asked_had : (tag : ℕ) (b : Asked) → last_asked w.past.asked c ≡ Some b → b.writes ≡ [] → b.answers ≡ []
-      → b.partitions ≡ w.now.partitions → (asking : PendingAsk) → b.ask ≡ asking.viewing.ask
-      → b.principal ≡ asking.principal → (items : List ℕ) → IsHad w c (read_begins t x tag asking items)
-  asked_had tag b last unwritten unanswered at asking ask principal items =
-      let turn = read_begins t x tag asking items in
+      → b.partitions ≡ w.now.partitions → (pending_ask : PendingAsk) → b.ask ≡ pending_ask.viewing.ask
+      → b.principal ≡ pending_ask.principal → (items : List ℕ) → IsHad w c (read_begins t x tag pending_ask items)
+  asked_had tag b last unwritten unanswered at pending_ask ask principal items =
+      let turn = read_begins t x tag pending_ask items in
       let h : IsTurnFor w c turn b = record {
         over = λ e l. none_some l;
         writes = λ r l. none_some l;
@@ -408,7 +408,7 @@ module _ (o : Opening) (w : World) (k : IsKept o w) (c : ℕ) (q : IsRequestedBu
       (λ (f : Bool). (cond f
       (let s : Begun = record { client = c; nth = 1; partitions = w.now.partitions } in s) begun_here).partitions)
       (self_eqb c) in
-      let does : ReadsFor next c asking = record {
+      let does : ReadsFor next c pending_ask = record {
         asked = asked_on begun_here turn b;
         last = on_last o w k c q turn number own b last unanswered h;
         ask = ask;
@@ -451,7 +451,7 @@ module _ (w : World) (q : IsRequested w) (partitions : List PartitionState) (mes
 
   alike_under : (c : ℕ) (f : Phase) → IsUnder w c f → IsUnder alike c f
   alike_under c (phase.Idle tag) u = u
-  alike_under c (phase.Reads asking round) u = record {
+  alike_under c (phase.Reads pending_ask round) u = record {
     asked = u.asked;
     last = u.last;
     ask = u.ask;
@@ -502,7 +502,7 @@ module _ (w : World) (q : IsRequested w) (c : ℕ) (who : Principal) (ask : Ask)
 
   under_more : (d : ℕ) → eqb c d ≡ false → (f : Phase) → IsUnder w d f → IsUnder more d f
   under_more d ne (phase.Idle tag) u = λ a e. u a (sym (beside_last d ne) ∙ e)
-  under_more d ne (phase.Reads asking round) u = record {
+  under_more d ne (phase.Reads pending_ask round) u = record {
     asked = u.asked;
     last = beside_last d ne ∙ u.last;
     ask = u.ask;
@@ -585,7 +585,7 @@ module _ (o : Opening) (some : 0 < o.parts) (w : World) (k : IsKept o w) (q : Is
       AnswersLast (changed w (client_takes_by ts c (client_at w.now.clients c) m f))
       (client_takes_by ts c (client_at w.now.clients c) m f)
   client_had c m (phase.Idle tag) kept u = (q, tt)
-  client_had c m (phase.Reads asking r) kept u = reading_had o w k c (but c) asking u kept.begun r.asker.tag
+  client_had c m (phase.Reads pending_ask r) kept u = reading_had o w k c (but c) pending_ask u kept.begun r.asker.tag
       (stepped r m)
   client_had c m (phase.Prepares z) kept u = preparing_had o w k c (but c) z u m.from (told_of z m)
   client_had c m (phase.Commits z) kept u = committing_had o w k c (but c) z u m.from (told_of z m)

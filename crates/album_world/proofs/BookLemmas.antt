@@ -81,14 +81,14 @@ pub record IsWriteOn (t : Terms) (w : World) (c : ℕ) (z : WritingState) (T : T
   pub is : T by
 
 -- the viewing counts the reads that were made for the ask before this one
-pub record IsCount (w : World) (c : ℕ) (asking : PendingAsk) : Type 0 where
-  pub taken : refusal_of asking.viewing.ask asking.principal ≡ None
-  pub count : (last_begun w.past.begun c).nth ≡ asking.viewing.reads + 1
-  pub few : asking.viewing.reads < MAX_READS
+pub record IsCount (w : World) (c : ℕ) (pending_ask : PendingAsk) : Type 0 where
+  pub taken : refusal_of pending_ask.viewing.ask pending_ask.principal ≡ None
+  pub count : (last_begun w.past.begun c).nth ≡ pending_ask.viewing.reads + 1
+  pub few : pending_ask.viewing.reads < MAX_READS
 
 abbrev pub IsAt : Terms → World → ℕ → Phase → Type 0
 IsAt t w c (phase.Idle tag) = Unit {0}
-IsAt t w c (phase.Reads asking round) = IsCount w c asking
+IsAt t w c (phase.Reads pending_ask round) = IsCount w c pending_ask
 IsAt t w c (phase.Prepares z) = IsWriteOn t w c z (λ by. by.tag ≡ z.tag)
 IsAt t w c (phase.Commits z) = IsWriteOn t w c z (λ by. Unit {0})
 
@@ -252,7 +252,7 @@ module _ (t : Terms) (w1 w2 : World) (g : Adds w1 w2) where
   pub at_adds : (c : ℕ) (f : Phase) → last_begun w2.past.begun c ≡ last_begun w1.past.begun c
       → last_read w2.past.reads c ≡ last_read w1.past.reads c → IsAt t w1 c f → IsAt t w2 c f
   at_adds c (phase.Idle tag) n same h = tt
-  at_adds c (phase.Reads asking round) n same h =
+  at_adds c (phase.Reads pending_ask round) n same h =
       record { taken = h.taken; count = ap (λ (z : Begun). z.nth) n ∙ h.count; few = h.few }
   at_adds c (phase.Prepares z) n same h = write_adds c z (λ by. by.tag ≡ z.tag) same h
   at_adds c (phase.Commits z) n same h = write_adds c z (λ by. Unit {0}) same h

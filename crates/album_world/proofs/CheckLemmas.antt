@@ -33,7 +33,7 @@ check_takes_none ask principal e h q = first _ _ _ _ _ e q h
 module _ (terms : Terms) (n : ℕ) (x : Client) (principal : Principal) (ask : Ask) where
   idle_by : (f : Phase) → IsOk (asks_by terms n x principal ask f) → idle_tag f ≡ None → ⊥
   idle_by (Idle tag) h e = absurd (cc)
-  idle_by (Reads asking round) h e = absurd (cc)
+  idle_by (Reads pending_ask round) h e = absurd (cc)
   idle_by (Prepares writing) h e = absurd (cc)
   idle_by (Commits writing) h e = absurd (cc)
 
@@ -46,7 +46,7 @@ module _ (terms : Terms) (n : ℕ) (x : Client) (principal : Principal) (ask : A
 
   taken_by : (f : Phase) → IsOk (asks_by terms n x principal ask f) → refusal_of ask principal ≡ None
   taken_by (Idle tag) h = taken_unless tag (refusal_of ask principal) h
-  taken_by (Reads asking round) h = absurd (cc)
+  taken_by (Reads pending_ask round) h = absurd (cc)
   taken_by (Prepares writing) h = absurd (cc)
   taken_by (Commits writing) h = absurd (cc)
 

@@ -267,7 +267,7 @@ HasCommitted w p t = IsCommittedAt w t p
 
 abbrev pub IsDoing : Opening → World → ℕ → List PartitionState → Phase → Type 0
 IsDoing o w c began (phase.Idle tag) = Unit {0}
-IsDoing o w c began (phase.Reads asking round) = IsReading o w c began round
+IsDoing o w c began (phase.Reads pending_ask round) = IsReading o w c began round
 IsDoing o w c began (phase.Prepares writing) = IsWriting o w c writing (HasPrepared w)
 IsDoing o w c began (phase.Commits writing) = IsWriting o w c writing (HasCommitted w)
 

@@ -112,12 +112,12 @@ module _ (o : Opening) (w : World) (k : IsKept o w) (b : IsBooked (terms_of o) w
 
   -- ---- a read that is over
 
-  module _ (asking : PendingAsk) (counted : IsCount w c asking) (low : 0 < c) (high : c < 65536) (tag : ℕ) where
+  module _ (pending_ask : PendingAsk) (counted : IsCount w c pending_ask) (low : 0 < c) (high : c < 65536) (tag : ℕ) where
     abbrev begun_here : Begun
     begun_here = last_begun w.past.begun c
 
     abbrev ended : Option (List ReadVersion) → Ended
-    ended rows = record { ask = asking.viewing.ask; principal = asking.principal; rows = rows }
+    ended rows = record { ask = pending_ask.viewing.ask; principal = pending_ask.principal; rows = rows }
 
     abbrev read_now : Option (List ReadVersion) → Read
     read_now rows = read_over begun_here (ended rows)
@@ -129,9 +129,9 @@ module _ (o : Opening) (w : World) (k : IsKept o w) (b : IsBooked (terms_of o) w
     busy_booked : (why : Why) (rows : Option (List ReadVersion))
         → ((v : World) → In (read_now rows) v.past.reads
         → IsLed t v (told_to (read_now rows ∷ w.past.reads) c (answer.Busy why)) (answer.Busy why))
-        → IsBooked t (changed w (AtClient c (read_ends t x tag asking rows (Busy why))))
+        → IsBooked t (changed w (AtClient c (read_ends t x tag pending_ask rows (Busy why))))
     busy_booked why rows led =
-        let turn = read_ends t x tag asking rows (Busy why) in
+        let turn = read_ends t x tag pending_ask rows (Busy why) in
         let next = changed w (AtClient c turn) in
         turn_booked o w k b c turn number own (le_refl _) (λ r l. none_some l) tt (λ r l. none_some l)
         (λ z l. subst (λ (y : Answer). IsLed t next (told_to (read_now rows ∷ w.past.reads) c y) y) (some_same l)
@@ -141,16 +141,16 @@ module _ (o : Opening) (w : World) (k : IsKept o w) (b : IsBooked (terms_of o) w
 
     again_booked : (rows : Option (List ReadVersion)) → ((read_now rows).rows ≡ None) ⊎ IsNarrow (read_now rows)
         → (items : List ℕ)
-        → IsBooked t (changed w (AtClient c (read_ends t x tag asking rows (again asking.viewing items))))
-    again_booked rows vain items = go (nat_le MAX_READS (asking.viewing.reads + 1)) refl
+        → IsBooked t (changed w (AtClient c (read_ends t x tag pending_ask rows (again pending_ask.viewing items))))
+    again_booked rows vain items = go (nat_le MAX_READS (pending_ask.viewing.reads + 1)) refl
       where
         later : ViewingState
-        later = record { ask = asking.viewing.ask; reads = asking.viewing.reads + 1 }
+        later = record { ask = pending_ask.viewing.ask; reads = pending_ask.viewing.reads + 1 }
 
-        go : (f : Bool) → nat_le MAX_READS (asking.viewing.reads + 1) ≡ f
+        go : (f : Bool) → nat_le MAX_READS (pending_ask.viewing.reads + 1) ≡ f
             → IsBooked t (changed w
-            (AtClient c (read_ends t x tag asking rows
-            (if f then Busy Rounds else Again (record { ask = asking.viewing.ask; reads = asking.viewing.reads + 1 })
+            (AtClient c (read_ends t x tag pending_ask rows
+            (if f then Busy Rounds else Again (record { ask = pending_ask.viewing.ask; reads = pending_ask.viewing.reads + 1 })
             items))))
         go true e = busy_booked Rounds rows (λ v made. record {
           read = read_now rows;
@@ -158,16 +158,16 @@ module _ (o : Opening) (w : World) (k : IsKept o w) (b : IsBooked (terms_of o) w
           made = contains made;
           own = begun_client w.past.begun c;
           cause = record {
-            nth = (let a : MAX_READS ≤ asking.viewing.reads + 1 = leb-true MAX_READS (asking.viewing.reads + 1) e in
-                let d : asking.viewing.reads < MAX_READS = counted.few in
-                let f : begun_here.nth ≡ asking.viewing.reads + 1 = counted.count in
+            nth = (let a : MAX_READS ≤ pending_ask.viewing.reads + 1 = leb-true MAX_READS (pending_ask.viewing.reads + 1) e in
+                let d : pending_ask.viewing.reads < MAX_READS = counted.few in
+                let f : begun_here.nth ≡ pending_ask.viewing.reads + 1 = counted.count in
                 omega arith);
             in_vain = vain;
           };
         })
         go false e =
-            let turn = read_ends t x tag asking rows
-            (Again (record { ask = asking.viewing.ask; reads = asking.viewing.reads + 1 }) items) in
+            let turn = read_ends t x tag pending_ask rows
+            (Again (record { ask = pending_ask.viewing.ask; reads = pending_ask.viewing.reads + 1 }) items) in
             let next = changed w (AtClient c turn) in
             let here_now : (last_begun next.past.begun c).nth ≡ begun_here.nth + 1 = ap
             (λ (f : Bool). (cond f
@@ -177,32 +177,32 @@ module _ (o : Opening) (w : World) (k : IsKept o w) (b : IsBooked (terms_of o) w
             (record {
               taken = counted.taken;
               count = here_now ∙ ap (λ (z : ℕ). z + 1) counted.count;
-              few = (let a : asking.viewing.reads + 1 < MAX_READS = leb-false MAX_READS (asking.viewing.reads + 1) e
+              few = (let a : pending_ask.viewing.reads + 1 < MAX_READS = leb-false MAX_READS (pending_ask.viewing.reads + 1) e
                   in a);
             })
             (λ r l. none_some l) (λ a l. none_some l) (λ a l. none_some l) (λ a l. none_some l)
 
     -- ---- a view
 
-    module _ (rows : List ReadVersion) (closed : IsClosed asking.viewing.ask rows) where
+    module _ (rows : List ReadVersion) (closed : IsClosed pending_ask.viewing.ask rows) where
       abbrev here_read : Read
       here_read = read_now (Some rows)
 
       abbrev permit : PermitState
       permit = record {
-        view = record { ask = asking.viewing.ask; rows = rows };
-        principal = asking.principal;
+        view = record { ask = pending_ask.viewing.ask; rows = rows };
+        principal = pending_ask.principal;
         policy = t.policy;
       }
 
       abbrev basis : Basis
-      basis = basis_on t.policy asking.principal rows
+      basis = basis_on t.policy pending_ask.principal rows
 
-      based : IsBasis t.policy asking.principal rows basis
-      based = basis-based t.policy asking.principal rows
+      based : IsBasis t.policy pending_ask.principal rows basis
+      based = basis-based t.policy pending_ask.principal rows
 
-      is_view : IsView (record { ask = asking.viewing.ask; rows = rows })
-      is_view = record { sound = taken_flawless asking.viewing.ask asking.principal counted.taken; closed = closed }
+      is_view : IsView (record { ask = pending_ask.viewing.ask; rows = rows })
+      is_view = record { sound = taken_flawless pending_ask.viewing.ask pending_ask.principal counted.taken; closed = closed }
 
       on_view : (v : World) → In here_read v.past.reads → (P : PermitState → Type 0) → P permit
           → IsOnView t v c (last_read (here_read ∷ w.past.reads) c) P
@@ -218,7 +218,7 @@ module _ (o : Opening) (w : World) (k : IsKept o w) (b : IsBooked (terms_of o) w
       }
 
       abbrev notes : List Note
-      notes = notes_of basis asking.viewing.ask
+      notes = notes_of basis pending_ask.viewing.ask
 
       abbrev seen : Client
       seen = record x { clock = clock_after_rows x.clock rows }
@@ -335,7 +335,7 @@ module _ (o : Opening) (w : World) (k : IsKept o w) (b : IsBooked (terms_of o) w
                 ),
               ))
 
-          write_booked : served_for permit asking.viewing.ask ≡ None → is_full_for permit stamp ≡ false
+          write_booked : served_for permit pending_ask.viewing.ask ≡ None → is_full_for permit stamp ≡ false
               → IsBooked t (changed w (AtClient c (over_with (write_begins t drawn tag permit stamp))))
           write_booked unserved room =
               let turn = over_with (write_begins t drawn tag permit stamp) in
@@ -384,7 +384,7 @@ module _ (o : Opening) (w : World) (k : IsKept o w) (b : IsBooked (terms_of o) w
                 view = is_view;
                 granted = granted;
                 writes = record {
-                  change = unserved_writes permit asking.viewing.ask unserved;
+                  change = unserved_writes permit pending_ask.viewing.ask unserved;
                   room = room;
                   told = refl;
                 };
@@ -395,12 +395,12 @@ module _ (o : Opening) (w : World) (k : IsKept o w) (b : IsBooked (terms_of o) w
               (λ a l. none_some l)
               (noted_now next here)
 
-          unless_booked : served_for permit asking.viewing.ask ≡ None → (f : Bool) → is_full_for permit stamp ≡ f
+          unless_booked : served_for permit pending_ask.viewing.ask ≡ None → (f : Bool) → is_full_for permit stamp ≡ f
               → IsBooked t (changed w (AtClient c (over_with (writes_unless t drawn tag permit stamp f))))
           unless_booked unserved true e = full_booked e
           unless_booked unserved false e = write_booked unserved e
 
-        draws_booked : served_for permit asking.viewing.ask ≡ None → (f : Result ℕ Refusal) → next_of seen.clock ≡ f
+        draws_booked : served_for permit pending_ask.viewing.ask ≡ None → (f : Result ℕ Refusal) → next_of seen.clock ≡ f
             → IsBooked t (changed w (AtClient c (over_with (draws_by t drawn tag permit f))))
         draws_booked unserved (Ok stamp) e = unless_booked stamp e unserved (is_full_for permit stamp) refl
         draws_booked unserved (Err why) e =
@@ -415,18 +415,18 @@ module _ (o : Opening) (w : World) (k : IsKept o w) (b : IsBooked (terms_of o) w
               ),
             ))
 
-        grants_booked : (f : Option Served) → served_for permit asking.viewing.ask ≡ f
+        grants_booked : (f : Option Served) → served_for permit pending_ask.viewing.ask ≡ f
             → IsBooked t (changed w (AtClient c (over_with (grants t seen tag permit f))))
         grants_booked (Some served) e = tells_booked seen number seen_own seen_up (answer.Served served)
             (λ v made at none. on_view v made _
-            (record { granted = granted; is = served_is permit asking.viewing.ask refl served e }))
+            (record { granted = granted; is = served_is permit pending_ask.viewing.ask refl served e }))
         grants_booked None e = draws_booked e (next_of seen.clock) refl
 
-      rules_booked : (f : Finding) → ruling_of basis asking.viewing.ask ≡ f
+      rules_booked : (f : Finding) → ruling_of basis pending_ask.viewing.ask ≡ f
           → IsBooked t (changed w (AtClient c (over_with (rules_by t seen tag permit f))))
       rules_booked finding.Granted e =
           grants_booked (record { taken = counted.taken; basis = basis; based = based; granted = e })
-          (served_for permit asking.viewing.ask) refl
+          (served_for permit pending_ask.viewing.ask) refl
       rules_booked (finding.Denied reasons) e = tells_booked seen number seen_own seen_up (answer.Denied reasons)
           (λ v made at none. on_view v made _ (record { basis = basis; based = based; is = e }))
       rules_booked (finding.Missing object) e = tells_booked seen number seen_own seen_up (answer.Missing object)
@@ -435,14 +435,14 @@ module _ (o : Opening) (w : World) (k : IsKept o w) (b : IsBooked (terms_of o) w
     -- ---- a snapshot
 
     done_booked : (rows : List ReadVersion)
-        → IsBooked t (changed w (AtClient c (read_ends t x tag asking (Some rows) (viewed asking.viewing rows))))
-    done_booked rows = go (is_closed asking.viewing.ask rows) refl
+        → IsBooked t (changed w (AtClient c (read_ends t x tag pending_ask (Some rows) (viewed pending_ask.viewing rows))))
+    done_booked rows = go (is_closed pending_ask.viewing.ask rows) refl
       where
-        wide : (IsClosed asking.viewing.ask rows → ⊥) → (f : Bool)
-            → nat_lt MAX_READ_ITEMS (length (names_of rows asking.viewing.ask)) ≡ f
+        wide : (IsClosed pending_ask.viewing.ask rows → ⊥) → (f : Bool)
+            → nat_lt MAX_READ_ITEMS (length (names_of rows pending_ask.viewing.ask)) ≡ f
             → IsBooked t (changed w
-            (AtClient c (read_ends t x tag asking (Some rows)
-            (if f then Busy Wide else again asking.viewing (names_of rows asking.viewing.ask)))))
+            (AtClient c (read_ends t x tag pending_ask (Some rows)
+            (if f then Busy Wide else again pending_ask.viewing (names_of rows pending_ask.viewing.ask)))))
         wide unclosed true e = busy_booked Wide (Some rows) (λ v made. record {
           read = read_now (Some rows);
           last_is = is_last (Some rows);
@@ -459,24 +459,24 @@ module _ (o : Opening) (w : World) (k : IsKept o w) (b : IsBooked (terms_of o) w
               rows = rows;
               lacking = record { shown = refl; lacking = unclosed };
               narrow = ltb-false MAX_READ_ITEMS _ e;
-            })) (names_of rows asking.viewing.ask)
+            })) (names_of rows pending_ask.viewing.ask)
 
-        go : (f : Bool) → is_closed asking.viewing.ask rows ≡ f
+        go : (f : Bool) → is_closed pending_ask.viewing.ask rows ≡ f
             → IsBooked t (changed w
-            (AtClient c (read_ends t x tag asking (Some rows)
-            (if f then Closed (record { ask = asking.viewing.ask; rows = rows }) else
-            (if nat_lt MAX_READ_ITEMS (length (names_of rows asking.viewing.ask)) then Busy Wide else again
-            asking.viewing (names_of rows asking.viewing.ask))))))
-        go true e = rules_booked rows (closed-is rows asking.viewing.ask e)
-            (ruling_of (basis_on t.policy asking.principal rows) asking.viewing.ask) refl
-        go false e = wide (not-closed rows asking.viewing.ask e)
-            (nat_lt MAX_READ_ITEMS (length (names_of rows asking.viewing.ask))) refl
+            (AtClient c (read_ends t x tag pending_ask (Some rows)
+            (if f then Closed (record { ask = pending_ask.viewing.ask; rows = rows }) else
+            (if nat_lt MAX_READ_ITEMS (length (names_of rows pending_ask.viewing.ask)) then Busy Wide else again
+            pending_ask.viewing (names_of rows pending_ask.viewing.ask))))))
+        go true e = rules_booked rows (closed-is rows pending_ask.viewing.ask e)
+            (ruling_of (basis_on t.policy pending_ask.principal rows) pending_ask.viewing.ask) refl
+        go false e = wide (not-closed rows pending_ask.viewing.ask e)
+            (nat_lt MAX_READ_ITEMS (length (names_of rows pending_ask.viewing.ask))) refl
 
     -- ---- a message in a read
 
-    reading_booked : (step : Step) → IsBooked t (changed w (AtClient c (read_turn t x tag asking step)))
-    reading_booked (Same round) = quiet_booked (record x { phase = phase.Reads asking round }) refl refl counted []
-    reading_booked (Next round messages) = quiet_booked (record x { phase = phase.Reads asking round }) refl refl
+    reading_booked : (step : Step) → IsBooked t (changed w (AtClient c (read_turn t x tag pending_ask step)))
+    reading_booked (Same round) = quiet_booked (record x { phase = phase.Reads pending_ask round }) refl refl counted []
+    reading_booked (Next round messages) = quiet_booked (record x { phase = phase.Reads pending_ask round }) refl refl
         counted messages
     reading_booked (Done rows) = done_booked rows
     reading_booked (Gone items) = again_booked None (inl refl) items
@@ -624,7 +624,7 @@ module _ (o : Opening) (w : World) (k : IsKept o w) (b : IsBooked (terms_of o) w
       → IsDoing o w c (last_begun w.past.begun c).partitions f → IsAt t w c f
       → IsBooked t (changed w (client_takes_by t c x m f))
   by_booked m sent (phase.Idle tag) kept h = b
-  by_booked m sent (phase.Reads asking r) kept h = reading_booked asking h kept.low kept.high r.asker.tag (stepped r m)
+  by_booked m sent (phase.Reads pending_ask r) kept h = reading_booked pending_ask h kept.low kept.high r.asker.tag (stepped r m)
   by_booked m sent (phase.Prepares z) kept h = prepared_booked m sent z h (told_of z m) refl
   by_booked m sent (phase.Commits z) kept h = committed_booked m sent z h (told_of z m) refl
 

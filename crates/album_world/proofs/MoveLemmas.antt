@@ -109,18 +109,18 @@ module _ (terms : Terms) (x : Client) (d : Phase) where
       (same_rules (clock_after_rows x.clock view.rows) tag _ (ruling_of (basis_on terms.policy who view.rows) view.ask))
   same_views tag who (Busy why) = refl
 
-  same_read : (tag : ℕ) (asking : PendingAsk) (f : ReadStep)
-      → read_turn terms idle tag asking f ≡ read_turn terms x tag asking f
-  same_read tag asking (Same round) = refl
-  same_read tag asking (Next round messages) = refl
-  same_read tag asking (Done rows) =
+  same_read : (tag : ℕ) (pending_ask : PendingAsk) (f : ReadStep)
+      → read_turn terms idle tag pending_ask f ≡ read_turn terms x tag pending_ask f
+  same_read tag pending_ask (Same round) = refl
+  same_read tag pending_ask (Next round messages) = refl
+  same_read tag pending_ask (Done rows) =
       ap (λ (t : Turn). record t {
-        over = Some (record { ask = asking.viewing.ask; principal = asking.principal; rows = Some rows });
-      }) (same_views tag asking.principal (viewed asking.viewing rows))
-  same_read tag asking (Gone items) =
+        over = Some (record { ask = pending_ask.viewing.ask; principal = pending_ask.principal; rows = Some rows });
+      }) (same_views tag pending_ask.principal (viewed pending_ask.viewing rows))
+  same_read tag pending_ask (Gone items) =
       ap (λ (t : Turn). record t {
-        over = Some (record { ask = asking.viewing.ask; principal = asking.principal; rows = None });
-      }) (same_views tag asking.principal (again asking.viewing items))
+        over = Some (record { ask = pending_ask.viewing.ask; principal = pending_ask.principal; rows = None });
+      }) (same_views tag pending_ask.principal (again pending_ask.viewing items))
 
   same_prepare : (tag : ℕ) (f : WriteStep) → prepare_turn idle tag f ≡ prepare_turn x tag f
   same_prepare tag (Waits writing) = refl
@@ -135,7 +135,7 @@ module _ (terms : Terms) (x : Client) (d : Phase) where
   -- nor to what a message does
   pub same_turn : (message : Message) (f : Phase) → turn_of terms idle message f ≡ turn_of terms x message f
   same_turn message (phase.Idle tag) = refl
-  same_turn message (phase.Reads asking round) = same_read round.asker.tag asking (stepped round message)
+  same_turn message (phase.Reads pending_ask round) = same_read round.asker.tag pending_ask (stepped round message)
   same_turn message (phase.Prepares writing) = same_prepare writing.tag (prepare_stepped writing message)
   same_turn message (phase.Commits writing) = same_commit writing.tag (commit_stepped writing message)
 
@@ -169,12 +169,12 @@ module _ (terms : Terms) (x : Client) where
       number_rules (clock_after_rows x.clock view.rows) tag _ (ruling_of (basis_on terms.policy who view.rows) view.ask)
   number_views tag who (Busy why) = refl
 
-  number_read : (tag : ℕ) (asking : PendingAsk) (f : ReadStep)
-      → (read_turn terms x tag asking f).client.number ≡ x.number
-  number_read tag asking (Same round) = refl
-  number_read tag asking (Next round messages) = refl
-  number_read tag asking (Done rows) = number_views tag asking.principal (viewed asking.viewing rows)
-  number_read tag asking (Gone items) = number_views tag asking.principal (again asking.viewing items)
+  number_read : (tag : ℕ) (pending_ask : PendingAsk) (f : ReadStep)
+      → (read_turn terms x tag pending_ask f).client.number ≡ x.number
+  number_read tag pending_ask (Same round) = refl
+  number_read tag pending_ask (Next round messages) = refl
+  number_read tag pending_ask (Done rows) = number_views tag pending_ask.principal (viewed pending_ask.viewing rows)
+  number_read tag pending_ask (Gone items) = number_views tag pending_ask.principal (again pending_ask.viewing items)
 
 number_prepare : (x : Client) (tag : ℕ) (f : WriteStep) → (prepare_turn x tag f).client.number ≡ x.number
 number_prepare x tag (Waits writing) = refl
@@ -189,30 +189,30 @@ number_commit x tag (Ends outcome) = refl
 pub number_turn : (terms : Terms) (x : Client) (message : Message) (f : Phase)
     → (turn_of terms x message f).client.number ≡ x.number
 number_turn terms x message (phase.Idle tag) = refl
-number_turn terms x message (phase.Reads asking round) =
-    number_read terms x round.asker.tag asking (stepped round message)
+number_turn terms x message (phase.Reads pending_ask round) =
+    number_read terms x round.asker.tag pending_ask (stepped round message)
 number_turn terms x message (phase.Prepares writing) =
     number_prepare x writing.tag (prepare_stepped writing message)
 number_turn terms x message (phase.Commits writing) = number_commit x writing.tag (commit_stepped writing message)
 
 -- ---- what is told
 
--- all that is told of what it has moved to
-pub told_is : (before one number : ℕ) (turn : Turn) (moved : Transition) (outs : List Out) → one ≡ number
-    → IsMoved turn moved
+-- all that is told of what it has transition to
+pub told_is : (before one number : ℕ) (turn : Turn) (transition : Transition) (outs : List Out) → one ≡ number
+    → IsMoved turn transition
     → outs
-    ≡ map (out.Noted one) moved.notes.items
-    ++ (numbers_after before (length moved.sent.items) ++ option_to_list (option_map (out.Answered one) moved.answer))
+    ≡ map (out.Noted one) transition.notes.items
+    ++ (numbers_after before (length transition.sent.items) ++ option_to_list (option_map (out.Answered one) transition.answer))
     → outs ≡ outs_of_turn before number turn
-told_is before one number turn moved outs same is e = rw (← same, ← is.noted, ← is.sent, ← is.answer) e
+told_is before one number turn transition outs same is e = rw (← same, ← is.noted, ← is.sent, ← is.answer) e
 
 -- a turn in which nothing is noted
-pub untold_is : (before one : ℕ) (x new : Client) (turn : Turn) (moved : Transition) (outs : List Out) → one ≡ x.number
-    → turn.noted ≡ None → IsMoved turn moved → new ≡ moved.client
+pub untold_is : (before one : ℕ) (x new : Client) (turn : Turn) (transition : Transition) (outs : List Out) → one ≡ x.number
+    → turn.noted ≡ None → IsMoved turn transition → new ≡ transition.client
     → outs
-    ≡ numbers_after before (length moved.sent.items) ++ option_to_list (option_map (out.Answered one) moved.answer)
-    → IsTurned before x.number turn new moved.sent.items outs
-untold_is before one x new turn moved outs same none is now e = record {
+    ≡ numbers_after before (length transition.sent.items) ++ option_to_list (option_map (out.Answered one) transition.answer)
+    → IsTurned before x.number turn new transition.sent.items outs
+untold_is before one x new turn transition outs same none is now e = record {
   client = now ∙ is.client;
   sent_is = is.sent;
   told = rw (none, ← same, ← is.sent, ← is.answer) e;
@@ -222,7 +222,7 @@ untold_is before one x new turn moved outs same none is now e = record {
 
 idle_is : (f : Phase) (tag : ℕ) → idle_tag f ≡ Some tag → f ≡ phase.Idle tag
 idle_is (phase.Idle tag) other e = cc
-idle_is (phase.Reads asking round) other e = absurd (cc)
+idle_is (phase.Reads pending_ask round) other e = absurd (cc)
 idle_is (phase.Prepares writing) other e = absurd (cc)
 idle_is (phase.Commits writing) other e = absurd (cc)
 
@@ -252,26 +252,26 @@ unnoted_commit x tag (Ends outcome) = refl
 pub unnoted : (terms : Terms) (x : Client) (message : Message) (f : Phase) → is_writing f ≡ true
     → (turn_of terms x message f).noted ≡ None
 unnoted terms x message (phase.Idle tag) w = absurd (cc)
-unnoted terms x message (phase.Reads asking round) w = absurd (cc)
+unnoted terms x message (phase.Reads pending_ask round) w = absurd (cc)
 unnoted terms x message (phase.Prepares writing) w =
     unnoted_prepare x writing.tag (prepare_stepped writing message)
 unnoted terms x message (phase.Commits writing) w = unnoted_commit x writing.tag (commit_stepped writing message)
 
 pub writes_none : (f : Phase) → is_writing f ≡ true → idle_tag f ≡ None
 writes_none (phase.Idle tag) w = absurd (cc)
-writes_none (phase.Reads asking round) w = absurd (cc)
+writes_none (phase.Reads pending_ask round) w = absurd (cc)
 writes_none (phase.Prepares writing) w = refl
 writes_none (phase.Commits writing) w = refl
 
-pub reads_none : (f : Phase) (asking : PendingAsk) (round : RoundState) → phase.Reads asking round ≡ f → idle_tag f ≡ None
-reads_none f asking round e = sym (ap idle_tag e)
+pub reads_none : (f : Phase) (pending_ask : PendingAsk) (round : RoundState) → phase.Reads pending_ask round ≡ f → idle_tag f ≡ None
+reads_none f pending_ask round e = sym (ap idle_tag e)
 
 -- what it goes on from does what the client did
-pub moved_so : (terms : Terms) (x y : Client) (d f : Phase) (message : Message) (moved : Transition)
-    → y ≡ record x { phase = d } → f ≡ x.phase → IsMoved (turn_of terms y message f) moved
-    → IsMoved (turn_of terms x message x.phase) moved
-moved_so terms x y d f message moved at same is =
-    subst (λ (t : Turn). IsMoved t moved) (same_turn terms x d message x.phase) (rw (at, same) at is)
+pub moved_so : (terms : Terms) (x y : Client) (d f : Phase) (message : Message) (transition : Transition)
+    → y ≡ record x { phase = d } → f ≡ x.phase → IsMoved (turn_of terms y message f) transition
+    → IsMoved (turn_of terms x message x.phase) transition
+moved_so terms x y d f message transition at same is =
+    subst (λ (t : Turn). IsMoved t transition) (same_turn terms x d message x.phase) (rw (at, same) at is)
 
 -- it has taken a message, where it wasn't idle
 pub taken_done : (before : ℕ) (terms : Terms) (x new : Client) (message : Message) (sent : List Message)
@@ -283,7 +283,7 @@ taken_done before terms x new message sent outs busy turned = go x.phase busy tu
     go : (f : Phase) → idle_tag f ≡ None → IsTurned before x.number (turn_of terms x message f) new sent outs
         → IsChangedBy before x (client_takes_by terms x.number x message f) new sent outs
     go (phase.Idle tag) e is = absurd (cc)
-    go (phase.Reads asking round) e is = (refl, is)
+    go (phase.Reads pending_ask round) e is = (refl, is)
     go (phase.Prepares writing) e is = (refl, is)
     go (phase.Commits writing) e is = (refl, is)
 
@@ -298,6 +298,6 @@ waits_done terms before x new message waiting taken =
   where
     busy : (f : Phase) → is_waiting f message ≡ true → idle_tag f ≡ None
     busy (phase.Idle tag) e = absurd (cc)
-    busy (phase.Reads asking round) e = refl
+    busy (phase.Reads pending_ask round) e = refl
     busy (phase.Prepares writing) e = absurd (cc)
     busy (phase.Commits writing) e = absurd (cc)

@@ -451,7 +451,7 @@ module _ (o : Opening) (w : World) (k : IsKept o w) (p : ℕ) (h : PartitionStat
 
     doing_all : (c : ℕ) (began : List PartitionState) (f : Phase) → IsDoing o w c began f → IsDoing o next c began f
     doing_all c began (phase.Idle tag) d = tt
-    doing_all c began (phase.Reads asking round) d = record {
+    doing_all c began (phase.Reads pending_ask round) d = record {
       low = d.low;
       high = d.high;
       parts = d.parts;

@@ -172,7 +172,7 @@ module _ (o : Opening) (some : 0 < o.parts) (w : World) (k : IsKept o w) (c : �
         fine = tt;
       }
 
-  -- ---- a client whose clock has moved on, a read that is over, and what is noted
+  -- ---- a client whose clock has transition on, a read that is over, and what is noted
 
   module _ (y : Client) (ny : y.number ≡ c) (oy : y.clock.client ≡ c) (up : x.clock.counter ≤ y.clock.counter)
       (e : Option Ended) (n : Option (List Note))
@@ -184,10 +184,10 @@ module _ (o : Opening) (some : 0 < o.parts) (w : World) (k : IsKept o w) (c : �
         (λ r i. none_some i) reads
         (λ b i. subst (IsAnswer o w) (some_same i) d)
 
-    reads_kept : 0 < c → c < 65536 → (asking : PendingAsk) (items : List ℕ)
-        → IsKept o (changed w (AtClient c (with_past (read_begins (terms_of o) y tag asking items) e n)))
-    reads_kept low high asking items =
-        let t = with_past (read_begins (terms_of o) y tag asking items) e n in
+    reads_kept : 0 < c → c < 65536 → (pending_ask : PendingAsk) (items : List ℕ)
+        → IsKept o (changed w (AtClient c (with_past (read_begins (terms_of o) y tag pending_ask items) e n)))
+    reads_kept low high pending_ask items =
+        let t = with_past (read_begins (terms_of o) y tag pending_ask items) e n in
         let a = asker_at (terms_of o) y (tag + 1) in
         let next = changed w (AtClient c t) in
         let here_now : (last_begun next.past.begun c).partitions ≡ w.now.partitions = ap
@@ -311,9 +311,9 @@ module _ (o : Opening) (some : 0 < o.parts) (w : World) (k : IsKept o w) (c : �
 
   -- ---- a message in a read
 
-  module _ (asking : PendingAsk) where
+  module _ (pending_ask : PendingAsk) where
     abbrev reading : RoundState → Client
-    reading r = record x { phase = phase.Reads asking r }
+    reading r = record x { phase = phase.Reads pending_ask r }
 
     fetch_kept : (r : RoundState) → IsReading o w c began r → tag_of x.phase ≡ r.asker.tag → IsAsking o w c began r
         → are_there r.answers ≡ true
@@ -437,20 +437,20 @@ module _ (o : Opening) (some : 0 < o.parts) (w : World) (k : IsKept o w) (c : �
     end_kept : (r : RoundState) → IsReading o w c began r → tag_of x.phase ≡ r.asker.tag → are_there r.answers ≡ true
         → (f : Option (List ℕ)) → IsRound o w c began r f
         → IsKept o (changed w
-        (AtClient c (read_turn (terms_of o) x r.asker.tag asking (end_by f r (answers_there r.answers)))))
+        (AtClient c (read_turn (terms_of o) x r.asker.tag pending_ask (end_by f r (answers_there r.answers)))))
     end_kept r h tag all None a = fetch_kept r h tag a all
     end_kept r h tag all (Some ts) a =
         let rows = answers_there r.answers in
         views_kept h.low h.high
-        (Some (record { ask = asking.viewing.ask; principal = asking.principal; rows = Some rows }))
+        (Some (record { ask = pending_ask.viewing.ask; principal = pending_ask.principal; rows = Some rows }))
         (λ d rs i q. subst (λ (z : List ReadVersion). IsRead o w began z)
         (some_same (ap (λ (z : Ended). z.rows) (some_same i) ∙ q)) (is_read r ts h a))
-        r.asker.tag tag asking.principal (viewed asking.viewing rows)
+        r.asker.tag tag pending_ask.principal (viewed pending_ask.viewing rows)
 
     outcome_kept : (r : RoundState) → IsReading o w c began r → tag_of x.phase ≡ r.asker.tag → (b : Bool)
         → are_there r.answers ≡ b
         → IsKept o (changed w
-        (AtClient c (read_turn (terms_of o) x r.asker.tag asking
+        (AtClient c (read_turn (terms_of o) x r.asker.tag pending_ask
         (option_map_or (end_of r) (if b then Some (answers_there r.answers) else None) (Same r)))))
     outcome_kept r h tag true all = end_kept r h tag all r.stamps h.round
     outcome_kept r h tag false all = stays_kept (reading r) refl refl tag h
@@ -458,7 +458,7 @@ module _ (o : Opening) (some : 0 < o.parts) (w : World) (k : IsKept o w) (c : �
     reading_kept : (r : RoundState) (m : Message) → In m w.now.messages → IsReading o w c began r
         → tag_of x.phase ≡ r.asker.tag → (f : Option ReadVersion) → new_answer r m ≡ f
         → IsKept o (changed w
-        (AtClient c (read_turn (terms_of o) x r.asker.tag asking
+        (AtClient c (read_turn (terms_of o) x r.asker.tag pending_ask
         (option_map_or (λ (a : ReadVersion). outcome (with_answer r a)) f (Same r)))))
     reading_kept r m sent h tag None e = stays_kept (reading r) refl refl tag h
     reading_kept r m sent h tag (Some f) e = outcome_kept (with_answer r f)
@@ -468,12 +468,12 @@ module _ (o : Opening) (some : 0 < o.parts) (w : World) (k : IsKept o w) (c : �
     message_read : (r : RoundState) (m : Message) → In m w.now.messages → IsReading o w c began r
         → tag_of x.phase ≡ r.asker.tag → (b : Bool)
         → IsKept o (changed w
-        (AtClient c (read_turn (terms_of o) x r.asker.tag asking (if b then Gone r.items else taken r m))))
+        (AtClient c (read_turn (terms_of o) x r.asker.tag pending_ask (if b then Gone r.items else taken r m))))
     message_read r m sent h tag false = reading_kept r m sent h tag (new_answer r m) refl
     message_read r m sent h tag true =
-        views_kept h.low h.high (Some (record { ask = asking.viewing.ask; principal = asking.principal; rows = None }))
+        views_kept h.low h.high (Some (record { ask = pending_ask.viewing.ask; principal = pending_ask.principal; rows = None }))
         (λ d rs i q. none_some (ap (λ (z : Ended). z.rows) (some_same i) ∙ q))
-        r.asker.tag tag asking.principal (again asking.viewing r.items)
+        r.asker.tag tag pending_ask.principal (again pending_ask.viewing r.items)
 
   -- ---- a message in a write
 
@@ -622,7 +622,7 @@ module _ (o : Opening) (some : 0 < o.parts) (w : World) (k : IsKept o w) (c : �
   by_kept : (m : Message) → In m w.now.messages → (f : Phase) → x.phase ≡ f → IsDoing o w c began f
       → IsKept o (changed w (client_takes_by (terms_of o) c x m f))
   by_kept m sent (phase.Idle tag) e h = k
-  by_kept m sent (phase.Reads asking r) e h = message_read asking r m sent h (ap tag_of e) (is_gone r m)
+  by_kept m sent (phase.Reads pending_ask r) e h = message_read pending_ask r m sent h (ap tag_of e) (is_gone r m)
   by_kept m sent (phase.Prepares z) e h = prepared_kept m sent z (ap tag_of e) h (told_of z m) refl
   by_kept m sent (phase.Commits z) e h = committed_kept m sent z (ap tag_of e) h (told_of z m) refl
 
@@ -633,7 +633,7 @@ module _ (o : Opening) (some : 0 < o.parts) (w : World) (k : IsKept o w) (c : �
       go true = k
       go false = by_kept m sent x.phase refl (k.clients c).phase
 
-  pub asked_kept : 0 < c → c < 65536 → (tag : ℕ) → tag_of x.phase ≡ tag → (asking : PendingAsk) (items : List ℕ)
-      → IsKept o (changed w (AtClient c (read_begins (terms_of o) x tag asking items)))
-  asked_kept low high tag was asking items = reads_kept x number own (le_refl _) None None
-      (λ d rows i q. none_some i) tag was low high asking items
+  pub asked_kept : 0 < c → c < 65536 → (tag : ℕ) → tag_of x.phase ≡ tag → (pending_ask : PendingAsk) (items : List ℕ)
+      → IsKept o (changed w (AtClient c (read_begins (terms_of o) x tag pending_ask items)))
+  asked_kept low high tag was pending_ask items = reads_kept x number own (le_refl _) None None
+      (λ d rows i q. none_some i) tag was low high pending_ask items

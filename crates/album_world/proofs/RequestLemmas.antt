@@ -59,11 +59,11 @@ pub record IsForOne (w : World) (r : Transaction) : Type 0 where
   pub writes : In r asked.writes
 
 -- a client that reads has not answered its last request
-pub record ReadsFor (w : World) (c : ℕ) (asking : PendingAsk) : Type 0 where
+pub record ReadsFor (w : World) (c : ℕ) (pending_ask : PendingAsk) : Type 0 where
   pub asked : Asked
   pub last : last_asked w.past.asked c ≡ Some asked
-  pub ask : asked.ask ≡ asking.viewing.ask
-  pub principal : asked.principal ≡ asking.principal
+  pub ask : asked.ask ≡ pending_ask.viewing.ask
+  pub principal : asked.principal ≡ pending_ask.principal
   pub unwritten : asked.writes ≡ []
   pub unanswered : asked.answers ≡ []
   pub later : AreAtOrAfter (last_begun w.past.begun c).partitions asked.partitions
@@ -82,7 +82,7 @@ pub record WritesFor (w : World) (c : ℕ) (z : WritingState) : Type 0 where
 -- the last request of one that is idle is answered
 abbrev pub IsUnder : World → ℕ → Phase → Type 0
 IsUnder w c (phase.Idle tag) = (a : Asked) → last_asked w.past.asked c ≡ Some a → length a.answers ≡ 1
-IsUnder w c (phase.Reads asking round) = ReadsFor w c asking
+IsUnder w c (phase.Reads pending_ask round) = ReadsFor w c pending_ask
 IsUnder w c (phase.Prepares z) = WritesFor w c z
 IsUnder w c (phase.Commits z) = WritesFor w c z
 
@@ -402,7 +402,7 @@ module _ (o : Opening) (w : World) (k : IsKept o w) (c : ℕ) (q : IsRequestedBu
   -- what another client does is under its own request
   beside : (d : ℕ) → eqb c d ≡ false → (f : Phase) → IsUnder w d f → IsUnder next d f
   beside d ne (phase.Idle tag) u = λ a e. u a (sym (last_beside begun_here c t w.past.asked d ne) ∙ e)
-  beside d ne (phase.Reads asking round) u = record {
+  beside d ne (phase.Reads pending_ask round) u = record {
     asked = u.asked;
     last = last_beside begun_here c t w.past.asked d ne ∙ u.last;
     ask = u.ask;

@@ -67,7 +67,7 @@ module _ (o : Opening) (w : World) (k : IsKept o w) (stopped : List ℕ) (asked 
 
   doing_lasts : (d : ℕ) (began : List PartitionState) (f : Phase) → IsDoing o w d began f → IsDoing o next d began f
   doing_lasts d began (phase.Idle tag) h = tt
-  doing_lasts d began (phase.Reads asking r) h = record {
+  doing_lasts d began (phase.Reads pending_ask r) h = record {
     low = h.low;
     high = h.high;
     parts = h.parts;

@@ -172,13 +172,13 @@ module _ (terms : Terms) (now : Now) (c : ℕ) where
     drawn = λ by e. let g = d.drawn by e in record { is = g.is; above = g.above };
   }
 
-  read_tidy : (asking : PendingAsk) (tag : ℕ) (s : Step) → IsTidy x (read_turn terms x tag asking s)
-  read_tidy asking tag (Same round) = same_tidy _ refl refl (λ a e. none_some e) refl
-  read_tidy asking tag (Next round sent) = same_tidy _ refl refl (λ a e. none_some e) refl
-  read_tidy asking tag (Done rows) =
-      read_ends_tidy _ _ (views_tidy tag asking.principal (viewed asking.viewing rows))
-  read_tidy asking tag (Gone items) =
-      read_ends_tidy _ _ (views_tidy tag asking.principal (again asking.viewing items))
+  read_tidy : (pending_ask : PendingAsk) (tag : ℕ) (s : Step) → IsTidy x (read_turn terms x tag pending_ask s)
+  read_tidy pending_ask tag (Same round) = same_tidy _ refl refl (λ a e. none_some e) refl
+  read_tidy pending_ask tag (Next round sent) = same_tidy _ refl refl (λ a e. none_some e) refl
+  read_tidy pending_ask tag (Done rows) =
+      read_ends_tidy _ _ (views_tidy tag pending_ask.principal (viewed pending_ask.viewing rows))
+  read_tidy pending_ask tag (Gone items) =
+      read_ends_tidy _ _ (views_tidy tag pending_ask.principal (again pending_ask.viewing items))
 
   prepare_tidy : (tag : ℕ) (s : WriteStep) → IsTidy x (prepare_turn x tag s)
   prepare_tidy tag (Waits z) = same_tidy _ refl refl (λ a e. none_some e) refl
@@ -192,7 +192,7 @@ module _ (terms : Terms) (now : Now) (c : ℕ) where
 
   takes_by_tidy : (m : Message) → is_stopped now c ≡ false → (f : Phase) → AreTidy now (client_takes_by terms c x m f)
   takes_by_tidy m awake (phase.Idle tag) = tt
-  takes_by_tidy m awake (phase.Reads asking r) = (read_tidy asking r.asker.tag (stepped r m), awake)
+  takes_by_tidy m awake (phase.Reads pending_ask r) = (read_tidy pending_ask r.asker.tag (stepped r m), awake)
   takes_by_tidy m awake (phase.Prepares z) = (prepare_tidy z.tag (prepare_stepped z m), awake)
   takes_by_tidy m awake (phase.Commits z) = (commit_tidy z.tag (commit_stepped z m), awake)
 

@@ -141,7 +141,7 @@ module _ (o : Opening) (w : World) (k : IsKept o w) (c : ℕ) (t : Turn) (number
     -- what a client does lasts where it sends and is sent nothing
     pub doing_lasts : (f : Phase) → IsDoing o w d began f → IsDoing o next d began f
     doing_lasts (phase.Idle tag) h = tt
-    doing_lasts (phase.Reads asking r) h = record {
+    doing_lasts (phase.Reads pending_ask r) h = record {
       low = h.low;
       high = h.high;
       parts = h.parts;

@@ -47,7 +47,7 @@ asks_unless terms number client tag principal ask None =
 abbrev pub asks_by : Terms → ℕ → Client → Principal → Ask → Phase → Result Change Refusal
 asks_by terms number client principal ask (Idle tag) =
     asks_unless terms number client tag principal ask (refusal_of ask principal)
-asks_by terms number client principal ask (Reads asking round) = Err ClientBusy
+asks_by terms number client principal ask (Reads pending_ask round) = Err ClientBusy
 asks_by terms number client principal ask (Prepares writing) = Err ClientBusy
 asks_by terms number client principal ask (Commits writing) = Err ClientBusy
 
@@ -70,8 +70,8 @@ part_takes part message (Some partition) =
 -- to an idle client it does nothing
 abbrev pub client_takes_by : Terms → ℕ → Client → Message → Phase → Change
 client_takes_by terms number client message (Idle tag) = Nothing
-client_takes_by terms number client message (Reads asking round) =
-    AtClient number (read_turn terms client round.asker.tag asking (stepped round message))
+client_takes_by terms number client message (Reads pending_ask round) =
+    AtClient number (read_turn terms client round.asker.tag pending_ask (stepped round message))
 client_takes_by terms number client message (Prepares writing) =
     AtClient number (prepare_turn client writing.tag (prepare_stepped writing message))
 client_takes_by terms number client message (Commits writing) =

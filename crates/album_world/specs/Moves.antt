@@ -16,21 +16,21 @@ use Rattle.album_world.specs.Runs.{outs_of_turn}
 -- the tag of its last round, if it is idle
 abbrev pub idle_tag : Phase → Option ℕ
 idle_tag (Idle tag) = Some tag
-idle_tag (Reads asking round) = None
+idle_tag (Reads pending_ask round) = None
 idle_tag (Prepares writing) = None
 idle_tag (Commits writing) = None
 
 -- it writes
 abbrev pub is_writing : Phase → Bool
 is_writing (Idle tag) = false
-is_writing (Reads asking round) = false
+is_writing (Reads pending_ask round) = false
 is_writing (Prepares writing) = true
 is_writing (Commits writing) = true
 
 -- so many messages it may send by what comes of a message in a write: the Commits
 abbrev pub room_of : Phase → ℕ
 room_of (Idle tag) = 0
-room_of (Reads asking round) = 0
+room_of (Reads pending_ask round) = 0
 room_of (Prepares writing) = length (places_in writing)
 room_of (Commits writing) = 0
 

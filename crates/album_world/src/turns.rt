@@ -70,10 +70,10 @@ pub(crate) fn ask(
     let Some(tag) = idle_tag(client) else {
         unreachable!()
     };
-    let moved = client
-        .actor(alloc, terms)
+    let transition = client
+        .client_step(alloc, terms)
         .asks(tag, principal.copy()?, ask.copy()?)?;
-    turn(client, alloc, before, moved)
+    turn(client, alloc, before, transition)
 }
 
 /// A message comes to the client: what it sends, and all that is told. `before` messages were sent before.
@@ -99,11 +99,11 @@ pub(crate) fn take(
 {
     match &client.phase {
         Phase::Idle(_) => Ok((Vec::new(alloc), Vec::new(alloc))),
-        Phase::Reads(asking, reading) => {
+        Phase::Reads(pending_ask, reading) => {
             if reading.is_ended_by(message) {
-                let phase = Phase::Reads(asking.copy()?, reading.copy()?);
-                let moved = client.actor(alloc, terms).takes(phase, message)?;
-                turn(client, alloc, before, moved)
+                let phase = Phase::Reads(pending_ask.copy()?, reading.copy()?);
+                let transition = client.client_step(alloc, terms).takes(phase, message)?;
+                turn(client, alloc, before, transition)
             } else {
                 reads_on(client, message)?;
                 Ok((Vec::new(alloc), Vec::new(alloc)))
@@ -127,15 +127,15 @@ fn idle_tag(client: &Client) -> Option<u64>
     }
 }
 
-/// The client becomes what it has moved to, and that is told.
+/// Installs the client's next state, and gives the outputs.
 fn turn(
     client: &mut Client,
     alloc: Global,
     before: u64,
-    moved: Transition,
+    transition: Transition,
 ) -> Result<(Vec<Message>, Vec<Out>), Refusal>
     requires { before < 2 ^ 63 }
-    ensures turned { (turn : Turn) → IsMoved turn moved
+    ensures turned { (turn : Turn) → IsMoved turn transition
         → IfOk result (λ r. IsTurned before client.old.number turn client.new r.0.items r.1.items) }
     ensures few { IfOk result (λ r. length r.0.items ≤ MAX_READ_ITEMS) }
     ensures memory { IsOkUnless result Refusal.OutOfMemory }
@@ -146,7 +146,7 @@ fn turn(
         notes,
         sent,
         answer,
-    } = moved;
+    } = transition;
     let outs = outs_of(alloc, before, client.number, &notes, sent.len(), answer)?;
     becomes(client, next);
     Ok((sent, outs))
@@ -195,28 +195,28 @@ fn writes_on(
 {
     let mut outs = Vec::with_capacity(alloc, room + 1)?;
     let number = client.number;
-    let actor = client.actor(alloc, terms);
+    let client_step = client.client_step(alloc, terms);
     let phase = mem::replace(&mut client.phase, Phase::Idle(0));
     let Transition {
         client: next,
         notes: _,
         sent,
         answer,
-    } = written(actor, phase, message);
+    } = written(client_step, phase, message);
     becomes(client, next);
     tell(&mut outs, before, number, sent.len(), answer);
     Ok((sent, outs))
 }
 
 /// What a message does in a write.
-fn written(actor: ClientStep, phase: Phase, message: &Message) -> Transition
+fn written(client_step: ClientStep, phase: Phase, message: &Message) -> Transition
     requires { is_writing phase ≡ true }
-    ensures moved { IsMoved (turn_of actor.terms (client_of actor) message.now phase) result }
+    ensures transition { IsMoved (turn_of client_step.terms (client_of client_step) message.now phase) result }
     ensures room { length result.sent.items ≤ room_of phase }
 {
     match phase {
-        Phase::Prepares(preparing) => actor.prepares(preparing, message),
-        Phase::Commits(committing) => actor.commits(committing, message),
+        Phase::Prepares(preparing) => client_step.prepares(preparing, message),
+        Phase::Commits(committing) => client_step.commits(committing, message),
         Phase::Idle(_) | Phase::Reads(_, _) => unreachable!(),
     }
 }

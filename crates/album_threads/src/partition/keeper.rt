@@ -3,11 +3,11 @@ ghost use Rattle.std.specs.Prelude.{◌≡◌, ◌≢◌, ◌<◌, length, map, 
 ghost use Rattle.album_partition.specs.Answers.{after, answer};
 ghost use Rattle.album_partition.specs.Sweeps.{swept};
 ghost use Rattle.album_passes.specs.Cuts.{Extends, IsSound, prefix_at};
-ghost use Rattle.album_threads.specs.Controls.{Tells, TellsPending, TellsTrimmed};
+ghost use Rattle.album_threads.specs.Controls.{Answers, AnswersPending, AnswersTrimmed};
 ghost use Rattle.album_threads.specs.Keepers.{IsKeeper, IsNext};
 ghost use Rattle.album_threads.specs.Envelopes.{Shows, IsAnswered};
 
-use crate::control::{Control, ControlReply, ControlRequest};
+use crate::control::{Control, ControlAnswer, ControlReply, ControlRequest};
 use crate::envelopes::{ReplyEnvelope, RequestEnvelope};
 use crate::service_names::ServiceNames;
 use album_calls::{Message, Stamps};
@@ -128,68 +128,66 @@ impl<J: ServiceNames> PartitionKeeper<J> {
 }
 
 impl<J: ServiceNames> PartitionKeeper<J> {
-    /// Takes in the question's pass, does what it asks, and gives what is told of it. The envelopes that
-    /// go to other partitions are put into `envelopes`. The pass of what is told has seen all that the
-    /// question's has.
+    /// Joins the request's pass, carries the request out, and gives the reply. Envelopes to other partitions are put
+    /// into `envelopes`. The reply's pass has seen all that the request's has.
     pub(crate) fn inquire(
         &mut self,
         alloc: Global,
         desk: &Desk,
-        question: ControlRequest<J>,
+        request: ControlRequest<J>,
         envelopes: &mut Vec<RequestEnvelope<J>>,
     ) -> ControlReply<J>
         requires table { desk.now.table ≡ J.table }
         requires terms { desk.now.terms ≡ J.terms }
         ensures part { result.part ≡ self.old.partition.number }
-        ensures tag { result.tag ≡ question.tag }
-        ensures inquiry { result.inquiry ≡ question.inquiry }
+        ensures tag { result.tag ≡ request.tag }
+        ensures control { result.control ≡ request.control }
         ensures point { result.pass.cut ≡ self.new.owner.cut }
         ensures grown { Extends self.old.owner.cut self.new.owner.cut }
-        ensures heard { Extends question.pass.cut self.new.owner.cut }
+        ensures heard { Extends request.pass.cut self.new.owner.cut }
     {
-        let asked = question.inquiry();
-        let (tag, inquiry, pass) = question.open();
+        let asked = request.control();
+        let (tag, control, pass) = request.open();
         self.hear(desk, pass);
-        let told = self.answer(alloc, desk, asked, envelopes);
+        let answer = self.answer(alloc, desk, asked, envelopes);
         let pass = self.owner.split(desk);
-        ControlReply::new(self.part, tag, inquiry, told, pass)
+        ControlReply::new(self.part, tag, control, answer, pass)
     }
 
-    /// Does what is asked, and gives what is told of it. What goes to other partitions is put into
-    /// `envelopes`.
+    /// Carries the request out, and gives the answer. Envelopes to other partitions are put into `envelopes`.
     fn answer(
         &mut self,
         alloc: Global,
         desk: &Desk,
-        inquiry: Control,
+        control: Control,
         envelopes: &mut Vec<RequestEnvelope<J>>,
-    ) -> Result<Stamps, Refusal>
+    ) -> Result<ControlAnswer, Refusal>
         requires table { desk.now.table ≡ J.table }
         requires terms { desk.now.terms ≡ J.terms }
         requires sound { IsSound self.old.owner.cut }
-        ensures told { Tells J.terms.limit self.new.owner.cut self.new.partition.number inquiry result }
+        ensures told { Answers J.terms.limit self.new.owner.cut self.new.partition.number control result }
         ensures number { self.new.partition.number ≡ self.old.partition.number }
         ensures grown { Extends self.old.owner.cut self.new.owner.cut }
     {
-        match inquiry {
+        match control {
             Control::Pending => self.pending(),
-            Control::Trim(item) => self.trim(alloc, desk, item),
+            Control::Trim(item) => self.trim(desk, item),
             Control::Sweep(stamp) => match self.sweep(alloc, desk, stamp) {
                 Err(refusal) => Err(refusal),
                 Ok(asked) => {
                     *envelopes = asked;
-                    Ok(Stamps::of(Vec::new(alloc)))
+                    Ok(ControlAnswer::Swept)
                 }
             },
         }
     }
 
     /// The stamps that are pending.
-    fn pending(&self) -> Result<Stamps, Refusal>
-        ensures { TellsPending (prefix_at self.now.owner.cut self.now.partition.number) result }
+    fn pending(&self) -> Result<ControlAnswer, Refusal>
+        ensures { AnswersPending (prefix_at self.now.owner.cut self.now.partition.number) result }
     {
         match self.partition.pending() {
-            Ok(stamps) => Ok(Stamps::of(stamps)),
+            Ok(stamps) => Ok(ControlAnswer::Pending(Stamps::of(stamps))),
             Err(refusal) => Err(refusal),
         }
     }
@@ -214,10 +212,10 @@ impl<J: ServiceNames> PartitionKeeper<J> {
     }
 
     /// Trims the item.
-    fn trim(&mut self, alloc: Global, desk: &Desk, item: ItemId) -> Result<Stamps, Refusal>
+    fn trim(&mut self, desk: &Desk, item: ItemId) -> Result<ControlAnswer, Refusal>
         requires table { desk.now.table ≡ J.table }
         requires terms { desk.now.terms ≡ J.terms }
-        ensures told { TellsTrimmed J.terms.limit self.new.owner.cut self.new.partition.number item result }
+        ensures told { AnswersTrimmed J.terms.limit self.new.owner.cut self.new.partition.number item result }
         ensures number { self.new.partition.number ≡ self.old.partition.number }
         ensures grown { Extends self.old.owner.cut self.new.owner.cut }
     {
@@ -226,7 +224,7 @@ impl<J: ServiceNames> PartitionKeeper<J> {
             Err(refusal) => Err(refusal),
             Ok(()) => {
                 append_next(&mut self.owner, desk, &self.partition, before);
-                Ok(Stamps::of(Vec::new(alloc)))
+                Ok(ControlAnswer::Trimmed)
             }
         }
     }

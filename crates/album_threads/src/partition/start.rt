@@ -8,7 +8,7 @@ ghost use Rattle.album_threads.specs.Opened.{first_partition, AreFirst, AreFirst
 use crate::gate::Gate;
 use crate::mailbox::{Inbox, PartitionMail};
 use crate::partition::keeper::PartitionKeeper;
-use crate::partition::thread::{Ends, PartitionLoop};
+use crate::partition::thread::{Outbox, PartitionLoop};
 use crate::service_names::ServiceNames;
 use album_partition::Partition;
 use album_passes::{Desk, Owner};
@@ -79,7 +79,7 @@ pub(crate) fn loop_of<J: ServiceNames>(
         parts.push(mailbox.clone()?)?;
     }
     let keeper = PartitionKeeper::new(part, partition, owner);
-    Ok(PartitionLoop::new(part, keeper, Ends::new(alloc, parts)))
+    Ok(PartitionLoop::new(part, keeper, Outbox::new(alloc, parts)))
 }
 
 /// Starts the thread of a partition.
@@ -102,7 +102,7 @@ pub(crate) fn start<
         &rt,
         move || -> ()
             requires { ((arc_value desk).table ≡ J.table) × ((arc_value desk).terms ≡ J.terms) }
-        { attend_alone::<J, R, G>(rt, alloc, desk, gate, post, mails) },
+        { run_alone::<J, R, G>(rt, alloc, desk, gate, post, mails) },
     ) else {
         return Err(AllocError);
     };
@@ -110,7 +110,7 @@ pub(crate) fn start<
 }
 
 /// The body of the thread, which owns all it needs.
-fn attend_alone<J: ServiceNames, R: Wait + time::Clock + Copy, G: Gate + Drop>(
+fn run_alone<J: ServiceNames, R: Wait + time::Clock + Copy, G: Gate + Drop>(
     rt: R,
     alloc: Global,
     desk: Arc<Desk, Global>,
@@ -121,5 +121,5 @@ fn attend_alone<J: ServiceNames, R: Wait + time::Clock + Copy, G: Gate + Drop>(
     requires table { (arc_value desk).table ≡ J.table }
     requires terms { (arc_value desk).terms ≡ J.terms }
 {
-    post.attend(&rt, alloc, &desk, &*gate, &mut Inbox::new(mails));
+    post.run(&rt, alloc, &desk, &*gate, &mut Inbox::new(mails));
 }

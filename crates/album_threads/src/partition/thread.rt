@@ -19,7 +19,7 @@ use std::time;
 
 /// Where what is told goes.
 #[derive(Drop)]
-pub(crate) struct Ends<J: ServiceNames> {
+pub(crate) struct Outbox<J: ServiceNames> {
     alloc: Global,
     /// Of the partitions, in the order of their numbers.
     parts: Vec<Sender<PartitionMail<J>>>,
@@ -27,10 +27,10 @@ pub(crate) struct Ends<J: ServiceNames> {
     sessions: BTreeMap<u16, Sender<SessionMail<J>>>,
 }
 
-impl<J: ServiceNames> Ends<J> {
+impl<J: ServiceNames> Outbox<J> {
     /// These partitions, and no session.
-    pub(crate) fn new(alloc: Global, parts: Vec<Sender<PartitionMail<J>>>) -> Ends<J> {
-        Ends {
+    pub(crate) fn new(alloc: Global, parts: Vec<Sender<PartitionMail<J>>>) -> Outbox<J> {
+        Outbox {
             alloc,
             parts,
             sessions: BTreeMap::new(alloc),
@@ -61,30 +61,30 @@ impl<J: ServiceNames> Ends<J> {
         if let Some(end) = self.parts.get(usize::from(part)) {
             let mut envelopes = Vec::new(self.alloc);
             if envelopes.push(envelope).is_ok() {
-                let _ = end.send(rt, PartitionMail::Letters(envelopes));
+                let _ = end.send(rt, PartitionMail::Envelopes(envelopes));
             }
         }
     }
 
     /// The replies to the messages of one mail, which are all to one session, or each to a partition.
-    fn send<R: Wait>(&self, rt: &R, responses: VecDeque<ReplyEnvelope<J>>) {
-        let Some(first) = responses.front() else {
+    fn send<R: Wait>(&self, rt: &R, replies: VecDeque<ReplyEnvelope<J>>) {
+        let Some(first) = replies.front() else {
             return;
         };
         match first.reply().to() {
-            Node::Client(client) => self.tell(rt, client, SessionMail::Responses(responses)),
+            Node::Client(client) => self.tell(rt, client, SessionMail::Replies(replies)),
             Node::Part(_) => {
-                for response in responses {
-                    self.post(rt, response.into_envelope());
+                for reply in replies {
+                    self.post(rt, reply.into_envelope());
                 }
             }
         }
     }
 
-    /// The same of a notice to the client.
-    fn notify<R: Wait>(&self, rt: &R, client: ClientNo, notice: ControlReply<J>) {
-        if let Ok(notice) = Box::new(self.alloc, notice) {
-            self.tell(rt, client, SessionMail::ControlReply(notice));
+    /// The same of a reply to the client.
+    fn notify<R: Wait>(&self, rt: &R, client: ClientNo, reply: ControlReply<J>) {
+        if let Ok(reply) = Box::new(self.alloc, reply) {
+            self.tell(rt, client, SessionMail::ControlReply(reply));
         }
     }
 }
@@ -95,23 +95,27 @@ impl<J: ServiceNames> Ends<J> {
 pub(crate) struct PartitionLoop<J: ServiceNames> {
     part: u16,
     keeper: PartitionKeeper<J>,
-    ends: Ends<J>,
+    outbox: Outbox<J>,
     number: u64,
 }
 
 impl<J: ServiceNames> PartitionLoop<J> {
     /// The partition of this number, with its keeper, and where what it tells goes.
-    pub(crate) fn new(part: u16, keeper: PartitionKeeper<J>, ends: Ends<J>) -> PartitionLoop<J> {
+    pub(crate) fn new(
+        part: u16,
+        keeper: PartitionKeeper<J>,
+        outbox: Outbox<J>,
+    ) -> PartitionLoop<J> {
         PartitionLoop {
             part,
             keeper,
-            ends,
+            outbox,
             number: 0,
         }
     }
 
     /// Takes one mail after another, until it is told to leave or all who could send one are gone.
-    pub(crate) fn attend<R: Wait + time::Clock, G: Gate>(
+    pub(crate) fn run<R: Wait + time::Clock, G: Gate>(
         &mut self,
         rt: &R,
         alloc: Global,
@@ -147,12 +151,14 @@ impl<J: ServiceNames> PartitionLoop<J> {
     {
         match mail {
             PartitionMail::Leave => return false,
-            PartitionMail::Register(client, end) => self.ends.register(client, end),
-            PartitionMail::Forget(client) => self.ends.forget(client),
-            PartitionMail::ControlRequest(question) => {
-                self.inquire(rt, alloc, desk, Box::into_inner(question));
+            PartitionMail::Register(client, end) => self.outbox.register(client, end),
+            PartitionMail::Forget(client) => self.outbox.forget(client),
+            PartitionMail::ControlRequest(request) => {
+                self.inquire(rt, alloc, desk, Box::into_inner(request));
             }
-            PartitionMail::Letters(envelopes) => self.receive_all(rt, alloc, desk, gate, envelopes),
+            PartitionMail::Envelopes(envelopes) => self.receive_all(
+                rt, alloc, desk, gate, envelopes,
+            ),
         }
         true
     }
@@ -170,48 +176,48 @@ impl<J: ServiceNames> PartitionLoop<J> {
         requires terms { desk.now.terms ≡ J.terms }
     {
         let (mut number, count) = (self.number, envelopes.len());
-        let mut responses = VecDeque::new(alloc);
-        let _ = responses.reserve(count);
+        let mut replies = VecDeque::new(alloc);
+        let _ = replies.reserve(count);
         for envelope in envelopes {
-            self.receive(desk, gate, envelope, &mut responses);
+            self.receive(desk, gate, envelope, &mut replies);
         }
-        self.ends.send(rt, responses);
+        self.outbox.send(rt, replies);
         for _ in 0..count {
             gate.leave(self.part, number);
             number = number.saturating_add(1);
         }
     }
 
-    /// Takes a envelope, and adds the reply to the responses, if there is one. A envelope or a reply for which there is no
+    /// Takes a envelope, and adds the reply to the replies, if there is one. A envelope or a reply for which there is no
     /// memory is lost.
     fn receive<G: Gate>(
         &mut self,
         desk: &Desk,
         gate: &G,
         envelope: RequestEnvelope<J>,
-        responses: &mut VecDeque<ReplyEnvelope<J>>,
+        replies: &mut VecDeque<ReplyEnvelope<J>>,
     )
         requires table { desk.now.table ≡ J.table }
         requires terms { desk.now.terms ≡ J.terms }
     {
         gate.enter(self.part, self.number);
         self.number = self.number.saturating_add(1);
-        if let Ok(Some(response)) = self.keeper.receive(desk, envelope) {
-            let _ = responses.push_back(response);
+        if let Ok(Some(reply)) = self.keeper.receive(desk, envelope) {
+            let _ = replies.push_back(reply);
         }
     }
 
-    /// Takes a question, and tells who asks, once what goes to other partitions is sent.
-    fn inquire<R: Wait>(&mut self, rt: &R, alloc: Global, desk: &Desk, question: ControlRequest<J>)
+    /// Takes a request, and tells who asks, once what goes to other partitions is sent.
+    fn inquire<R: Wait>(&mut self, rt: &R, alloc: Global, desk: &Desk, request: ControlRequest<J>)
         requires table { desk.now.table ≡ J.table }
         requires terms { desk.now.terms ≡ J.terms }
     {
-        let client = question.client();
+        let client = request.client();
         let mut envelopes = Vec::new(alloc);
-        let notice = self.keeper.inquire(alloc, desk, question, &mut envelopes);
+        let reply = self.keeper.inquire(alloc, desk, request, &mut envelopes);
         for envelope in envelopes {
-            self.ends.post(rt, envelope);
+            self.outbox.post(rt, envelope);
         }
-        self.ends.notify(rt, client, notice);
+        self.outbox.notify(rt, client, reply);
     }
 }

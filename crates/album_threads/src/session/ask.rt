@@ -8,8 +8,8 @@ ghost use Rattle.album_threads.specs.Asks.{IsOn};
 ghost use Rattle.album_threads.specs.Phases.{Outset, IsUnderWay};
 ghost use Rattle.album_threads.specs.Replies.{IsReplied};
 ghost use Rattle.album_threads.specs.Resting.{RestsOn};
-ghost use Rattle.album_threads.specs.Sessions.{IsNoWord, AnnouncesNothing};
-ghost use Rattle.album_threads.specs.Turns.{actor_in, terms_in, IsLed, IsSomehowWaited, IsWaited};
+ghost use Rattle.album_threads.specs.Sessions.{IsClosedOrOutOfMemory, AnnouncesNothing};
+ghost use Rattle.album_threads.specs.Turns.{client_step_in, terms_in, IsLed, IsSomehowWaited, IsWaited};
 
 use crate::service_names::ServiceNames;
 use crate::session::Session;
@@ -47,7 +47,7 @@ impl<J: ServiceNames> Session<J> {
     ) -> Result<Answer, Refusal>
         ensures rests { IfOk result (RestsOn J.terms.limit J.policy principal.now ask self.old self.new) }
         ensures checked { IfSome (refusal_of ask principal.now) (λ e. (result ≡ Err e) × (self.new ≡ self.old)) }
-        ensures refused { IfErr result (λ e. (refusal_of ask principal.now ≡ Some e) ⊎ IsNoWord e) }
+        ensures refused { IfErr result (λ e. (refusal_of ask principal.now ≡ Some e) ⊎ IsClosedOrOutOfMemory e) }
         ensures unbegun { OnErr result (AnnouncesNothing self.old self.new) }
         ensures grown { Extends self.old.cut self.new.cut }
         ensures client { self.new.client ≡ self.old.client }
@@ -83,22 +83,22 @@ impl<J: ServiceNames> Session<J> {
         ensures way { IfOk result (λ way. IsUnderWay J.policy
             (record { principal = principal.now; ask = ask; session = self.old }) self.new
             way.0.begun.cut way.0.sent.items way.1) }
-        ensures refused { IfErr result IsNoWord }
+        ensures refused { IfErr result IsClosedOrOutOfMemory }
         ensures same { self.new ≡ self.old }
     {
         self.channel.is_open()?;
         self.channel.is_sound();
-        let moved = self.actor().asks(self.tag, principal.copy()?, ask)?;
-        let _reads = moved.client.phase.reads();
-        let (phase, sent) = work_of(moved);
+        let transition = self.client_step().asks(self.tag, principal.copy()?, ask)?;
+        let _reads = transition.client.phase.reads();
+        let (phase, sent) = work_of(transition);
         self.tag = phase.tag();
-        let asked = self.channel.ask(rt, sent)?;
+        let asked = self.channel.send_round(rt, sent)?;
         Ok((asked, phase))
     }
 
     /// The client, and the terms on which it asks.
-    pub(crate) fn actor(&self) -> ClientStep
-        ensures client { client_of result ≡ actor_in self.now }
+    pub(crate) fn client_step(&self) -> ClientStep
+        ensures client { client_of result ≡ client_step_in self.now }
         ensures terms { result.terms ≡ terms_in J.policy self.now }
         ensures some { 1 ≤ self.now.cut.parts }
         ensures own { IsTrue (is_client self.now.client) }
@@ -130,22 +130,22 @@ impl<J: ServiceNames> Session<J> {
         requires way { IsSomehowWaited J.policy self.old asked.begun.cut asked.sent.items phase }
         requires replied { IfOk heard
             (IsReplied J.terms.limit asked.begun.cut self.old.cut asked.sent.items) }
-        requires heard { IfErr heard IsNoWord }
+        requires heard { IfErr heard IsClosedOrOutOfMemory }
         ensures way { (outset : Outset)
             → IsWaited J.policy outset self.old asked.begun.cut asked.sent.items phase
             → IfOk result (IsLed J.terms.limit J.policy outset self.new) }
-        ensures refused { IfErr result IsNoWord }
+        ensures refused { IfErr result IsClosedOrOutOfMemory }
         ensures unbegun { (outset : Outset)
             → IsWaited J.policy outset self.old asked.begun.cut asked.sent.items phase
             → OnErr result (AnnouncesNothing outset.session self.new) }
         ensures on { IsOn self.old self.new }
     {
         let stamp = phase.stamp();
-        let moved = match self.gives(&asked, phase, heard) {
-            Ok(moved) => moved,
+        let transition = match self.gives(&asked, phase, heard) {
+            Ok(transition) => transition,
             Err(why) => return cut_off(stamp, why),
         };
-        match self.takes_over(rt, moved)? {
+        match self.takes_over(rt, transition)? {
             Turned::Answers(answer) => Ok(Way::Answered(answer)),
             Turned::Sends(phase, sent) => self.sends(rt, asked, phase, sent),
         }
@@ -153,16 +153,16 @@ impl<J: ServiceNames> Session<J> {
 }
 
 /// What the client does from then on, and what it sends.
-fn work_of(moved: Transition) -> (Phase, Vec<Message>)
-    ensures phase { result.0 ≡ moved.client.phase }
-    ensures sent { result.1.items ≡ moved.sent.items }
+fn work_of(transition: Transition) -> (Phase, Vec<Message>)
+    ensures phase { result.0 ≡ transition.client.phase }
+    ensures sent { result.1.items ≡ transition.sent.items }
 {
     let Transition {
         client,
         notes: _,
         sent,
         answer: _,
-    } = moved;
+    } = transition;
     let Client {
         number: _,
         clock: _,

@@ -5,14 +5,13 @@ ghost use Rattle.album_passes.specs.Changes.{merged, announced_cut};
 ghost use Rattle.album_passes.specs.Cuts.{IsSound, Extends, announced_for};
 ghost use Rattle.std.specs.Arc.{arc_value};
 ghost use Rattle.album_stamps.specs.declared.limits.TheConstants.{MAX_PARTS};
-ghost use Rattle.album_threads.specs.Controls.{Tells};
-ghost use Rattle.album_threads.specs.Sessions.{IsCaller, IsLater, IsNoWord};
+ghost use Rattle.album_threads.specs.Controls.{Answers};
+ghost use Rattle.album_threads.specs.Sessions.{IsChannel, IsLater, IsClosedOrOutOfMemory};
 
-use crate::control::{Control, ControlReply, ControlRequest};
+use crate::control::{Control, ControlAnswer, ControlReply, ControlRequest};
 use crate::envelopes::ReplyEnvelope;
 use crate::mailbox::{Inbox, PartitionMail, SessionMail};
 use crate::service_names::ServiceNames;
-use album_calls::Stamps;
 use album_items::ItemId;
 use album_passes::{Desk, Pass, meet};
 use album_stamps::{ClientNo, Refusal, Stamp};
@@ -48,13 +47,13 @@ pub(crate) struct PartitionChannel<J: ServiceNames> {
 impl<J: ServiceNames> Model for PartitionChannel<J> {
     ghost use Rattle.std.specs.Prelude.{◌≡◌};
     ghost use Rattle.std.specs.Arc.{arc_value};
-    ghost use Rattle.album_threads.specs.Sessions.{CallerState, IsCaller};
+    ghost use Rattle.album_threads.specs.Sessions.{ChannelState, IsChannel};
 
-    ghost Value = { CallerState };
+    ghost Value = { ChannelState };
 
     ghost view = { λ c. record { client = c.client; cut = c.pass.cut } };
 
-    ghost invariant = { λ c. ((arc_value c.desk).table ≡ J.table) × IsCaller J.table c.client c.parts c.pass };
+    ghost invariant = { λ c. ((arc_value c.desk).table ≡ J.table) × IsChannel J.table c.client c.parts c.pass };
 }
 
 impl<J: ServiceNames> PartitionChannel<J> {
@@ -69,7 +68,7 @@ impl<J: ServiceNames> PartitionChannel<J> {
         from: Receiver<SessionMail<J>>,
     ) -> PartitionChannel<J>
         requires table { (arc_value desk).table ≡ J.table }
-        requires is { IsCaller J.table client parts pass }
+        requires is { IsChannel J.table client parts pass }
         ensures { result ≡ record { client = client; cut = pass.cut } }
     {
         PartitionChannel {
@@ -124,7 +123,7 @@ impl<J: ServiceNames> PartitionChannel<J> {
         Ok(())
     }
 
-    /// Tells each partition where the session takes what it is told.
+    /// Answers each partition where the session takes what it is told.
     pub(crate) fn register<R: Wait>(
         &self,
         rt: &R,
@@ -139,7 +138,7 @@ impl<J: ServiceNames> PartitionChannel<J> {
         Ok(())
     }
 
-    /// Tells each partition that the session is over.
+    /// Answers each partition that the session is over.
     pub(crate) fn leave<R: Wait>(self, rt: &R) {
         for mailbox in &self.to {
             let _ = mailbox.send(rt, PartitionMail::Forget(self.client.number()));
@@ -172,7 +171,7 @@ impl<J: ServiceNames> PartitionChannel<J> {
         part: u16,
         mail: PartitionMail<J>,
     ) -> Result<(), Refusal>
-        ensures refused { IfErr result IsNoWord }
+        ensures refused { IfErr result IsClosedOrOutOfMemory }
         ensures same { self.new ≡ self.old }
     {
         let Some(mailbox) = self.to.get(usize::from(part)) else {
@@ -202,25 +201,25 @@ impl<J: ServiceNames> PartitionChannel<J> {
         }
     }
 
-    /// The response that comes next, or `None` where it is a notice, for which nobody waits any more.
+    /// The envelope that comes next, or `None` where it is a reply, for which nobody waits any more.
     ///
     /// # Errors
     ///
     /// `Closed`.
-    pub(crate) fn next_response<R: Wait + time::Clock>(
+    pub(crate) fn next_envelope<R: Wait + time::Clock>(
         &mut self,
         rt: &R,
     ) -> Result<Option<ReplyEnvelope<J>>, Refusal>
         ensures closed { IsOkUnless result Refusal.Closed }
         ensures same { self.new ≡ self.old }
     {
-        if let Some(response) = self.heard.pop_front() {
-            return Ok(Some(response));
+        if let Some(envelope) = self.heard.pop_front() {
+            return Ok(Some(envelope));
         }
         match self.next(rt)? {
             SessionMail::ControlReply(_) => Ok(None),
-            SessionMail::Responses(responses) => {
-                self.heard = responses;
+            SessionMail::Replies(replies) => {
+                self.heard = replies;
                 Ok(self.heard.pop_front())
             }
         }
@@ -273,7 +272,7 @@ impl<J: ServiceNames> PartitionChannel<J> {
 }
 
 impl<J: ServiceNames> PartitionChannel<J> {
-    /// Asks the partition, and waits for what it tells.
+    /// Sends the control request to the partition, and waits for the reply.
     ///
     /// # Errors
     ///
@@ -283,79 +282,79 @@ impl<J: ServiceNames> PartitionChannel<J> {
         &mut self,
         rt: &R,
         part: u16,
-        inquiry: &Control,
-    ) -> Result<Result<Stamps, Refusal>, Refusal>
+        control: &Control,
+    ) -> Result<Result<ControlAnswer, Refusal>, Refusal>
         requires part { part < MAX_PARTS }
-        ensures told { IfOk result (Tells J.terms.limit self.new.cut part inquiry.now) }
+        ensures told { IfOk result (Answers J.terms.limit self.new.cut part control.now) }
         ensures sound { OnOk result (IsSound self.new.cut) }
-        ensures refused { IfErr result IsNoWord }
+        ensures refused { IfErr result IsClosedOrOutOfMemory }
         ensures later { IsLater self.old self.new }
     {
         let tag = self.next_tag()?;
         let pass = self.split();
-        let question = ControlRequest::new(self.client, tag, *inquiry, pass);
+        let request = ControlRequest::new(self.client, tag, *control, pass);
         self.send(
             rt,
             part,
-            PartitionMail::ControlRequest(Box::new(self.alloc, question)?),
+            PartitionMail::ControlRequest(Box::new(self.alloc, request)?),
         )?;
         for _ in rt.forever() {
-            if let Some(told) = self.hear_notice(rt, part, tag, inquiry)? {
-                return Ok(told);
+            if let Some(answer) = self.hear_control_reply(rt, part, tag, control)? {
+                return Ok(answer);
             }
         }
         unreachable!()
     }
 
-    /// Takes the next word, and gives what it tells, where that is told to this inquiry.
+    /// Takes the session's next mail, and gives the answer, where it is one to this request.
     #[tactic(auto, using(crate::proofs::SessionLemmas::later_same))]
-    fn hear_notice<R: Wait + time::Clock>(
+    fn hear_control_reply<R: Wait + time::Clock>(
         &mut self,
         rt: &R,
         part: u16,
         tag: u64,
-        inquiry: &Control,
-    ) -> Result<Option<Result<Stamps, Refusal>>, Refusal>
+        control: &Control,
+    ) -> Result<Option<Result<ControlAnswer, Refusal>>, Refusal>
         requires part { part < MAX_PARTS }
-        ensures told { IfOk result (λ told. IfSome told (Tells J.terms.limit self.new.cut part inquiry.now)) }
+        ensures told { IfOk result (λ told. IfSome told (Answers J.terms.limit self.new.cut part control.now)) }
         ensures sound { IfOk result (λ told. IfSome told (λ _. IsSound self.new.cut)) }
         ensures unchanged { OnErr result (self.new ≡ self.old) }
         ensures other { IfOk result (λ told. IfNone told (self.new ≡ self.old)) }
-        ensures refused { IfErr result IsNoWord }
+        ensures refused { IfErr result IsClosedOrOutOfMemory }
         ensures later { IsLater self.old self.new }
     {
         match self.next(rt)? {
-            SessionMail::Responses(_) => Ok(None),
-            SessionMail::ControlReply(notice) => {
-                Ok(self.take_notice(part, tag, inquiry, Box::into_inner(notice)))
+            SessionMail::Replies(_) => Ok(None),
+            SessionMail::ControlReply(reply) => {
+                Ok(self.take_control_reply(part, tag, control, Box::into_inner(reply)))
             }
         }
     }
 
-    /// Takes in the notice, where it is told to this inquiry, and the partition had then made at least
-    /// the marks that were seen of it.
-    #[tactic(auto, using(crate::proofs::SessionLemmas::later_same, crate::proofs::SessionLemmas::tells_joined))]
-    fn take_notice(
+    /// Joins the reply's pass and gives the answer, where it is one to this request. The reply counts only where its
+    /// pass shows at least as many of the partition's marks as the session has seen.
+    #[tactic(auto, using(crate::proofs::SessionLemmas::later_same, crate::proofs::SessionLemmas::answers_joined))]
+    fn take_control_reply(
         &mut self,
         part: u16,
         tag: u64,
-        inquiry: &Control,
-        notice: ControlReply<J>,
-    ) -> Option<Result<Stamps, Refusal>>
+        control: &Control,
+        reply: ControlReply<J>,
+    ) -> Option<Result<ControlAnswer, Refusal>>
         requires part { part < MAX_PARTS }
-        ensures told { IfSome result (Tells J.terms.limit self.new.cut part inquiry.now) }
+        ensures told { IfSome result (Answers J.terms.limit self.new.cut part control.now) }
         ensures sound { IfSome result (λ _. IsSound self.new.cut) }
         ensures other { IfNone result (self.new ≡ self.old) }
         ensures later { IsLater self.old self.new }
     {
-        if !notice.is_of(part, tag, *inquiry) {
+        if !reply.is_of(part, tag, *control) {
             return None;
         }
-        let (told, pass) = notice.open();
+        let (answer, pass) = reply.open();
         if pass.length(part) < self.pass.length(part) {
             return None;
         }
         self.join(pass);
-        Some(told)
+        Some(answer)
     }
 }

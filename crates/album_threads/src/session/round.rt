@@ -4,7 +4,7 @@ ghost use Rattle.album_passes.specs.Cuts.{Extends, IsSound};
 ghost use Rattle.album_threads.specs.Envelopes.{Shows};
 ghost use Rattle.album_threads.specs.Replies.{IsReplied};
 ghost use Rattle.album_threads.specs.Sending.{announced_with, prepared_in, sent_at, sent_last, IsUnused};
-ghost use Rattle.album_threads.specs.Sessions.{IsLater, IsNoWord};
+ghost use Rattle.album_threads.specs.Sessions.{IsLater, IsClosedOrOutOfMemory};
 
 use crate::envelopes::{ReplyEnvelope, RequestEnvelope};
 use crate::mailbox::PartitionMail;
@@ -22,12 +22,16 @@ impl<J: ServiceNames> PartitionChannel<J> {
     /// # Errors
     ///
     /// `Closed` or `OutOfMemory`.
-    pub(crate) fn ask<R: Wait>(&mut self, rt: &R, messages: Vec<Message>) -> Result<Asked, Refusal>
+    pub(crate) fn send_round<R: Wait>(
+        &mut self,
+        rt: &R,
+        messages: Vec<Message>,
+    ) -> Result<Asked, Refusal>
         requires shown { All (Shows self.old.cut) messages.items }
         ensures sent { IfOk result (λ asked. asked.sent.items ≡ messages.items) }
         ensures begun { IfOk result (λ asked. asked.begun.cut ≡ self.old.cut) }
         ensures sound { IsSound self.old.cut }
-        ensures refused { IfErr result IsNoWord }
+        ensures refused { IfErr result IsClosedOrOutOfMemory }
         ensures same { self.new ≡ self.old }
     {
         let begun = self.split();
@@ -45,7 +49,7 @@ impl<J: ServiceNames> PartitionChannel<J> {
     /// # Errors
     ///
     /// `Closed` or `OutOfMemory`.
-    pub(crate) fn ask_more<R: Wait>(
+    pub(crate) fn send_next_round<R: Wait>(
         &mut self,
         rt: &R,
         asked: Asked,
@@ -54,13 +58,13 @@ impl<J: ServiceNames> PartitionChannel<J> {
         requires shown { All (Shows self.old.cut) sent.items }
         ensures sent { IfOk result (λ more. more.sent.items ≡ sent_last asked.sent.items sent.items) }
         ensures begun { IfOk result (λ more. more.begun.cut ≡ sent_at asked.begun.cut self.old.cut sent.items) }
-        ensures refused { IfErr result IsNoWord }
+        ensures refused { IfErr result IsClosedOrOutOfMemory }
         ensures same { self.new ≡ self.old }
     {
         if sent.is_empty() {
             return Ok(asked);
         }
-        self.ask(rt, sent)
+        self.send_round(rt, sent)
     }
 
     /// Announces what the message prepares, if it prepares anything.
@@ -81,14 +85,14 @@ impl<J: ServiceNames> PartitionChannel<J> {
     /// Sends those of the messages that go to the partition, as one mail.
     fn post<R: Wait>(&mut self, rt: &R, part: u16, messages: &[Message]) -> Result<(), Refusal>
         requires shown { All (Shows self.old.cut) messages.now }
-        ensures refused { IfErr result IsNoWord }
+        ensures refused { IfErr result IsClosedOrOutOfMemory }
         ensures same { self.new ≡ self.old }
     {
         let envelopes = self.envelopes_to(part, messages)?;
         if envelopes.is_empty() {
             return Ok(());
         }
-        self.send(rt, part, PartitionMail::Letters(envelopes))
+        self.send(rt, part, PartitionMail::Envelopes(envelopes))
     }
 
     /// Those of the messages that go to the partition, each with a pass.
@@ -134,7 +138,7 @@ impl<J: ServiceNames> PartitionChannel<J> {
         unreachable!()
     }
 
-    /// Takes the next response, and gives the reply, where it is one to one of these messages.
+    /// Takes the next envelope, and gives the reply, where it is one to one of these messages.
     #[tactic(auto, using(crate::proofs::SessionLemmas::later_same))]
     fn hear_next<R: Wait + time::Clock>(
         &mut self,
@@ -148,23 +152,23 @@ impl<J: ServiceNames> PartitionChannel<J> {
         ensures closed { IsOkUnless result Refusal.Closed }
         ensures later { IsLater self.old self.new }
     {
-        match self.next_response(rt)? {
+        match self.next_envelope(rt)? {
             None => Ok(None),
-            Some(response) => Ok(self.take(asked, response)),
+            Some(envelope) => Ok(self.take(asked, envelope)),
         }
     }
 
     /// Takes in what is replied, where it answers one of these messages, at a point of the partition's history that is
     /// no earlier than what was seen of it when they were sent.
     #[tactic(auto, using(crate::proofs::SessionLemmas::later_same))]
-    fn take(&mut self, asked: &Asked, response: ReplyEnvelope<J>) -> Option<Message>
+    fn take(&mut self, asked: &Asked, envelope: ReplyEnvelope<J>) -> Option<Message>
         ensures replied { IfSome result
             (IsReplied J.terms.limit asked.now.begun.cut self.new.cut asked.now.sent.items) }
         ensures sound { IfSome result (λ _. IsSound self.new.cut) }
         ensures other { IfNone result (self.new ≡ self.old) }
         ensures later { IsLater self.old self.new }
     {
-        let (request, reply, pass) = response.open();
+        let (request, reply, pass) = envelope.open();
         let Some(found) = asked.find(&request, self.found) else {
             return None;
         };

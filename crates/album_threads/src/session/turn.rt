@@ -10,8 +10,8 @@ ghost use Rattle.album_threads.specs.Envelopes.{Shows};
 ghost use Rattle.album_threads.specs.Phases.{Outset, IsUnderWay};
 ghost use Rattle.album_threads.specs.Replies.{IsReplied};
 ghost use Rattle.album_threads.specs.Sending.{announced_by, IsFree, IsAnnouncedBy};
-ghost use Rattle.album_threads.specs.Sessions.{IsNoWord};
-ghost use Rattle.album_threads.specs.Turns.{actor_in, terms_in, IsTaken, IsWaited, IsTurned, IsSent};
+ghost use Rattle.album_threads.specs.Sessions.{IsClosedOrOutOfMemory};
+ghost use Rattle.album_threads.specs.Turns.{client_step_in, terms_in, IsTaken, IsWaited, IsTurned, IsSent};
 
 use crate::service_names::ServiceNames;
 use crate::session::Session;
@@ -50,7 +50,7 @@ impl<J: ServiceNames> Session<J> {
             → IsWaited J.policy outset self.new asked.now.begun.cut asked.now.sent.items phase.new }
         ensures replied { IfOk result
             (IsReplied J.terms.limit asked.now.begun.cut self.new.cut asked.now.sent.items) }
-        ensures refused { IfErr result IsNoWord }
+        ensures refused { IfErr result IsClosedOrOutOfMemory }
         ensures on { IsOn self.old self.new }
     {
         for _ in rt.forever() {
@@ -74,7 +74,7 @@ impl<J: ServiceNames> Session<J> {
         ensures left { IfSome result (λ _. phase.new ≡ phase.old) }
         ensures replied { IfSome result (λ heard. IfOk heard
             (IsReplied J.terms.limit asked.now.begun.cut self.new.cut asked.now.sent.items)) }
-        ensures refused { IfSome result (λ heard. IfErr heard IsNoWord) }
+        ensures refused { IfSome result (λ heard. IfErr heard IsClosedOrOutOfMemory) }
         ensures heard { IsHeard self.old self.new }
     {
         let heard = self.hears(rt, asked);
@@ -95,7 +95,7 @@ impl<J: ServiceNames> Session<J> {
         let heard = self.channel.hear(rt, asked);
         self.channel.is_sound();
         // What is true of each session is known once it is looked at.
-        let _actor = self.actor();
+        let _actor = self.client_step();
         heard
     }
 
@@ -112,17 +112,17 @@ impl<J: ServiceNames> Session<J> {
     ) -> Result<Transition, Refusal>
         requires replied { IfOk heard
             (IsReplied J.terms.limit asked.now.begun.cut self.now.cut asked.now.sent.items) }
-        requires refused { IfErr heard IsNoWord }
+        requires refused { IfErr heard IsClosedOrOutOfMemory }
         ensures taken { IfOk result (IsTaken J.terms.limit asked.now.begun.cut self.now.cut asked.now.sent.items
-            (terms_in J.policy self.now) (actor_in self.now) phase) }
-        ensures proper { IfOk result (λ moved. IsProper moved.client.phase) }
-        ensures refused { IfErr result IsNoWord }
+            (terms_in J.policy self.now) (client_step_in self.now) phase) }
+        ensures proper { IfOk result (λ transition. IsProper transition.client.phase) }
+        ensures refused { IfErr result IsClosedOrOutOfMemory }
     {
         // What was asked is for the contract alone.
         let _asked = asked;
-        let moved = taken(self.actor(), phase, heard)?;
-        let _reads = moved.client.phase.reads();
-        Ok(moved)
+        let transition = taken(self.client_step(), phase, heard)?;
+        let _reads = transition.client.phase.reads();
+        Ok(transition)
     }
 
     /// Adds what is noted to the audit book, before anything more is sent, and takes over the client's clock and tag.
@@ -133,23 +133,23 @@ impl<J: ServiceNames> Session<J> {
     pub(crate) fn takes_over<R: Wait>(
         &mut self,
         rt: &R,
-        moved: Transition,
+        transition: Transition,
     ) -> Result<Turned, Refusal>
-        requires own { moved.client.clock.client ≡ self.old.client }
-        requires risen { self.old.counter ≤ moved.client.clock.counter }
-        ensures turned { IfOk result (IsTurned moved.client.phase moved.sent.items moved.answer) }
-        ensures shared { OnOk result (AreShared self.old.client self.old.share self.new.share moved.notes.items) }
-        ensures counter { OnOk result (self.new.counter ≡ moved.client.clock.counter) }
-        ensures spent { OnOk result (next_of moved.client.clock ≡ Err Refusal.StampsSpent
-            → moved.client.clock.counter ≡ MAX_COUNTER) }
+        requires own { transition.client.clock.client ≡ self.old.client }
+        requires risen { self.old.counter ≤ transition.client.clock.counter }
+        ensures turned { IfOk result (IsTurned transition.client.phase transition.sent.items transition.answer) }
+        ensures shared { OnOk result (AreShared self.old.client self.old.share self.new.share transition.notes.items) }
+        ensures counter { OnOk result (self.new.counter ≡ transition.client.clock.counter) }
+        ensures spent { OnOk result (next_of transition.client.clock ≡ Err Refusal.StampsSpent
+            → transition.client.clock.counter ≡ MAX_COUNTER) }
         ensures kept { OnErr result (self.new.counter ≡ self.old.counter) }
-        ensures noted { OnErr result (moved.notes.items ≢ []) }
+        ensures noted { OnErr result (transition.notes.items ≢ []) }
         ensures memory { IsOkUnless result Refusal.OutOfMemory }
         ensures client { self.new.client ≡ self.old.client }
         ensures cut { self.new.cut ≡ self.old.cut }
     {
-        if let Err(why) = self.note_all(rt, &moved.notes) {
-            let_go(moved);
+        if let Err(why) = self.note_all(rt, &transition.notes) {
+            let_go(transition);
             return Err(why);
         }
         let Transition {
@@ -157,7 +157,7 @@ impl<J: ServiceNames> Session<J> {
             notes: _,
             sent,
             answer,
-        } = moved;
+        } = transition;
         let Client {
             number: _,
             clock,
@@ -187,12 +187,12 @@ impl<J: ServiceNames> Session<J> {
         requires free { IsFree self.old sent.items }
         requires shown { All (Shows (announced_by self.old.cut sent.items)) sent.items }
         ensures way { IfOk result (IsSent asked phase sent.items self.new.cut) }
-        ensures refused { IfErr result IsNoWord }
+        ensures refused { IfErr result IsClosedOrOutOfMemory }
         ensures unbegun { OnErr result (stamp_at_work phase ≡ None) }
         ensures announced { IsAnnouncedBy self.old self.new sent.items }
     {
         self.announces(&sent);
-        match self.channel.ask_more(rt, asked, sent) {
+        match self.channel.send_next_round(rt, asked, sent) {
             Ok(more) => Ok(Way::Awaits(more, phase)),
             Err(why) => cut_off(stamp_of(phase), why),
         }
@@ -217,7 +217,7 @@ fn waited(phase: &mut Phase, heard: Result<Message, Refusal>) -> Option<Result<M
         (is_waiting phase.old reply ≡ true) × IsTakenBy phase.old reply phase.new)) }
     ensures left { IfSome result (λ _. phase.new ≡ phase.old) }
     ensures same { IfSome result (λ given. IfOk given (λ reply. heard ≡ Ok reply)) }
-    ensures refused { IfSome result (λ given. IfErr given IsNoWord) }
+    ensures refused { IfSome result (λ given. IfErr given IsClosedOrOutOfMemory) }
 {
     let reply = match heard {
         Ok(reply) => reply,
@@ -232,21 +232,21 @@ fn waited(phase: &mut Phase, heard: Result<Message, Refusal>) -> Option<Result<M
 
 /// What comes of the reply, which is let go.
 fn taken(
-    actor: ClientStep,
+    client_step: ClientStep,
     phase: Phase,
     heard: Result<Message, Refusal>,
 ) -> Result<Transition, Refusal>
-    requires { IfErr heard IsNoWord }
-    ensures moved { IfOk result (λ moved. IsOkAnd heard (λ reply.
-        IsMoved (turn_of actor.terms (client_of actor) reply phase) moved)) }
-    ensures refused { IfErr result IsNoWord }
+    requires { IfErr heard IsClosedOrOutOfMemory }
+    ensures transition { IfOk result (λ transition. IsOkAnd heard (λ reply.
+        IsMoved (turn_of client_step.terms (client_of client_step) reply phase) transition)) }
+    ensures refused { IfErr result IsClosedOrOutOfMemory }
 {
-    actor.takes(phase, &heard?)
+    client_step.takes(phase, &heard?)
 }
 
 /// The client is let go.
-fn let_go(moved: Transition) {
-    drop(moved);
+fn let_go(transition: Transition) {
+    drop(transition);
 }
 
 /// Says what is so of each clock: one that is spent stands at the greatest counter.

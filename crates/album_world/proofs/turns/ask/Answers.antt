@@ -14,25 +14,25 @@ use Rattle.album_world.proofs.turns.ask.Goals as goal
 pub returns-clause-done : goal.returns-clause-done
 returns-clause-done c =
     let x = c.args.client.now in
-    let asking : PendingAsk = record { viewing = record { ask = c.args.ask.now; reads = 0 }; principal = c.args.principal.now } in
+    let pending_ask : PendingAsk = record { viewing = record { ask = c.args.ask.now; reads = 0 }; principal = c.args.principal.now } in
     let idles : idle_tag x.phase ≡ Some c.in-Some.tag = search rules in
-    let number = ap (λ (y : Client). y.number) c.actor.ensures.client in
-    let clock = ap (λ (y : Client). y.clock) c.actor.ensures.client in
-    let is = rw (c.actor.ensures.terms, number, clock, c.in_ok-copy.ensures.copy, c.in_ok-copy-2.ensures.copy) at c.in_ok-moved.ensures.moved in
+    let number = ap (λ (y : Client). y.number) c.client_step.ensures.client in
+    let clock = ap (λ (y : Client). y.clock) c.client_step.ensures.client in
+    let is = rw (c.client_step.ensures.terms, number, clock, c.in_ok-copy.ensures.copy, c.in_ok-copy-2.ensures.copy) at c.in_ok-transition.ensures.transition in
     IfOk-weaker c.turn.result _ _ (λ r turned.
     asked_done c.args.before c.args.terms x c.turn.new.client c.args.principal.now c.args.ask.now c.in-Some.tag r.0.items r.1.items
     idles (is_taken c.args.terms x.number x c.args.principal.now c.args.ask.now c.requires.may) turned)
-    (c.turn.ensures.turned (read_begins c.args.terms x c.in-Some.tag asking (objects_of c.args.ask.now)) is)
+    (c.turn.ensures.turned (read_begins c.args.terms x c.in-Some.tag pending_ask (objects_of c.args.ask.now)) is)
 
 -- and keeps its number
 pub returns-clause-number : goal.returns-clause-number
 returns-clause-number c =
     let x = c.args.client.now in
-    let asking : PendingAsk = record { viewing = record { ask = c.args.ask.now; reads = 0 }; principal = c.args.principal.now } in
+    let pending_ask : PendingAsk = record { viewing = record { ask = c.args.ask.now; reads = 0 }; principal = c.args.principal.now } in
     let idles : idle_tag x.phase ≡ Some c.in-Some.tag = search rules in
-    let number = ap (λ (y : Client). y.number) c.actor.ensures.client in
-    let clock = ap (λ (y : Client). y.clock) c.actor.ensures.client in
-    let is = rw (c.actor.ensures.terms, number, clock, c.in_ok-copy.ensures.copy, c.in_ok-copy-2.ensures.copy) at c.in_ok-moved.ensures.moved in
-    turned_number c.turn.result x c.turn.new.client (read_begins c.args.terms x c.in-Some.tag asking (objects_of c.args.ask.now))
+    let number = ap (λ (y : Client). y.number) c.client_step.ensures.client in
+    let clock = ap (λ (y : Client). y.clock) c.client_step.ensures.client in
+    let is = rw (c.client_step.ensures.terms, number, clock, c.in_ok-copy.ensures.copy, c.in_ok-copy-2.ensures.copy) at c.in_ok-transition.ensures.transition in
+    turned_number c.turn.result x c.turn.new.client (read_begins c.args.terms x c.in-Some.tag pending_ask (objects_of c.args.ask.now))
     c.args.before (λ r. r.0.items) (λ r. r.1.items) refl
-    (c.turn.ensures.turned (read_begins c.args.terms x c.in-Some.tag asking (objects_of c.args.ask.now)) is) c.turn.ensures.unchanged
+    (c.turn.ensures.turned (read_begins c.args.terms x c.in-Some.tag pending_ask (objects_of c.args.ask.now)) is) c.turn.ensures.unchanged

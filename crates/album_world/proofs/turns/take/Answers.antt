@@ -9,37 +9,37 @@ use Rattle.album_world.proofs.RegisterLemmas.{turned_number}
 use Rattle.album_world.proofs.turns.take.Goals as goal
 
 -- the round of its read has ended
-pub returns-in_ok-moved-in-Reads-clause-done : goal.returns-in_ok-moved-in-Reads-clause-done
-returns-in_ok-moved-in-Reads-clause-done c =
+pub returns-in_ok-transition-in-Reads-clause-done : goal.returns-in_ok-transition-in-Reads-clause-done
+returns-in_ok-transition-in-Reads-clause-done c =
     let x = c.args.client.now in
-    let does : phase.Reads c.in-Reads.asking c.in-Reads.reading ≡ x.phase =
+    let does : phase.Reads c.in-Reads.pending_ask c.in-Reads.reading ≡ x.phase =
     sym c.in-Reads.is ∙ ap (λ (y : Client). y.phase) c.client.view_is in
-    let asking = c.in_ok-copy-in-Reads.field-0 in
+    let pending_ask = c.in_ok-copy-in-Reads.field-0 in
     let round = c.in_ok-copy-in-Reads-2.field-0 in
-    let same : phase.Reads asking round ≡ x.phase =
+    let same : phase.Reads pending_ask round ≡ x.phase =
     rw (c.in_ok-copy-in-Reads.ensures.copy, c.in_ok-copy-in-Reads-2.ensures.copy) does in
-    let moved = rw c.actor.ensures.terms at c.in_ok-moved-in-Reads.ensures.moved in
+    let transition = rw c.client_step.ensures.terms at c.in_ok-transition-in-Reads.ensures.transition in
     let is =
-    moved_so c.args.terms x (client_of c.actor.result) (phase.Idle 0) (phase.Reads asking round) c.args.message.now
-    c.in_ok-moved-in-Reads.moved c.actor.ensures.client same moved in
+    moved_so c.args.terms x (client_of c.client_step.result) (phase.Idle 0) (phase.Reads pending_ask round) c.args.message.now
+    c.in_ok-transition-in-Reads.transition c.client_step.ensures.client same transition in
     IfOk-weaker c.turn.result _ _ (λ r turned.
     taken_done c.args.before c.args.terms x c.turn.new.client c.args.message.now r.0.items r.1.items
-    (reads_none x.phase c.in-Reads.asking c.in-Reads.reading does) turned)
+    (reads_none x.phase c.in-Reads.pending_ask c.in-Reads.reading does) turned)
     (c.turn.ensures.turned (turn_of c.args.terms x c.args.message.now x.phase) is)
 
-pub returns-in_ok-moved-in-Reads-clause-number : goal.returns-in_ok-moved-in-Reads-clause-number
-returns-in_ok-moved-in-Reads-clause-number c =
+pub returns-in_ok-transition-in-Reads-clause-number : goal.returns-in_ok-transition-in-Reads-clause-number
+returns-in_ok-transition-in-Reads-clause-number c =
     let x = c.args.client.now in
-    let does : phase.Reads c.in-Reads.asking c.in-Reads.reading ≡ x.phase =
+    let does : phase.Reads c.in-Reads.pending_ask c.in-Reads.reading ≡ x.phase =
     sym c.in-Reads.is ∙ ap (λ (y : Client). y.phase) c.client.view_is in
-    let asking = c.in_ok-copy-in-Reads.field-0 in
+    let pending_ask = c.in_ok-copy-in-Reads.field-0 in
     let round = c.in_ok-copy-in-Reads-2.field-0 in
-    let same : phase.Reads asking round ≡ x.phase =
+    let same : phase.Reads pending_ask round ≡ x.phase =
     rw (c.in_ok-copy-in-Reads.ensures.copy, c.in_ok-copy-in-Reads-2.ensures.copy) does in
-    let moved = rw c.actor.ensures.terms at c.in_ok-moved-in-Reads.ensures.moved in
+    let transition = rw c.client_step.ensures.terms at c.in_ok-transition-in-Reads.ensures.transition in
     let is =
-    moved_so c.args.terms x (client_of c.actor.result) (phase.Idle 0) (phase.Reads asking round) c.args.message.now
-    c.in_ok-moved-in-Reads.moved c.actor.ensures.client same moved in
+    moved_so c.args.terms x (client_of c.client_step.result) (phase.Idle 0) (phase.Reads pending_ask round) c.args.message.now
+    c.in_ok-transition-in-Reads.transition c.client_step.ensures.client same transition in
     turned_number c.turn.result x c.turn.new.client (turn_of c.args.terms x c.args.message.now x.phase) c.args.before
     (λ r. r.0.items) (λ r. r.1.items) (number_turn c.args.terms x c.args.message.now x.phase)
     (c.turn.ensures.turned (turn_of c.args.terms x c.args.message.now x.phase) is) c.turn.ensures.unchanged

@@ -12,10 +12,10 @@ returns-clause-done c =
     let x = c.args.client.now in
     let does : c.replace-phase.result ≡ x.phase =
     c.replace-phase.ensures.value ∙ ap (λ (y : Client). y.phase) c.client.view_is in
-    let moved = rw c.actor-actor.ensures.terms at c.written-next.ensures.moved in
+    let transition = rw c.client_step-client_step.ensures.terms at c.written-next.ensures.transition in
     let is =
-    moved_so c.args.terms x (client_of c.actor-actor.result) (phase.Idle 0) c.replace-phase.result c.args.message.now
-    c.written-next.result c.actor-actor.ensures.client does moved in
+    moved_so c.args.terms x (client_of c.client_step-client_step.result) (phase.Idle 0) c.replace-phase.result c.args.message.now
+    c.written-next.result c.client_step-client_step.ensures.client does transition in
     let count : c.len.result ≡ length c.written-next.result.sent.items = search rules in
     let outs = rw (c.in_ok-outs.ensures.items, count) at c.tell.ensures in
     taken_done c.args.before c.args.terms x c.becomes.new.client c.args.message.now
@@ -29,9 +29,9 @@ returns-clause-number c =
     let x = c.args.client.now in
     let does : c.replace-phase.result ≡ x.phase =
     c.replace-phase.ensures.value ∙ ap (λ (y : Client). y.phase) c.client.view_is in
-    let moved = rw c.actor-actor.ensures.terms at c.written-next.ensures.moved in
+    let transition = rw c.client_step-client_step.ensures.terms at c.written-next.ensures.transition in
     let is =
-    moved_so c.args.terms x (client_of c.actor-actor.result) (phase.Idle 0) c.replace-phase.result c.args.message.now
-    c.written-next.result c.actor-actor.ensures.client does moved in
+    moved_so c.args.terms x (client_of c.client_step-client_step.result) (phase.Idle 0) c.replace-phase.result c.args.message.now
+    c.written-next.result c.client_step-client_step.ensures.client does transition in
     ap (λ (y : Client). y.number) (c.becomes.ensures ∙ is.client)
     ∙ number_turn c.args.terms x c.args.message.now x.phase

@@ -7,10 +7,10 @@ pub returns-in-Prepares-clause-room : goal.returns-in-Prepares-clause-room
 returns-in-Prepares-clause-room c =
     let writing = c.in-Prepares.preparing in
     rw (c.in-Prepares.is, c.prepares.ensures.sent)
-    (few_prepared (client_of c.args.actor) writing.tag writing c.args.message.now)
+    (few_prepared (client_of c.args.client_step) writing.tag writing c.args.message.now)
 
 pub returns-in-Commits-clause-room : goal.returns-in-Commits-clause-room
 returns-in-Commits-clause-room c =
     let writing = c.in-Commits.committing in
     rw (c.in-Commits.is, c.commits.ensures.sent)
-    (none_committed (client_of c.args.actor) writing.tag writing c.args.message.now)
+    (none_committed (client_of c.args.client_step) writing.tag writing c.args.message.now)

@@ -2,7 +2,7 @@ use Rattle.std.proofs.Common.{◌≡◌}
 use Rattle.album_client.proofs.transitions.ClientStep.ruled.Goals as goal
 
 -- the permit is the one of which the model speaks
-pub returns-in-Granted-clause-moved : goal.returns-in-Granted-clause-moved
-returns-in-Granted-clause-moved c = λ permit kept.
+pub returns-in-Granted-clause-transition : goal.returns-in-Granted-clause-transition
+returns-in-Granted-clause-transition c = λ permit kept.
     let same : c.in-Granted.permit ≡ permit = rw c.in-Granted.is at kept in
-    rw (c.in-Granted.is, ← same) c.grants.ensures.moved
+    rw (c.in-Granted.is, ← same) c.grants.ensures.transition

@@ -5,15 +5,15 @@ use Rattle.album_client.proofs.MoveLemmas.{rules_done}
 use Rattle.album_client.proofs.transitions.ClientStep.rules.Goals as goal
 
 -- a ruling is the one that is computed
-pub returns-clause-moved : goal.returns-clause-moved
-returns-clause-moved c =
+pub returns-clause-transition : goal.returns-clause-transition
+returns-clause-transition c =
     let case : PermitState = record {
       view = c.args.view;
       principal = c.args.principal.now;
       policy = c.args.self.terms.policy;
     } in
     let ruled = rw c.policy-policy.ensures at c.in_ok-ruled.ensures.ruled in
-    IfOk-weaker c.tells.result _ _ (λ moved is.
-    rules_done c.args.self.terms (client_of c.args.self) (client_of c.after-actor.result) c.args.tag
-    c.args.principal.now c.args.view c.in_ok-ruled.ruled moved ruled c.after-actor.ensures.client (rw c.after-actor.ensures.terms at is))
-    (c.tells.ensures.moved case ruled.kept)
+    IfOk-weaker c.tells.result _ _ (λ transition is.
+    rules_done c.args.self.terms (client_of c.args.self) (client_of c.after-client_step.result) c.args.tag
+    c.args.principal.now c.args.view c.in_ok-ruled.ruled transition ruled c.after-client_step.ensures.client (rw c.after-client_step.ensures.terms at is))
+    (c.tells.ensures.transition case ruled.kept)

@@ -10,8 +10,8 @@ with-requires c =
     rw c.in-Ok.ensures.messages (few_prepares round c.parts-parts.ensures.high)
 
 -- the album is full
-pub returns-in-AlbumFull-clause-moved : goal.returns-in-AlbumFull-clause-moved
-returns-in-AlbumFull-clause-moved c =
+pub returns-in-AlbumFull-clause-transition : goal.returns-in-AlbumFull-clause-transition
+returns-in-AlbumFull-clause-transition c =
     let full =
     full_told (is_full_for c.args.permit c.args.stamp) (rw c.in-AlbumFull.is at c.in-Err.ensures.refusal) in
     rw full (rw c.in-AlbumFull.is at c.ask_ends.ensures)

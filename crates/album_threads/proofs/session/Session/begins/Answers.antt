@@ -8,41 +8,41 @@ use Rattle.album_eval.specs.declared.facts.Principal.{Principal}
 use Rattle.album_passes.specs.Cuts.{Cut, IsSound}
 use Rattle.album_threads.specs.Envelopes.{Shows}
 use Rattle.album_threads.specs.Phases.{IsUnderWay}
-use Rattle.album_threads.specs.Sessions.{CallerState, SessionState}
+use Rattle.album_threads.specs.Sessions.{ChannelState, SessionState}
 use Rattle.album_threads.proofs.ReadingLemmas.{reads_begin, shown_first}
 use Rattle.album_threads.proofs.session.Session.begins.Goals as goal
 use Rattle.album_views.specs.Checks.{refusal_of}
 
 pub ask-requires : goal.ask-requires
 ask-requires g c =
-    let moved = c.in_ok-moved.moved in
-    let proper : IsProper c.in_ok-moved.moved.client.phase = search rules in
+    let transition = c.in_ok-transition.transition in
+    let proper : IsProper c.in_ok-transition.transition.client.phase = search rules in
     record {
       shown = subst (All (Shows c.self.inside.channel.cut)) (sym c.work_of-phase.ensures.sent)
-          (subst (λ (s : SessionState). All (Shows s.cut) moved.sent.items) (sym c.self.view_is)
-          (shown_first g.J.ServiceNames.policy c.in_ok-copy.field-0 c.args.ask c.args.self.now c.actor.result.terms
-          (client_of c.actor.result) c.self.inside.tag
-          moved c.in_ok-moved.ensures.moved proper));
+          (subst (λ (s : SessionState). All (Shows s.cut) transition.sent.items) (sym c.self.view_is)
+          (shown_first g.J.ServiceNames.policy c.in_ok-copy.field-0 c.args.ask c.args.self.now c.client_step.result.terms
+          (client_of c.client_step.result) c.self.inside.tag
+          transition c.in_ok-transition.ensures.transition proper));
     }
 
 pub returns-clause-way : goal.returns-clause-way
 returns-clause-way g c =
     let now = c.args.self.now in
-    let moved = c.in_ok-moved.moved in
-    let proper : IsProper c.in_ok-moved.moved.client.phase = search rules in
+    let transition = c.in_ok-transition.transition in
+    let proper : IsProper c.in_ok-transition.transition.client.phase = search rules in
     let copied = c.in_ok-copy.ensures.copy in
-    let parts = ap (λ (t : Terms). t.parts) c.actor.ensures.terms in
+    let parts = ap (λ (t : Terms). t.parts) c.client_step.ensures.terms in
     let begins =
-    reads_begin g.J.ServiceNames.policy c.in_ok-copy.field-0 c.args.ask now c.actor.result.terms (client_of c.actor.result)
-    c.self.inside.tag moved
-    c.in_ok-moved.ensures.moved proper parts (subst (λ (p : Principal). refusal_of c.args.ask p ≡ None) (sym copied)
+    reads_begin g.J.ServiceNames.policy c.in_ok-copy.field-0 c.args.ask now c.client_step.result.terms (client_of c.client_step.result)
+    c.self.inside.tag transition
+    c.in_ok-transition.ensures.transition proper parts (subst (λ (p : Principal). refusal_of c.args.ask p ≡ None) (sym copied)
     c.requires.taken)
     (subst (λ (s : SessionState). IsSound s.cut) c.self.view_is c.is_sound.ensures) in
     let w =
     subst (λ (p : Principal). IsUnderWay g.J.ServiceNames.policy (record { principal = p; ask = c.args.ask; session = now })
-    now now.cut moved.sent.items moved.client.phase)
+    now now.cut transition.sent.items transition.client.phase)
     copied begins in
-    let with : CallerState → SessionState = λ channel. record {
+    let with : ChannelState → SessionState = λ channel. record {
       client = channel.client;
       counter = c.self.inside.clock.counter;
       cut = channel.cut;

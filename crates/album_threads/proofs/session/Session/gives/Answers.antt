@@ -10,7 +10,7 @@ pub returns-clause-taken : goal.returns-clause-taken
 returns-clause-taken g c =
     subst
     (λ (y : Terms × Client). IsTaken g.J.ServiceNames.terms.limit c.args.asked.now.begun.cut c.args.self.now.cut c.args.asked.now.sent.items y.0 y.1
-    c.args.phase c.in_ok-moved.moved)
-    (λ i. (c.actor.ensures.terms i, c.actor.ensures.client i))
-    (taken_so g.J.ServiceNames.terms.limit c.args.asked.now.begun.cut c.args.self.now.cut c.args.asked.now.sent.items c.actor.result.terms
-    (client_of c.actor.result) c.args.phase c.args.heard c.in_ok-moved.moved c.requires.replied c.in_ok-moved.ensures.moved)
+    c.args.phase c.in_ok-transition.transition)
+    (λ i. (c.client_step.ensures.terms i, c.client_step.ensures.client i))
+    (taken_so g.J.ServiceNames.terms.limit c.args.asked.now.begun.cut c.args.self.now.cut c.args.asked.now.sent.items c.client_step.result.terms
+    (client_of c.client_step.result) c.args.phase c.args.heard c.in_ok-transition.transition c.requires.replied c.in_ok-transition.ensures.transition)

@@ -5,7 +5,7 @@ use Rattle.album_threads.specs.Envelopes.{Shows}
 use Rattle.album_threads.specs.Phases.{IsUnderWay}
 use Rattle.album_threads.specs.Sending.{announced_by, sent_at, sent_last, IsFree, IsAnnouncedBy}
 use Rattle.album_threads.specs.Sessions.{AnnouncesNothing}
-use Rattle.album_threads.specs.Turns.{actor_in, terms_in, IsTurned}
+use Rattle.album_threads.specs.Turns.{client_step_in, terms_in, IsTurned}
 use Rattle.album_threads.proofs.ClockLemmas.{moved_clock}
 use Rattle.album_threads.proofs.LookLemmas.{on_trans}
 use Rattle.album_threads.proofs.MovedLemmas.{told_rests, free_of, shown_of, goes_of}
@@ -28,57 +28,57 @@ returns-in-Err-clause-unbegun g c = λ outset w.
 pub takes_over-requires : goal.takes_over-requires
 takes_over-requires g c =
     let t = c.in-Ok.ensures.taken in
-    let moved = moved_clock (terms_in g.J.ServiceNames.policy c.args.self.now) (actor_in c.args.self.now) t.reply c.args.phase c.in-Ok.moved t.is in
-    record { own = moved.0; risen = moved.1 }
+    let transition = moved_clock (terms_in g.J.ServiceNames.policy c.args.self.now) (client_step_in c.args.self.now) t.reply c.args.phase c.in-Ok.transition t.is in
+    record { own = transition.0; risen = transition.1 }
 
 -- there is no memory for what is noted of it
 pub returns-in_err-answer-clause-unbegun : goal.returns-in_err-answer-clause-unbegun
 returns-in_err-answer-clause-unbegun g c = λ outset w.
     on_refusal c.from_residual.result (AnnouncesNothing outset.session c.takes_over.new.self)
     (unbegun_noted g.J.ServiceNames.terms.limit g.J.ServiceNames.policy outset w.before c.args.self.now c.takes_over.new.self c.args.asked.begun.cut
-    c.args.asked.sent.items c.args.phase c.in-Ok.moved w.way w.heard c.takes_over.ensures.cut c.in-Ok.ensures.taken c.in_err-answer.ensures.noted)
+    c.args.asked.sent.items c.args.phase c.in-Ok.transition w.way w.heard c.takes_over.ensures.cut c.in-Ok.ensures.taken c.in_err-answer.ensures.noted)
 
 -- it answers the ask
 pub returns-in-Answers-clause-way : goal.returns-in-Answers-clause-way
 returns-in-Answers-clause-way g c = λ outset w.
     let o = c.in_ok-answer.ensures in
-    let turned = subst (IsTurned c.in-Ok.moved.client.phase c.in-Ok.moved.sent.items c.in-Ok.moved.answer) c.in-Answers.is o.turned in
-    told_rests g.J.ServiceNames.terms.limit g.J.ServiceNames.policy outset c.takes_over.new.self c.args.asked.begun.cut c.args.asked.sent.items c.in-Ok.moved
+    let turned = subst (IsTurned c.in-Ok.transition.client.phase c.in-Ok.transition.sent.items c.in-Ok.transition.answer) c.in-Answers.is o.turned in
+    told_rests g.J.ServiceNames.terms.limit g.J.ServiceNames.policy outset c.takes_over.new.self c.args.asked.begun.cut c.args.asked.sent.items c.in-Ok.transition
     c.in-Answers.answer turned
     (led_on g.J.ServiceNames.terms.limit g.J.ServiceNames.policy outset w.before c.args.self.now c.takes_over.new.self c.args.asked.begun.cut
-    c.args.asked.sent.items c.args.phase c.in-Ok.moved w.heard c.in-Ok.ensures.taken c.takes_over.ensures.client c.takes_over.ensures.cut o.counter
+    c.args.asked.sent.items c.args.phase c.in-Ok.transition w.heard c.in-Ok.ensures.taken c.takes_over.ensures.client c.takes_over.ensures.cut o.counter
     w.way c.in-Ok.ensures.proper o.shared o.spent)
 
 pub returns-in-Answers-clause-on : goal.returns-in-Answers-clause-on
 returns-in-Answers-clause-on g c =
     let o = c.in_ok-answer.ensures in
     on_moved g.J.ServiceNames.terms.limit g.J.ServiceNames.policy c.args.self.now c.takes_over.new.self c.args.asked.begun.cut c.args.asked.sent.items
-    c.args.phase c.in-Ok.moved c.in-Ok.ensures.taken c.takes_over.ensures.client c.takes_over.ensures.cut o.counter
+    c.args.phase c.in-Ok.transition c.in-Ok.ensures.taken c.takes_over.ensures.client c.takes_over.ensures.cut o.counter
 
 -- it goes on
 pub sends-requires : goal.sends-requires
 sends-requires g c =
     let w = c.requires.way.1 in
     let o = c.in_ok-answer.ensures in
-    let turned = subst (IsTurned c.in-Ok.moved.client.phase c.in-Ok.moved.sent.items c.in-Ok.moved.answer) c.in-Sends.is o.turned in
+    let turned = subst (IsTurned c.in-Ok.transition.client.phase c.in-Ok.transition.sent.items c.in-Ok.transition.answer) c.in-Sends.is o.turned in
     let led = led_on g.J.ServiceNames.terms.limit g.J.ServiceNames.policy c.requires.way.0 w.before c.args.self.now c.takes_over.new.self c.args.asked.begun.cut
-    c.args.asked.sent.items c.args.phase c.in-Ok.moved w.heard c.in-Ok.ensures.taken c.takes_over.ensures.client c.takes_over.ensures.cut o.counter
+    c.args.asked.sent.items c.args.phase c.in-Ok.transition w.heard c.in-Ok.ensures.taken c.takes_over.ensures.client c.takes_over.ensures.cut o.counter
     w.way c.in-Ok.ensures.proper o.shared o.spent in
     record {
       free = subst (IsFree c.takes_over.new.self) (sym turned.2)
-          (free_of g.J.ServiceNames.terms.limit g.J.ServiceNames.policy c.requires.way.0 c.takes_over.new.self c.args.asked.begun.cut c.args.asked.sent.items c.in-Ok.moved turned.0 led);
+          (free_of g.J.ServiceNames.terms.limit g.J.ServiceNames.policy c.requires.way.0 c.takes_over.new.self c.args.asked.begun.cut c.args.asked.sent.items c.in-Ok.transition turned.0 led);
       shown = subst (λ (ms : List Message). All (Shows (announced_by c.takes_over.new.self.cut ms)) ms) (sym turned.2)
-          (shown_of g.J.ServiceNames.terms.limit g.J.ServiceNames.policy c.requires.way.0 c.takes_over.new.self c.args.asked.begun.cut c.args.asked.sent.items c.in-Ok.moved turned.0 led);
+          (shown_of g.J.ServiceNames.terms.limit g.J.ServiceNames.policy c.requires.way.0 c.takes_over.new.self c.args.asked.begun.cut c.args.asked.sent.items c.in-Ok.transition turned.0 led);
     }
 
 pub returns-in-Sends-clause-way : goal.returns-in-Sends-clause-way
 returns-in-Sends-clause-way g c = λ outset w.
     let o = c.in_ok-answer.ensures in
-    let turned = subst (IsTurned c.in-Ok.moved.client.phase c.in-Ok.moved.sent.items c.in-Ok.moved.answer) c.in-Sends.is o.turned in
+    let turned = subst (IsTurned c.in-Ok.transition.client.phase c.in-Ok.transition.sent.items c.in-Ok.transition.answer) c.in-Sends.is o.turned in
     let led = led_on g.J.ServiceNames.terms.limit g.J.ServiceNames.policy outset w.before c.args.self.now c.takes_over.new.self c.args.asked.begun.cut
-    c.args.asked.sent.items c.args.phase c.in-Ok.moved w.heard c.in-Ok.ensures.taken c.takes_over.ensures.client c.takes_over.ensures.cut o.counter
+    c.args.asked.sent.items c.args.phase c.in-Ok.transition w.heard c.in-Ok.ensures.taken c.takes_over.ensures.client c.takes_over.ensures.cut o.counter
     w.way c.in-Ok.ensures.proper o.shared o.spent in
-    let goes = goes_of g.J.ServiceNames.terms.limit g.J.ServiceNames.policy outset c.takes_over.new.self c.args.asked.begun.cut c.args.asked.sent.items c.in-Ok.moved turned.0 led
+    let goes = goes_of g.J.ServiceNames.terms.limit g.J.ServiceNames.policy outset c.takes_over.new.self c.args.asked.begun.cut c.args.asked.sent.items c.in-Ok.transition turned.0 led
     c.sends.new.self (subst (IsAnnouncedBy c.takes_over.new.self c.sends.new.self) turned.2 c.sends.ensures.announced) in
     all_led g.J.ServiceNames.terms.limit g.J.ServiceNames.policy outset c.args.asked c.in-Sends.phase c.in-Sends.sent.items c.sends.new.self
     (subst (λ (z : List Message × Phase). IsUnderWay g.J.ServiceNames.policy outset c.sends.new.self (sent_at c.args.asked.begun.cut c.sends.new.self.cut z.0)
@@ -90,17 +90,17 @@ returns-in-Sends-clause-on g c =
     let o = c.in_ok-answer.ensures in
     on_trans c.args.self.now c.takes_over.new.self c.sends.new.self
     (on_moved g.J.ServiceNames.terms.limit g.J.ServiceNames.policy c.args.self.now c.takes_over.new.self c.args.asked.begun.cut c.args.asked.sent.items
-    c.args.phase c.in-Ok.moved c.in-Ok.ensures.taken c.takes_over.ensures.client c.takes_over.ensures.cut o.counter)
+    c.args.phase c.in-Ok.transition c.in-Ok.ensures.taken c.takes_over.ensures.client c.takes_over.ensures.cut o.counter)
     (on_announced c.takes_over.new.self c.sends.new.self c.in-Sends.sent.items c.sends.ensures.announced)
 
 pub returns-in-Sends-clause-unbegun : goal.returns-in-Sends-clause-unbegun
 returns-in-Sends-clause-unbegun g c = λ outset w.
     let o = c.in_ok-answer.ensures in
-    let turned = subst (IsTurned c.in-Ok.moved.client.phase c.in-Ok.moved.sent.items c.in-Ok.moved.answer) c.in-Sends.is o.turned in
+    let turned = subst (IsTurned c.in-Ok.transition.client.phase c.in-Ok.transition.sent.items c.in-Ok.transition.answer) c.in-Sends.is o.turned in
     let led = led_on g.J.ServiceNames.terms.limit g.J.ServiceNames.policy outset w.before c.args.self.now c.takes_over.new.self c.args.asked.begun.cut
-    c.args.asked.sent.items c.args.phase c.in-Ok.moved w.heard c.in-Ok.ensures.taken c.takes_over.ensures.client c.takes_over.ensures.cut o.counter
+    c.args.asked.sent.items c.args.phase c.in-Ok.transition w.heard c.in-Ok.ensures.taken c.takes_over.ensures.client c.takes_over.ensures.cut o.counter
     w.way c.in-Ok.ensures.proper o.shared o.spent in
-    let goes = goes_of g.J.ServiceNames.terms.limit g.J.ServiceNames.policy outset c.takes_over.new.self c.args.asked.begun.cut c.args.asked.sent.items c.in-Ok.moved turned.0 led
+    let goes = goes_of g.J.ServiceNames.terms.limit g.J.ServiceNames.policy outset c.takes_over.new.self c.args.asked.begun.cut c.args.asked.sent.items c.in-Ok.transition turned.0 led
     c.sends.new.self (subst (IsAnnouncedBy c.takes_over.new.self c.sends.new.self) turned.2 c.sends.ensures.announced) in
     unbegun_sent g.J.ServiceNames.terms.limit g.J.ServiceNames.policy outset c.sends.new.self
     (sent_at c.args.asked.begun.cut c.sends.new.self.cut c.in-Sends.sent.items) (sent_last c.args.asked.sent.items c.in-Sends.sent.items) c.in-Sends.phase c.sends.result
