@@ -1,4 +1,4 @@
--- A client in code: where it goes on from, and what it has become.
+-- A client in code: its number, clock and terms before a step, and the transition after it.
 use Rattle.std.specs.Prelude.{◌≡◌, [], None}
 use Rattle.std.specs.Option.{unwrap_or}
 use Rattle.album_eval.specs.declared.facts.Principal.{Principal}
@@ -21,7 +21,7 @@ IsTakenOf principal (Again viewing items) = refusal_of viewing.ask principal ≡
 IsTakenOf principal (Closed view) = refusal_of view.ask principal ≡ None
 IsTakenOf principal (Busy why) = Unit {0}
 
--- what it has become and what it tells, without what is for contracts alone
+-- the transition is the one that the definition names, without the fields that only contracts have
 pub record IsMoved (turn : Turn) (transition : Transition) : Type 0 where
   pub client : transition.client ≡ turn.client
   pub noted : transition.notes.items ≡ unwrap_or turn.noted []

@@ -38,8 +38,7 @@ use Rattle.album_client.specs.Grants.{served_for}
 use Rattle.album_writer.specs.declared.answers.Answer.{Answer}
 use Rattle.album_writer.specs.declared.answers.Answer.TheVariants as answer
 
--- a write that a client begins: who does, under which tag it sends its Prepares, at which stamp, by which permit, and
--- all that it writes
+-- a write that a client begins: the client, the tag of its Prepares, its stamp, its permit, and all that it writes
 pub record Transaction : Type 0 where
   pub client : ℕ
   pub tag : ℕ
@@ -47,14 +46,14 @@ pub record Transaction : Type 0 where
   pub permit : PermitState
   pub writes : List Write
 
--- how a read is over: for which ask and whom it was made, and what was read; or nothing, where an item was gone
+-- a read that is over: its ask and principal, and the versions read, or none where an item was gone
 pub record Ended : Type 0 where
   pub ask : Ask
   pub principal : Principal
   pub rows : Option (List ReadVersion)
 
--- What a client has become, and what it tells: what is noted of a ruling, messages, and the answer to its ask. And what
--- the past has of it: the read that is over, the write that begins, and whether a read begins.
+-- A client's next state, and its outputs: the notes of a ruling, messages, and the answer to its ask. The last three
+-- fields are what a world's past records of it: the read that is over, the write that begins, whether a read begins.
 pub record Turn : Type 0 where
   pub client : Client
   pub noted : Option (List Note)
@@ -66,7 +65,7 @@ pub record Turn : Type 0 where
 
 -- ---- the four ways to go on
 
--- nothing more is told
+-- no output
 abbrev pub still : Client → Turn
 still client =
     record { client = client; noted = None; sent = []; answer = None; over = None; writes = None; reads = false }
@@ -79,7 +78,7 @@ sends client messages = record (still client) { sent = messages }
 abbrev pub asker_at : Terms → Client → ℕ → Asker
 asker_at terms client tag = record { client = client.number; tag = tag; parts = terms.parts }
 
--- a read of the items begins, in the round behind that of the tag
+-- a read of the items begins, in the round after that of the tag
 abbrev pub read_begins : Terms → Client → ℕ → PendingAsk → List ℕ → Turn
 read_begins terms client tag pending_ask items =
     record (still (record client { phase = Reads pending_ask (first_round (asker_at terms client (tag + 1)) items) })) {
@@ -93,7 +92,7 @@ ask_ends client tag answer = record (still (record client { phase = Idle tag }))
 
 -- ---- a write
 
--- the round of Prepares behind that of the tag
+-- the round of Prepares after that of the tag
 abbrev pub round_for : Terms → Client → ℕ → PermitState → ℕ → WritingState
 round_for terms client tag permit stamp = prepare_round permit stamp client.number (tag + 1) terms.parts
 
@@ -158,7 +157,7 @@ rules terms client tag principal view =
     (record { view = view; principal = principal; policy = terms.policy })
     (basis_on terms.policy principal view.rows)
 
--- what comes of a read that was made for a view: another one, a ruling, or that there is no view, and then the clock
+-- the transition at the end of a read for a view: another read, a ruling, or no view, and then the clock
 -- sees nothing
 abbrev pub views_by : Terms → Client → ℕ → Principal → ViewStep → Turn
 views_by terms client tag principal (Again viewing items) =
@@ -203,7 +202,7 @@ commit_turn client tag (Waits writing) = still (record client { phase = Commits 
 commit_turn client tag (Decides writing messages) = sends (record client { phase = Commits writing }) messages
 commit_turn client tag (Ends outcome) = ask_ends client tag (answer_of outcome)
 
--- what comes of a message to a client that does this; to an idle one it does nothing
+-- the transition of a client in this phase at a message; an idle one stays as it is
 abbrev pub turn_of : Terms → Client → Message → Phase → Turn
 turn_of terms client message (Idle tag) = still (record client { phase = Idle tag })
 turn_of terms client message (Reads pending_ask round) =

@@ -118,7 +118,7 @@ impl ClientStep {
     }
 }
 
-/// That two more rounds fit behind the tag. Where tags near their end, it is said that memory ran out: each round
+/// Two more rounds fit after the tag. Where tags near their end, it is said that memory ran out: each round
 /// sends a message, so memory runs out long before.
 fn check_tag(tag: u64) -> Result<(), Refusal>
     ensures fits { IfOk result (λ _. tag + 2 < 2 ^ 64) }

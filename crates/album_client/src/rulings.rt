@@ -50,7 +50,7 @@ impl ClientStep {
         }
     }
 
-    /// The ruling is told by its notes, and leads on.
+    /// The notes of the ruling are output, and the client goes on by it.
     fn tells(self, tag: u64, ruled: Ruled) -> Result<Transition, Refusal>
         requires fits { tag + 2 < 2 ^ 64 }
         ensures transition { (permit : PermitState) → Keeps permit.policy permit.principal permit.view ruled.ruling

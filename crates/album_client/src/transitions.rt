@@ -1,4 +1,4 @@
-// Where a client goes on from, and what it has become.
+// A client's step: its number, clock and terms before, and the transition after.
 ghost use Rattle.std.specs.Prelude.{◌≡◌, ◌≤◌, [], length};
 ghost use Rattle.album_stamps.specs.declared.limits.TheConstants.{MAX_READ_ITEMS};
 
@@ -10,7 +10,7 @@ use album_stamps::{ClientNo, Clock};
 use album_writer::Answer;
 use std::alloc::Global;
 
-/// What a client has become, and what it tells.
+/// A client's next state, with its outputs: notes, messages to send, and at most one answer.
 #[derive(Drop)]
 pub struct Transition {
     pub client: Client,
@@ -57,7 +57,7 @@ pub struct ClientStep {
 impl Client {
     ghost use Rattle.album_client.specs.Transitions.{client_of};
 
-    /// Where it goes on from, on these terms.
+    /// The step of this client, on these terms.
     pub fn client_step(&self, alloc: Global, terms: Terms) -> ClientStep
         ensures client { client_of result ≡ record self.now { phase = Phase.Idle 0 } }
         ensures terms { result.terms ≡ terms }
@@ -75,7 +75,7 @@ impl ClientStep {
     ghost use Rattle.album_client.specs.Transitions.{client_of, IsMoved};
     ghost use Rattle.album_client.specs.Turns.{ask_ends};
 
-    /// The same once more, for whoever goes on from here several times: a value that is `Copy` and holds one with a
+    /// A copy, for a caller that may take several ways from here: a value that is `Copy` and holds one with a
     /// Model is not copied where it is passed.
     pub fn again(&self) -> ClientStep
         ensures client { client_of result ≡ client_of self.now }

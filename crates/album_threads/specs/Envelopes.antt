@@ -1,4 +1,4 @@
--- What travels between threads: a message with a pass, and what the pass's cut shows beside the message.
+-- Envelopes between threads: a message with a pass, and what the pass's cut shows about the message.
 use Rattle.std.specs.Prelude.{◌≡◌, ℕ, Bool, true, List, Some, None}
 use Rattle.std.specs.List.{list_any}
 use Rattle.atomic_table.specs.Seated.{TableId}
@@ -21,9 +21,9 @@ use Rattle.album_partition.specs.declared.marks.Mark.{Mark}
 use Rattle.album_passes.specs.Cuts.{Cut, prefix_at, announced_for, IsPreparedThroughout}
 use Rattle.album_passes.specs.Pass.{PassState}
 
--- ---- what a cut shows beside a message
+-- ---- what a cut shows about a message
 
--- the mark is one by which a partition has come to its vote
+-- the mark is one that decides a partition's vote
 abbrev pub is_mark_for : Vote → ℕ → Mark → Bool
 is_mark_for vote.Prepared stamp = prepares stamp
 is_mark_for vote.Committed stamp = commits stamp
@@ -75,7 +75,7 @@ ShowsBody cut from to (body.Reply reply) = ShowsReply cut from reply
 abbrev pub Shows : Cut → Message → Type 0
 Shows cut message = ShowsBody cut message.from message.to message.body
 
--- ---- a envelope
+-- ---- an envelope
 
 -- a message, and the pass that goes with it
 pub record LetterState : Type 0 where

@@ -69,7 +69,7 @@ pub record IsCutOff (phase : Phase) (told : Answer) : Type 0 where
   pub none : IsClosedOrOutOfMemory why
   pub is : told ≡ answer.Unsettled stamp why
 
--- the messages are sent, and replies are awaited; or it is cut off
+-- the messages are sent, and replies are outstanding; or the ask is cut off
 abbrev pub IsSent : Asked → Phase → List Message → Cut → Way → Type 0
 IsSent asked phase messages now (Answered told) = IsCutOff phase told
 IsSent asked phase messages now (Awaits more next) =

@@ -172,7 +172,7 @@ impl<J: ServiceNames> Service<J> {
         }
     }
 
-    /// Who asks for a new session. Each partition knows of it.
+    /// The channel of a new session, which each partition has registered.
     fn channel<R: Wait>(&self, rt: &R) -> Result<PartitionChannel<J>, Refusal>
         ensures unheard { IfOk result (λ channel. IsUnheard channel.client channel.cut) }
         ensures most { IfOk result (λ channel. channel.client ≤ J.terms.sessions) }

@@ -29,7 +29,7 @@ use std::time;
 pub(crate) enum Way {
     /// It is answered.
     Answered(Answer),
-    /// Replies to these messages are awaited, and the client does this.
+    /// Replies to these messages are outstanding, and the client is in this phase.
     Awaits(Asked, Phase),
 }
 
