@@ -32,8 +32,8 @@ use Rattle.album_threads.specs.Sessions.{SessionState, AnnouncesNothing}
 use Rattle.album_threads.specs.Turns.{client_step_in, terms_in}
 use Rattle.album_threads.proofs.EndLemmas.{read_so, overtaken}
 use Rattle.album_threads.proofs.LookLemmas.{done_so, gone_so, looking_first, looking_next, looks_seen, looks_busy, on_self}
-use Rattle.album_threads.proofs.MovedLemmas.{IsNoted, IsMovedOn, on_heard, heard_same, goes_plain, goes_sent}
-use Rattle.album_threads.proofs.MovedLemmas.IsMovedOn.{Told}
+use Rattle.album_threads.proofs.TransitionLemmas.{IsNoted, IsMovedOn, on_heard, heard_same, goes_plain, goes_sent}
+use Rattle.album_threads.proofs.TransitionLemmas.IsMovedOn.{Told}
 use Rattle.album_threads.proofs.RoundLemmas.{leads, none_yet, under_first, gets_shown}
 use Rattle.album_threads.proofs.RuledLemmas.{ruled_on}
 use Rattle.album_threads.proofs.SendLemmas.{gets_plain}

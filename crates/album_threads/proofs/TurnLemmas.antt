@@ -31,7 +31,7 @@ use Rattle.album_threads.specs.declared.session.ask.Way.TheVariants.{Answered, A
 use Rattle.album_threads.proofs.BegunLemmas.{cut_rests}
 use Rattle.album_threads.proofs.CarryLemmas.{prepared_on, committed_on}
 use Rattle.album_threads.proofs.ClockLemmas.{moved_clock}
-use Rattle.album_threads.proofs.MovedLemmas.{IsNoted, IsMovedOn}
+use Rattle.album_threads.proofs.TransitionLemmas.{IsNoted, IsMovedOn}
 use Rattle.album_threads.proofs.ReadingLemmas.{read_on}
 use Rattle.album_writer.specs.Rounds.{WriteStep, prepare_stepped, commit_stepped}
 use Rattle.album_writer.specs.Rounds.WriteStep.{Waits, Commits as Decides, Ends}

@@ -20,7 +20,7 @@ use Rattle.album_threads.specs.Phases.{Outset, IsReading, IsUnderWay}
 use Rattle.album_threads.specs.Replies.{IsReplied, Leads}
 use Rattle.album_threads.specs.Sessions.{SessionState}
 use Rattle.album_threads.specs.Turns.{client_step_in, terms_in}
-use Rattle.album_threads.proofs.MovedLemmas.{on_heard}
+use Rattle.album_threads.proofs.TransitionLemmas.{on_heard}
 use Rattle.album_threads.proofs.RoundLemmas.{leads}
 
 module _ (limit : ℕ) (policy : Policy) (o : Outset) (now next : SessionState) (at : Cut) (sent : List Message) (m : Message)

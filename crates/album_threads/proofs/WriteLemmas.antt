@@ -43,7 +43,7 @@ use Rattle.album_threads.specs.Envelopes.{Shows}
 use Rattle.album_threads.specs.Replies.{IsReplied}
 use Rattle.album_threads.specs.Writes.{IsPreparedAt, IsCommittedAt, IsFurther, IsEndOf, AreCommits, AreAllCommitted, PrepareTells, CommitTells}
 use Rattle.album_threads.proofs.GroundLemmas.{has_more}
-use Rattle.album_threads.proofs.LetterLemmas.{discarded_tells}
+use Rattle.album_threads.proofs.EnvelopeLemmas.{discarded_tells}
 use Rattle.album_writer.specs.Rounds.{answered_by, prepares_left, prepares_by, prepare_stepped, commits_left, commits_by, commit_stepped}
 use Rattle.album_writer.specs.Rounds.WriteStep.{Waits}
 use Rattle.album_writer.specs.Told.{told_of}

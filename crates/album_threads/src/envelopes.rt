@@ -22,13 +22,13 @@ pub struct RequestEnvelope<J: ServiceNames> {
 }
 
 impl<J: ServiceNames> Model for RequestEnvelope<J> {
-    ghost use Rattle.album_threads.specs.Envelopes.{LetterState, IsLetter};
+    ghost use Rattle.album_threads.specs.Envelopes.{RequestEnvelopeState, IsRequestEnvelope};
 
-    ghost Value = { LetterState };
+    ghost Value = { RequestEnvelopeState };
 
     ghost view = { λ l. record { message = l.message; pass = l.pass } };
 
-    ghost invariant = { λ l. IsLetter J.table (record { message = l.message; pass = l.pass }) };
+    ghost invariant = { λ l. IsRequestEnvelope J.table (record { message = l.message; pass = l.pass }) };
 }
 
 impl<J: ServiceNames> RequestEnvelope<J> {
@@ -81,13 +81,13 @@ pub struct ReplyEnvelope<J: ServiceNames> {
 }
 
 impl<J: ServiceNames> Model for ReplyEnvelope<J> {
-    ghost use Rattle.album_threads.specs.Envelopes.{ResponseState, IsResponse};
+    ghost use Rattle.album_threads.specs.Envelopes.{ReplyEnvelopeState, IsReplyEnvelope};
 
-    ghost Value = { ResponseState };
+    ghost Value = { ReplyEnvelopeState };
 
     ghost view = { λ a. record { request = a.request; reply = a.reply; pass = a.pass } };
 
-    ghost invariant = { λ a. IsResponse J.table J.terms.limit
+    ghost invariant = { λ a. IsReplyEnvelope J.table J.terms.limit
         (record { request = a.request; reply = a.reply; pass = a.pass }) };
 }
 
