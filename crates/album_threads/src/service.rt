@@ -245,7 +245,7 @@ fn leave_all<J: ServiceNames, R: Threads + Wait>(
     }
 }
 
-/// Answers a partition's thread to leave, again until its mailbox takes it.
+/// Has a partition's thread leave, again until its mailbox takes it.
 fn leave<J: ServiceNames, R: Wait>(rt: &R, mailbox: &Sender<PartitionMail<J>>) {
     for _ in rt.forever() {
         let sent = mailbox.send(rt, PartitionMail::Leave);
@@ -256,5 +256,6 @@ fn leave<J: ServiceNames, R: Wait>(rt: &R, mailbox: &Sender<PartitionMail<J>>) {
         }
         thread::yield_now();
     }
+    // `forever` has no end.
     unreachable!()
 }

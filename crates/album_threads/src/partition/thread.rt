@@ -134,6 +134,7 @@ impl<J: ServiceNames> PartitionLoop<J> {
                 return;
             }
         }
+        // `forever` has no end.
         unreachable!()
     }
 

@@ -65,6 +65,7 @@ impl<J: ServiceNames> Session<J> {
                 }
             }
         }
+        // `forever` has no end.
         unreachable!()
     }
 

@@ -303,6 +303,7 @@ impl<J: ServiceNames> PartitionChannel<J> {
                 return Ok(answer);
             }
         }
+        // `forever` has no end.
         unreachable!()
     }
 

@@ -136,6 +136,7 @@ impl<J: ServiceNames> PartitionChannel<J> {
                 return Ok(reply);
             }
         }
+        // `forever` has no end.
         unreachable!()
     }
 

@@ -58,6 +58,7 @@ impl<J: ServiceNames> Session<J> {
                 return heard;
             }
         }
+        // `forever` has no end.
         unreachable!()
     }
 
