@@ -231,7 +231,7 @@ fn mailboxes_for<J: ServiceNames>(
     Ok((mailboxes, mails))
 }
 
-/// Answers each partition's thread to leave, and joins those that run.
+/// Has each partition's thread leave, and joins those that run.
 fn leave_all<J: ServiceNames, R: Threads + Wait>(
     rt: &R,
     mailboxes: &[Sender<PartitionMail<J>>],

@@ -138,7 +138,7 @@ impl<J: ServiceNames> PartitionChannel<J> {
         Ok(())
     }
 
-    /// Answers each partition that the session is over.
+    /// Has each partition forget the session.
     pub(crate) fn leave<R: Wait>(self, rt: &R) {
         for mailbox in &self.to {
             let _ = mailbox.send(rt, PartitionMail::Forget(self.client.number()));
