@@ -30,7 +30,7 @@ use Rattle.album_writer.specs.Writing.{WritingState, prepare_round, prepares_of}
 use Rattle.album_writer.specs.declared.outcomes.Outcome.{Outcome}
 use Rattle.album_writer.specs.declared.outcomes.Outcome.TheVariants as outcome
 use Rattle.album_client.specs.Terms.{Terms}
-use Rattle.album_client.specs.Askings.{PendingAsk}
+use Rattle.album_client.specs.PendingAsks.{PendingAsk}
 use Rattle.album_client.specs.Clients.{Client}
 use Rattle.album_client.specs.declared.clients.Phase.{Phase}
 use Rattle.album_client.specs.declared.clients.Phase.TheVariants.{Idle, Reads, Prepares, Commits}

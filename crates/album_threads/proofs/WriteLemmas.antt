@@ -24,7 +24,7 @@ use Rattle.album_calls.specs.declared.replies.Reply.TheVariants as reply
 use Rattle.album_calls.proofs.Sameness.{rows_tell}
 use Rattle.album_terminate.specs.declared.deciding.StampState.{StampState}
 use Rattle.album_terminate.specs.declared.deciding.StampState.TheVariants as state
-use Rattle.album_partition.specs.Answers.{says, nothing, is_same, prepare_by, to_prepare, to_body, action_of, with_action, after, reply_to, answer}
+use Rattle.album_partition.specs.Answers.{says, nothing, is_same, prepare_by, on_prepare, on_body, action_of, with_action, after, reply_to, answer}
 use Rattle.album_partition.specs.Laws.{IsTrueOf}
 use Rattle.album_partition.specs.Marks.{prepares, commits, discards, state_of, is_full, mark_writes, mark_items, writes_at, items_at}
 use Rattle.album_partition.specs.Partition.{PartitionState}
@@ -75,8 +75,8 @@ same_there ms t ws is some same =
         let items : is ≡ x.1 = h ∙ ap (λ (y : Mark). mark_items (Some y)) x.2 in
         subst (λ (y : Mark). Contains ms y) (x.2 ∙ sym (ap (λ (vs : List Row). Prepared t vs x.1) writes) ∙ sym (ap (λ (js : List ℕ). Prepared t ws js) items)) r.0
 
-prepare_leaves : (p : PartitionState) (t : ℕ) (ws : List Row) (is : List ℕ) (u : ℕ) → (to_prepare p t ws is).reply ≡ Some (reply.Prepared u)
-    → Contains (with_action p (to_prepare p t ws is)).marks (Prepared t ws is)
+prepare_leaves : (p : PartitionState) (t : ℕ) (ws : List Row) (is : List ℕ) (u : ℕ) → (on_prepare p t ws is).reply ≡ Some (reply.Prepared u)
+    → Contains (with_action p (on_prepare p t ws is)).marks (Prepared t ws is)
 prepare_leaves p t ws is u = go (is_proper p.number p.parts t ws is) refl
   where
     new : Contains (p.marks ++ Prepared t ws is ∷ []) (Prepared t ws is)
@@ -107,18 +107,18 @@ prepare_left : (p : PartitionState) (q : Message) (t : ℕ) (ws : List Row) (is 
     → (action_of p q).reply ≡ Some (reply.Prepared u) → Contains (after p q).marks (Prepared t ws is)
 prepare_left p q t ws is u asked = go (is_part q.to p.number)
   where
-    go : (b : Bool) → (if b then to_body p q.from q.body else nothing).reply ≡ Some (reply.Prepared u)
-        → Contains (with_action p (if b then to_body p q.from q.body else nothing)).marks (Prepared t ws is)
+    go : (b : Bool) → (if b then on_body p q.from q.body else nothing).reply ≡ Some (reply.Prepared u)
+        → Contains (with_action p (if b then on_body p q.from q.body else nothing)).marks (Prepared t ws is)
     go false f = absurd (cc)
     go true f =
-        subst (λ (x : Body). Contains (with_action p (to_body p q.from x)).marks (Prepared t ws is)) (sym asked)
-        (prepare_leaves p t ws is u (subst (λ (x : Body). (to_body p q.from x).reply ≡ Some (reply.Prepared u)) asked f))
+        subst (λ (x : Body). Contains (with_action p (on_body p q.from x)).marks (Prepared t ws is)) (sym asked)
+        (prepare_leaves p t ws is u (subst (λ (x : Body). (on_body p q.from x).reply ≡ Some (reply.Prepared u)) asked f))
 
 -- a message to another partition isn't answered
 to_this : (p : PartitionState) (q : Message) (r : Reply) → (action_of p q).reply ≡ Some r → q.to ≡ Part p.number
 to_this p q r f = is_part-own q.to p.number (go (is_part q.to p.number) refl f)
   where
-    go : (b : Bool) → is_part q.to p.number ≡ b → (if b then to_body p q.from q.body else nothing).reply ≡ Some r → is_part q.to p.number ≡ true
+    go : (b : Bool) → is_part q.to p.number ≡ b → (if b then on_body p q.from q.body else nothing).reply ≡ Some r → is_part q.to p.number ≡ true
     go true e g = e
     go false e g = absurd (cc)
 

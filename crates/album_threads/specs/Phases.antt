@@ -1,7 +1,7 @@
 -- What is under way for an ask between two replies, a case for each phase of its client.
 use Rattle.std.specs.Prelude.{◌≡◌, List, None}
 use Rattle.album_calls.specs.declared.messages.Message.{Message}
-use Rattle.album_client.specs.Askings.{PendingAsk}
+use Rattle.album_client.specs.PendingAsks.{PendingAsk}
 use Rattle.album_client.specs.declared.clients.Phase.{Phase}
 use Rattle.album_client.specs.declared.clients.Phase.TheVariants.{Idle, Reads, Prepares, Commits}
 use Rattle.album_eval.specs.declared.facts.Principal.{Principal}

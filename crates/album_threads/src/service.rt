@@ -32,6 +32,7 @@ struct Seed<J: ServiceNames> {
     ghost table_is: { pass.table ≡ J.table },
     ghost unnumbered: { pass.number ≡ None },
     ghost parts_are: { pass.cut.parts ≡ J.terms.parts },
+    ghost opening_is: { pass.cut.opening ≡ J.terms.opening },
 }
 
 impl<J: ServiceNames> Seed<J> {
@@ -41,6 +42,7 @@ impl<J: ServiceNames> Seed<J> {
         ensures of { result.table ≡ J.table }
         ensures unnumbered { result.number ≡ None }
         ensures parts { result.cut.parts ≡ J.terms.parts }
+        ensures opening { result.cut.opening ≡ J.terms.opening }
     {
         self.pass.split(desk)
     }
@@ -156,6 +158,7 @@ impl<J: ServiceNames> Service<J> {
         ensures unheard { IfOk result (λ session. IsUnheard session.client session.cut) }
         ensures most { IfOk result (λ session. session.client ≤ J.terms.sessions) }
         ensures parts { IfOk result (λ session. session.cut.parts ≡ J.terms.parts) }
+        ensures opening { IfOk result (λ session. session.cut.opening ≡ J.terms.opening) }
         ensures counter { IfOk result (λ session. session.counter ≡ 0) }
         ensures share { IfOk result (λ session. session.share ≡ none) }
         ensures refused { IfErr result (λ e. (e ≡ Refusal.OutOfMemory) ⊎ (e ≡ Refusal.SessionsSpent)) }
@@ -177,6 +180,7 @@ impl<J: ServiceNames> Service<J> {
         ensures unheard { IfOk result (λ channel. IsUnheard channel.client channel.cut) }
         ensures most { IfOk result (λ channel. channel.client ≤ J.terms.sessions) }
         ensures parts { IfOk result (λ channel. channel.cut.parts ≡ J.terms.parts) }
+        ensures opening { IfOk result (λ channel. channel.cut.opening ≡ J.terms.opening) }
         ensures refused { IfErr result (λ e. (e ≡ Refusal.OutOfMemory) ⊎ (e ≡ Refusal.SessionsSpent)) }
     {
         let desk = Arc::try_clone(&self.desk)?;

@@ -47,7 +47,7 @@ use Rattle.album_writer.specs.declared.answers.Answer.TheVariants as answer
 use Rattle.album_client.specs.declared.clients.Phase.{Phase}
 use Rattle.album_client.specs.declared.clients.Phase.TheVariants as phase
 use Rattle.album_client.specs.Terms.{Terms, terms_of}
-use Rattle.album_client.specs.Askings.{PendingAsk}
+use Rattle.album_client.specs.PendingAsks.{PendingAsk}
 use Rattle.album_client.specs.Clients.{Client}
 use Rattle.album_client.specs.Grants.{served_for}
 use Rattle.album_client.specs.Turns.{Transaction, Ended, Turn, still, sends, read_begins, ask_ends, write_begins, writes_unless, draws_by, grants, rules_by, clock_after_rows, read_ends, read_turn, prepare_turn, commit_turn}

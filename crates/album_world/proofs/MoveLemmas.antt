@@ -34,7 +34,7 @@ use Rattle.album_client.specs.declared.clients.Phase.{Phase}
 use Rattle.album_client.specs.declared.clients.Phase.TheVariants as phase
 use Rattle.album_client.specs.declared.transitions.Transition.{Transition}
 use Rattle.album_client.specs.Terms.{Terms}
-use Rattle.album_client.specs.Askings.{PendingAsk}
+use Rattle.album_client.specs.PendingAsks.{PendingAsk}
 use Rattle.album_client.specs.Clients.{Client}
 use Rattle.album_client.specs.Grants.{served_for}
 use Rattle.album_client.specs.Turns.{turn_of, is_waiting, IsTakenBy, Turn, read_begins, writes_unless, draws_by, grants, rules_by, clock_after_rows, views_by, read_turn, prepare_turn, commit_turn}

@@ -5,7 +5,7 @@ use Rattle.album_writer.specs.Writing.{WritingState}
 use Rattle.album_writer.specs.declared.answers.Answer.{Answer}
 use Rattle.album_client.specs.declared.clients.Phase.{Phase}
 use Rattle.album_client.specs.declared.clients.Phase.TheVariants as phase
-use Rattle.album_client.specs.Askings.{PendingAsk}
+use Rattle.album_client.specs.PendingAsks.{PendingAsk}
 use Rattle.album_client.specs.Clients.{Client}
 use Rattle.album_client.specs.Turns.{Transaction, Ended, Turn}
 use Rattle.album_world.specs.State.{client_at}

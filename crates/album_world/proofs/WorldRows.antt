@@ -28,7 +28,7 @@ use Rattle.album_eval.specs.declared.verdicts.Verdict.TheVariants.{DeniedAtEnd}
 use Rattle.album_permits.specs.declared.serving.Served.TheVariants as served
 use Rattle.album_client.specs.declared.clients.Phase.TheVariants.{Idle}
 use Rattle.album_client.specs.Terms.{terms_of}
-use Rattle.album_client.specs.Askings.{PendingAsk}
+use Rattle.album_client.specs.PendingAsks.{PendingAsk}
 use Rattle.album_client.specs.Clients.{Client, newcomer}
 use Rattle.album_client.specs.Turns.{read_turn}
 use Rattle.album_world.specs.declared.events.Event.{Event}
