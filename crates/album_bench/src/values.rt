@@ -20,14 +20,14 @@ fn picture(alloc: Global) -> Result<Picture, Refusal> {
     Ok(Picture {
         title: Title::of(alloc, "Sea")?,
         content,
-        head: head(alloc)?,
+        head: head()?,
         home: 0,
     })
 }
 
-fn head(alloc: Global) -> Result<Head, Refusal> {
+fn head() -> Result<Head, Refusal> {
     Ok(Head {
-        owner: Name::of(alloc, "amy")?,
+        owner: Name::of("amy")?,
         group: 0,
         list: 0,
     })
@@ -36,16 +36,16 @@ fn head(alloc: Global) -> Result<Head, Refusal> {
 fn entries_of(alloc: Global, count: u64) -> Result<Vec<Ace>, Refusal> {
     let mut entries = Vec::new(alloc);
     for _ in 0..count {
-        entries.push(entry(alloc)?)?;
+        entries.push(entry()?)?;
     }
     Ok(entries)
 }
 
-fn entry(alloc: Global) -> Result<Ace, Refusal> {
+fn entry() -> Result<Ace, Refusal> {
     let flags = AceFlags::of(0)?;
     Ok(Ace {
         sort: AceType::Denied,
-        who: Who::read(alloc, "amy@users", flags)?,
+        who: Who::read("amy@users", flags)?,
         mask: Mask::of(4)?,
         flags,
     })

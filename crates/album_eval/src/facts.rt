@@ -1,7 +1,6 @@
 // Who asks, of whose object.
 ghost use Rattle.std.specs.Prelude.{◌≡◌, ◌↔◌, ℕ, List, Some, IfOk, IsOkUnless};
 ghost use Rattle.std.specs.Option.{ok_or};
-ghost use Rattle.album_stamps.specs.Outcome.{Makes};
 ghost use Rattle.album_stamps.specs.declared.refusals.Refusal.TheVariants.{BadWho};
 ghost use Rattle.album_lists.specs.declared.lists.Ace.{Ace};
 ghost use Rattle.album_lists.specs.declared.whos.Who.{Who};
@@ -13,7 +12,6 @@ use album_access::AceFlags;
 use album_lists::{Ace, Name, Who, user_name};
 use album_stamps::Refusal;
 use bitflags::Flags;
-use std::alloc::Global;
 use std::collections::BTreeSet;
 
 /// Who asks.
@@ -41,15 +39,19 @@ pub fn principals_by_text()
 {}
 
 impl Principal {
-    /// The principal that the text is, or `BadWho`.
+    /// The principal that the text is.
+    ///
+    /// # Errors
+    ///
+    /// `BadWho` where the text is no principal's.
     #[tactic(auto, unfolding(crate::specs::Matching::principal_of))]
-    pub fn read(alloc: Global, text: &str) -> Result<Principal, Refusal>
-        ensures { Makes (λ principal. principal) result (ok_or (principal_of text.now) BadWho) }
+    pub fn read(text: &str) -> Result<Principal, Refusal>
+        ensures { result ≡ ok_or (principal_of text.now) BadWho }
     {
         if text == "ANONYMOUS@" {
             return Ok(Principal::Anonymous);
         }
-        let name = user_name(alloc, text)?;
+        let name = user_name(text)?;
         Ok(Principal::User(name))
     }
 

@@ -1,5 +1,4 @@
--- The partitions that pass a test, one partition more: `places_of` needs `filter_range_then` and `_else`, and so does
--- `Seat::others_of` of `album_partition`.
+-- The partitions that pass a test, one partition more: `places_of` and `others_of` need `filter_range_then` and `_else`.
 use Rattle.std.proofs.Common.{◌≡◌, ℕ, zero, suc, ◌+◌, Bool, true, false, List, [], ◌∷◌, ◌++◌, filter, refl, sym, ap, ◌∙◌, arith, add-one}
 use Rattle.std.specs.List.{range_with_len}
 use Rattle.std.proofs.lemmas.List.{append-nil}

@@ -2,13 +2,11 @@
 ghost use Rattle.std.specs.Prelude.{◌≡◌, IsTrue, IfOk, IsOkUnless};
 ghost use Rattle.std.specs.Option.{ok_or};
 ghost use Rattle.std.specs.List.{list_all};
-ghost use Rattle.album_stamps.specs.Outcome.{Makes};
 ghost use Rattle.album_stamps.specs.declared.refusals.Refusal.TheVariants.{BadWho};
 ghost use Rattle.album_lists.specs.Names.{is_name, is_name_byte, name_of};
 
 use album_stamps::{MAX_NAME, Refusal};
 use arrayvec::ArrayString;
-use std::alloc::Global;
 use std::marker::Model;
 
 /// The name of a user: 1 to 64 bytes of a to z, 0 to 9, dot, hyphen and underscore, which lie in the
@@ -30,9 +28,13 @@ impl Model for Name {
 }
 
 impl Name {
-    /// The name that the text is, or `BadWho`. It lies in place, so no memory is asked of the allocator.
-    pub fn of(_alloc: Global, text: &str) -> Result<Name, Refusal>
-        ensures { Makes (λ name. name) result (ok_or (name_of text.now) BadWho) }
+    /// The name that the text is. It lies in place, so no memory is asked for.
+    ///
+    /// # Errors
+    ///
+    /// `BadWho` where the text is no name.
+    pub fn of(text: &str) -> Result<Name, Refusal>
+        ensures { result ≡ ok_or (name_of text.now) BadWho }
     {
         if !is_name(text) {
             return Err(Refusal::BadWho);

@@ -1,7 +1,6 @@
 // Whos and members, by their texts.
 ghost use Rattle.std.specs.Prelude.{◌≡◌, ◌↔◌, List, ℕ, Some, option_map, IfOk, IsOkUnless};
 ghost use Rattle.std.specs.Option.{ok_or};
-ghost use Rattle.album_stamps.specs.Outcome.{Makes};
 ghost use Rattle.album_stamps.specs.declared.refusals.Refusal.TheVariants.{BadWho};
 ghost use Rattle.album_access.specs.declared.flags.AceFlags.{AceFlags};
 ghost use Rattle.album_lists.specs.declared.whos.Member.{Member};
@@ -12,7 +11,6 @@ use crate::names::Name;
 use album_access::AceFlags;
 use album_stamps::Refusal;
 use bitflags::Flags;
-use std::alloc::Global;
 
 /// Whom an entry speaks of (RFC 7530, section 6.2.1.5).
 #[derive(Clone, Debug, Drop)]
@@ -71,13 +69,17 @@ pub fn whole_number(text: &str) -> Option<u64>
     text.parse().ok()
 }
 
-/// The name of the user whose text it is, or `BadWho`.
+/// The name of the user whose text it is.
+///
+/// # Errors
+///
+/// `BadWho` where it is no user's.
 #[tactic(auto, unfolding(crate::specs::Whos::user_of))]
-pub fn user_name(alloc: Global, text: &str) -> Result<Name, Refusal>
-    ensures { Makes (λ name. name) result (ok_or (user_of text.now) BadWho) }
+pub fn user_name(text: &str) -> Result<Name, Refusal>
+    ensures { result ≡ ok_or (user_of text.now) BadWho }
 {
     let name = before(text, "@users").ok_or(Refusal::BadWho)?;
-    Name::of(alloc, name)
+    Name::of(name)
 }
 
 /// The number of the group whose text it is.
@@ -89,15 +91,19 @@ fn group_number(text: &str) -> Option<u64>
 }
 
 impl Member {
-    /// The member that the text is, or `BadWho`.
+    /// The member that the text is.
+    ///
+    /// # Errors
+    ///
+    /// `BadWho` where the text is no member's.
     #[tactic(auto, unfolding(crate::specs::Whos::member_of))]
-    pub fn read(alloc: Global, text: &str) -> Result<Member, Refusal>
-        ensures { Makes (λ member. member) result (ok_or (member_of text.now) BadWho) }
+    pub fn read(text: &str) -> Result<Member, Refusal>
+        ensures { result ≡ ok_or (member_of text.now) BadWho }
     {
         if let Some(number) = group_number(text) {
             return Ok(Member::Group(number));
         }
-        let name = user_name(alloc, text)?;
+        let name = user_name(text)?;
         Ok(Member::User(name))
     }
 
@@ -111,10 +117,14 @@ impl Member {
 }
 
 impl Who {
-    /// The who that the text is in an entry with these flags, or `BadWho`.
+    /// The who that the text is in an entry with these flags.
+    ///
+    /// # Errors
+    ///
+    /// `BadWho` where the text is no who, or one that doesn't go with the flags.
     #[tactic(auto, unfolding(crate::specs::Whos::who_of))]
-    pub fn read(alloc: Global, text: &str, flags: AceFlags) -> Result<Who, Refusal>
-        ensures { Makes (λ who. who) result (ok_or (who_of flags text.now) BadWho) }
+    pub fn read(text: &str, flags: AceFlags) -> Result<Who, Refusal>
+        ensures { result ≡ ok_or (who_of flags text.now) BadWho }
     {
         if let Some(who) = special(text) {
             return Ok(who);
@@ -123,7 +133,7 @@ impl Who {
             let number = group_number(text).ok_or(Refusal::BadWho)?;
             return Ok(Who::Group(number));
         }
-        let name = user_name(alloc, text)?;
+        let name = user_name(text)?;
         Ok(Who::User(name))
     }
 

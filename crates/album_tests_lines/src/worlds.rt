@@ -25,7 +25,7 @@ fn the_picture() -> ItemId {
 /// amy's picture, without a title and a content.
 fn picture(alloc: Global) -> Result<Value, Refusal> {
     let head = Head {
-        owner: Name::of(alloc, "amy")?,
+        owner: Name::of("amy")?,
         group: 0,
         list: 0,
     };
@@ -70,7 +70,7 @@ fn lists(alloc: Global) -> Result<NewLists, Refusal> {
 /// Client 1 asks that for amy.
 fn ask(alloc: Global) -> Result<Event, Refusal> {
     let client = ClientNo::of(1).ok_or(Refusal::BadRequest)?;
-    let amy = Principal::read(alloc, "amy@users")?;
+    let amy = Principal::read("amy@users")?;
     let lists = lists(alloc)?;
     Ok(Event::Ask(client, amy, Ask::SetLists { lists }))
 }

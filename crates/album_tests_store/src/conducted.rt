@@ -50,7 +50,7 @@ fn ask<J: ServiceNames, R: Wait + time::Clock + Copy>(
     answers: &mut Answers,
 ) -> Result<(), Refusal> {
     let rt = guest.rt;
-    let principal = who.principal(alloc)?;
+    let principal = who.principal()?;
     let ask = ask_of(alloc, wish)?;
     let answer = guest.session.ask(&rt, &principal, ask)?;
     let added = answers.add(&answer);

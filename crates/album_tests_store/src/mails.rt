@@ -97,7 +97,7 @@ fn next_of(wishes: &[Wish], asked: &mut usize) -> Result<Wish, Refusal> {
 
 fn ask_by(alloc: Global, who: Who, wish: Wish) -> Result<Event, Refusal> {
     let client = who.client()?;
-    let principal = who.principal(alloc)?;
+    let principal = who.principal()?;
     Ok(Event::Ask(client, principal, ask_of(alloc, wish)?))
 }
 

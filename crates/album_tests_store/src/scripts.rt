@@ -32,10 +32,10 @@ impl Who {
         }
     }
 
-    pub fn principal(self, alloc: Global) -> Result<Principal, Refusal> {
+    pub fn principal(self) -> Result<Principal, Refusal> {
         match self {
-            Who::Amy => Principal::read(alloc, "amy@users"),
-            Who::Bo => Principal::read(alloc, "bo@users"),
+            Who::Amy => Principal::read("amy@users"),
+            Who::Bo => Principal::read("bo@users"),
         }
     }
 
@@ -106,7 +106,7 @@ fn children(alloc: Global) -> Result<Items, Refusal> {
 fn album(alloc: Global, list: u64) -> Result<Value, Refusal> {
     Ok(Value::Album(Album {
         title: Title::of(alloc, "Trip")?,
-        head: head(alloc, list)?,
+        head: head(list)?,
         home: None,
         children: children(alloc)?,
     }))

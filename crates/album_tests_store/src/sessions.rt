@@ -131,11 +131,10 @@ pub(crate) fn new_guest<J: ServiceNames, R: Wait + Copy>(
 
 fn read<J: ServiceNames, R: Wait + time::Clock>(
     rt: &R,
-    alloc: Global,
     session: &mut Session<J>,
     who: &str,
 ) -> Result<Answer, Refusal> {
-    let principal = Principal::read(alloc, who)?;
+    let principal = Principal::read(who)?;
     let object = item_of("picture/0")?;
     session.ask(rt, &principal, Ask::Read { object })
 }
@@ -146,7 +145,7 @@ fn retitle<J: ServiceNames, R: Wait + time::Clock>(
     session: &mut Session<J>,
     title: &str,
 ) -> Result<Answer, Refusal> {
-    let principal = Principal::read(alloc, "amy@users")?;
+    let principal = Principal::read("amy@users")?;
     let object = item_of("picture/0")?;
     let title = Title::of(alloc, title)?;
     session.ask(rt, &principal, Ask::Retitle { object, title })
@@ -212,7 +211,7 @@ fn text_of<J: ServiceNames, R: Wait + time::Clock>(
     step: Step,
 ) -> Result<String, Refusal> {
     match step {
-        Step::Read(who) => read_text(alloc, &read(rt, alloc, session, who)?),
+        Step::Read(who) => read_text(alloc, &read(rt, session, who)?),
         Step::Retitle(title) => committed_text(alloc, retitle(rt, alloc, session, title)?),
         Step::Pending(part) => pending_text(rt, alloc, session, part),
         Step::Sweep(part, stamp) => {
@@ -335,11 +334,10 @@ fn two_sessions(rt: HostRuntime) -> Result<(), Fail> {
 /// Why two asks of the session are refused.
 fn refused_twice<J: ServiceNames, R: Wait + time::Clock + Copy>(
     rt: &R,
-    alloc: Global,
     mut guest: OwnedSession<J, R>,
 ) -> Result<(Option<Refusal>, Option<Refusal>), Refusal> {
-    let first = read(rt, alloc, &mut guest.session, "bo@users").err();
-    let second = read(rt, alloc, &mut guest.session, "bo@users").err();
+    let first = read(rt, &mut guest.session, "bo@users").err();
+    let second = read(rt, &mut guest.session, "bo@users").err();
     Ok((first, second))
 }
 
@@ -353,7 +351,7 @@ fn closed_on<
     let service = Service::<J>::open(rt, alloc, opened, Open)?;
     let guest = new_guest(&rt, &service);
     service.close(&rt);
-    refused_twice(&rt, alloc, guest?)
+    refused_twice(&rt, guest?)
 }
 
 fn refused_once_closed<R: Threads + Wait + time::Clock + Copy + Send + 'static>(
@@ -398,7 +396,7 @@ impl Visit for SetBoth {
         alloc: Global,
         service: &Service<J>,
     ) -> Result<u64, Refusal> {
-        let principal = Principal::read(alloc, "amy@users")?;
+        let principal = Principal::read("amy@users")?;
         let lists = new_lists(alloc)?;
         let mut guest = new_guest(rt, service)?;
         committed(guest.session.ask(rt, &principal, Ask::SetLists { lists })?)
@@ -527,7 +525,7 @@ fn four_retitled<J: ServiceNames + Send, R: Threads + Wait + time::Clock + Copy 
         mut guest,
         greatest,
     } = retitled_at_once(rt, alloc, one, two, three, four)?;
-    let stamp = stamp_served(&read(rt, alloc, &mut guest.session, "amy@users")?)?;
+    let stamp = stamp_served(&read(rt, &mut guest.session, "amy@users")?)?;
     Ok((stamp == greatest?, service.totals(rt)))
 }
 

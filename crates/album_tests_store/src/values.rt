@@ -7,9 +7,9 @@ use bytes::Bytes;
 use std::alloc::Global;
 
 /// A head of amy's with the list of this number.
-pub fn head(alloc: Global, list: u64) -> Result<Head, Refusal> {
+pub fn head(list: u64) -> Result<Head, Refusal> {
     Ok(Head {
-        owner: Name::of(alloc, "amy")?,
+        owner: Name::of("amy")?,
         group: 0,
         list,
     })
@@ -21,7 +21,7 @@ pub fn picture(alloc: Global, list: u64) -> Result<Value, Refusal> {
     Ok(Value::Picture(Picture {
         title: Title::of(alloc, "Sea")?,
         content,
-        head: head(alloc, list)?,
+        head: head(list)?,
         home: 0,
     }))
 }
@@ -32,7 +32,7 @@ pub fn album(alloc: Global) -> Result<Value, Refusal> {
     children.push(ItemId::new(Kind::Picture, 4))?;
     Ok(Value::Album(Album {
         title: Title::of(alloc, "Trip")?,
-        head: head(alloc, 2)?,
+        head: head(2)?,
         home: Some(3),
         children: Items::of(children),
     }))
@@ -41,11 +41,11 @@ pub fn album(alloc: Global) -> Result<Value, Refusal> {
 /// The type, the who, the mask and the flags of an entry.
 pub type Entry = (AceType, &'static str, u32, u32);
 
-fn entry_of(alloc: Global, (sort, who, mask, flags): Entry) -> Result<Ace, Refusal> {
+fn entry_of((sort, who, mask, flags): Entry) -> Result<Ace, Refusal> {
     let flags = AceFlags::of(flags)?;
     Ok(Ace {
         sort,
-        who: Who::read(alloc, who, flags)?,
+        who: Who::read(who, flags)?,
         mask: Mask::of(mask)?,
         flags,
     })
@@ -55,7 +55,7 @@ fn entry_of(alloc: Global, (sort, who, mask, flags): Entry) -> Result<Ace, Refus
 pub fn list_of(alloc: Global, rows: &[Entry]) -> Result<AccessList, Refusal> {
     let mut entries = Vec::new(alloc);
     for row in rows {
-        entries.push(entry_of(alloc, *row)?)?;
+        entries.push(entry_of(*row)?)?;
     }
     Ok(AccessList::new(entries)?)
 }

@@ -20,7 +20,7 @@ fn one(alloc: Global, member: Member) -> Result<Vec<Member>, Refusal> {
 fn groups(alloc: Global) -> Result<BTreeMap<u64, Vec<Member>>, Refusal> {
     let mut groups = BTreeMap::new(alloc);
     for (number, member) in GROUPS {
-        groups.insert(*number, one(alloc, Member::read(alloc, member)?)?)?;
+        groups.insert(*number, one(alloc, Member::read(member)?)?)?;
     }
     Ok(groups)
 }
@@ -34,7 +34,7 @@ fn have(alloc: Global, principal: &Principal) -> Result<(bool, bool, bool), Refu
 
 /// Whether they have a copy of the user in them.
 fn have_user(alloc: Global, user: &str) -> Result<(bool, bool, bool), Refusal> {
-    let principal = Principal::read(alloc, user)?;
+    let principal = Principal::read(user)?;
     let copy = principal.copy()?;
     let have = have(alloc, &copy);
     drop(copy);
@@ -56,7 +56,7 @@ fn groups_in_groups(rt: HostRuntime) {
 
 /// What the last group of a circle lists: amy and the first.
 fn last_members(alloc: Global) -> Result<Vec<Member>, Refusal> {
-    let mut members = one(alloc, Member::User(Name::of(alloc, "amy")?))?;
+    let mut members = one(alloc, Member::User(Name::of("amy")?))?;
     members.push(Member::Group(1))?;
     Ok(members)
 }
@@ -73,7 +73,7 @@ fn circle(alloc: Global, len: u64) -> Result<BTreeMap<u64, Vec<Member>>, Refusal
 
 /// How many groups of a circle have amy in them.
 fn found_in_a_circle(alloc: Global, len: u64) -> Result<usize, Refusal> {
-    let amy = Principal::read(alloc, "amy@users")?;
+    let amy = Principal::read("amy@users")?;
     let found = members(alloc, &circle(alloc, len)?, &amy)?;
     Ok(found.len())
 }
@@ -118,8 +118,8 @@ fn verdict(
     list: &AccessList,
     mask: Mask,
 ) -> Result<Verdict, Refusal> {
-    let owner = Name::of(alloc, "amy")?;
-    let who = Principal::read(alloc, "amy@users")?;
+    let owner = Name::of("amy")?;
+    let who = Principal::read("amy@users")?;
     let groups = BTreeSet::new(alloc);
     let verdict = evaluate(list, &facts(policy, &who, &owner, &groups), mask);
     drop(who);
@@ -187,8 +187,8 @@ fn noted_of_bo(
     list: &AccessList,
     request: Request,
 ) -> Result<Option<usize>, Refusal> {
-    let amy = Name::of(alloc, "amy")?;
-    let bo = Principal::read(alloc, "bo@users")?;
+    let amy = Name::of("amy")?;
+    let bo = Principal::read("bo@users")?;
     let groups = BTreeSet::new(alloc);
     let noted = noted_by(
         alloc,

@@ -98,9 +98,9 @@ fn contents(rt: HostRuntime) {
 }
 
 /// A head of amy's with the list of this number.
-fn head(alloc: Global, list: u64) -> Result<Head, Refusal> {
+fn head(list: u64) -> Result<Head, Refusal> {
     Ok(Head {
-        owner: Name::of(alloc, "amy")?,
+        owner: Name::of("amy")?,
         group: 0,
         list,
     })
@@ -112,16 +112,16 @@ pub fn picture(alloc: Global, list: u64) -> Result<Value, Refusal> {
     Ok(Value::Picture(Picture {
         title: title(alloc, 3)?,
         content,
-        head: head(alloc, list)?,
+        head: head(list)?,
         home: 0,
     }))
 }
 
 fn group(alloc: Global) -> Result<Value, Refusal> {
     let mut members = Vec::new(alloc);
-    members.push(Member::read(alloc, "9@groups")?)?;
+    members.push(Member::read("9@groups")?)?;
     Ok(Value::Group(Group {
-        head: head(alloc, 1)?,
+        head: head(1)?,
         members: Members::of(members),
     }))
 }
@@ -132,7 +132,7 @@ fn album(alloc: Global) -> Result<Value, Refusal> {
     children.push(ItemId::new(Kind::Picture, 4))?;
     Ok(Value::Album(Album {
         title: title(alloc, 2)?,
-        head: head(alloc, 2)?,
+        head: head(2)?,
         home: Some(3),
         children: Items::of(children),
     }))

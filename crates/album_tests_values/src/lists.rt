@@ -15,15 +15,15 @@ fn bits(rt: HostRuntime) {
 }
 
 /// The length of the name that the text is.
-fn name_len(alloc: Global, text: &str) -> Result<usize, Refusal> {
-    let name = Name::of(alloc, text)?;
+fn name_len(text: &str) -> Result<usize, Refusal> {
+    let name = Name::of(text)?;
     let copy = name.copy()?;
     Ok(copy.as_str().len())
 }
 
 /// The number of the group that the text is, in an entry with these flags.
-fn group_number(alloc: Global, text: &str, flags: u32) -> Result<Option<u64>, Refusal> {
-    let who = Who::read(alloc, text, AceFlags::of(flags)?)?.copy()?;
+fn group_number(text: &str, flags: u32) -> Result<Option<u64>, Refusal> {
+    let who = Who::read(text, AceFlags::of(flags)?)?.copy()?;
     match who {
         Who::Group(number) => Ok(Some(number)),
         _ => Ok(None),
@@ -31,8 +31,8 @@ fn group_number(alloc: Global, text: &str, flags: u32) -> Result<Option<u64>, Re
 }
 
 /// The number of the group that the text of a member is.
-fn member_number(alloc: Global, text: &str) -> Result<Option<u64>, Refusal> {
-    match Member::read(alloc, text)?.copy()? {
+fn member_number(text: &str) -> Result<Option<u64>, Refusal> {
+    match Member::read(text)?.copy()? {
         Member::Group(number) => Ok(Some(number)),
         Member::User(_) => Ok(None),
     }
@@ -41,30 +41,24 @@ fn member_number(alloc: Global, text: &str) -> Result<Option<u64>, Refusal> {
 /// What is told of texts: the length of a name, the numbers of two whos, and that of a member.
 type Told = (usize, Option<u64>, Option<u64>, Option<u64>);
 
-fn told(alloc: Global) -> Result<Told, Refusal> {
-    let name = name_len(alloc, "amy-b_2.c")?;
-    let who = group_number(alloc, "0@groups", 64)?;
-    let head = group_number(alloc, "GROUP@", 0)?;
-    let member = member_number(alloc, "12@groups")?;
+fn told() -> Result<Told, Refusal> {
+    let name = name_len("amy-b_2.c")?;
+    let who = group_number("0@groups", 64)?;
+    let head = group_number("GROUP@", 0)?;
+    let member = member_number("12@groups")?;
     Ok((name, who, head, member))
 }
 
 #[test]
 fn texts(rt: HostRuntime) {
-    assert_eq!(rt; told(rt.alloc()), Ok((9, Some(0), None, Some(12))));
+    assert_eq!(rt; told(), Ok((9, Some(0), None, Some(12))));
 }
 
-pub fn entry(
-    alloc: Global,
-    sort: AceType,
-    who: &str,
-    mask: u32,
-    flags: u32,
-) -> Result<Ace, Refusal> {
+pub fn entry(sort: AceType, who: &str, mask: u32, flags: u32) -> Result<Ace, Refusal> {
     let flags = AceFlags::of(flags)?;
     Ok(Ace {
         sort,
-        who: Who::read(alloc, who, flags)?,
+        who: Who::read(who, flags)?,
         mask: Mask::of(mask)?,
         flags,
     })
@@ -77,7 +71,7 @@ pub type Rows = &'static [(AceType, &'static str, u32, u32)];
 pub fn list_of(alloc: Global, rows: Rows) -> Result<AccessList, Refusal> {
     let mut entries = Vec::new(alloc);
     for (sort, who, mask, flags) in rows {
-        entries.push(entry(alloc, *sort, who, *mask, *flags)?)?;
+        entries.push(entry(*sort, who, *mask, *flags)?)?;
     }
     Ok(AccessList::new(entries)?)
 }
@@ -85,7 +79,7 @@ pub fn list_of(alloc: Global, rows: Rows) -> Result<AccessList, Refusal> {
 fn many_entries(alloc: Global, len: usize) -> Result<Vec<Ace>, Refusal> {
     let mut entries = Vec::new(alloc);
     for _ in 0..len {
-        entries.push(entry(alloc, AceType::Allowed, "amy@users", 1, 0)?)?;
+        entries.push(entry(AceType::Allowed, "amy@users", 1, 0)?)?;
     }
     Ok(entries)
 }

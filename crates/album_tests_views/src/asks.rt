@@ -86,8 +86,8 @@ fn replace(object: ItemId) -> Result<Ask, Refusal> {
     Ok(Ask::Replace { object, content })
 }
 
-fn set_owner(alloc: Global, object: ItemId) -> Result<Ask, Refusal> {
-    let owner = Name::of(alloc, "bo")?;
+fn set_owner(object: ItemId) -> Result<Ask, Refusal> {
+    let owner = Name::of("bo")?;
     Ok(Ask::SetOwner {
         object,
         owner,
@@ -119,7 +119,7 @@ pub fn ask_of(alloc: Global, verb: Verb, text: &str) -> Result<Ask, Refusal> {
             let lists = one_list(alloc, item)?;
             Ok(Ask::SetLists { lists })
         }
-        Verb::SetOwner => set_owner(alloc, item),
+        Verb::SetOwner => set_owner(item),
         Verb::SetMembers => set_members(alloc, item, 2),
     }
 }

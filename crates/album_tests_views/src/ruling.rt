@@ -53,7 +53,7 @@ fn rule_again(
 /// The view of what is asked, and who asks.
 pub fn seen_by(alloc: Global, asked: Asked) -> Result<(View, Principal), Refusal> {
     let (store, who, verb, text) = asked;
-    let principal = Principal::read(alloc, who)?;
+    let principal = Principal::read(who)?;
     let ask = ask_of(alloc, verb, text)?;
     let view = view_of(alloc, store, ask, &principal)?;
     Ok((view, principal))

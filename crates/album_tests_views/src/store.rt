@@ -37,8 +37,8 @@ pub fn item_of(text: &str) -> Result<ItemId, Refusal> {
 }
 
 /// A head of amy's, of the head group 0, with the list of this number.
-fn head(alloc: Global, list: u64) -> Result<Head, Refusal> {
-    let owner = Name::of(alloc, "amy")?;
+fn head(list: u64) -> Result<Head, Refusal> {
+    let owner = Name::of("amy")?;
     Ok(Head {
         owner,
         group: 0,
@@ -50,7 +50,7 @@ fn picture(alloc: Global, list: u64) -> Result<Value, Refusal> {
     Ok(Value::Picture(Picture {
         title: Title::of(alloc, "Sea")?,
         content: Content::of(Bytes::new())?,
-        head: head(alloc, list)?,
+        head: head(list)?,
         home: 0,
     }))
 }
@@ -66,16 +66,16 @@ fn children(alloc: Global) -> Result<Items, Refusal> {
 fn album(alloc: Global, list: u64) -> Result<Value, Refusal> {
     Ok(Value::Album(Album {
         title: Title::of(alloc, "Trip")?,
-        head: head(alloc, list)?,
+        head: head(list)?,
         home: None,
         children: children(alloc)?,
     }))
 }
 
-fn entry_of(alloc: Global, (sort, who, mask, flags): Entry) -> Result<Ace, Refusal> {
+fn entry_of((sort, who, mask, flags): Entry) -> Result<Ace, Refusal> {
     let flags = AceFlags::of(flags)?;
     let mask = Mask::of(mask)?;
-    let who = Who::read(alloc, who, flags)?;
+    let who = Who::read(who, flags)?;
     Ok(Ace {
         sort,
         who,
@@ -88,7 +88,7 @@ fn entry_of(alloc: Global, (sort, who, mask, flags): Entry) -> Result<Ace, Refus
 pub fn list_of(alloc: Global, rows: &[Entry]) -> Result<AccessList, Refusal> {
     let mut entries = Vec::new(alloc);
     for row in rows {
-        entries.push(entry_of(alloc, *row)?)?;
+        entries.push(entry_of(*row)?)?;
     }
     Ok(AccessList::new(entries)?)
 }

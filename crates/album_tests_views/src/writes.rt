@@ -68,7 +68,7 @@ fn permit_by(alloc: Global, ask: Ask, principal: &Principal) -> Result<Permit, R
 
 /// amy's permit for the ask.
 fn permit_of(alloc: Global, ask: Ask) -> Result<Permit, Refusal> {
-    match Principal::read(alloc, AMY) {
+    match Principal::read(AMY) {
         Ok(amy) => {
             let permit = permit_by(alloc, ask, &amy);
             drop(amy);

@@ -2,16 +2,15 @@
 ghost use Rattle.std.specs.Prelude.{◌≡◌, ◌≢◌, ℕ, ◌<◌, ◌≤◌, true, false, Some, IfOk, IfErr, OnOk, IsOkUnless};
 ghost use Rattle.album_eval.specs.Policies.{policy_of};
 ghost use Rattle.album_items.specs.Openings.{is_opening};
-ghost use Rattle.album_items.specs.Places.{rows_placed_at};
 ghost use Rattle.album_passes.specs.Desk.{terms_of, AreOwners, first_pass};
 ghost use Rattle.album_threads.specs.Opened.{first_partition, AreFirst};
 
 use album_audit::Blanks;
 use album_eval::Policy;
-use album_items::{ItemId, ItemValues, Opening, Value, place};
+use album_items::{Opening, rows_placed_at};
 use album_partition::Partition;
 use album_passes::{Desk, Owner, Pass};
-use album_stamps::{MAX_PARTS, Refusal};
+use album_stamps::Refusal;
 use std::alloc::Global;
 use std::marker::Model;
 
@@ -97,25 +96,4 @@ fn partition_of(alloc: Global, opening: &Opening, number: u16) -> Result<Partiti
         // Of an opening that passes its check, memory alone can refuse a partition.
         Err(_) => Err(Refusal::OutOfMemory),
     }
-}
-
-/// The rows whose items are placed at the partition, in order.
-fn rows_placed_at(
-    alloc: Global,
-    number: u16,
-    parts: u16,
-    rows: &[(ItemId, Value)],
-) -> Result<ItemValues, Refusal>
-    requires low { 1 ≤ parts }
-    requires high { parts ≤ MAX_PARTS }
-    ensures rows { IfOk result (λ placed. placed ≡ rows_placed_at number parts rows.now) }
-    ensures memory { IsOkUnless result Refusal.OutOfMemory }
-{
-    let mut placed = Vec::new(alloc);
-    for row in rows {
-        if place(row.0, parts) == number {
-            placed.push((row.0, row.1.copy()?))?;
-        }
-    }
-    Ok(ItemValues::of(placed))
 }

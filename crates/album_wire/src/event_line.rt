@@ -85,7 +85,7 @@ fn events_of(alloc: Global, shape: EventShape) -> Result<Spelled, Refusal>
             who: text,
             ask: shape,
         } => {
-            let who = Principal::read(alloc, text)?;
+            let who = Principal::read(text)?;
             let ask = ask_of(alloc, shape)?;
             Ok(Spelled::One(Event::Ask(client, who, ask)))
         }
@@ -145,7 +145,7 @@ pub(crate) fn ask_of(alloc: Global, shape: AskShape) -> Result<Ask, Refusal>
             owner: text,
             group,
         } => {
-            let owner = owner(alloc, text)?;
+            let owner = owner(text)?;
             Ok(Ask::SetOwner {
                 object,
                 owner,

@@ -61,8 +61,8 @@ fn values_of(alloc: Global, shape: &JudgeShape) -> Result<JudgeLine, Refusal>
 {
     let list = carried_list(alloc, shape.holder, &shape.entries)?;
     let groups = each_group(alloc, &shape.groups)?;
-    let owner = user_name(alloc, shape.owner)?;
-    let who = Principal::read(alloc, shape.who)?;
+    let owner = user_name(shape.owner)?;
+    let who = Principal::read(shape.who)?;
     let mask = mask(shape.mask)?;
     Ok(JudgeLine {
         list,

@@ -121,7 +121,7 @@ fn value_of(alloc: Global, shape: ValueShape) -> Result<Value, Refusal>
         } => {
             let title = title(alloc, text)?;
             let content = content(alloc, digits)?;
-            let owner = owner(alloc, head.owner)?;
+            let owner = owner(head.owner)?;
             Ok(Value::Picture(Picture {
                 title,
                 content,
@@ -136,7 +136,7 @@ fn value_of(alloc: Global, shape: ValueShape) -> Result<Value, Refusal>
             children,
         } => {
             let title = title(alloc, text)?;
-            let owner = owner(alloc, head.owner)?;
+            let owner = owner(head.owner)?;
             Ok(Value::Album(Album {
                 title,
                 head: head_with(head, owner),
@@ -152,7 +152,7 @@ fn value_of(alloc: Global, shape: ValueShape) -> Result<Value, Refusal>
             head,
             members: texts,
         } => {
-            let owner = owner(alloc, head.owner)?;
+            let owner = owner(head.owner)?;
             let members = members(alloc, &texts)?;
             Ok(Value::Group(Group {
                 head: head_with(head, owner),

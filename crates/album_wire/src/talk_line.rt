@@ -34,7 +34,7 @@ pub fn read_hello(alloc: Global, scratch: &mut Scratch, bytes: &[u8]) -> Result<
 {
     let value = data(alloc, scratch, bytes)?;
     let who = hello_shape(&value)?;
-    Principal::read(alloc, who)
+    Principal::read(who)
 }
 
 /// Reads a later line of a connection: what it says, or the first test that it fails. The scratch is room that is

@@ -32,18 +32,18 @@ fn each_entry(alloc: Global, shapes: &[EntryShape]) -> Result<Vec<Ace>, Refusal>
 {
     let mut entries = Vec::with_capacity(alloc, shapes.len())?;
     for shape in shapes {
-        entries.push(entry(alloc, shape)?)?;
+        entries.push(entry(shape)?)?;
     }
     Ok(entries)
 }
 
 #[tactic(auto, unfolding(crate::specs::Values::entry_read))]
-fn entry(alloc: Global, shape: &EntryShape) -> Result<Ace, Refusal>
-    ensures { Gives (λ e. e) result (entry_read (spelled_entry shape.now)) }
+fn entry(shape: &EntryShape) -> Result<Ace, Refusal>
+    ensures { result ≡ entry_read (spelled_entry shape.now) }
 {
     let mask = mask(shape.mask)?;
     let flags = flags(shape.flags)?;
-    let who = Who::read(alloc, shape.who, flags)?;
+    let who = Who::read(shape.who, flags)?;
     Ok(Ace {
         sort: shape.sort,
         who,
@@ -88,16 +88,16 @@ fn each_member(alloc: Global, texts: &[&str]) -> Result<Vec<Member>, Refusal>
 {
     let mut members = Vec::with_capacity(alloc, texts.len())?;
     for text in texts {
-        members.push(Member::read(alloc, text)?)?;
+        members.push(Member::read(text)?)?;
     }
     Ok(members)
 }
 
 /// The owner that the text is.
-pub(crate) fn owner(alloc: Global, text: &str) -> Result<Name, Refusal>
-    ensures { Gives (λ name. name) result (owner_read text.now) }
+pub(crate) fn owner(text: &str) -> Result<Name, Refusal>
+    ensures { result ≡ owner_read text.now }
 {
-    user_name(alloc, text)
+    user_name(text)
 }
 
 /// The title that the text is.

@@ -2,14 +2,12 @@
 ghost use Rattle.std.specs.Prelude.{◌≡◌, ◌<◌, ◌≤◌, map, true, IfOk, IsOkUnless};
 ghost use Rattle.std.specs.List.{range_with_len};
 ghost use Rattle.album_items.specs.Openings.{is_opening};
-ghost use Rattle.album_items.specs.Places.{rows_placed_at};
-ghost use Rattle.album_stamps.specs.declared.limits.TheConstants.{MAX_PARTS};
 ghost use Rattle.album_client.specs.Terms.{terms_of};
 ghost use Rattle.album_world.specs.Runs.{opens};
 
 use album_client::Terms;
 use album_eval::Policy;
-use album_items::{ItemId, ItemValues, Opening, Value, place};
+use album_items::{Opening, rows_placed_at};
 use album_partition::Partition;
 use album_stamps::Refusal;
 use std::alloc::Global;
@@ -52,30 +50,9 @@ fn opens(alloc: Global, opening: &Opening, parts: u16, part: u16) -> Result<Part
     ensures partition { IfOk result (λ partition. partition ≡ opens opening.now part) }
     ensures memory { IsOkUnless result Refusal.OutOfMemory }
 {
-    let items = items_at(alloc, opening.items.as_slice(), parts, part)?;
+    let items = rows_placed_at(alloc, part, parts, opening.items.as_slice())?;
     match Partition::new(alloc, part, parts, items, opening.limit) {
         Ok(partition) => Ok(partition),
         Err(refused) => Err(refused.refusal),
     }
-}
-
-/// The items that are placed at the partition, with their first values.
-fn items_at(
-    alloc: Global,
-    rows: &[(ItemId, Value)],
-    parts: u16,
-    part: u16,
-) -> Result<ItemValues, Refusal>
-    requires low { 1 ≤ parts }
-    requires high { parts ≤ MAX_PARTS }
-    ensures items { IfOk result (λ items. items ≡ rows_placed_at part parts rows.now) }
-    ensures memory { IsOkUnless result Refusal.OutOfMemory }
-{
-    let mut own = Vec::new(alloc);
-    for row in rows {
-        if place(row.0, parts) == part {
-            own.push((row.0, row.1.copy()?))?;
-        }
-    }
-    Ok(ItemValues::of(own))
 }

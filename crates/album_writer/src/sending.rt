@@ -1,12 +1,11 @@
 // What a write sends.
 ghost use Rattle.std.specs.Prelude.{◌≡◌, ◌≤◌, ◌+◌, ◌<◌, ◌^◌, IfOk, IsOkUnless};
-ghost use Rattle.album_items.specs.Places.{rows_placed_at};
 ghost use Rattle.album_items.specs.Transactions.{items_written};
 ghost use Rattle.album_writer.specs.Writing.{prepare_to, prepares_of, commit_to, commit_round, commits_of};
 
 use crate::writing::Writing;
 use album_calls::{Body, Message, Node, Request};
-use album_items::{ItemId, ItemValues, Items, Value, place};
+use album_items::{ItemId, Items, Value, rows_placed_at};
 use album_stamps::{MAX_PARTS, Refusal};
 use std::alloc::{AllocError, Global};
 
@@ -76,25 +75,4 @@ pub fn items_written(alloc: Global, writes: &[(ItemId, Value)]) -> Result<Items,
         items.push(write.0)?;
     }
     Ok(Items::of(items))
-}
-
-/// The rows whose items are placed at the partition of this number, in order.
-fn rows_placed_at(
-    alloc: Global,
-    number: u16,
-    parts: u16,
-    rows: &[(ItemId, Value)],
-) -> Result<ItemValues, Refusal>
-    requires low { 1 ≤ parts }
-    requires high { parts ≤ MAX_PARTS }
-    ensures rows { IfOk result (λ placed. placed ≡ rows_placed_at number parts rows.now) }
-    ensures memory { IsOkUnless result Refusal.OutOfMemory }
-{
-    let mut placed = Vec::new(alloc);
-    for row in rows {
-        if place(row.0, parts) == number {
-            placed.push((row.0, row.1.copy()?))?;
-        }
-    }
-    Ok(ItemValues::of(placed))
 }

@@ -1,6 +1,6 @@
 use Rattle.std.proofs.Common.{◌≡◌, ◌++◌, drop}
 use Rattle.album_items.specs.Places.{rows_placed_at}
-use Rattle.album_writer.proofs.sending.rows_placed_at.Given as goal
+use Rattle.album_items.proofs.places.rows_placed_at.Given as goal
 
 abbrev pub invariant-loop-row : goal.invariant-loop-row
 invariant-loop-row l =
