@@ -78,7 +78,7 @@ IsKept now permit stamp =
 -- A participant had no room for the stamp when it was unknown there, at a point of its history that the cut has seen. (So it never prepares it: law `full_stays`.)
 pub record IsWithoutRoom (limit : ℕ) (now : Cut) (permit : PermitState) (stamp : ℕ) : Type 0 where
   pub place : ℕ
-  pub concerned : Contains (places_in now permit stamp) place
+  pub participant : Contains (places_in now permit stamp) place
   pub marks : List Mark
   pub had : IsPrefix marks (prefix_at now place)
   pub full : is_full limit marks ≡ true

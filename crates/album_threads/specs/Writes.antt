@@ -27,15 +27,15 @@ IsCommittedAt cut writing place = list_any (commits writing.stamp) (prefix_at cu
 
 -- The round is the one that began, and each participant is outstanding, or the property holds of it.
 pub record IsFurther (begun : WritingState) (Holds : ℕ → Type 0) (writing : WritingState) : Type 0 where
-  pub same : writing ≡ record begun { awaited = writing.awaited }
-  pub done : (place : ℕ) → Contains (places_in begun) place → Contains writing.awaited place ⊎ Holds place
+  pub same : writing ≡ record begun { outstanding = writing.outstanding }
+  pub done : (place : ℕ) → Contains (places_in begun) place → Contains writing.outstanding place ⊎ Holds place
 
 -- It writes in the cut's partitions, has some participant, and each is outstanding.
 pub record IsBegunOn (cut : Cut) (begun : WritingState) : Type 0 where
   pub parts : begun.parts ≡ cut.parts
   pub some_parts : 1 ≤ begun.parts
   pub some : places_in begun ≢ []
-  pub all : begun.awaited ≡ places_in begun
+  pub all : begun.outstanding ≡ places_in begun
 
 -- ---- how it ends
 

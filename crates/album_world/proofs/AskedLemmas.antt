@@ -39,10 +39,10 @@ use Rattle.album_permits.specs.declared.findings.Finding.TheVariants as finding
 use Rattle.album_permits.specs.declared.notes.Note.{Note}
 use Rattle.album_permits.specs.declared.serving.Served.{Served}
 use Rattle.album_writer.specs.Rounds.{answered_by, prepares_left, prepares_by, commits_left, commits_by}
-use Rattle.album_writer.specs.Told.{told_of}
+use Rattle.album_writer.specs.WriteReplies.{reply_in}
 use Rattle.album_writer.specs.Writing.{WritingState, commit_round, commits_of}
-use Rattle.album_writer.specs.declared.told.Told.{Told as Heard}
-use Rattle.album_writer.specs.declared.told.Told.TheVariants as told
+use Rattle.album_writer.specs.declared.write_replies.WriteReply.{WriteReply}
+use Rattle.album_writer.specs.declared.write_replies.WriteReply.TheVariants as write_reply
 use Rattle.album_writer.specs.declared.answers.Answer.{Answer}
 use Rattle.album_writer.specs.declared.answers.Answer.TheVariants as answer
 use Rattle.album_client.specs.declared.clients.Phase.{Phase}
@@ -363,30 +363,30 @@ module _ (o : Opening) (w : World) (k : IsKept o w) (c : ℕ) (q : IsRequestedBu
 
   -- ---- a message in a write
 
-  preparing_had : (z : WritingState) → WritesFor w c z → (from : Node) (what : Heard)
+  preparing_had : (z : WritingState) → WritesFor w c z → (from : Node) (what : WriteReply)
       → IsHad w c (prepare_turn x z.tag (prepares_by z from what))
-  preparing_had z u from told.Prepared = go (answered_by z from).awaited
+  preparing_had z u from write_reply.Prepared = go (answered_by z from).outstanding
     where
-      go : (awaited : List ℕ) → IsHad w c (prepare_turn x z.tag (prepares_left (answered_by z from) awaited))
+      go : (outstanding : List ℕ) → IsHad w c (prepare_turn x z.tag (prepares_left (answered_by z from) outstanding))
       go [] = writes_on z (commit_round (answered_by z from)) refl u (phase.Commits (commit_round (answered_by z from)))
           (commits_of (commit_round (answered_by z from))) (λ v d. d)
       go (p ∷ ps) = writes_on z (answered_by z from) refl u (phase.Prepares (answered_by z from)) [] (λ v d. d)
-  preparing_had z u from told.Discarded = outcome_had z u z.tag (answer.Aborted z.stamp) (λ ws e. e)
-  preparing_had z u from told.Full = outcome_had z u z.tag (answer.Unsettled z.stamp refusal.Full) (λ ws e. e)
-  preparing_had z u from told.Committed = writes_on z z refl u (phase.Prepares z) [] (λ v d. d)
-  preparing_had z u from told.Nothing = writes_on z z refl u (phase.Prepares z) [] (λ v d. d)
+  preparing_had z u from write_reply.Discarded = outcome_had z u z.tag (answer.Aborted z.stamp) (λ ws e. e)
+  preparing_had z u from write_reply.Full = outcome_had z u z.tag (answer.Unsettled z.stamp refusal.Full) (λ ws e. e)
+  preparing_had z u from write_reply.Committed = writes_on z z refl u (phase.Prepares z) [] (λ v d. d)
+  preparing_had z u from write_reply.Nothing = writes_on z z refl u (phase.Prepares z) [] (λ v d. d)
 
-  committing_had : (z : WritingState) → WritesFor w c z → (from : Node) (what : Heard)
+  committing_had : (z : WritingState) → WritesFor w c z → (from : Node) (what : WriteReply)
       → IsHad w c (commit_turn x z.tag (commits_by z from what))
-  committing_had z u from told.Committed = go (answered_by z from).awaited
+  committing_had z u from write_reply.Committed = go (answered_by z from).outstanding
     where
-      go : (awaited : List ℕ) → IsHad w c (commit_turn x z.tag (commits_left (answered_by z from) awaited))
+      go : (outstanding : List ℕ) → IsHad w c (commit_turn x z.tag (commits_left (answered_by z from) outstanding))
       go [] = outcome_had z u z.tag (answer.Committed (answered_by z from).stamp) (λ ws e. e)
       go (p ∷ ps) = writes_on z (answered_by z from) refl u (phase.Commits (answered_by z from)) [] (λ v d. d)
-  committing_had z u from told.Prepared = writes_on z z refl u (phase.Commits z) [] (λ v d. d)
-  committing_had z u from told.Discarded = writes_on z z refl u (phase.Commits z) [] (λ v d. d)
-  committing_had z u from told.Full = writes_on z z refl u (phase.Commits z) [] (λ v d. d)
-  committing_had z u from told.Nothing = writes_on z z refl u (phase.Commits z) [] (λ v d. d)
+  committing_had z u from write_reply.Prepared = writes_on z z refl u (phase.Commits z) [] (λ v d. d)
+  committing_had z u from write_reply.Discarded = writes_on z z refl u (phase.Commits z) [] (λ v d. d)
+  committing_had z u from write_reply.Full = writes_on z z refl u (phase.Commits z) [] (λ v d. d)
+  committing_had z u from write_reply.Nothing = writes_on z z refl u (phase.Commits z) [] (λ v d. d)
 
   -- ---- a request
 
@@ -587,8 +587,8 @@ module _ (o : Opening) (some : 0 < o.parts) (w : World) (k : IsKept o w) (q : Is
   client_had c m (phase.Idle tag) kept u = (q, tt)
   client_had c m (phase.Reads pending_ask r) kept u = reading_had o w k c (but c) pending_ask u kept.begun r.asker.tag
       (stepped r m)
-  client_had c m (phase.Prepares z) kept u = preparing_had o w k c (but c) z u m.from (told_of z m)
-  client_had c m (phase.Commits z) kept u = committing_had o w k c (but c) z u m.from (told_of z m)
+  client_had c m (phase.Prepares z) kept u = preparing_had o w k c (but c) z u m.from (reply_in z m)
+  client_had c m (phase.Commits z) kept u = committing_had o w k c (but c) z u m.from (reply_in z m)
 
   arrival_had : (n : ℕ) (m : Message) (to : Node) → IsKeptBy w (event.Deliver n) (Ok (arrives ts w.now m to))
   arrival_had n m (Part p) = go (slice_get w.now.partitions p)

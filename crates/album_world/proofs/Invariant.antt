@@ -257,7 +257,7 @@ pub record IsWriting (o : Opening) (w : World) (c : ℕ) (x : WritingState) (P :
   pub stamp : of.stamp ≡ x.stamp
   pub parts : places_in x ≡ places_of o.parts (items_written of.writes)
   pub client : x.client ≡ c
-  pub told : (p : ℕ) → In p (places_in x) → In p x.awaited ⊎ P p x.stamp
+  pub told : (p : ℕ) → In p (places_in x) → In p x.outstanding ⊎ P p x.stamp
 
 abbrev pub HasPrepared : World → ℕ → ℕ → Type 0
 HasPrepared w p t = IsPreparedIn (history w p) t

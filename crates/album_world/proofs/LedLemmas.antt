@@ -38,10 +38,10 @@ use Rattle.album_permits.specs.declared.findings.Finding.TheVariants as finding
 use Rattle.album_permits.specs.declared.notes.Note.{Note}
 use Rattle.album_permits.specs.declared.serving.Served.{Served}
 use Rattle.album_writer.specs.Rounds.{answered_by, prepares_left, prepares_by, commits_left, commits_by}
-use Rattle.album_writer.specs.Told.{told_of}
+use Rattle.album_writer.specs.WriteReplies.{reply_in}
 use Rattle.album_writer.specs.Writing.{WritingState, places_in, commit_round, commits_of}
-use Rattle.album_writer.specs.declared.told.Told.{Told as Heard}
-use Rattle.album_writer.specs.declared.told.Told.TheVariants as told
+use Rattle.album_writer.specs.declared.write_replies.WriteReply.{WriteReply}
+use Rattle.album_writer.specs.declared.write_replies.WriteReply.TheVariants as write_reply
 use Rattle.album_writer.specs.declared.answers.Answer.{Answer}
 use Rattle.album_writer.specs.declared.answers.Answer.TheVariants as answer
 use Rattle.album_client.specs.declared.clients.Phase.{Phase}
@@ -562,8 +562,8 @@ module _ (o : Opening) (w : World) (k : IsKept o w) (b : IsBooked (terms_of o) w
     Whatever by = Unit {0}
 
     left_booked : (y : WritingState) → y.stamp ≡ z.stamp → places_in y ≡ places_in z → y.client ≡ z.client
-        → y.tag ≡ z.tag → IsWriteOn t w c z Tagged → (awaited : List ℕ)
-        → IsBooked t (changed w (AtClient c (prepare_turn x z.tag (prepares_left y awaited))))
+        → y.tag ≡ z.tag → IsWriteOn t w c z Tagged → (outstanding : List ℕ)
+        → IsBooked t (changed w (AtClient c (prepare_turn x z.tag (prepares_left y outstanding))))
     left_booked y stamp places client tag h [] =
         quiet_booked (committing (commit_round y)) refl refl
         (same_write z (commit_round y) Tagged Whatever stamp places client (λ r e. tt) h)
@@ -572,14 +572,14 @@ module _ (o : Opening) (w : World) (k : IsKept o w) (b : IsBooked (terms_of o) w
         quiet_booked (preparing y) refl refl
         (same_write z y Tagged (λ by. by.tag ≡ y.tag) stamp places client (λ r e. e ∙ sym tag) h) []
 
-    prepared_booked : IsWriteOn t w c z Tagged → (what : Heard) → told_of z m ≡ what
+    prepared_booked : IsWriteOn t w c z Tagged → (what : WriteReply) → reply_in z m ≡ what
         → IsBooked t (changed w (AtClient c (prepare_turn x z.tag (prepares_by z m.from what))))
-    prepared_booked h told.Prepared e = left_booked (answered_by z m.from) refl refl refl refl h
-        (answered_by z m.from).awaited
-    prepared_booked h told.Discarded e = outcome_booked z.tag (answer.Aborted z.stamp) (committed_led z Tagged h)
+    prepared_booked h write_reply.Prepared e = left_booked (answered_by z m.from) refl refl refl refl h
+        (answered_by z m.from).outstanding
+    prepared_booked h write_reply.Discarded e = outcome_booked z.tag (answer.Aborted z.stamp) (committed_led z Tagged h)
         (noting_of z Tagged h (answer.Aborted z.stamp))
-    prepared_booked h told.Full e =
-        let d = told_to_is z m told.Full e tt in
+    prepared_booked h write_reply.Full e =
+        let d = told_to_is z m write_reply.Full e tt in
         outcome_booked z.tag (answer.Unsettled z.stamp refusal.Full)
         (on_write z Tagged h (IsBegunFull t w c z.stamp)
         (record {
@@ -596,12 +596,12 @@ module _ (o : Opening) (w : World) (k : IsKept o w) (b : IsBooked (terms_of o) w
           };
         }))
         (noting_of z Tagged h (answer.Unsettled z.stamp refusal.Full))
-    prepared_booked h told.Committed e = quiet_booked (preparing z) refl refl h []
-    prepared_booked h told.Nothing e = quiet_booked (preparing z) refl refl h []
+    prepared_booked h write_reply.Committed e = quiet_booked (preparing z) refl refl h []
+    prepared_booked h write_reply.Nothing e = quiet_booked (preparing z) refl refl h []
 
     ended_booked : (y : WritingState) → y.stamp ≡ z.stamp → places_in y ≡ places_in z → y.client ≡ z.client
-        → IsWriteOn t w c z Whatever → (awaited : List ℕ)
-        → IsBooked t (changed w (AtClient c (commit_turn x z.tag (commits_left y awaited))))
+        → IsWriteOn t w c z Whatever → (outstanding : List ℕ)
+        → IsBooked t (changed w (AtClient c (commit_turn x z.tag (commits_left y outstanding))))
     ended_booked y stamp places client h [] =
         outcome_booked z.tag (answer.Committed y.stamp)
         (committed_led y Whatever (same_write z y Whatever Whatever stamp places client (λ r e. e) h))
@@ -609,14 +609,14 @@ module _ (o : Opening) (w : World) (k : IsKept o w) (b : IsBooked (terms_of o) w
     ended_booked y stamp places client h (p ∷ ps) = quiet_booked (committing y) refl refl
         (same_write z y Whatever Whatever stamp places client (λ r e. e) h) []
 
-    committed_booked : IsWriteOn t w c z Whatever → (what : Heard) → told_of z m ≡ what
+    committed_booked : IsWriteOn t w c z Whatever → (what : WriteReply) → reply_in z m ≡ what
         → IsBooked t (changed w (AtClient c (commit_turn x z.tag (commits_by z m.from what))))
-    committed_booked h told.Committed e = ended_booked (answered_by z m.from) refl refl refl h
-        (answered_by z m.from).awaited
-    committed_booked h told.Prepared e = quiet_booked (committing z) refl refl h []
-    committed_booked h told.Discarded e = quiet_booked (committing z) refl refl h []
-    committed_booked h told.Full e = quiet_booked (committing z) refl refl h []
-    committed_booked h told.Nothing e = quiet_booked (committing z) refl refl h []
+    committed_booked h write_reply.Committed e = ended_booked (answered_by z m.from) refl refl refl h
+        (answered_by z m.from).outstanding
+    committed_booked h write_reply.Prepared e = quiet_booked (committing z) refl refl h []
+    committed_booked h write_reply.Discarded e = quiet_booked (committing z) refl refl h []
+    committed_booked h write_reply.Full e = quiet_booked (committing z) refl refl h []
+    committed_booked h write_reply.Nothing e = quiet_booked (committing z) refl refl h []
 
   -- ---- whatever it does
 
@@ -625,8 +625,8 @@ module _ (o : Opening) (w : World) (k : IsKept o w) (b : IsBooked (terms_of o) w
       → IsBooked t (changed w (client_takes_by t c x m f))
   by_booked m sent (phase.Idle tag) kept h = b
   by_booked m sent (phase.Reads pending_ask r) kept h = reading_booked pending_ask h kept.low kept.high r.asker.tag (stepped r m)
-  by_booked m sent (phase.Prepares z) kept h = prepared_booked m sent z h (told_of z m) refl
-  by_booked m sent (phase.Commits z) kept h = committed_booked m sent z h (told_of z m) refl
+  by_booked m sent (phase.Prepares z) kept h = prepared_booked m sent z h (reply_in z m) refl
+  by_booked m sent (phase.Commits z) kept h = committed_booked m sent z h (reply_in z m) refl
 
   pub message_booked : (m : Message) → In m w.now.messages → IsBooked t (changed w (client_takes t w.now c x m))
   message_booked m sent = go (is_stopped w.now c)

@@ -27,9 +27,9 @@ use Rattle.album_permits.specs.declared.serving.Served.{Served}
 use Rattle.album_writer.specs.Rounds.{WriteStep, commits_by, commits_left, prepare_stepped, commit_stepped}
 use Rattle.album_writer.specs.Rounds.WriteStep.{Waits, Commits as Decides, Ends}
 use Rattle.album_writer.specs.Writing.{WritingState, places_in}
-use Rattle.album_writer.specs.Told.{told_of}
-use Rattle.album_writer.specs.declared.told.Told.{Told}
-use Rattle.album_writer.specs.declared.told.Told.TheVariants as told
+use Rattle.album_writer.specs.WriteReplies.{reply_in}
+use Rattle.album_writer.specs.declared.write_replies.WriteReply.{WriteReply}
+use Rattle.album_writer.specs.declared.write_replies.WriteReply.TheVariants as write_reply
 use Rattle.album_client.specs.declared.clients.Phase.{Phase}
 use Rattle.album_client.specs.declared.clients.Phase.TheVariants as phase
 use Rattle.album_client.specs.declared.transitions.Transition.{Transition}
@@ -61,18 +61,18 @@ few_prepared x tag writing message = go (prepare_stepped writing message) refl
 -- a round of Commits sends nothing
 pub none_committed : (x : Client) (tag : ℕ) (writing : WritingState) (message : Message)
     → length (commit_turn x tag (commit_stepped writing message)).sent ≤ 0
-none_committed x tag writing message = by (told_of writing message)
+none_committed x tag writing message = by (reply_in writing message)
   where
-    left : (some : WritingState) (awaited : List ℕ) → length (commit_turn x tag (commits_left some awaited)).sent ≤ 0
+    left : (some : WritingState) (outstanding : List ℕ) → length (commit_turn x tag (commits_left some outstanding)).sent ≤ 0
     left some [] = omega arith
     left some (place ∷ places) = omega arith
 
-    by : (f : Told) → length (commit_turn x tag (commits_by writing message.from f)).sent ≤ 0
-    by told.Prepared = omega arith
-    by told.Committed = left _ _
-    by told.Discarded = omega arith
-    by told.Full = omega arith
-    by told.Nothing = omega arith
+    by : (f : WriteReply) → length (commit_turn x tag (commits_by writing message.from f)).sent ≤ 0
+    by write_reply.Prepared = omega arith
+    by write_reply.Committed = left _ _
+    by write_reply.Discarded = omega arith
+    by write_reply.Full = omega arith
+    by write_reply.Nothing = omega arith
 
 -- ---- what a client did doesn't matter to what it does next
 

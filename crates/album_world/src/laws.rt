@@ -108,7 +108,7 @@ pub fn committed_is_never_discarded()
 
 /// A law: what an event tells is in the past of the world after it, with the read that the client had made last.
 /// So each of the promises is one about what events tell.
-pub fn what_is_told_is_in_the_past()
+pub fn outputs_are_in_the_past()
     ensures answers { (terms : Terms) (world : World) (event : Happening) (client : ℕ) (answer : Answered)
         → Contains (tells terms world event) (Told.Answered client answer)
         → Contains (happens terms world event).past.told
@@ -120,7 +120,7 @@ pub fn what_is_told_is_in_the_past()
 
 /// A law: each answer, each note and each message is told once: what an event tells, and what a run of them does, is in
 /// its order just what the past has more after it.
-pub fn each_thing_is_told_once()
+pub fn each_output_is_given_once()
     ensures event { (terms : Terms) (world : World) (event : Happening)
         → IsToldOnce world (happens terms world event) (tells terms world event) }
     ensures run { (terms : Terms) (world : World) (events : List Happening)

@@ -1,4 +1,4 @@
-// What comes of an ask.
+// The answer to an ask.
 
 use album_items::ItemId;
 use album_permits::{Denial, Served};
@@ -8,20 +8,20 @@ use album_views::Why;
 /// The answer to an ask.
 #[derive(Debug, Drop)]
 pub enum Answer {
-    /// It is granted, writes nothing, and is served this.
+    /// The ask is granted, writes nothing, and is served this.
     Served(Served),
-    /// It is denied, with what is said of each alternative.
+    /// It is denied. The denial has the reason for each alternative.
     Denied(Denial),
-    /// This object of it is missing.
+    /// This object that it names is missing.
     Missing(ItemId),
     /// It has no view.
     Busy(Why),
-    /// It is written at this stamp, at each partition concerned.
+    /// It is written at this stamp, at each participant.
     Committed(Stamp),
-    /// It is never written: a partition concerned has promised against this stamp.
+    /// It is never written: a participant has promised to discard this stamp.
     Aborted(Stamp),
-    /// It was begun at this stamp and isn't settled, since a partition had no room for it. In a running service it may
-    /// also be that there was no memory, or that the service is closed; then nothing is known of how it ends.
+    /// Its write began at this stamp and isn't settled: a participant had no room for it. In a running service the
+    /// memory may also have run out, or the service may be closed. Then nobody knows yet how the write ends.
     Unsettled(Stamp, Refusal),
     /// It is granted, and can't be written: the album is full, or the client's stamps are spent.
     Refused(Refusal),

@@ -1,5 +1,5 @@
 use Rattle.album_writer.proofs.Giving.{first-told, second-told, prepare-told, commit-told}
-use Rattle.album_writer.proofs.laws.a_write_is_what_it_was_told.Goals as goal
+use Rattle.album_writer.proofs.laws.a_write_depends_on_its_replies.Goals as goal
 
 pub returns-clause-first : goal.returns-clause-first
 returns-clause-first c = first-told

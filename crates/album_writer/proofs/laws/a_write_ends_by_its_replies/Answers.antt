@@ -1,5 +1,5 @@
 use Rattle.album_writer.proofs.Lasts.{commits-last, commits-own, over, aborts, is-full, ends-last, over-committed}
-use Rattle.album_writer.proofs.laws.a_write_ends_by_what_it_is_told.Goals as goal
+use Rattle.album_writer.proofs.laws.a_write_ends_by_its_replies.Goals as goal
 
 pub returns-clause-commits : goal.returns-clause-commits
 returns-clause-commits c = commits-last
