@@ -13,9 +13,9 @@ use Rattle.album_world.specs.Past.{Past, World}
 use Rattle.album_world.specs.Changes.{Change, change_of}
 use Rattle.album_world.specs.Runs.{now_after, past_after, outs_of, happens, changed_by, requested}
 use Rattle.album_world.specs.Seen.{WorldState, IsDone}
-use Rattle.album_world.specs.declared.events.Event.{Event}
-use Rattle.album_world.specs.declared.events.Event.TheVariants as event
-use Rattle.album_world.specs.declared.outs.Out.{Out}
+use Rattle.album_permits.specs.declared.events.Event.{Event}
+use Rattle.album_permits.specs.declared.events.Event.TheVariants as event
+use Rattle.album_permits.specs.declared.outs.Out.{Out}
 use Rattle.album_wire.specs.EventLine.{deliveries}
 use Rattle.album_wire.specs.Output.{refusal_line}
 use Rattle.album_wire.specs.Lines.{Line}

@@ -17,9 +17,9 @@ use Rattle.album_world.specs.Past.{World}
 use Rattle.album_world.specs.Changes.{Change, change_of}
 use Rattle.album_world.specs.Runs.{now_after, outs_of, run_of, start, tells, outs_by}
 use Rattle.album_world.specs.Seen.{IsInPast}
-use Rattle.album_world.specs.declared.events.Event.{Event}
-use Rattle.album_world.specs.declared.outs.Out.{Out}
-use Rattle.album_world.specs.declared.outs.Out.TheVariants as out
+use Rattle.album_permits.specs.declared.events.Event.{Event}
+use Rattle.album_permits.specs.declared.outs.Out.{Out}
+use Rattle.album_permits.specs.declared.outs.Out.TheVariants as out
 use Rattle.album_world.proofs.StoryLemmas.{run_more, in_past_told}
 use Rattle.album_world.proofs.AnsweredLemmas.{answers_are_to_requests}
 use Rattle.album_world.proofs.PromiseLemmas.{rulings_hold, writes_are_granted, views_are_read_atomic, views_are_fresh, outcomes_are_true, busy_has_its_cause}

@@ -6,7 +6,7 @@ use Rattle.album_stamps.specs.declared.refusals.Refusal.{Refusal}
 use Rattle.album_client.specs.Terms.{Terms}
 use Rattle.album_world.specs.Past.{World}
 use Rattle.album_world.specs.Runs.{happens}
-use Rattle.album_world.specs.declared.events.Event.{Event}
+use Rattle.album_permits.specs.declared.events.Event.{Event}
 use Rattle.album_wire.specs.Lines.{Line, is_blank, cut, last, ended, begun, lines_of}
 use Rattle.album_wire.specs.EventLine.{deliveries}
 use Rattle.album_wire.specs.declared.event_shape.Spelled.{Spelled}

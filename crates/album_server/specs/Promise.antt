@@ -22,9 +22,9 @@ use Rattle.album_world.specs.Outcomes.{OutcomesAreTrue}
 use Rattle.album_world.specs.Requests.{AnswersAreToRequests, IsAnsweredLast}
 use Rattle.album_world.specs.Rulings.{RulingsHold}
 use Rattle.album_world.specs.Runs.{run_of, told_to}
-use Rattle.album_world.specs.declared.events.Event.{Event}
-use Rattle.album_world.specs.declared.outs.Out.{Out}
-use Rattle.album_world.specs.declared.outs.Out.TheVariants as out
+use Rattle.album_permits.specs.declared.events.Event.{Event}
+use Rattle.album_permits.specs.declared.outs.Out.{Out}
+use Rattle.album_permits.specs.declared.outs.Out.TheVariants as out
 use Rattle.album_wire.specs.EventLine.{deliveries}
 use Rattle.album_wire.specs.Lines.{Line, is_blank, lines_of}
 use Rattle.album_wire.specs.Output.{refusal_line}

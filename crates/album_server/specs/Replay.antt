@@ -11,9 +11,9 @@ use Rattle.album_world.specs.State.{Now, message_of}
 use Rattle.album_world.specs.Past.{World}
 use Rattle.album_world.specs.Changes.{Change, change_of}
 use Rattle.album_world.specs.Runs.{now_after, outs_of, happens, start}
-use Rattle.album_world.specs.declared.events.Event.{Event}
-use Rattle.album_world.specs.declared.outs.Out.{Out}
-use Rattle.album_world.specs.declared.outs.Out.TheVariants as out
+use Rattle.album_permits.specs.declared.events.Event.{Event}
+use Rattle.album_permits.specs.declared.outs.Out.{Out}
+use Rattle.album_permits.specs.declared.outs.Out.TheVariants as out
 use Rattle.album_wire.specs.Lines.{Line, is_blank, ended, lines_of}
 use Rattle.album_wire.specs.OpeningLine.{opening_line_of}
 use Rattle.album_wire.specs.EventLine.{event_line_of, deliveries}

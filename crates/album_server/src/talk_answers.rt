@@ -10,13 +10,13 @@ ghost use Rattle.album_server.specs.Talk.{AnswersTalk, Attends, Greets, IsAsked,
 use crate::answers::is_blank;
 use album_eval::Principal;
 use album_items::ItemId;
+use album_permits::Out;
 use album_stamps::{Refusal, Stamp};
 use album_threads::{ServiceNames, Session};
 use album_views::Ask;
 use album_wire::{
     LineIn, TalkLine, TalkOut, read_hello, read_talk, write_out, write_refusal, write_talk,
 };
-use album_world::Out;
 use json::Scratch;
 use std::alloc::Global;
 use std::sync::Wait;

@@ -10,7 +10,7 @@ use Rattle.album_eval.specs.Matching.{principal_of}
 use Rattle.album_eval.specs.declared.facts.Principal.{Principal}
 use Rattle.album_eval.proofs.Principals.{principal_spelled, spelled_principal}
 use Rattle.album_views.specs.declared.asks.Ask.{Ask}
-use Rattle.album_world.specs.declared.events.Event.TheVariants as event
+use Rattle.album_permits.specs.declared.events.Event.TheVariants as event
 use Rattle.album_wire.specs.Fields.{guard, sized, has, is_list, text_of, whole_of}
 use Rattle.album_wire.specs.Spelling.{HasOnly, list_data}
 use Rattle.album_wire.specs.AskShape.{SpelledAsk, ask_shape_of}

@@ -13,9 +13,9 @@ use crate::trees::data;
 use crate::values::{access_list, content, members, owner, title};
 use album_eval::Principal;
 use album_items::Members;
+use album_permits::Event;
 use album_stamps::Refusal;
 use album_views::{Ask, NewList, NewLists};
-use album_world::Event;
 use json::Scratch;
 use std::alloc::Global;
 

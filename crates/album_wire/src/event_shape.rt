@@ -11,8 +11,8 @@ use crate::ask_shape::{AskShape, ask_shape};
 use crate::fields::{field, has, is_list, item, only, sized_list, text, whole};
 use crate::item_shapes::item_named;
 use album_items::ItemId;
+use album_permits::Event;
 use album_stamps::{ClientNo, Refusal, Stamp};
-use album_world::Event;
 use json::Value;
 use std::alloc::Global;
 

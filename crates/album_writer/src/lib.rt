@@ -2,14 +2,11 @@
 //!
 //! What comes in: a permit whose ask writes and a stamp of its client, and then the messages that reach the client.
 //! What goes out: a Prepare to each partition of the items that are written; with the reply by which all of these have
-//! prepared, a Commit to each; and how the write ended. What comes of any ask, a write or not, is told by `Answer`.
+//! prepared, a Commit to each; and how the write ended. `Answer` of `album_permits` tells what comes of any ask.
 //!
 //! Read `preparing` first, then `committing`, which do their work on `writing`. What a message does is told by
 //! specs/Rounds.antt, over specs/Writing.antt and specs/Told.antt.
 #![tactic(auto)]
-
-// What comes of an ask.
-mod answers;
 
 // What a write is made of.
 mod outcomes;
@@ -25,7 +22,7 @@ mod preparing;
 // What holds of it.
 mod laws;
 
-pub use answers::Answer;
+pub use album_permits::Answer;
 pub use committing::{CommitStep, Committing};
 pub use laws::{
     a_message_counts_or_is_stray, a_write_ends_by_what_it_is_told, a_write_is_what_it_was_told,

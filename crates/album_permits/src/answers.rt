@@ -1,7 +1,8 @@
 // What comes of an ask.
 
+use crate::findings::Denial;
+use crate::serving::Served;
 use album_items::ItemId;
-use album_permits::{Denial, Served};
 use album_stamps::{Refusal, Stamp};
 use album_views::Why;
 

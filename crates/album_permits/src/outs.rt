@@ -1,7 +1,7 @@
 // What an event of a world tells.
-use album_permits::Note;
+use crate::answers::Answer;
+use crate::notes::Note;
 use album_stamps::ClientNo;
-use album_writer::Answer;
 
 /// One thing that an event tells.
 #[derive(Debug, Drop)]
