@@ -15,8 +15,8 @@ use Rattle.album_threads.specs.Controls.{IsUntrimmed}
 use Rattle.album_threads.specs.Resting.{RestsOn}
 use Rattle.album_threads.specs.Sessions.{SessionState, IsNoWord}
 use Rattle.album_permits.specs.declared.outs.Out.TheVariants as out
-use Rattle.album_wire.specs.Lines.{Line, is_blank}
-use Rattle.album_wire.specs.Output.{line_text, refusal_line}
+use Rattle.album_lines.specs.Lines.{Line, is_blank}
+use Rattle.album_lines.specs.Output.{line_text, refusal_line}
 use Rattle.album_wire.specs.OutJson.{out_line}
 use Rattle.album_wire.specs.TalkJson.{pending_json, talk_text}
 use Rattle.album_wire.specs.declared.talk_json.TalkOut.{TalkOut}

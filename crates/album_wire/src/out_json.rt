@@ -5,7 +5,7 @@ ghost use Rattle.serde_json.specs.Written.{has_float};
 ghost use Rattle.album_items.specs.ItemIds.{picture, album};
 ghost use Rattle.album_wire.specs.MessageJson.{message_json};
 ghost use Rattle.album_wire.specs.OutJson.{note_json, row_json, rows_json, picture_served, group_served, entries_served, listed_json, served_json, at_json, reason_json, reasons_json, denied_json, missing_json, why_word, busy_json, ended_json, unsettled_json, refused_json, answer_json, out_line};
-ghost use Rattle.album_wire.specs.Output.{line_text};
+ghost use Rattle.album_lines.specs.Output.{line_text};
 
 use crate::message_json::message_json;
 use crate::value_json::{entries_json, item_json, members_json};
