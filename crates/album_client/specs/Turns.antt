@@ -35,8 +35,8 @@ use Rattle.album_client.specs.Clients.{Client}
 use Rattle.album_client.specs.declared.clients.Phase.{Phase}
 use Rattle.album_client.specs.declared.clients.Phase.TheVariants.{Idle, Reads, Prepares, Commits}
 use Rattle.album_client.specs.Grants.{served_for}
-use Rattle.album_writer.specs.declared.answers.Answer.{Answer}
-use Rattle.album_writer.specs.declared.answers.Answer.TheVariants as answer
+use Rattle.album_permits.specs.declared.answers.Answer.{Answer}
+use Rattle.album_permits.specs.declared.answers.Answer.TheVariants as answer
 
 -- a write that a client begins: the client, the tag of its Prepares, its stamp, its permit, and all that it writes
 pub record Transaction : Type 0 where

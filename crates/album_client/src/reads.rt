@@ -13,10 +13,10 @@ use crate::transitions::{ClientStep, Transition};
 use album_calls::Message;
 use album_eval::Principal;
 use album_items::Items;
+use album_permits::Answer;
 use album_reader::{Reading, Step};
 use album_stamps::Refusal;
 use album_views::{Ask, ViewStep, Viewing};
-use album_writer::Answer;
 
 impl ClientStep {
     /// An ask that the principal may ask begins, with a read of its objects.

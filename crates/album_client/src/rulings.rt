@@ -9,11 +9,10 @@ ghost use Rattle.album_client.specs.Turns.{clock_after_rows, grants, rules, rule
 
 use crate::transitions::{ClientStep, Transition};
 use album_eval::Principal;
-use album_permits::{Permit, Ruled, Ruling, rule_on};
+use album_permits::{Answer, Permit, Ruled, Ruling, rule_on};
 use album_reader::ReadVersion;
 use album_stamps::{Clock, Refusal, Refused};
 use album_views::View;
-use album_writer::Answer;
 
 impl ClientStep {
     /// The ask of the view is ruled on, once the clock has seen the view's stamps.

@@ -5,9 +5,8 @@ ghost use Rattle.album_stamps.specs.declared.limits.TheConstants.{MAX_READ_ITEMS
 use crate::clients::{Client, Phase};
 use crate::terms::Terms;
 use album_calls::Message;
-use album_permits::Note;
+use album_permits::{Answer, Note};
 use album_stamps::{ClientNo, Clock};
-use album_writer::Answer;
 use std::alloc::Global;
 
 /// A client's next state, with its outputs: notes, messages to send, and at most one answer.

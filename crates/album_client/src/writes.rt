@@ -10,9 +10,9 @@ ghost use Rattle.album_writer.specs.Rounds.{commit_stepped, prepare_stepped};
 use crate::clients::Phase;
 use crate::transitions::{ClientStep, Transition};
 use album_calls::Message;
-use album_permits::Permit;
+use album_permits::{Answer, Permit};
 use album_stamps::{Refusal, Refused, Stamp};
-use album_writer::{Answer, CommitStep, Committing, Outcome, PrepareStep, Preparing};
+use album_writer::{CommitStep, Committing, Outcome, PrepareStep, Preparing};
 
 impl ClientStep {
     /// A stamp is drawn for the write of the permit's ask.

@@ -22,12 +22,12 @@ use Rattle.album_world.specs.Outcomes.{OutcomesAreTrue}
 use Rattle.album_world.specs.Requests.{AnswersAreToRequests, IsAnsweredLast}
 use Rattle.album_world.specs.Rulings.{RulingsHold}
 use Rattle.album_world.specs.Runs.{run_of, told_to}
-use Rattle.album_world.specs.declared.events.Event.{Event}
-use Rattle.album_world.specs.declared.outs.Out.{Out}
-use Rattle.album_world.specs.declared.outs.Out.TheVariants as out
+use Rattle.album_permits.specs.declared.events.Event.{Event}
+use Rattle.album_permits.specs.declared.outs.Out.{Out}
+use Rattle.album_permits.specs.declared.outs.Out.TheVariants as out
 use Rattle.album_wire.specs.EventLine.{deliveries}
-use Rattle.album_wire.specs.Lines.{Line, is_blank, lines_of}
-use Rattle.album_wire.specs.Output.{refusal_line}
+use Rattle.album_lines.specs.Lines.{Line, is_blank, lines_of}
+use Rattle.album_lines.specs.Output.{refusal_line}
 use Rattle.album_wire.specs.OutJson.{out_line}
 use Rattle.album_wire.specs.declared.event_shape.Spelled.{Spelled}
 use Rattle.album_wire.specs.declared.event_shape.Spelled.TheVariants as spelled

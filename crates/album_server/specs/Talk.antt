@@ -8,15 +8,15 @@ use Rattle.album_eval.specs.declared.facts.Principal.{Principal}
 use Rattle.album_eval.specs.declared.policies.Policy.{Policy}
 use Rattle.album_views.specs.Checks.{refusal_of}
 use Rattle.album_views.specs.declared.asks.Ask.{Ask}
-use Rattle.album_writer.specs.declared.answers.Answer.{Answer}
+use Rattle.album_permits.specs.declared.answers.Answer.{Answer}
 use Rattle.album_passes.specs.Cuts.{prefix_at}
 use Rattle.album_threads.specs.Asks.{IsOn}
 use Rattle.album_threads.specs.Controls.{IsUntrimmed}
 use Rattle.album_threads.specs.Resting.{RestsOn}
 use Rattle.album_threads.specs.Sessions.{SessionState, IsClosedOrOutOfMemory}
-use Rattle.album_world.specs.declared.outs.Out.TheVariants as out
-use Rattle.album_wire.specs.Lines.{Line, is_blank}
-use Rattle.album_wire.specs.Output.{line_text, refusal_line}
+use Rattle.album_permits.specs.declared.outs.Out.TheVariants as out
+use Rattle.album_lines.specs.Lines.{Line, is_blank}
+use Rattle.album_lines.specs.Output.{line_text, refusal_line}
 use Rattle.album_wire.specs.OutJson.{out_line}
 use Rattle.album_wire.specs.TalkJson.{pending_json, talk_text}
 use Rattle.album_wire.specs.declared.talk_json.TalkOut.{TalkOut}

@@ -1,7 +1,7 @@
 // Lines as they are cut, read and written, each call once (docs/FORMATS.md, "Lines").
 use album_eval::Verdict;
+use album_lines::{LineIn, Lines, read_judge, write_refusal, write_verdict};
 use album_stamps::Refusal;
-use album_wire::{LineIn, Lines, read_judge, write_refusal, write_verdict};
 use bitflags::Flags;
 use json::Scratch;
 use std::alloc::Global;

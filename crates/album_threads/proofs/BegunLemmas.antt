@@ -22,7 +22,7 @@ use Rattle.album_threads.specs.Sessions.{SessionState, IsClosedOrOutOfMemory}
 use Rattle.album_threads.specs.Writes.{IsBegunOn, IsEndOf}
 use Rattle.album_threads.proofs.GroundLemmas.{seen_more}
 use Rattle.album_writer.specs.Writing.{WritingState, prepare_round}
-use Rattle.album_writer.specs.declared.answers.Answer.TheVariants as answer
+use Rattle.album_permits.specs.declared.answers.Answer.TheVariants as answer
 use Rattle.album_writer.specs.declared.outcomes.Outcome.{Outcome}
 use Rattle.album_writer.specs.declared.outcomes.Outcome.TheVariants as outcome
 use Rattle.album_writer.proofs.Placing.{some-place}

@@ -49,7 +49,7 @@ use Rattle.album_views.specs.declared.viewing.ViewStep.TheVariants.{Again, Close
 use Rattle.album_views.specs.declared.viewing.Why.{Why}
 use Rattle.album_views.specs.declared.viewing.Why.TheVariants.{Rounds, Wide}
 use Rattle.album_views.proofs.Closing.{names-readable}
-use Rattle.album_writer.specs.declared.answers.Answer.TheVariants as answer
+use Rattle.album_permits.specs.declared.answers.Answer.TheVariants as answer
 
 -- ---- messages of a round
 

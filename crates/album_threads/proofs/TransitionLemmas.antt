@@ -19,7 +19,7 @@ use Rattle.album_threads.specs.Sending.{prepared_first, announced_with, announce
 use Rattle.album_threads.specs.Sessions.{SessionState}
 use Rattle.album_threads.proofs.SendLemmas.{last_sent, last_at}
 use Rattle.album_views.specs.Checks.{refusal_of}
-use Rattle.album_writer.specs.declared.answers.Answer.{Answer}
+use Rattle.album_permits.specs.declared.answers.Answer.{Answer}
 
 -- An ask was under way of a session; then a reply was heard, by which its client has transition, and that is noted.
 pub record IsNoted (o : Outset) (now next noted : SessionState) (transition : Transition) : Type 0 where

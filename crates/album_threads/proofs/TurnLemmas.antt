@@ -35,8 +35,8 @@ use Rattle.album_threads.proofs.TransitionLemmas.{IsNoted, IsMovedOn}
 use Rattle.album_threads.proofs.ReadingLemmas.{read_on}
 use Rattle.album_writer.specs.Rounds.{WriteStep, prepare_stepped, commit_stepped}
 use Rattle.album_writer.specs.Rounds.WriteStep.{Waits, Commits as Decides, Ends}
-use Rattle.album_writer.specs.declared.answers.Answer.{Answer}
-use Rattle.album_writer.specs.declared.answers.Answer.TheVariants as answer
+use Rattle.album_permits.specs.declared.answers.Answer.{Answer}
+use Rattle.album_permits.specs.declared.answers.Answer.TheVariants as answer
 
 moved_on : (limit : ℕ) (policy : Policy) (o : Outset) (now next noted : SessionState) (at : Cut) (sent : List Message) (transition : Transition)
     (d : Phase) (m : Message) → IsNoted o now next noted transition → IsPhase policy o now at sent d → IsReplied limit at next.cut sent m

@@ -17,8 +17,8 @@ use Rattle.album_permits.specs.declared.findings.Finding.TheVariants as finding
 use Rattle.album_permits.specs.declared.notes.Note.{Note}
 use Rattle.album_threads.specs.Grounds.{IsOnView, Finds, Notes, items_of, IsKept, IsWithoutRoom, IsWide, IsOutOfReads}
 use Rattle.album_threads.specs.Sessions.{SessionState}
-use Rattle.album_writer.specs.declared.answers.Answer.{Answer}
-use Rattle.album_writer.specs.declared.answers.Answer.TheVariants as answer
+use Rattle.album_permits.specs.declared.answers.Answer.{Answer}
+use Rattle.album_permits.specs.declared.answers.Answer.TheVariants as answer
 use Rattle.album_views.specs.declared.asks.Ask.{Ask}
 use Rattle.album_views.specs.declared.viewing.Why.TheVariants.{Rounds, Wide}
 

@@ -22,8 +22,8 @@ use Rattle.album_threads.specs.declared.session.turn.Turned.{Turned}
 use Rattle.album_threads.specs.declared.session.turn.Turned.TheVariants.{Answers, Sends}
 use Rattle.album_threads.specs.declared.session.ask.Way.{Way}
 use Rattle.album_threads.specs.declared.session.ask.Way.TheVariants.{Answered, Awaits}
-use Rattle.album_writer.specs.declared.answers.Answer.{Answer}
-use Rattle.album_writer.specs.declared.answers.Answer.TheVariants as answer
+use Rattle.album_permits.specs.declared.answers.Answer.{Answer}
+use Rattle.album_permits.specs.declared.answers.Answer.TheVariants as answer
 
 -- a session's client, whatever it does, and the terms on which it asks
 abbrev pub client_step_in : SessionState → Client

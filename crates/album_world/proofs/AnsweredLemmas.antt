@@ -9,7 +9,7 @@ use Rattle.album_partition.specs.Partition.{PartitionState}
 use Rattle.album_partition.specs.declared.marks.Mark.{Mark}
 use Rattle.album_reader.specs.Answers.{ReadVersion}
 use Rattle.album_client.specs.Terms.{Terms, terms_of}
-use Rattle.album_world.specs.declared.events.Event.{Event}
+use Rattle.album_permits.specs.declared.events.Event.{Event}
 use Rattle.album_world.specs.State.{history_in}
 use Rattle.album_world.specs.Past.{World, Asked, Read}
 use Rattle.album_world.specs.Committing.{history, IsCommittedAt}

@@ -4,9 +4,9 @@ use Rattle.album_stamps.specs.declared.refusals.Refusal.{Refusal}
 use Rattle.album_permits.specs.declared.notes.Note.{Note}
 use Rattle.album_client.specs.Terms.{Terms}
 use Rattle.album_client.specs.Turns.{Turn}
-use Rattle.album_world.specs.declared.events.Event.{Event}
-use Rattle.album_writer.specs.declared.answers.Answer.{Answer}
-use Rattle.album_world.specs.declared.outs.Out.TheVariants as out
+use Rattle.album_permits.specs.declared.events.Event.{Event}
+use Rattle.album_permits.specs.declared.answers.Answer.{Answer}
+use Rattle.album_permits.specs.declared.outs.Out.TheVariants as out
 use Rattle.album_world.specs.State.{Now}
 use Rattle.album_world.specs.Past.{World, Begun, last_begun}
 use Rattle.album_world.specs.Events.{IsNoteKept, IsRemembered}

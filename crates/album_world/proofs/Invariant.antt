@@ -27,8 +27,8 @@ use Rattle.album_reader.specs.Rounds.{RoundState, are_in_order}
 use Rattle.album_items.specs.Places.{places_of, rows_placed_at}
 use Rattle.album_items.specs.Transactions.{items_written}
 use Rattle.album_writer.specs.Writing.{WritingState, places_in}
-use Rattle.album_writer.specs.declared.answers.Answer.{Answer}
-use Rattle.album_writer.specs.declared.answers.Answer.TheVariants as answer
+use Rattle.album_permits.specs.declared.answers.Answer.{Answer}
+use Rattle.album_permits.specs.declared.answers.Answer.TheVariants as answer
 use Rattle.album_client.specs.declared.clients.Phase.{Phase}
 use Rattle.album_client.specs.declared.clients.Phase.TheVariants as phase
 use Rattle.album_client.specs.Clients.{Client, tag_of}

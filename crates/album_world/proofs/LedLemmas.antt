@@ -42,8 +42,8 @@ use Rattle.album_writer.specs.WriteReplies.{reply_in}
 use Rattle.album_writer.specs.Writing.{WritingState, places_in, commit_round, commits_of}
 use Rattle.album_writer.specs.declared.write_replies.WriteReply.{WriteReply}
 use Rattle.album_writer.specs.declared.write_replies.WriteReply.TheVariants as write_reply
-use Rattle.album_writer.specs.declared.answers.Answer.{Answer}
-use Rattle.album_writer.specs.declared.answers.Answer.TheVariants as answer
+use Rattle.album_permits.specs.declared.answers.Answer.{Answer}
+use Rattle.album_permits.specs.declared.answers.Answer.TheVariants as answer
 use Rattle.album_client.specs.declared.clients.Phase.{Phase}
 use Rattle.album_client.specs.declared.clients.Phase.TheVariants as phase
 use Rattle.album_client.specs.Terms.{Terms, terms_of}

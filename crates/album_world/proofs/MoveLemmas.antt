@@ -40,8 +40,8 @@ use Rattle.album_client.specs.Grants.{served_for}
 use Rattle.album_client.specs.Turns.{turn_of, is_waiting, IsTakenBy, Turn, read_begins, writes_unless, draws_by, grants, rules_by, clock_after_rows, views_by, read_turn, prepare_turn, commit_turn}
 use Rattle.album_client.specs.Transitions.{IsMoved}
 use Rattle.album_client.proofs.MoveLemmas.{just_commits}
-use Rattle.album_world.specs.declared.outs.Out.{Out}
-use Rattle.album_world.specs.declared.outs.Out.TheVariants as out
+use Rattle.album_permits.specs.declared.outs.Out.{Out}
+use Rattle.album_permits.specs.declared.outs.Out.TheVariants as out
 use Rattle.album_world.specs.Changes.{asks_by, client_takes_by}
 use Rattle.album_world.specs.Moves.{IsTurned, IsChangedBy, idle_tag, is_writing}
 use Rattle.album_world.specs.Runs.{numbers_after, outs_of_turn}

@@ -11,7 +11,7 @@ use Rattle.album_reader.proofs.Snapshots.{sameness-sym}
 use Rattle.album_client.specs.Terms.{Terms}
 use Rattle.album_client.specs.Clients.{Client, newcomer}
 use Rattle.album_client.specs.Turns.{Turn}
-use Rattle.album_world.specs.declared.outs.Out.{Out}
+use Rattle.album_permits.specs.declared.outs.Out.{Out}
 use Rattle.album_world.specs.State.{client_at, with_client}
 use Rattle.album_world.specs.Changes.{Change, asks_unless}
 use Rattle.album_world.specs.Changes.Change.{Nothing, AtPart, AtClient, Stops}

@@ -17,7 +17,7 @@ use Rattle.album_partition.specs.Trims.{trimmed}
 use Rattle.album_views.specs.declared.asks.Ask.{Ask}
 use Rattle.album_client.specs.Terms.{Terms}
 use Rattle.album_client.specs.Clients.{Client}
-use Rattle.album_world.specs.declared.outs.Out.{Out}
+use Rattle.album_permits.specs.declared.outs.Out.{Out}
 use Rattle.album_world.specs.State.{Now, client_at, is_stopped, message_of, with_number}
 use Rattle.album_world.specs.Changes.{Change, asks, arrives, client_takes, delivers, part_takes, stops, sweeps, trims}
 use Rattle.album_world.specs.Changes.Change.{Nothing, AtPart, AtClient, Stops}

@@ -37,10 +37,10 @@ use Rattle.album_client.specs.PendingAsks.{PendingAsk}
 use Rattle.album_client.specs.Clients.{Client}
 use Rattle.album_client.specs.Grants.{served_for}
 use Rattle.album_client.specs.Turns.{Transaction, Ended, Turn, ask_ends, write_begins, writes_unless, draws_by, grants, rules_by, clock_after_rows, views_by, read_turn, prepare_turn, commit_turn}
-use Rattle.album_world.specs.declared.events.Event.{Event}
-use Rattle.album_world.specs.declared.events.Event.TheVariants as event
-use Rattle.album_writer.specs.declared.answers.Answer.{Answer}
-use Rattle.album_writer.specs.declared.answers.Answer.TheVariants as answer
+use Rattle.album_permits.specs.declared.events.Event.{Event}
+use Rattle.album_permits.specs.declared.events.Event.TheVariants as event
+use Rattle.album_permits.specs.declared.answers.Answer.{Answer}
+use Rattle.album_permits.specs.declared.answers.Answer.TheVariants as answer
 use Rattle.album_world.specs.State.{Now, client_at, message_of, is_stopped, with_number}
 use Rattle.album_world.specs.Past.{World}
 use Rattle.album_world.specs.Runs.{changed, changed_by, happens, requested, run}

@@ -6,10 +6,10 @@ use Rattle.std.proofs.lemmas.List.{map-append, append_assoc, append-nil, length-
 use Rattle.std.proofs.lemmas.List.Elements.{filter_map-append}
 use Rattle.album_stamps.specs.declared.refusals.Refusal.{Refusal}
 use Rattle.album_permits.specs.declared.notes.Note.{Note}
-use Rattle.album_writer.specs.declared.answers.Answer.{Answer}
-use Rattle.album_world.specs.declared.events.Event.{Event}
-use Rattle.album_world.specs.declared.outs.Out.{Out}
-use Rattle.album_world.specs.declared.outs.Out.TheVariants as out
+use Rattle.album_permits.specs.declared.answers.Answer.{Answer}
+use Rattle.album_permits.specs.declared.events.Event.{Event}
+use Rattle.album_permits.specs.declared.outs.Out.{Out}
+use Rattle.album_permits.specs.declared.outs.Out.TheVariants as out
 use Rattle.album_client.specs.Terms.{Terms}
 use Rattle.album_world.specs.Past.{World, Read}
 use Rattle.album_client.specs.Turns.{Turn}

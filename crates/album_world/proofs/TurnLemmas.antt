@@ -9,7 +9,7 @@ use Rattle.album_partition.specs.Marks.{commits}
 use Rattle.album_reader.specs.Answers.{ReadVersion}
 use Rattle.album_reader.specs.Rounds.{RoundState}
 use Rattle.album_writer.specs.Writing.{WritingState}
-use Rattle.album_writer.specs.declared.answers.Answer.{Answer}
+use Rattle.album_permits.specs.declared.answers.Answer.{Answer}
 use Rattle.album_client.specs.declared.clients.Phase.{Phase}
 use Rattle.album_client.specs.declared.clients.Phase.TheVariants as phase
 use Rattle.album_client.specs.Clients.{Client, tag_of}

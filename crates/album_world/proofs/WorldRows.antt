@@ -31,10 +31,10 @@ use Rattle.album_client.specs.Terms.{terms_of}
 use Rattle.album_client.specs.PendingAsks.{PendingAsk}
 use Rattle.album_client.specs.Clients.{Client, newcomer}
 use Rattle.album_client.specs.Turns.{read_turn}
-use Rattle.album_world.specs.declared.events.Event.{Event}
-use Rattle.album_world.specs.declared.events.Event.TheVariants as event
-use Rattle.album_writer.specs.declared.answers.Answer.{Answer}
-use Rattle.album_writer.specs.declared.answers.Answer.TheVariants as answer
+use Rattle.album_permits.specs.declared.events.Event.{Event}
+use Rattle.album_permits.specs.declared.events.Event.TheVariants as event
+use Rattle.album_permits.specs.declared.answers.Answer.{Answer}
+use Rattle.album_permits.specs.declared.answers.Answer.TheVariants as answer
 use Rattle.album_reader.specs.Rounds.Step.{Done, Gone}
 use Rattle.album_views.specs.declared.viewing.Why.TheVariants.{Rounds}
 use Rattle.album_world.specs.Changes.{Change, change_of}

@@ -7,8 +7,8 @@ use Rattle.album_views.specs.Views.{IsClosed}
 use Rattle.album_views.specs.declared.viewing.Why.{Why}
 use Rattle.album_views.specs.declared.viewing.Why.TheVariants.{Rounds, Wide}
 use Rattle.album_world.specs.Past.{Read, Told, World}
-use Rattle.album_writer.specs.declared.answers.Answer.{Answer}
-use Rattle.album_writer.specs.declared.answers.Answer.TheVariants as answer
+use Rattle.album_permits.specs.declared.answers.Answer.{Answer}
+use Rattle.album_permits.specs.declared.answers.Answer.TheVariants as answer
 
 -- the snapshot of the read is not closed
 pub record IsOpen (read : Read) (rows : List ReadVersion) : Type 0 where

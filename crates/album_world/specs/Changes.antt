@@ -23,8 +23,8 @@ use Rattle.album_client.specs.declared.clients.Phase.TheVariants.{Idle, Reads, P
 use Rattle.album_client.specs.Terms.{Terms}
 use Rattle.album_client.specs.Clients.{Client}
 use Rattle.album_client.specs.Turns.{Turn, read_begins, read_turn, prepare_turn, commit_turn}
-use Rattle.album_world.specs.declared.events.Event.{Event}
-use Rattle.album_world.specs.declared.events.Event.TheVariants as event
+use Rattle.album_permits.specs.declared.events.Event.{Event}
+use Rattle.album_permits.specs.declared.events.Event.TheVariants as event
 use Rattle.album_world.specs.State.{Now, message_of, client_at, is_stopped}
 
 -- what an event changes: nothing; a partition, which sends messages; a client; or which clients are stopped

@@ -4,7 +4,7 @@ use Rattle.album_stamps.specs.Stamps.{stamp_number}
 use Rattle.album_permits.specs.declared.notes.Note.{Note}
 use Rattle.album_client.specs.Clients.{Client}
 use Rattle.album_client.specs.Turns.{Transaction, Turn}
-use Rattle.album_writer.specs.declared.answers.Answer.{Answer}
+use Rattle.album_permits.specs.declared.answers.Answer.{Answer}
 use Rattle.album_world.specs.Past.{Read, Told, Noted, World, last_read}
 
 -- the note is among those that the past has for the client and the read that it made last

@@ -6,7 +6,7 @@ use Rattle.album_client.specs.declared.clients.Phase.{Phase}
 use Rattle.album_client.specs.declared.clients.Phase.TheVariants.{Idle, Reads, Prepares, Commits}
 use Rattle.album_client.specs.Clients.{Client}
 use Rattle.album_client.specs.Turns.{Turn}
-use Rattle.album_world.specs.declared.outs.Out.{Out}
+use Rattle.album_permits.specs.declared.outs.Out.{Out}
 use Rattle.album_world.specs.Changes.{Change}
 use Rattle.album_world.specs.Changes.Change.{Nothing, AtPart, AtClient, Stops}
 use Rattle.album_world.specs.Runs.{outs_of_turn}

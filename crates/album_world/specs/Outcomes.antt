@@ -17,8 +17,8 @@ use Rattle.album_world.specs.Past.{Read, Told, World}
 use Rattle.album_world.specs.Viewed.{IsToldOn}
 use Rattle.album_world.specs.Committing.{parts_of, IsCommitted, IsCommittedEverywhere, IsPromisedSomewhere}
 use Rattle.album_world.specs.Granted.{IsDrawnBy}
-use Rattle.album_writer.specs.declared.answers.Answer.{Answer}
-use Rattle.album_writer.specs.declared.answers.Answer.TheVariants as answer
+use Rattle.album_permits.specs.declared.answers.Answer.{Answer}
+use Rattle.album_permits.specs.declared.answers.Answer.TheVariants as answer
 
 -- this holds of the client's write of this stamp
 pub record IsOfWrite (world : World) (client stamp : ℕ) (Holds : Transaction → Type 0) : Type 0 where

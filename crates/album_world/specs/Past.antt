@@ -7,7 +7,7 @@ use Rattle.album_views.specs.declared.asks.Ask.{Ask}
 use Rattle.album_permits.specs.declared.notes.Note.{Note}
 use Rattle.album_client.specs.Turns.{Transaction}
 use Rattle.album_world.specs.State.{Now}
-use Rattle.album_writer.specs.declared.answers.Answer.{Answer}
+use Rattle.album_permits.specs.declared.answers.Answer.{Answer}
 
 -- a read that a client began: which one it is of those that are made for one ask, from 1, and the partitions just
 -- before the event that began it

@@ -8,7 +8,7 @@ use Rattle.album_views.specs.declared.asks.Ask.{Ask}
 use Rattle.album_client.specs.Terms.{Terms}
 use Rattle.album_client.specs.Clients.{Client}
 use Rattle.album_client.specs.Turns.{Turn}
-use Rattle.album_world.specs.declared.outs.Out.{Out}
+use Rattle.album_permits.specs.declared.outs.Out.{Out}
 use Rattle.album_world.specs.State.{client_at, with_client}
 use Rattle.album_world.specs.Changes.{Change, asks_by, client_takes_by}
 use Rattle.album_world.specs.Changes.Change.{Nothing, AtPart, AtClient, Stops}

@@ -9,8 +9,8 @@ use Rattle.album_world.specs.Fresh.{IsFreshFrom}
 use Rattle.album_world.specs.Past.{Asked, Read, Told, World, last_asked, last_read}
 use Rattle.album_world.specs.Runs.{told_to}
 use Rattle.album_world.specs.State.{history_in}
-use Rattle.album_writer.specs.declared.answers.Answer.{Answer}
-use Rattle.album_writer.specs.declared.answers.Answer.TheVariants as answer
+use Rattle.album_permits.specs.declared.answers.Answer.{Answer}
+use Rattle.album_permits.specs.declared.answers.Answer.TheVariants as answer
 
 -- ---- what is done for a request
 

@@ -8,8 +8,8 @@ use Rattle.album_client.specs.Terms.{Terms}
 use Rattle.album_client.specs.Turns.{Transaction}
 use Rattle.album_world.specs.Past.{Told, Noted, World}
 use Rattle.album_world.specs.Viewed.{IsOnView, IsToldOn, Finds, Notes}
-use Rattle.album_writer.specs.declared.answers.Answer.{Answer}
-use Rattle.album_writer.specs.declared.answers.Answer.TheVariants as answer
+use Rattle.album_permits.specs.declared.answers.Answer.{Answer}
+use Rattle.album_permits.specs.declared.answers.Answer.TheVariants as answer
 
 -- it is granted, and this is what the view has for it
 pub record IsServedBy (permit : PermitState) (served : Served) : Type 0 where

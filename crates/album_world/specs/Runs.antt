@@ -12,11 +12,11 @@ use Rattle.album_permits.specs.declared.notes.Note.{Note}
 use Rattle.album_views.specs.declared.asks.Ask.{Ask}
 use Rattle.album_client.specs.Terms.{Terms, terms_of}
 use Rattle.album_client.specs.Turns.{Ended, Turn}
-use Rattle.album_world.specs.declared.events.Event.{Event}
-use Rattle.album_world.specs.declared.events.Event.TheVariants as event
-use Rattle.album_writer.specs.declared.answers.Answer.{Answer}
-use Rattle.album_world.specs.declared.outs.Out.{Out}
-use Rattle.album_world.specs.declared.outs.Out.TheVariants as out
+use Rattle.album_permits.specs.declared.events.Event.{Event}
+use Rattle.album_permits.specs.declared.events.Event.TheVariants as event
+use Rattle.album_permits.specs.declared.answers.Answer.{Answer}
+use Rattle.album_permits.specs.declared.outs.Out.{Out}
+use Rattle.album_permits.specs.declared.outs.Out.TheVariants as out
 use Rattle.album_world.specs.State.{Now, with_client, with_number}
 use Rattle.album_world.specs.Past.{Asked, Begun, Read, Told, Noted, Past, World, last_begun, last_read}
 use Rattle.album_world.specs.Changes.{Change, change_of}

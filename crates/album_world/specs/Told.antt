@@ -2,10 +2,10 @@
 use Rattle.std.specs.Prelude.{◌≡◌, ℕ, List, [], ◌∷◌, ◌++◌, map, length, Option, Some, None}
 use Rattle.std.specs.List.{range_with_len, filter_map, flat_map}
 use Rattle.album_permits.specs.declared.notes.Note.{Note}
-use Rattle.album_writer.specs.declared.answers.Answer.{Answer}
-use Rattle.album_world.specs.declared.events.Event.{Event}
-use Rattle.album_world.specs.declared.outs.Out.{Out}
-use Rattle.album_world.specs.declared.outs.Out.TheVariants as out
+use Rattle.album_permits.specs.declared.answers.Answer.{Answer}
+use Rattle.album_permits.specs.declared.events.Event.{Event}
+use Rattle.album_permits.specs.declared.outs.Out.{Out}
+use Rattle.album_permits.specs.declared.outs.Out.TheVariants as out
 use Rattle.album_client.specs.Terms.{Terms}
 use Rattle.album_world.specs.Past.{Told, Noted, World}
 use Rattle.album_world.specs.Runs.{happens, tells}

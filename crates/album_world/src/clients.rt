@@ -5,11 +5,11 @@ ghost use Rattle.album_client.specs.Clients.{newcomer};
 ghost use Rattle.album_world.specs.Registers.{AreChangedBy, StandsAt, asks_of, has_number, takes_of};
 ghost use Rattle.album_world.specs.State.{client_at};
 
-use crate::outs::Out;
 use crate::turns;
 use album_calls::Message;
 use album_client::{Client, Terms};
 use album_eval::Principal;
+use album_permits::Out;
 use album_stamps::{ClientNo, Refusal};
 use album_views::Ask;
 use indexmap::IndexSet;

@@ -28,10 +28,10 @@ ghost use Rattle.album_world.specs.Runs.{changed, happens, run, run_of, tells, t
 ghost use Rattle.album_world.specs.State.{Now, client_at, is_stopped};
 ghost use Rattle.album_world.specs.Told.{IsToldOnce, all_told};
 ghost use Rattle.album_world.specs.Viewed.{Finds};
-ghost use Rattle.album_world.specs.declared.events.Event.{Event as Happening};
-ghost use Rattle.album_world.specs.declared.events.Event.TheVariants as Event;
-ghost use Rattle.album_writer.specs.declared.answers.Answer.{Answer as Answered};
-ghost use Rattle.album_world.specs.declared.outs.Out.TheVariants as Told;
+ghost use Rattle.album_permits.specs.declared.events.Event.{Event as Happening};
+ghost use Rattle.album_permits.specs.declared.events.Event.TheVariants as Event;
+ghost use Rattle.album_permits.specs.declared.answers.Answer.{Answer as Answered};
+ghost use Rattle.album_permits.specs.declared.outs.Out.TheVariants as Told;
 
 /// A law: rulings hold. Each answer Served, Denied, Missing, Committed, Aborted, Unsettled or Refused, and each
 /// note, is what the written policy says of the closed view that its client had read last: of that view's lists,

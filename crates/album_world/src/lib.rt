@@ -10,14 +10,10 @@
 //! atomic and, item by item, no older than what was committed everywhere before its read. `World::step` has it, clause
 //! by clause.
 //!
-//! Read `events`, `outs` and `world` first, then specs/, in the order of specs/Lib.antt: what a world keeps, what a
+//! Read `Event` and `Out` of `album_permits` and then `world` first, then specs/, in the order of specs/Lib.antt: what a world keeps, what a
 //! client does at one event, what an event changes, and then what is promised of every run. `laws` has the promises
 //! once more, of the definitions alone.
 #![tactic(auto)]
-
-// What happens, and what is told of it.
-mod events;
-mod outs;
 
 // What a client does at one event, and what is told of it.
 mod telling;
@@ -34,7 +30,7 @@ mod world;
 // What holds of every run.
 mod laws;
 
-pub use events::Event;
+pub use album_permits::{Event, Out};
 pub use laws::{
     a_read_begins_with_its_partitions, answers_are_to_requests, busy_has_its_cause, clocks_rise,
     committed_is_never_discarded, each_output_is_given_once, one_finding_of_a_view,
@@ -42,5 +38,4 @@ pub use laws::{
     views_are_fresh, views_are_read_atomic, what_is_served_is_what_is_asked,
     outputs_are_in_the_past, writes_are_granted,
 };
-pub use outs::Out;
 pub use world::World;

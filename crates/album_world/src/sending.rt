@@ -2,8 +2,8 @@
 ghost use Rattle.std.specs.Prelude.{◌≡◌, ◌+◌, ◌<◌, ◌≤◌, ◌^◌, ◌++◌, length, option_to_list, vec_len, vec_capacity, []};
 ghost use Rattle.album_world.specs.Runs.{numbers_after, sent_after};
 
-use crate::outs::Out;
 use album_calls::Message;
+use album_permits::Out;
 
 /// Tells so many messages by their numbers, behind those that were sent before. There is room for them.
 pub(crate) fn tell_sent(outs: &mut Vec<Out>, before: u64, count: usize)

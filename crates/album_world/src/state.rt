@@ -6,8 +6,6 @@ ghost use Rattle.album_world.specs.Seen.{IsChanged, IsMade};
 ghost use Rattle.album_world.specs.State.{message_of, client_at};
 
 use crate::clients::Clients;
-use crate::events::Event;
-use crate::outs::Out;
 use crate::sending::{send, send_reply, tell_sent};
 use crate::stopped::Stopped;
 use album_calls::{Message, Node};
@@ -15,6 +13,7 @@ use album_client::Terms;
 use album_eval::Principal;
 use album_items::ItemId;
 use album_partition::Partition;
+use album_permits::{Event, Out};
 use album_stamps::{ClientNo, MAX_READ_ITEMS, Refusal, Stamp};
 use album_views::Ask;
 use std::alloc::Global;

@@ -3,11 +3,9 @@ ghost use Rattle.std.specs.Prelude.{◌≡◌, ◌+◌, ◌<◌, ◌≤◌, ◌^
 ghost use Rattle.album_stamps.specs.declared.limits.TheConstants.{MAX_READ_ITEMS};
 ghost use Rattle.album_world.specs.Runs.{numbers_after};
 
-use crate::outs::Out;
 use crate::sending::tell_sent;
-use album_permits::Note;
+use album_permits::{Answer, Note, Out};
 use album_stamps::ClientNo;
-use album_writer::Answer;
 use std::alloc::{AllocError, Global};
 
 /// The outputs that tell the notes, then so many messages by their numbers, and then the answer.

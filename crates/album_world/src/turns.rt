@@ -9,11 +9,11 @@ ghost use Rattle.album_world.specs.Changes.{client_takes_by};
 ghost use Rattle.album_world.specs.Moves.{idle_tag, room_of, is_writing, IsChangedBy, IsTurned};
 ghost use Rattle.album_world.specs.Registers.{asks_of};
 
-use crate::outs::Out;
 use crate::telling::{outs_of, tell};
 use album_calls::Message;
 use album_client::{Client, ClientStep, Phase, Terms, Transition};
 use album_eval::Principal;
+use album_permits::Out;
 use album_stamps::Refusal;
 use album_views::Ask;
 use std::alloc::Global;

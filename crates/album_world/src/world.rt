@@ -14,15 +14,14 @@ ghost use Rattle.album_world.specs.Seen.{AreStepped, GoesOn, IsDone, IsReached, 
 ghost use Rattle.album_world.specs.State.{message_of};
 
 use crate::clients::Clients;
-use crate::events::Event;
 use crate::opening::{partitions_of, terms_of};
-use crate::outs::Out;
 use crate::state::State;
 use crate::stopped::Stopped;
 use album_calls::Message;
 use album_client::Terms;
 use album_items::Opening;
 use album_partition::Partition;
+use album_permits::{Event, Out};
 use album_stamps::Refusal;
 use std::alloc::Global;
 use std::marker::Model;

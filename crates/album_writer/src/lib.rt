@@ -2,14 +2,11 @@
 //!
 //! What comes in: a permit whose ask writes, a stamp of its client, and then the messages that reach the client.
 //! What goes out: a Prepare to each participant, a Commit to each once all have prepared, and how the write ended. The
-//! participants are the partitions of the items that are written. `Answer` is the answer to an ask, a write or not.
+//! participants are the partitions of the items that are written.
 //!
 //! Read `preparing` first, then `committing`, which do their work on `writing`. specs/Rounds.antt defines what a
 //! message does, over specs/Writing.antt and specs/WriteReplies.antt.
 #![tactic(auto)]
-
-// The answer to an ask.
-mod answers;
 
 // What a write is made of.
 mod outcomes;
@@ -25,7 +22,7 @@ mod preparing;
 // What holds of it.
 mod laws;
 
-pub use answers::Answer;
+pub use album_permits::Answer;
 pub use committing::{CommitStep, Committing};
 pub use laws::{
     a_message_counts_or_is_stray, a_write_depends_on_its_replies, a_write_ends_by_its_replies,

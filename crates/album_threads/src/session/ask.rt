@@ -18,9 +18,9 @@ use crate::session::turn::{Turned, cut_off};
 use album_calls::Message;
 use album_client::{Client, ClientStep, Phase, Terms, Transition};
 use album_eval::Principal;
+use album_permits::Answer;
 use album_stamps::Refusal;
 use album_views::Ask;
-use album_writer::Answer;
 use std::sync::Wait;
 use std::time;
 

@@ -19,8 +19,8 @@ use crate::session::ask::Way;
 use crate::session::asked::Asked;
 use album_calls::Message;
 use album_client::{Client, ClientStep, Phase, Transition};
+use album_permits::Answer;
 use album_stamps::{Clock, Refusal, Stamp};
-use album_writer::Answer;
 use std::sync::Wait;
 use std::time;
 

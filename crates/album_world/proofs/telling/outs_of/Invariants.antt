@@ -1,5 +1,5 @@
 use Rattle.std.proofs.Common.{◌≡◌, map, take}
-use Rattle.album_world.specs.declared.outs.Out.TheVariants as out
+use Rattle.album_permits.specs.declared.outs.Out.TheVariants as out
 use Rattle.album_world.proofs.telling.outs_of.Given as goal
 
 abbrev pub invariant-loop-note : goal.invariant-loop-note
