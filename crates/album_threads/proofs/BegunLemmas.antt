@@ -18,7 +18,7 @@ use Rattle.album_stamps.specs.declared.refusals.Refusal.TheVariants.{Full}
 use Rattle.album_threads.specs.Grounds.{IsKept}
 use Rattle.album_threads.specs.Phases.{Outset, IsUnderWay}
 use Rattle.album_threads.specs.Resting.{IsAnnounced, IsFoundOnView, IsBegun, IsUnsettledBy, RestsOn}
-use Rattle.album_threads.specs.Sessions.{SessionState, IsClosedOrOutOfMemory}
+use Rattle.album_threads.specs.Sessions.{SessionState, IsClosedOrOutOfMemory, AnnouncesNothing}
 use Rattle.album_threads.specs.Writes.{IsBegunOn, IsEndOf}
 use Rattle.album_threads.proofs.GroundLemmas.{seen_more}
 use Rattle.album_writer.specs.Writing.{WritingState, prepare_round}
@@ -64,9 +64,10 @@ module _ (policy : Policy) (o : Outset) where
   }
 
   pub begun_more : (a b : SessionState) (t : ℕ) (H : PermitState → Type 0) → b.share ≡ a.share → b.counter ≡ a.counter
+      → a.client ≡ o.session.client → AnnouncesNothing a b
       → Extends o.session.cut a.cut → Extends a.cut b.cut → IsSound a.cut → IsSound b.cut
       → IsBegun policy o.principal o.ask o.session a t H → IsBegun policy o.principal o.ask o.session b t H
-  begun_more a b t H share counter before grown s r h =
+  begun_more a b t H share counter same silent before grown s r h =
       found_more a b finding.Granted (λ permit. IsAnnounced o.session a permit t × H permit)
       (λ permit. IsAnnounced o.session b permit t × H permit)
       share before grown s r
@@ -78,6 +79,7 @@ module _ (policy : Policy) (o : Outset) where
           last = y.0.last ∙ sym counter;
           unused = y.0.unused;
           announced = grown.announced _ _ y.0.announced;
+          alone = λ other own differs. silent other (own ∙ sym same) ∙ y.0.alone other own differs;
         },
         y.1,
       )) h
@@ -137,10 +139,11 @@ module _ (policy : Policy) (o : Outset) where
   -- it is cut off, once more was seen
   pub cut_rests : (limit : ℕ) (a b : SessionState) (at : Cut) (sent : List Message) (d : Phase) (t : ℕ) (why : Refusal)
       → IsUnderWay policy o a at sent d → stamp_at_work d ≡ Some t → IsClosedOrOutOfMemory why
-      → b.share ≡ a.share → b.counter ≡ a.counter → Extends a.cut b.cut → IsSound b.cut
+      → b.share ≡ a.share → b.counter ≡ a.counter → AnnouncesNothing a b → Extends a.cut b.cut → IsSound b.cut
       → RestsOn limit policy o.principal o.ask o.session b (answer.Unsettled t why)
-  cut_rests limit a b at sent d t why w e none share counter grown s =
+  cut_rests limit a b at sent d t why w e none share counter silent grown s =
       let u = at_work a at sent d t w e in
       begun_as b u.begun t u.same (IsUnsettledBy limit b t why) (inr none)
-      (begun_more a b u.begun.stamp (λ permit. permit ≡ u.begun.permit) share counter w.on.grown grown w.sound s
+      (begun_more a b u.begun.stamp (λ permit. permit ≡ u.begun.permit) share counter w.on.client silent
+      w.on.grown grown w.sound s
       u.granted)

@@ -213,15 +213,15 @@ module _ (limit : ℕ) (policy : Policy) (o : Outset) (now next noted : SessionS
       where
         rests : (why : Why) → IsBusy a d o.ask why
             → RestsOn limit policy o.principal o.ask o.session next (answer.Busy why)
-        rests Wide h = (h, share)
-        rests Rounds h = (h, share)
+        rests Wide h = (h, share, silent)
+        rests Rounds h = (h, share, silent)
 
   -- there is a view
   viewed_so : (tag : ℕ) (view : ViewState) → IsViewOf a d o.ask view
       → IsMoved (rules terms x tag o.principal view) transition → After
   viewed_so tag view h is =
       let same : view ≡ record { ask = o.ask; rows = view.rows } = λ i. record { ask = h.of i; rows = view.rows } in
-      ruled_on limit policy o now next noted at sent transition N share tag view.rows
+      ruled_on limit policy o now next noted at sent transition N share silent tag view.rows
       (subst (IsViewOf a d o.ask) same h) (subst (λ (v : ViewState). IsMoved (rules terms x tag o.principal v) transition)
       same is)
 

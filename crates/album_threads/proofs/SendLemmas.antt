@@ -1,7 +1,7 @@
 -- What is announced before messages are sent: the first of a write's Prepares prepares its stamp (`prepares_first`), and
 -- other messages prepare nothing (`gets_plain`, `commits_plain`).
-use Rattle.std.proofs.Common.{◌≡◌, ◌≢◌, ℕ, Bool, List, [], ◌∷◌, map, Some, None, if◌then◌else◌, refl, ap}
-use Rattle.std.proofs.lemmas.Bool.{eq-eqb}
+use Rattle.std.proofs.Common.{◌≡◌, ◌≢◌, ℕ, Bool, List, [], ◌∷◌, map, Some, None, if◌then◌else◌, refl, sym, ap}
+use Rattle.std.proofs.lemmas.Bool.{eq-eqb, ne_eqb}
 use Rattle.album_calls.specs.declared.messages.Message.{Message}
 use Rattle.album_passes.specs.Changes.{announced_cut}
 use Rattle.album_passes.specs.Cuts.{Cut, announced_for}
@@ -52,6 +52,11 @@ last_at b c [] some = absurd (some refl)
 last_at b c (m ∷ ms) some = refl
 
 -- ---- what is announced
+
+-- another stamp is announced as it was
+pub announced_else : (c : Cut) (t u : ℕ) (is : List ℕ) → u ≢ t → announced_for (announced_cut c t is) u ≡ announced_for c u
+announced_else c t u is other =
+    ap (λ (b : Bool). if b then Some is else announced_for c u) (ne_eqb t u (λ e. other (sym e)))
 
 pub announced_here : (c : Cut) (t : ℕ) (is : List ℕ) → announced_for (announced_cut c t is) t ≡ Some is
 announced_here c t is = ap (λ (b : Bool). if b then Some is else announced_for c t) (eq-eqb t t refl)

@@ -113,7 +113,7 @@ module _ (limit : ℕ) (policy : Policy) (o : Outset) where
       → IfSome stamp (λ t. r ≡ Ok (Answered (answer.Unsettled t why))) → IfNone stamp (r ≡ Err why) → IfOk r (IsLed limit policy o next)
   cut_led now next at sent d why r w h none (Some t) is begun before =
       subst (λ (z : Result Way Refusal). IfOk z (IsLed limit policy o next)) (sym begun)
-      (cut_rests policy o limit now next at sent d t why w (sym is) none h.share h.counter h.grown h.sound)
+      (cut_rests policy o limit now next at sent d t why w (sym is) none h.share h.counter h.silent h.grown h.sound)
   cut_led now next at sent d why r w h none None is begun before =
       subst (λ (z : Result Way Refusal). IfOk z (IsLed limit policy o next)) (sym before) tt
 
@@ -123,7 +123,7 @@ module _ (limit : ℕ) (policy : Policy) (o : Outset) where
   sent_led asked d messages new w (Answered told) cut =
       subst (λ (a : Answer). RestsOn limit policy o.principal o.ask o.session new a) (sym cut.is)
       (cut_rests policy o limit new new (sent_at asked.begun.cut new.cut messages) (sent_last asked.sent.items messages) d cut.stamp cut.why w cut.of cut.none
-      refl refl (extends_self new.cut) w.sound)
+      refl refl (λ t own. refl) (extends_self new.cut) w.sound)
   sent_led asked d messages new w (Awaits more next) (is, sends, from) =
       subst (λ (z : Cut × List Message × Phase). IsUnderWay policy o new z.0 z.1 z.2) (λ i. (sym from i, sym sends i, sym is i)) w
 

@@ -1,5 +1,5 @@
 -- On what each answer of a session rests.
-use Rattle.std.specs.Prelude.{◌≡◌, ◌⊎◌, ◌<◌, ℕ, true, List, All, map, Some, None}
+use Rattle.std.specs.Prelude.{◌≡◌, ◌≢◌, ◌⊎◌, ◌<◌, ℕ, true, List, All, map, Some, None}
 use Rattle.album_stamps.specs.Stamps.{client_number, counter_of}
 use Rattle.album_stamps.specs.declared.limits.TheConstants.{MAX_COUNTER}
 use Rattle.album_stamps.specs.declared.refusals.Refusal.{Refusal}
@@ -16,7 +16,7 @@ use Rattle.album_permits.specs.declared.findings.Finding.{Finding}
 use Rattle.album_permits.specs.declared.findings.Finding.TheVariants as finding
 use Rattle.album_permits.specs.declared.notes.Note.{Note}
 use Rattle.album_threads.specs.Grounds.{IsOnView, Finds, Notes, items_of, IsKept, IsWithoutRoom, IsWide, IsOutOfReads}
-use Rattle.album_threads.specs.Sessions.{SessionState}
+use Rattle.album_threads.specs.Sessions.{SessionState, AnnouncesNothing}
 use Rattle.album_permits.specs.declared.answers.Answer.{Answer}
 use Rattle.album_permits.specs.declared.answers.Answer.TheVariants as answer
 use Rattle.album_views.specs.declared.asks.Ask.{Ask}
@@ -36,7 +36,7 @@ IsFoundOnView policy principal ask old new found Holds =
     (λ case. Finds case found × IsShared old.client old.share new.share case × Holds case)
 
 -- The stamp is the client's own, above all that was read, and the last that its clock drew in this ask. It was
--- announced in this ask, with exactly the items that are written.
+-- announced in this ask, with exactly the items that are written, and no other stamp of the client's was.
 pub record IsAnnounced (old new : SessionState) (permit : PermitState) (stamp : ℕ) : Type 0 where
   pub own : client_number stamp ≡ old.client
   pub above : All (λ row. row.stamp < stamp) permit.view.rows
@@ -44,6 +44,8 @@ pub record IsAnnounced (old new : SessionState) (permit : PermitState) (stamp : 
   pub last : counter_of stamp ≡ new.counter
   pub unused : announced_for old.cut stamp ≡ None
   pub announced : announced_for new.cut stamp ≡ Some (items_of permit stamp)
+  pub alone : (other : ℕ) → client_number other ≡ old.client → other ≢ stamp
+      → announced_for new.cut other ≡ announced_for old.cut other
 
 -- it is granted, and was begun at this stamp; and this holds of it
 abbrev pub IsBegun : Policy → Principal → Ask → SessionState → SessionState → ℕ → (PermitState → Type 0) → Type 0
@@ -69,18 +71,19 @@ abbrev pub IsRefusedBy : SessionState → Refusal → PermitState → Type 0
 IsRefusedBy new why permit =
     ((why ≡ AlbumFull) × IsAlbumFull new permit) ⊎ ((why ≡ StampsSpent) × (new.counter ≡ MAX_COUNTER))
 
--- on what the answer rests, of a session that was so before the ask and is so after it
+-- On what the answer rests, of a session before the ask and after it. After an answer that is no write's nothing was
+-- announced, and so nothing was written.
 abbrev pub RestsOn : ℕ → Policy → Principal → Ask → SessionState → SessionState → Answer → Type 0
 RestsOn limit policy principal ask old new (answer.Served served) =
-    IsFoundOnView policy principal ask old new finding.Granted (λ permit. IsServed permit served)
+    IsFoundOnView policy principal ask old new finding.Granted (λ permit. IsServed permit served) × AnnouncesNothing old new
 RestsOn limit policy principal ask old new (answer.Denied denial) =
-    IsFoundOnView policy principal ask old new (finding.Denied denial) (λ case. Unit {0})
+    IsFoundOnView policy principal ask old new (finding.Denied denial) (λ case. Unit {0}) × AnnouncesNothing old new
 RestsOn limit policy principal ask old new (answer.Missing object) =
-    IsFoundOnView policy principal ask old new (finding.Missing object) (λ case. Unit {0})
+    IsFoundOnView policy principal ask old new (finding.Missing object) (λ case. Unit {0}) × AnnouncesNothing old new
 RestsOn limit policy principal ask old new (answer.Busy Wide) =
-    IsWide old.cut new.cut ask × (new.share ≡ old.share)
+    IsWide old.cut new.cut ask × (new.share ≡ old.share) × AnnouncesNothing old new
 RestsOn limit policy principal ask old new (answer.Busy Rounds) =
-    IsOutOfReads old.cut new.cut ask × (new.share ≡ old.share)
+    IsOutOfReads old.cut new.cut ask × (new.share ≡ old.share) × AnnouncesNothing old new
 RestsOn limit policy principal ask old new (answer.Committed stamp) =
     IsBegun policy principal ask old new stamp (λ permit. IsKept new.cut permit stamp)
 RestsOn limit policy principal ask old new (answer.Aborted stamp) =
@@ -88,4 +91,4 @@ RestsOn limit policy principal ask old new (answer.Aborted stamp) =
 RestsOn limit policy principal ask old new (answer.Unsettled stamp why) =
     IsBegun policy principal ask old new stamp (IsUnsettledBy limit new stamp why)
 RestsOn limit policy principal ask old new (answer.Refused why) =
-    IsFoundOnView policy principal ask old new finding.Granted (IsRefusedBy new why)
+    IsFoundOnView policy principal ask old new finding.Granted (IsRefusedBy new why) × AnnouncesNothing old new
