@@ -24,7 +24,6 @@ pub mod ToldLemmas
 pub mod WorldRows
 pub mod FlagLemmas
 pub mod RegisterLemmas
-pub mod OpeningLemmas
 pub mod StoryLemmas
 pub mod CheckLemmas
 pub mod StateLemmas

@@ -1,15 +1,29 @@
--- Partitions as they open, for `partitions_of`.
-use Rattle.std.proofs.Common.{◌≡◌, ℕ, zero, suc, ◌+◌, ◌<◌, Bool, true, false, not, cond, ◌&&◌, ◌||◌, List, [], ◌∷◌, ◌++◌, map, filter, Ok, Err, refl, sym, ap, ◌∙◌, arith, add-one, if◌then◌else◌}
+-- Partitions as they open. `Partition::of_opening` needs `may_be_opened` and `opened_so`, and `all_of` `one_more`.
+use Rattle.std.proofs.Common.{◌≡◌, ℕ, ◌+◌, ◌<◌, Bool, true, false, not, cond, ◌&&◌, ◌||◌, List, [], ◌∷◌, ◌++◌, map, filter, Ok, Err, refl, sym, ap, ◌∙◌, arith, true≢false, if◌then◌else◌}
 use Rattle.std.specs.List.{list_all, list_any, range_with_len}
-use Rattle.std.proofs.lemmas.Bool.{lt-ltb}
+use Rattle.std.proofs.lemmas.Bool.{lt-ltb, and_parts, and_from}
+use Rattle.std.proofs.lemmas.List.FromFn.{map-range_with_len_more}
 use Rattle.album_stamps.specs.Distinct.{no_two}
 use Rattle.album_stamps.specs.declared.refusals.Refusal.TheVariants.{BadOpening, NoSuchPart}
 use Rattle.album_items.specs.Openings.{Row, is_opening, has_parts, has_limit, has_policy, has_few_items, is_right_row, is_low_row, has_own_value, has_few_children, has_single_children, has_single_rows, has_own_lists, has_fit_lists, same_item}
 use Rattle.album_items.specs.Places.{is_placed, rows_placed_at}
 use Rattle.album_items.specs.declared.openings.Opening.{Opening}
-use Rattle.album_partition.specs.Partition.{PartitionState, opened, may_open, has_own_rows}
-use Rattle.album_world.specs.Runs.{opens}
-use Rattle.album_world.proofs.ListLemmas.{and_left, and_right, and_both, not_true}
+use Rattle.album_partition.specs.Partition.{PartitionState, opened, may_open, has_own_rows, first_partition}
+
+-- ---- tests
+
+and_left : (a b : Bool) → a && b ≡ true → a ≡ true
+and_left a b h = (and_parts a b h).0
+
+and_right : (a b : Bool) → a && b ≡ true → b ≡ true
+and_right a b h = (and_parts a b h).1
+
+and_both : (a b : Bool) → a ≡ true → b ≡ true → a && b ≡ true
+and_both = and_from
+
+not_true : (b : Bool) → not b ≡ true → b ≡ false
+not_true true h = absurd (true≢false (sym h))
+not_true false h = refl
 
 -- ---- rows that are picked
 
@@ -94,23 +108,23 @@ may_be_opened o part is =
 
 -- such a partition opens
 pub opened_so : (o : Opening) (part : ℕ) → is_opening o ≡ true → part < o.parts
-    → opened part o.parts (rows_placed_at part o.parts o.items) o.limit ≡ Ok (opens o part)
+    → opened part o.parts (rows_placed_at part o.parts o.items) o.limit ≡ Ok (first_partition o.parts o.limit o.items part)
 opened_so o part is here =
     let a = lt-ltb part o.parts here in
     let b = may_be_opened o part is in
-    ap (λ (t : Bool). if not t then Err NoSuchPart else if not (may_open part o.parts o.limit (rows_placed_at part o.parts o.items)) then Err BadOpening else Ok (opens o part)) a
-    ∙ ap (λ (t : Bool). if not t then Err BadOpening else Ok (opens o part)) b
+    ap (λ (t : Bool). if not t then Err NoSuchPart else if not (may_open part o.parts o.limit (rows_placed_at part o.parts o.items)) then Err BadOpening else Ok (first_partition o.parts o.limit o.items part)) a
+    ∙ ap (λ (t : Bool). if not t then Err BadOpening else Ok (first_partition o.parts o.limit o.items part)) b
 
 -- ---- one after the other
 
-range_more : (f : ℕ → PartitionState) (a n : ℕ) → map f (range_with_len a (suc n)) ≡ map f (range_with_len a n) ++ f (a + n) ∷ []
-range_more f a zero = ap (λ (m : ℕ). f m ∷ []) (omega arith)
-range_more f a (suc n) = ap (λ (xs : List PartitionState). f a ∷ xs)
-    (range_more f (a + 1) n ∙ ap (λ (m : ℕ). map f (range_with_len (a + 1) n) ++ f m ∷ []) (omega arith))
-
-pub one_more : (o : Opening) (n : ℕ) (xs : List PartitionState) → xs ≡ map (opens o) (range_with_len 0 n)
-    → xs ++ opens o n ∷ [] ≡ map (opens o) (range_with_len 0 (n + 1))
-one_more o n xs e =
-    ap (λ (z : List PartitionState). z ++ opens o n ∷ []) e
-    ∙ ap (λ (m : ℕ). map (opens o) (range_with_len 0 n) ++ opens o m ∷ []) (omega arith) ∙ sym (range_more (opens o) 0 n)
-    ∙ ap (λ (m : ℕ). map (opens o) (range_with_len 0 m)) (sym (add-one n))
+pub one_more :
+    (o : Opening) (n : ℕ) (ps : List PartitionState)
+    → ps ≡ map (first_partition o.parts o.limit o.items) (range_with_len 0 n)
+    → ps ++ first_partition o.parts o.limit o.items n ∷ []
+    ≡ map (first_partition o.parts o.limit o.items) (range_with_len 0 (n + 1))
+one_more o n ps e =
+    let first : ℕ → PartitionState = first_partition o.parts o.limit o.items in
+    ap (λ (z : List PartitionState). z ++ first n ∷ []) e ∙ sym (map-range_with_len_more first 0 n n (zero_plus n))
+  where
+    zero_plus : (n : ℕ) → 0 + n ≡ n
+    zero_plus n = omega arith
