@@ -4,7 +4,7 @@ ghost use Rattle.album_stamps.specs.declared.limits.TheConstants.{MAX_READ_ITEMS
 ghost use Rattle.album_world.specs.Runs.{numbers_after};
 
 use crate::sending::push_sent;
-use album_permits::{Note, Out};
+use album_permits::{Answer, Note, Out};
 use album_stamps::ClientNo;
 use std::alloc::{AllocError, Global};
 
