@@ -46,7 +46,7 @@ use Rattle.album_client.specs.declared.transitions.Transition.{Transition}
 use Rattle.album_client.specs.Terms.{Terms}
 use Rattle.album_client.specs.Clients.{Client}
 use Rattle.album_client.specs.Grants.{served_for}
-use Rattle.album_client.specs.Turns.{rules_by, rules, clock_after_rows}
+use Rattle.album_client.specs.Steps.{rules_by, rules, clock_after_rows}
 use Rattle.album_client.specs.Transitions.{IsMoved, IsTakenOf}
 use Rattle.album_client.proofs.GrantLemmas.{served_is, unserved_writes}
 

@@ -21,7 +21,7 @@ pub struct Transition {
 
 impl Transition {
     /// The same with these notes.
-    pub(crate) fn noting(self, notes: Vec<Note>) -> Transition
+    pub(crate) fn with_notes(self, notes: Vec<Note>) -> Transition
         ensures client { result.client ≡ self.client }
         ensures notes { result.notes ≡ notes }
         ensures sent { result.sent ≡ self.sent }
@@ -72,7 +72,7 @@ impl Client {
 
 impl ClientStep {
     ghost use Rattle.album_client.specs.Transitions.{client_of, IsMoved};
-    ghost use Rattle.album_client.specs.Turns.{ask_ends};
+    ghost use Rattle.album_client.specs.Steps.{ask_ends};
 
     /// A copy, for a caller that may take several ways from here: a value that is `Copy` and holds one with a
     /// Model is not copied where it is passed.
@@ -88,7 +88,7 @@ impl ClientStep {
         }
     }
 
-    /// The client does this from now on, and sends and answers so.
+    /// The transition to this phase, with these messages and this answer.
     pub(crate) fn with(self, phase: Phase, sent: Vec<Message>, answer: Option<Answer>) -> Transition
         requires { length sent.items ≤ MAX_READ_ITEMS }
         ensures client { result.client ≡ record (client_of self) { phase = phase } }
@@ -109,8 +109,8 @@ impl ClientStep {
         }
     }
 
-    /// The ask is answered.
-    pub(crate) fn ask_ends(self, tag: u64, answer: Answer) -> Transition
+    /// Ends the ask with this answer.
+    pub(crate) fn end_ask(self, tag: u64, answer: Answer) -> Transition
         ensures { IsMoved (ask_ends (client_of self) tag answer) result }
     {
         self.with(Phase::Idle(tag), Vec::new(self.alloc), Some(answer))

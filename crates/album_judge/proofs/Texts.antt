@@ -1,6 +1,7 @@
 -- The texts that answer judge lines. For `write_answers`, and for the turns of `judge`.
-use Rattle.std.proofs.Common.{◌≡◌, ◌≢◌, ◌⊎◌, ℕ, ◌+◌, ◌<◌, List, [], ◌∷◌, ◌++◌, length, take, drop, map, get_or, Bool, true, false, Option, Result, Ok, Err, OnOk, IfErr, MatchBool, inr, refl, sym, ap, ◌∙◌, subst, arith, append_assoc, append-nil, take-append-drop, length-drop}
+use Rattle.std.proofs.Common.{◌≡◌, ◌≢◌, ◌⊎◌, ℕ, ◌+◌, ◌<◌, List, [], ◌∷◌, ◌++◌, length, take, drop, map, get_or, Bool, true, false, Option, Result, Ok, Err, OnErr, IfErr, MatchBool, inr, refl, sym, ap, ◌∙◌, subst, arith, append_assoc, append-nil, take-append-drop, length-drop}
 use Rattle.std.proofs.lemmas.List.{take_more, map-append, length-map}
+use Rattle.std.specs.Io.KnownBytes.{Appends}
 use Rattle.std.proofs.KnownBytes.{Appends-trans, Appends-nil}
 use Rattle.album_stamps.specs.declared.refusals.Refusal.TheVariants.{OutOfMemory}
 use Rattle.album_lines.specs.Lines.{Line, is_blank}
@@ -9,7 +10,7 @@ use Rattle.album_judge.specs.declared.fault.Fault.{Fault}
 use Rattle.album_judge.specs.declared.fault.Fault.TheVariants.{Writing, Memory}
 use Rattle.album_judge.specs.Judge.{Answers, IsAnswer, IsReply, read_of}
 use Rattle.album_judge.specs.Writes.{Gains, Writes, IsPrefixOf, IsCutShort, IsLeftBy}
-use Rattle.album_judge.proofs.Answering.{GoesOn, goes_on, left_is_prefix}
+use Rattle.album_judge.proofs.Answering.{GoesOn, goes_on}
 
 -- ---- lists of lines
 
@@ -88,24 +89,33 @@ no_memory_at f xs i text h g =
     λ none. absurd (omega (arith, ap length none, length-map (drop i xs) f, length-drop i xs, h)) in
     (map f (take i xs), map f (drop i xs), later, with_others f xs i, g)
 
--- ---- the text of all answers, written
+-- ---- the text of answers, written
 
--- so far as there was memory, it is a prefix of the answers
-prefix_there : (answered : Result Unit Fault) (lines : List Line) (text : List ℕ)
-    → OnOk answered (Answers lines text)
-    → IfErr answered (λ fault. IsLeftBy fault Answers lines text)
+-- a text of which this holds is written
+pub writes_this : (P : List ℕ → Type 0) (text written : List ℕ) (a b c : Option (List ℕ))
+    → b ≡ a → written ≡ text → P text → Appends b c written → Writes P a c
+writes_this P text written a b c from is h w =
+    (text, h, subst (λ t. Appends a c t) is (subst (λ o. Appends o c written) from w))
+
+-- it is not written whole: a prefix of answers, cut short
+pub not_all_written : (lines : List Line) (text written : List ℕ) (a b c : Option (List ℕ))
+    → b ≡ a → written ≡ text
     → IsPrefixOf (Answers lines) text
-prefix_there (Ok u) lines text all left = ([], subst (Answers lines) (sym (append-nil text)) all)
-prefix_there (Err fault) lines text all left = left_is_prefix Answers answers_go_on fault lines text left
-
--- it is not all written
-pub not_all_written : (answered : Result Unit Fault) (lines : List Line) (text : List ℕ) (a b : Option (List ℕ))
-    → OnOk answered (Answers lines text)
-    → IfErr answered (λ fault. IsLeftBy fault Answers lines text)
-    → Writes (IsCutShort (λ whole. whole ≡ text)) a b
-    → Writes (IsLeftBy Writing Answers lines) a b
-not_all_written answered lines text a b all left p =
-    let begin = prefix_there answered lines text all left in
+    → Writes (IsCutShort (λ whole. whole ≡ written)) b c
+    → Writes (IsLeftBy Writing Answers lines) a c
+not_all_written lines text written a b c from is begin w =
+    let p = subst (λ o. Writes (IsCutShort (λ whole. whole ≡ written)) o c) from w in
     let whole : text ++ begin.0 ≡ p.0 ++ (p.1.0 ++ begin.0) =
-    ap (λ t. t ++ begin.0) (sym p.1.2) ∙ append_assoc p.0 p.1.0 begin.0 in
+    ap (λ t. t ++ begin.0) (sym (p.1.2 ∙ is)) ∙ append_assoc p.0 p.1.0 begin.0 in
     (p.0, (p.1.0 ++ begin.0, goes_on p.1.0 begin.0 p.1.1, subst (Answers lines) whole begin.1), p.2)
+
+pub all_are_prefix : (lines : List Line) (text : List ℕ) → Answers lines text → IsPrefixOf (Answers lines) text
+all_are_prefix lines text all = ([], subst (Answers lines) (sym (append-nil text)) all)
+
+-- a fault of writing leaves them so
+pub left_by_writing : (r : Result Unit Fault) (lines : List Line) (a c : Option (List ℕ))
+    → OnErr r (Writes (IsLeftBy Writing Answers lines) a c)
+    → IfErr r (λ fault. fault ≡ Writing)
+    → IfErr r (λ fault. Writes (IsLeftBy fault Answers lines) a c)
+left_by_writing (Ok u) lines a c left is = is
+left_by_writing (Err fault) lines a c left is = subst (λ f. Writes (IsLeftBy f Answers lines) a c) (sym is) left

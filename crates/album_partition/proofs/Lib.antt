@@ -12,5 +12,6 @@ pub mod StoredLemmas
 pub mod FirstValueLemmas
 pub mod AnswerLemmas
 pub mod PartitionLemmas
+pub mod OpeningLemmas
 pub mod GrowthLemmas
 pub mod LawLemmas

@@ -1,11 +1,12 @@
 -- A partition opens as one and stays one, whatever message comes. `Partition::new` needs `opens`, `Partition::receive`
--- needs `stays` and `can_follow`, and `Partition::on_vote_of` needs `heard_is_nothing`.
+-- needs `stays` and `can_follow`, `Partition::on_vote_of` needs `heard_is_nothing`, and `Partition::trim` `can_trim`.
 use Rattle.std.proofs.Common.{◌≡◌, ℕ, ◌<◌, ◌≤◌, ◌+◌, Bool, true, false, ◌==◌, ◌&&◌, not, IfSome, List, [], ◌∷◌, ◌++◌, length, Option, Some, None, refl, sym, ap, ◌∙◌, subst, arith, if◌then◌else◌}
-use Rattle.std.specs.Prelude.{Ok, Err, nat_lt, nat_le}
+use Rattle.std.specs.Prelude.{Result, Ok, Err, nat_lt, nat_le}
 use Rattle.std.proofs.lemmas.Bool.{and_parts, not-true, leb-true, false≢true}
 use Rattle.std.proofs.lemmas.Bool.Decides.{Decides-ltb, Decides-eqb}
 use Rattle.std.proofs.lemmas.List.{append-nil, length-append}
 use Rattle.album_stamps.specs.declared.limits.TheConstants.{MAX_PARTS, MIN_MARKS, MAX_MARKS}
+use Rattle.album_stamps.specs.declared.refusals.Refusal.{Refusal}
 use Rattle.album_stamps.specs.declared.refusals.Refusal.TheVariants.{BadOpening, NoSuchPart, Clash, Full}
 use Rattle.album_stamps.specs.Outcome.{◌>>=◌}
 use Rattle.album_items.specs.Openings.{Row, has_parts, has_limit, has_single_rows}
@@ -25,7 +26,7 @@ use Rattle.album_items.specs.Places.{is_placed, lies_at, others_of, placed_at}
 use Rattle.album_items.specs.Transactions.{are_items}
 use Rattle.album_partition.specs.Proper.{are_rows_of, are_own_writes, is_proper, is_proper_mark}
 use Rattle.album_partition.specs.Stored.{CanFollow}
-use Rattle.album_partition.specs.Trims.{with_mark, trimmed}
+use Rattle.album_partition.specs.Trims.{trim_mark, by_mark, on_trim, with_mark, trimmed}
 use Rattle.album_partition.specs.Votes.{NotedVote, has_vote, new_vote, heard, AreVotes}
 use Rattle.album_partition.proofs.AnswerLemmas.{Acts, idle, said, prepared, committed, refused, voted_committed, voted_never, voted_prepared, acts, acts_here}
 use Rattle.album_partition.proofs.LegalLemmas.{is_legal-push}
@@ -329,3 +330,46 @@ trimmed_is p q i h e = trimmed-cases IsPartition p q i h (λ placed room. (trims
 -- where there is no room, a trim that is not refused does nothing
 pub full_is_left : (p q : PartitionState) (i : ℕ) → is_full p.limit p.marks ≡ true → trimmed p i ≡ Ok q → q ≡ p
 full_is_left p q i full e = trimmed-cases (λ r. r ≡ p) p q i refl (λ placed room. absurd (false≢true (sym room ∙ full))) e
+
+-- the mark that a trim makes
+trim_made : (p : PartitionState) (i : ℕ) (m : Mark) → trim_mark p i ≡ Ok (Some m)
+    → (m ≡ Trimmed i) × (is_placed p.number p.parts i ≡ true) × (is_full p.limit p.marks ≡ false)
+trim_made p i m e =
+    go (is_placed p.number p.parts i) (floor p.marks i == latest p.marks i) (is_full p.limit p.marks) refl refl e
+  where
+    go : (a b c : Bool) → is_placed p.number p.parts i ≡ a → is_full p.limit p.marks ≡ c
+        → (if not a then Err Clash else if b then Ok None else if c then Err Full else Ok (Some (Trimmed i))) ≡ Ok (Some m)
+        → (m ≡ Trimmed i) × (is_placed p.number p.parts i ≡ true) × (is_full p.limit p.marks ≡ false)
+    go false b c f g h = absurd (cc)
+    go true true c f g h = absurd (cc)
+    go true false true f g h = absurd (cc)
+    go true false false f g h = (cc, f, g)
+
+-- what is decided of a trim can be done
+pub record CanTrim (p : PartitionState) (a : Action) : Type 0 where
+  pub follows : IfSome a.mark (CanFollow p.marks)
+  pub stays : IsPartition (with_action p a)
+
+same_votes : (p : PartitionState) (x : Option Mark) → with_mark p x ≡ with_action p (by_mark x)
+same_votes p x = sym (ap (λ (vs : List NotedVote). record (with_mark p x) { votes = vs }) (append-nil p.votes))
+
+pub can_trim : (p : PartitionState) (i : ℕ) (a : Action) → IsPartition p → on_trim p i ≡ Ok a → CanTrim p a
+can_trim p i a h e = go (trim_mark p i) refl e
+  where
+    go : (r : Result (Option Mark) Refusal) → trim_mark p i ≡ r → (r >>= λ mark. Ok (by_mark mark)) ≡ Ok a → CanTrim p a
+    go (Err refusal) f g = absurd (cc)
+    go (Ok None) f g =
+        let made : by_mark None ≡ a = cc in
+        subst (CanTrim p) made
+        (record {
+          follows = tt;
+          stays = subst IsPartition
+              (sym (ap (λ (ms : List Mark). record p { marks = ms }) (append-nil p.marks)) ∙ same_votes p None) h;
+        })
+    go (Ok (Some m)) f g =
+        let made : by_mark (Some m) ≡ a = cc in
+        let facts = trim_made p i m f in
+        let may = subst (λ (n : Mark). IsPartition (record p { marks = p.marks ++ n ∷ [] }) × CanFollow p.marks n)
+        (sym facts.0) (trims_by p i h facts.1 facts.2) in
+        subst (CanTrim p) made
+        (record { follows = may.1; stays = subst IsPartition (same_votes p (Some m)) may.0 })

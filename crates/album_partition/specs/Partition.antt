@@ -1,6 +1,6 @@
 -- What a partition is seen as, what it opens with, and what it tells of an item.
-use Rattle.std.specs.Prelude.{◌≡◌, ℕ, ◌≤◌, ◌<◌, Bool, true, not, ◌==◌, ◌&&◌, nat_lt, nat_le, List, [], ◌∷◌, Option, Some, None, Result, Ok, Err, if◌then◌else◌}
-use Rattle.std.specs.List.{list_all}
+use Rattle.std.specs.Prelude.{◌≡◌, ℕ, ◌≤◌, ◌<◌, Bool, true, not, ◌==◌, ◌&&◌, nat_lt, nat_le, List, [], ◌∷◌, map, Option, Some, None, Result, Ok, Err, if◌then◌else◌}
+use Rattle.std.specs.List.{list_all, range_with_len}
 use Rattle.std.specs.Option.{unwrap_or}
 use Rattle.album_stamps.specs.declared.limits.TheConstants.{MAX_PARTS, MAX_MARKS}
 use Rattle.album_stamps.specs.declared.refusals.Refusal.{Refusal}
@@ -11,7 +11,7 @@ use Rattle.album_items.specs.declared.values.Value.TheVariants.{Missing}
 use Rattle.album_versions.specs.Best.{best_of}
 use Rattle.album_partition.specs.declared.marks.Mark.{Mark}
 use Rattle.album_partition.specs.Marks.{value_in, version, has_version, latest, floor, load, is_legal}
-use Rattle.album_items.specs.Places.{is_placed}
+use Rattle.album_items.specs.Places.{is_placed, rows_placed_at}
 use Rattle.album_partition.specs.Proper.{are_proper_marks}
 use Rattle.album_partition.specs.Votes.{NotedVote, AreVotes}
 
@@ -42,6 +42,15 @@ may_open number parts limit items = has_parts parts && has_limit limit && has_ow
 abbrev pub opening_state : ℕ → ℕ → List Row → ℕ → PartitionState
 opening_state number parts items limit =
     record { number = number; parts = parts; limit = limit; items = items; marks = []; votes = [] }
+
+-- the same, among the partitions that so many rows of first values are placed at: it has those that are placed at it
+abbrev pub first_partition : ℕ → ℕ → List Row → ℕ → PartitionState
+first_partition parts limit rows number =
+    opening_state number parts (rows_placed_at number parts rows) limit
+
+-- all partitions as they open, in the order of their numbers
+abbrev pub first_partitions : ℕ → ℕ → List Row → List PartitionState
+first_partitions parts limit rows = map (first_partition parts limit rows) (range_with_len 0 parts)
 
 -- the partition of this number, among so many, with these first values and room for so many marks
 abbrev pub opened : ℕ → ℕ → List Row → ℕ → Result PartitionState Refusal

@@ -10,7 +10,9 @@ ghost use Rattle.album_partition.specs.Sweeps.{swept};
 ghost use Rattle.album_partition.specs.Trims.{trim_mark, trimmed};
 
 mod answers;
+mod openings;
 mod sweeps;
+mod trims;
 
 use crate::first_values::FirstValues;
 use crate::marks::Mark;
@@ -153,16 +155,8 @@ impl Partition {
             (λ e. e ≡ Refusal.OutOfMemory → trim_mark self.old item ≡ Ok (Some (Mark.Trimmed item))) }
         ensures unchanged { OnErr result (self.new ≡ self.old) }
     {
-        if !self.seat.has(item) {
-            return Err(Refusal::Clash);
-        }
-        if self.stored.floor(item) == self.stored.latest(item) {
-            return Ok(());
-        }
-        if self.is_full() {
-            return Err(Refusal::Full);
-        }
-        self.stored.add(Some(Mark::Trimmed(item)))?;
+        let action = self.on_trim(item)?;
+        self.apply(action)?;
         Ok(())
     }
 

@@ -9,13 +9,13 @@ use album_views::Ask;
 pub enum Event {
     /// The client asks for something, on behalf of a principal.
     Ask(ClientNo, Principal, Ask),
-    /// The message of this number is given to whom it is sent, be it late, again or out of order. A message
-    /// that is never given is lost.
+    /// The message of this number is delivered to its receiver, be it late, again or out of order. A message that is
+    /// never delivered is lost.
     Deliver(u64),
-    /// The partition asks others how the stamp stands there that is pending at its side.
+    /// The partition, at which the stamp is pending, asks the other participants of its write for their votes.
     Sweep(u16, Stamp),
     /// The client stops for good.
     Stop(ClientNo),
-    /// The partition lets the versions of the item go that are below its latest stamp.
+    /// The partition drops the versions of the item below its latest stamp.
     Trim(u16, ItemId),
 }

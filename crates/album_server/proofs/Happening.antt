@@ -66,7 +66,7 @@ told_so text_of says terms trace old new event outs past done =
     ap (λ now. world_of now then) done.kept ∙ ap (changed_by world event) (sym done.is) in
     let text : told_text trace new.kept outs ≡ text_of trace old.kept (change_of terms old.kept event) =
     ap (λ now. told_text trace now outs) done.kept
-    ∙ ap (told_text trace (now_after old.kept done.change)) done.told
+    ∙ ap (told_text trace (now_after old.kept done.change)) done.outputs
     ∙ sym (says trace old.kept done.change)
     ∙ ap (text_of trace old.kept) (sym done.is) in
     (then, inl (next, text))

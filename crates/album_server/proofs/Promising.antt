@@ -15,7 +15,7 @@ use Rattle.album_client.specs.Terms.{Terms, terms_of}
 use Rattle.album_world.specs.State.{Now}
 use Rattle.album_world.specs.Past.{World}
 use Rattle.album_world.specs.Changes.{Change, change_of}
-use Rattle.album_world.specs.Runs.{now_after, outs_of, run_of, start, tells, outs_by}
+use Rattle.album_world.specs.Runs.{now_after, outs_of, run_of, start, event_outputs, outs_by}
 use Rattle.album_world.specs.Seen.{IsInPast}
 use Rattle.album_permits.specs.declared.events.Event.{Event}
 use Rattle.album_permits.specs.declared.outs.Out.{Out}

@@ -38,7 +38,7 @@ MayLead Goes old past text = (next : World) × Goes (with_past old past) next te
 
 -- nothing has happened to a world that opens
 abbrev pub no_past : Past
-no_past = record { asked = []; transactions = []; begun = []; reads = []; told = []; noted = [] }
+no_past = record { asked = []; transactions = []; begun = []; reads = []; answers = []; noted = [] }
 
 -- what the lines have said so far, as a step
 abbrev pub step_to : SoFar → Step

@@ -4,7 +4,7 @@ use Rattle.album_calls.specs.declared.messages.Message.{Message}
 use Rattle.album_client.specs.Clients.{Client, stamp_at_work}
 use Rattle.album_client.specs.Transitions.{IsMoved}
 use Rattle.album_client.specs.Terms.{Terms}
-use Rattle.album_client.specs.Turns.{turn_of}
+use Rattle.album_client.specs.Steps.{transition_of}
 use Rattle.album_client.specs.declared.clients.Phase.{Phase}
 use Rattle.album_client.specs.declared.clients.Phase.TheVariants.{Idle}
 use Rattle.album_client.specs.declared.transitions.Transition.{Transition}
@@ -54,7 +54,7 @@ pub record IsTaken
     : Type 0 where
   pub reply : Message
   pub replied : IsReplied limit at now sent reply
-  pub is : IsMoved (turn_of terms client reply phase) transition
+  pub is : IsMoved (transition_of terms client reply phase) transition
 
 -- the client has answered, or does this and sends these messages
 abbrev pub IsTurned : Phase → List Message → Option Answer → Turned → Type 0

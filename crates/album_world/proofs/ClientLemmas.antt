@@ -25,7 +25,7 @@ use Rattle.album_writer.specs.declared.write_replies.WriteReply.{WriteReply}
 use Rattle.album_writer.specs.declared.write_replies.WriteReply.TheVariants as write_reply
 use Rattle.album_writer.specs.WriteReplies.{write_reply_of, body_reply, is_from_participant, reply_in}
 use Rattle.album_client.specs.Clients.{Client}
-use Rattle.album_client.specs.Turns.{clock_after_rows}
+use Rattle.album_client.specs.Steps.{clock_after_rows}
 use Rattle.album_world.specs.State.{client_at, with_client}
 use Rattle.album_world.proofs.ListLemmas.{In, and_left, and_right, and_both, in_uncons, in_nil, in_any, in_map, none_some, some_same}
 use Rattle.album_world.proofs.ListLemmas.In.{here, there}

@@ -32,9 +32,9 @@ use Rattle.album_permits.specs.declared.answers.Answer.TheVariants as answer
 use Rattle.album_client.specs.declared.clients.Phase.{Phase}
 use Rattle.album_client.specs.declared.clients.Phase.TheVariants as phase
 use Rattle.album_client.specs.Clients.{Client, tag_of}
-use Rattle.album_client.specs.Turns.{Transaction}
+use Rattle.album_client.specs.Steps.{Transaction}
 use Rattle.album_world.specs.State.{history_in, client_at}
-use Rattle.album_world.specs.Past.{World, Read, Told, last_begun}
+use Rattle.album_world.specs.Past.{World, Read, PastAnswer, last_begun}
 use Rattle.album_world.specs.Committing.{history, IsCommitted, IsCommittedAt}
 use Rattle.album_world.specs.Atomic.{first_value}
 use Rattle.album_world.proofs.ListLemmas.{In}
@@ -337,4 +337,4 @@ pub record IsKept (o : Opening) (w : World) : Type 0 where
   pub clients : (c : ℕ) → IsClient o w c (client_at w.now.clients c) (last_begun w.past.begun c).partitions
   pub reads : (f : Read) (rows : List ReadVersion) → In f w.past.reads → f.rows ≡ Some rows
       → IsRead o w f.begun.partitions rows
-  pub answers : (t : Told) → In t w.past.told → IsAnswer o w t.answer
+  pub answers : (t : PastAnswer) → In t w.past.answers → IsAnswer o w t.answer

@@ -50,13 +50,13 @@ use Rattle.album_client.specs.Terms.{Terms, terms_of}
 use Rattle.album_client.specs.PendingAsks.{PendingAsk}
 use Rattle.album_client.specs.Clients.{Client}
 use Rattle.album_client.specs.Grants.{served_for}
-use Rattle.album_client.specs.Turns.{Transaction, Ended, Turn, still, sends, read_begins, ask_ends, write_begins, writes_unless, draws_by, grants, rules_by, clock_after_rows, read_ends, read_turn, prepare_turn, commit_turn}
+use Rattle.album_client.specs.Steps.{Transaction, Ended, TransitionState, still, sends, read_begins, ask_ends, write_begins, writes_unless, draws_by, grants, rules_by, clock_after_rows, read_ends, read_transition, prepare_transition, commit_transition}
 use Rattle.album_client.proofs.GrantLemmas.{served_is, unserved_writes, taken_flawless, spent_is}
 use Rattle.album_world.specs.State.{client_at, is_stopped}
 use Rattle.album_world.specs.Past.{World, Begun, Read, last_begun, last_read}
 use Rattle.album_world.specs.Changes.Change.{AtClient, Nothing}
 use Rattle.album_world.specs.Changes.{client_takes_by, client_takes}
-use Rattle.album_world.specs.Runs.{changed, read_over, told_to, noted_of}
+use Rattle.album_world.specs.Runs.{changed, read_over, past_answer, noted_of}
 use Rattle.album_world.specs.Viewed.{IsOnView, Notes}
 use Rattle.album_world.specs.Rulings.{IsBegunBy, HasNotes, IsNotedFor}
 use Rattle.album_world.specs.Granted.{IsDrawnBy, IsGranted}
@@ -96,18 +96,18 @@ module _ (o : Opening) (w : World) (k : IsKept o w) (b : IsBooked (terms_of o) w
       (λ r l. none_some l) (λ a l. none_some l) (λ a l. none_some l) (λ a l. none_some l)
 
   -- a write is over
-  outcome_booked : (tag : ℕ) (a : Answer) → IsLed t w (told_to w.past.reads c a) a
-      → IsNotedFor w (told_to w.past.reads c a) a → IsBooked t (changed w (AtClient c (ask_ends x tag a)))
+  outcome_booked : (tag : ℕ) (a : Answer) → IsLed t w (past_answer w.past.reads c a) a
+      → IsNotedFor w (past_answer w.past.reads c a) a → IsBooked t (changed w (AtClient c (ask_ends x tag a)))
   outcome_booked tag a led noting =
       let turn = ask_ends x tag a in
       let next = changed w (AtClient c turn) in
       turn_booked o w k b c turn number own (le_refl _) (λ r l. none_some l) tt (λ r l. none_some l)
-      (λ z l. subst (λ (y : Answer). IsLed t next (told_to w.past.reads c y) y) (some_same l)
+      (λ z l. subst (λ (y : Answer). IsLed t next (past_answer w.past.reads c y) y) (some_same l)
       (led_adds t w next (turn_adds o w k b c turn number own (le_refl _) (λ r l. none_some l))
-      (told_to w.past.reads c a) a led))
-      (λ z l. subst (λ (y : Answer). IsNotedFor next (told_to w.past.reads c y) y) (some_same l)
+      (past_answer w.past.reads c a) a led))
+      (λ z l. subst (λ (y : Answer). IsNotedFor next (past_answer w.past.reads c y) y) (some_same l)
       (noting_adds t w next (turn_adds o w k b c turn number own (le_refl _) (λ r l. none_some l))
-      (told_to w.past.reads c a) a noting))
+      (past_answer w.past.reads c a) a noting))
       (λ a l. none_some l)
 
   -- ---- a read that is over
@@ -128,15 +128,15 @@ module _ (o : Opening) (w : World) (k : IsKept o w) (b : IsBooked (terms_of o) w
     -- there is no view
     busy_booked : (why : Why) (rows : Option (List ReadVersion))
         → ((v : World) → In (read_now rows) v.past.reads
-        → IsLed t v (told_to (read_now rows ∷ w.past.reads) c (answer.Busy why)) (answer.Busy why))
+        → IsLed t v (past_answer (read_now rows ∷ w.past.reads) c (answer.Busy why)) (answer.Busy why))
         → IsBooked t (changed w (AtClient c (read_ends t x tag pending_ask rows (Busy why))))
     busy_booked why rows led =
         let turn = read_ends t x tag pending_ask rows (Busy why) in
         let next = changed w (AtClient c turn) in
         turn_booked o w k b c turn number own (le_refl _) (λ r l. none_some l) tt (λ r l. none_some l)
-        (λ z l. subst (λ (y : Answer). IsLed t next (told_to (read_now rows ∷ w.past.reads) c y) y) (some_same l)
+        (λ z l. subst (λ (y : Answer). IsLed t next (past_answer (read_now rows ∷ w.past.reads) c y) y) (some_same l)
         (led next here))
-        (λ z l. subst (λ (y : Answer). IsNotedFor next (told_to (read_now rows ∷ w.past.reads) c y) y) (some_same l) tt)
+        (λ z l. subst (λ (y : Answer). IsNotedFor next (past_answer (read_now rows ∷ w.past.reads) c y) y) (some_same l) tt)
         (λ a l. none_some l)
 
     again_booked : (rows : Option (List ReadVersion)) → ((read_now rows).rows ≡ None) ⊎ IsNarrow (read_now rows)
@@ -230,7 +230,7 @@ module _ (o : Opening) (w : World) (k : IsKept o w) (b : IsBooked (terms_of o) w
       seen_up = rows_raise x.clock rows
 
       -- what is told and noted at this event
-      abbrev over_with : Turn → Turn
+      abbrev over_with : TransitionState → TransitionState
       over_with turn = with_past turn (Some (ended (Some rows))) (Some notes)
 
       noted_now : (v : World) → In here_read v.past.reads → (n : List Note) → Some notes ≡ Some n
@@ -243,15 +243,15 @@ module _ (o : Opening) (w : World) (k : IsKept o w) (b : IsBooked (terms_of o) w
       tells_booked : (y : Client) → y.number ≡ c → y.clock.client ≡ c → x.clock.counter ≤ y.clock.counter → (a : Answer)
           → ((v : World) → In here_read v.past.reads
           → client_at v.now.clients c ≡ (record y { phase = phase.Idle tag })
-          → v.past.transactions ≡ w.past.transactions ++ [] → IsLed t v (told_to (here_read ∷ w.past.reads) c a) a)
+          → v.past.transactions ≡ w.past.transactions ++ [] → IsLed t v (past_answer (here_read ∷ w.past.reads) c a) a)
           → IsBooked t (changed w (AtClient c (over_with (ask_ends y tag a))))
       tells_booked y ny oy up a led =
           let turn = over_with (ask_ends y tag a) in
           let next = changed w (AtClient c turn) in
           turn_booked o w k b c turn ny oy up (λ r l. none_some l) tt (λ r l. none_some l)
-          (λ z l. subst (λ (q : Answer). IsLed t next (told_to (here_read ∷ w.past.reads) c q) q) (some_same l)
+          (λ z l. subst (λ (q : Answer). IsLed t next (past_answer (here_read ∷ w.past.reads) c q) q) (some_same l)
           (led next here (same_now o w k c turn ny oy) refl))
-          (λ z l. noting_by next (told_to (here_read ∷ w.past.reads) c z) z
+          (λ z l. noting_by next (past_answer (here_read ∷ w.past.reads) c z) z
           (record {
             noted = noted_of (here_read ∷ w.past.reads) c notes;
             kept = contains (in_right w.past.noted here);
@@ -299,7 +299,7 @@ module _ (o : Opening) (w : World) (k : IsKept o w) (b : IsBooked (terms_of o) w
                 (λ (z : Client). drawn.clock.counter ≤ z.clock.counter) (sym e) (le_refl _);
           }
 
-          is_new : (turn : Turn) → turn.client.clock.counter ≡ drawn.clock.counter → (r : Transaction)
+          is_new : (turn : TransitionState) → turn.client.clock.counter ≡ drawn.clock.counter → (r : Transaction)
               → r.stamp ≡ stamp → IsNew c x.clock.counter turn r
           is_new turn same r e = record {
             at = drawn.clock.counter;
@@ -474,7 +474,7 @@ module _ (o : Opening) (w : World) (k : IsKept o w) (b : IsBooked (terms_of o) w
 
     -- ---- a message in a read
 
-    reading_booked : (step : Step) → IsBooked t (changed w (AtClient c (read_turn t x tag pending_ask step)))
+    reading_booked : (step : Step) → IsBooked t (changed w (AtClient c (read_transition t x tag pending_ask step)))
     reading_booked (Same round) = quiet_booked (record x { phase = phase.Reads pending_ask round }) refl refl counted []
     reading_booked (Next round messages) = quiet_booked (record x { phase = phase.Reads pending_ask round }) refl refl
         counted messages
@@ -513,7 +513,7 @@ module _ (o : Opening) (w : World) (k : IsKept o w) (b : IsBooked (terms_of o) w
   committed_led z T h = on_write z T h (IsBegunBy w c z.stamp) (begun_by z T h)
 
   noting_of : (z : WritingState) (T : Transaction → Type 0) → IsWriteOn t w c z T → (a : Answer)
-      → HasNotes w (told_to w.past.reads c a)
+      → HasNotes w (past_answer w.past.reads c a)
   noting_of z T h a = record {
     noted = h.notes;
     kept = contains h.noted;
@@ -563,7 +563,7 @@ module _ (o : Opening) (w : World) (k : IsKept o w) (b : IsBooked (terms_of o) w
 
     left_booked : (y : WritingState) → y.stamp ≡ z.stamp → places_in y ≡ places_in z → y.client ≡ z.client
         → y.tag ≡ z.tag → IsWriteOn t w c z Tagged → (outstanding : List ℕ)
-        → IsBooked t (changed w (AtClient c (prepare_turn x z.tag (prepares_left y outstanding))))
+        → IsBooked t (changed w (AtClient c (prepare_transition x z.tag (prepares_left y outstanding))))
     left_booked y stamp places client tag h [] =
         quiet_booked (committing (commit_round y)) refl refl
         (same_write z (commit_round y) Tagged Whatever stamp places client (λ r e. tt) h)
@@ -573,7 +573,7 @@ module _ (o : Opening) (w : World) (k : IsKept o w) (b : IsBooked (terms_of o) w
         (same_write z y Tagged (λ by. by.tag ≡ y.tag) stamp places client (λ r e. e ∙ sym tag) h) []
 
     prepared_booked : IsWriteOn t w c z Tagged → (what : WriteReply) → reply_in z m ≡ what
-        → IsBooked t (changed w (AtClient c (prepare_turn x z.tag (prepares_by z m.from what))))
+        → IsBooked t (changed w (AtClient c (prepare_transition x z.tag (prepares_by z m.from what))))
     prepared_booked h write_reply.Prepared e = left_booked (answered_by z m.from) refl refl refl refl h
         (answered_by z m.from).outstanding
     prepared_booked h write_reply.Discarded e = outcome_booked z.tag (answer.Aborted z.stamp) (committed_led z Tagged h)
@@ -601,7 +601,7 @@ module _ (o : Opening) (w : World) (k : IsKept o w) (b : IsBooked (terms_of o) w
 
     ended_booked : (y : WritingState) → y.stamp ≡ z.stamp → places_in y ≡ places_in z → y.client ≡ z.client
         → IsWriteOn t w c z Whatever → (outstanding : List ℕ)
-        → IsBooked t (changed w (AtClient c (commit_turn x z.tag (commits_left y outstanding))))
+        → IsBooked t (changed w (AtClient c (commit_transition x z.tag (commits_left y outstanding))))
     ended_booked y stamp places client h [] =
         outcome_booked z.tag (answer.Committed y.stamp)
         (committed_led y Whatever (same_write z y Whatever Whatever stamp places client (λ r e. e) h))
@@ -610,7 +610,7 @@ module _ (o : Opening) (w : World) (k : IsKept o w) (b : IsBooked (terms_of o) w
         (same_write z y Whatever Whatever stamp places client (λ r e. e) h) []
 
     committed_booked : IsWriteOn t w c z Whatever → (what : WriteReply) → reply_in z m ≡ what
-        → IsBooked t (changed w (AtClient c (commit_turn x z.tag (commits_by z m.from what))))
+        → IsBooked t (changed w (AtClient c (commit_transition x z.tag (commits_by z m.from what))))
     committed_booked h write_reply.Committed e = ended_booked (answered_by z m.from) refl refl refl h
         (answered_by z m.from).outstanding
     committed_booked h write_reply.Prepared e = quiet_booked (committing z) refl refl h []

@@ -20,11 +20,10 @@ pub mod RequestLemmas
 pub mod AskedLemmas
 pub mod AnsweredLemmas
 pub mod TidyLemmas
-pub mod ToldLemmas
+pub mod OutputLemmas
 pub mod WorldRows
 pub mod FlagLemmas
 pub mod RegisterLemmas
-pub mod OpeningLemmas
 pub mod StoryLemmas
 pub mod CheckLemmas
 pub mod StateLemmas

@@ -49,7 +49,7 @@ use Rattle.album_client.specs.Terms.{terms_of}
 use Rattle.album_client.specs.PendingAsks.{PendingAsk}
 use Rattle.album_client.specs.Clients.{Client, tag_of}
 use Rattle.album_client.specs.Grants.{served_for}
-use Rattle.album_client.specs.Turns.{Transaction, Ended, Turn, still, sends, asker_at, read_begins, ask_ends, round_for, write_begins, writes_unless, draws_by, grants, rules_by, clock_after_rows, views_by, read_turn, prepare_turn, commit_turn}
+use Rattle.album_client.specs.Steps.{Transaction, Ended, TransitionState, still, sends, asker_at, read_begins, ask_ends, round_for, write_begins, writes_unless, draws_by, grants, rules_by, clock_after_rows, views_by, read_transition, prepare_transition, commit_transition}
 use Rattle.album_world.specs.State.{client_at, is_stopped}
 use Rattle.album_world.specs.Past.{World, Begun, last_begun}
 use Rattle.album_world.specs.Changes.Change.{AtClient, Nothing}
@@ -76,7 +76,7 @@ part_apart : {p c : ℕ} {R : Type 0} → Part p ≡ ToClient c → R
 part_apart e = absurd (cc)
 
 -- a turn in which a read is over, and something is noted
-abbrev pub with_past : Turn → Option Ended → Option (List Note) → Turn
+abbrev pub with_past : TransitionState → Option Ended → Option (List Note) → TransitionState
 with_past t e n = record t { over = e; noted = n }
 
 module _ (o : Opening) (some : 0 < o.parts) (w : World) (k : IsKept o w) (c : ℕ) where
@@ -128,7 +128,7 @@ module _ (o : Opening) (some : 0 < o.parts) (w : World) (k : IsKept o w) (c : �
   -- ---- what is sent
 
   -- the Gets of a new round
-  asks : (t : Turn) (g : ℕ) → tag_of x.phase ≡ g → (a : Asker) → a.tag ≡ g + 1 → (items ts : List ℕ)
+  asks : (t : TransitionState) (g : ℕ) → tag_of x.phase ≡ g → (a : Asker) → a.tag ≡ g + 1 → (items ts : List ℕ)
       → t.sent ≡ gets_of a ts items → IsAsked (changed w (AtClient c t)) c (g + 1) ts
   asks t g tag a at items ts e = record {
     at = λ m l f q. ⊎_elim
@@ -138,7 +138,7 @@ module _ (o : Opening) (some : 0 < o.parts) (w : World) (k : IsKept o w) (c : �
         (in_cases w.now.messages t.sent l);
   }
 
-  unanswered : (t : Turn) (g : ℕ) → tag_of x.phase ≡ g → (a : Asker) → (items ts : List ℕ) (P : ℕ → ℕ → Type 0)
+  unanswered : (t : TransitionState) (g : ℕ) → tag_of x.phase ≡ g → (a : Asker) → (items ts : List ℕ) (P : ℕ → ℕ → Type 0)
       → t.sent ≡ gets_of a ts items → IsAnswered (changed w (AtClient c t)) c (g + 1) P
   unanswered t g tag a items ts P e = record {
     at = λ m l f q. ⊎_elim
@@ -437,7 +437,7 @@ module _ (o : Opening) (some : 0 < o.parts) (w : World) (k : IsKept o w) (c : �
     end_kept : (r : RoundState) → IsReading o w c began r → tag_of x.phase ≡ r.asker.tag → are_there r.answers ≡ true
         → (f : Option (List ℕ)) → IsRound o w c began r f
         → IsKept o (changed w
-        (AtClient c (read_turn (terms_of o) x r.asker.tag pending_ask (end_by f r (answers_there r.answers)))))
+        (AtClient c (read_transition (terms_of o) x r.asker.tag pending_ask (end_by f r (answers_there r.answers)))))
     end_kept r h tag all None a = fetch_kept r h tag a all
     end_kept r h tag all (Some ts) a =
         let rows = answers_there r.answers in
@@ -450,7 +450,7 @@ module _ (o : Opening) (some : 0 < o.parts) (w : World) (k : IsKept o w) (c : �
     outcome_kept : (r : RoundState) → IsReading o w c began r → tag_of x.phase ≡ r.asker.tag → (b : Bool)
         → are_there r.answers ≡ b
         → IsKept o (changed w
-        (AtClient c (read_turn (terms_of o) x r.asker.tag pending_ask
+        (AtClient c (read_transition (terms_of o) x r.asker.tag pending_ask
         (option_map_or (end_of r) (if b then Some (answers_there r.answers) else None) (Same r)))))
     outcome_kept r h tag true all = end_kept r h tag all r.stamps h.round
     outcome_kept r h tag false all = stays_kept (reading r) refl refl tag h
@@ -458,7 +458,7 @@ module _ (o : Opening) (some : 0 < o.parts) (w : World) (k : IsKept o w) (c : �
     reading_kept : (r : RoundState) (m : Message) → In m w.now.messages → IsReading o w c began r
         → tag_of x.phase ≡ r.asker.tag → (f : Option ReadVersion) → new_answer r m ≡ f
         → IsKept o (changed w
-        (AtClient c (read_turn (terms_of o) x r.asker.tag pending_ask
+        (AtClient c (read_transition (terms_of o) x r.asker.tag pending_ask
         (option_map_or (λ (a : ReadVersion). outcome (with_answer r a)) f (Same r)))))
     reading_kept r m sent h tag None e = stays_kept (reading r) refl refl tag h
     reading_kept r m sent h tag (Some f) e = outcome_kept (with_answer r f)
@@ -468,7 +468,7 @@ module _ (o : Opening) (some : 0 < o.parts) (w : World) (k : IsKept o w) (c : �
     message_read : (r : RoundState) (m : Message) → In m w.now.messages → IsReading o w c began r
         → tag_of x.phase ≡ r.asker.tag → (b : Bool)
         → IsKept o (changed w
-        (AtClient c (read_turn (terms_of o) x r.asker.tag pending_ask (if b then Gone r.items else taken r m))))
+        (AtClient c (read_transition (terms_of o) x r.asker.tag pending_ask (if b then Gone r.items else taken r m))))
     message_read r m sent h tag false = reading_kept r m sent h tag (new_answer r m) refl
     message_read r m sent h tag true =
         views_kept h.low h.high (Some (record { ask = pending_ask.viewing.ask; principal = pending_ask.principal; rows = None }))
@@ -565,12 +565,12 @@ module _ (o : Opening) (some : 0 < o.parts) (w : World) (k : IsKept o w) (c : �
     preparing h = record x { phase = phase.Prepares h }
 
     commits_kept : (h : WritingState) → h.tag ≡ z.tag → IsWriting o w c h (HasPrepared w) → (outstanding : List ℕ)
-        → h.outstanding ≡ outstanding → IsKept o (changed w (AtClient c (prepare_turn x z.tag (prepares_left h outstanding))))
+        → h.outstanding ≡ outstanding → IsKept o (changed w (AtClient c (prepare_transition x z.tag (prepares_left h outstanding))))
     commits_kept h q d [] e = commit_kept h (tag ∙ sym q) d (settled_by_all h e d)
     commits_kept h q d (p ∷ ps) e = stays_kept (preparing h) refl refl (tag ∙ sym q) d
 
     prepared_kept : IsWriting o w c z (HasPrepared w) → (what : WriteReply) → reply_in z m ≡ what
-        → IsKept o (changed w (AtClient c (prepare_turn x z.tag (prepares_by z m.from what))))
+        → IsKept o (changed w (AtClient c (prepare_transition x z.tag (prepares_by z m.from what))))
     prepared_kept h write_reply.Prepared e =
         let d = told_to_is z m write_reply.Prepared e tt in
         commits_kept (answered_by z m.from) refl
@@ -600,12 +600,12 @@ module _ (o : Opening) (some : 0 < o.parts) (w : World) (k : IsKept o w) (c : �
     prepared_kept h write_reply.Nothing e = stays_kept (preparing z) refl refl tag h
 
     ended_kept : (h : WritingState) → h.tag ≡ z.tag → IsWriting o w c h (HasCommitted w) → (outstanding : List ℕ)
-        → h.outstanding ≡ outstanding → IsKept o (changed w (AtClient c (commit_turn x z.tag (commits_left h outstanding))))
+        → h.outstanding ≡ outstanding → IsKept o (changed w (AtClient c (commit_transition x z.tag (commits_left h outstanding))))
     ended_kept h q d [] e = outcome_ends z.tag tag (answer.Committed h.stamp) (done_by_all h e d)
     ended_kept h q d (p ∷ ps) e = stays_kept (committing h) refl refl (tag ∙ sym q) d
 
     committed_kept : IsWriting o w c z (HasCommitted w) → (what : WriteReply) → reply_in z m ≡ what
-        → IsKept o (changed w (AtClient c (commit_turn x z.tag (commits_by z m.from what))))
+        → IsKept o (changed w (AtClient c (commit_transition x z.tag (commits_by z m.from what))))
     committed_kept h write_reply.Committed e =
         let d = told_to_is z m write_reply.Committed e tt in
         ended_kept (answered_by z m.from) refl

@@ -9,10 +9,10 @@ use Rattle.album_permits.specs.Permits.{PermitState, permit_on}
 use Rattle.album_permits.specs.declared.findings.Finding.{Finding}
 use Rattle.album_permits.specs.declared.notes.Note.{Note}
 use Rattle.album_client.specs.Terms.{Terms}
-use Rattle.album_world.specs.Past.{Read, Told, World}
+use Rattle.album_world.specs.Past.{Read, PastAnswer, World}
 
--- What a client had read last is closed: a view of its ask. Of that, who asks, and the policy, as they would stand in a
--- permit, this holds.
+-- The client's last read is closed: a view of its ask. A permit of this view, the principal and the policy would have
+-- the property.
 pub record IsOnView
     (terms : Terms) (world : World) (client : ℕ) (last : Option Read) (Holds : PermitState → Type 0) : Type 0 where
   pub read : Read
@@ -24,9 +24,9 @@ pub record IsOnView
   pub view : IsView (record { ask = read.ask; rows = rows })
   pub holds : Holds (permit_on terms.policy read.principal read.ask rows)
 
--- the same of the view on which a client was told something
-abbrev pub IsToldOn : Terms → World → Told → (PermitState → Type 0) → Type 0
-IsToldOn terms world told Holds = IsOnView terms world told.client told.last Holds
+-- the same for the view that an answer rests on
+abbrev pub IsAnsweredOnView : Terms → World → PastAnswer → (PermitState → Type 0) → Type 0
+IsAnsweredOnView terms world given Holds = IsOnView terms world given.client given.last Holds
 
 -- the written policy finds this
 pub record Finds (case : PermitState) (finding : Finding) : Type 0 where
@@ -34,7 +34,7 @@ pub record Finds (case : PermitState) (finding : Finding) : Type 0 where
   pub based : IsBasis case.policy case.principal case.view.rows basis
   pub is : ruling_of basis case.view.ask ≡ finding
 
--- and this is noted of it
+-- and these are its notes
 pub record Notes (case : PermitState) (notes : List Note) : Type 0 where
   pub basis : Basis
   pub based : IsBasis case.policy case.principal case.view.rows basis

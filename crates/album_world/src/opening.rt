@@ -12,11 +12,12 @@ use album_partition::Partition;
 use album_stamps::Refusal;
 use std::alloc::Global;
 
-/// The terms that the opening names.
+/// The terms of the opening.
 pub(crate) fn terms_of(opening: &Opening) -> Terms
     requires { is_opening opening.now ≡ true }
     ensures { result ≡ terms_of opening.now }
 {
+    // The opening passes its check: its policy is known, and its partitions are at most `MAX_PARTS`.
     let policy = Policy::of(opening.policy).unwrap_or(Policy::One);
     Terms::new(opening.parts as u16, policy)
 }
@@ -36,14 +37,19 @@ pub(crate) fn partitions_of(
 {
     let mut partitions = Vec::new(alloc);
     for part in 0..parts {
-        partitions.push(opens(alloc, opening, parts, part)?)?;
+        partitions.push(open_partition(alloc, opening, parts, part)?)?;
     }
     Ok(partitions)
 }
 
-/// The partition of this number, with its items.
+/// The partition of this number, as it opens with its items.
 #[tactic(auto, using(crate::proofs::OpeningLemmas::may_be_opened, crate::proofs::OpeningLemmas::opened_so))]
-fn opens(alloc: Global, opening: &Opening, parts: u16, part: u16) -> Result<Partition, Refusal>
+fn open_partition(
+    alloc: Global,
+    opening: &Opening,
+    parts: u16,
+    part: u16,
+) -> Result<Partition, Refusal>
     requires passes { is_opening opening.now ≡ true }
     requires parts { opening.now.parts ≡ parts }
     requires here { part < parts }

@@ -36,7 +36,7 @@ impl Model for Action {
 }
 
 impl Action {
-    fn nothing() -> Action
+    pub(super) fn nothing() -> Action
         ensures { result ≡ nothing }
     {
         Action {
@@ -56,7 +56,7 @@ impl Action {
         }
     }
 
-    fn marks(mark: Mark) -> Action
+    pub(super) fn marks(mark: Mark) -> Action
         ensures { result ≡ marks mark }
     {
         Action {

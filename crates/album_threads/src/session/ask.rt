@@ -89,8 +89,8 @@ impl<J: ServiceNames> Session<J> {
     {
         self.channel.is_open()?;
         self.channel.is_sound();
-        let transition = self.client_step().asks(self.tag, principal.copy()?, ask)?;
-        let _reads = transition.client.phase.reads();
+        let transition = self.client_step().ask(self.tag, principal.copy()?, ask)?;
+        let _reads = transition.client.phase.is_reading();
         let (phase, sent) = work_of(transition);
         self.tag = phase.tag();
         let asked = self.channel.send_round(rt, sent)?;

@@ -1,4 +1,4 @@
-use Rattle.album_world.proofs.ToldLemmas.{told_by_event, told_by_run}
+use Rattle.album_world.proofs.OutputLemmas.{told_by_event, told_by_run}
 use Rattle.album_world.proofs.laws.each_output_is_given_once.Goals as goal
 
 pub returns-clause-event : goal.returns-clause-event

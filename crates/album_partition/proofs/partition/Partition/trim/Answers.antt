@@ -1,15 +1,14 @@
-use Rattle.std.proofs.Common.{◌≡◌, ◌∙◌, true, false, sym, subst}
-use Rattle.album_partition.specs.Marks.{is_full}
-use Rattle.album_partition.specs.Partition.{PartitionState}
-use Rattle.album_items.specs.Places.{is_placed}
-use Rattle.album_partition.specs.contracts.partition.Partition.{the_view}
-use Rattle.album_partition.proofs.PartitionLemmas.{trims_by}
+use Rattle.std.proofs.Common.{◌∙◌, sym}
+use Rattle.album_partition.proofs.PartitionLemmas.{CanTrim, can_trim}
 use Rattle.album_partition.proofs.partition.Partition.trim.Goals as goal
 
--- it stays a partition with the mark
-pub invariant_of-self-2 : goal.invariant_of-self-2
-invariant_of-self-2 c =
-    let placed : is_placed c.self.inside.seat.number c.self.inside.seat.parts c.args.item ≡ true = cc (c.has.ensures, c.if-not-has.false) in
-    let room : is_full c.self.inside.limit c.self.inside.stored ≡ false =
-    subst (λ (p : PartitionState). is_full p.limit p.marks ≡ false) (sym c.self.view_is) (sym c.is_full.ensures ∙ c.if-is_full.false) in
-    rw c.in_ok-add.ensures.ok (trims_by (the_view c.self.inside) c.args.item c.self.invariant placed room).0
+can : (c : goal.After-apply-arg-1) → CanTrim c.args.self.now c.in_ok-action.action
+can c =
+    can_trim c.args.self.now c.args.item c.in_ok-action.action c.on_trim.ensures.partition
+    (sym c.on_trim.ensures.action ∙ c.in_ok-action.was)
+
+pub apply-requires-clause-follows : goal.apply-requires-clause-follows
+apply-requires-clause-follows c = (can c).follows
+
+pub apply-requires-clause-partition : goal.apply-requires-clause-partition
+apply-requires-clause-partition c = (can c).stays
