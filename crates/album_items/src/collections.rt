@@ -1,5 +1,5 @@
 // Lists inside values: items, members of groups, and items with their values.
-ghost use Rattle.std.specs.Prelude.{◌≡◌, IfOk, IsOkUnless};
+ghost use Rattle.std.specs.Prelude.{◌≡◌, IsOkUnless};
 
 use crate::item_ids::ItemId;
 use crate::values::Value;
@@ -56,14 +56,6 @@ impl Items {
     {
         Ok(self.items.make_shared()?)
     }
-
-    /// The same items once more.
-    pub fn copy(&self) -> Result<Items, Refusal>
-        ensures copy { IfOk result (λ items. items ≡ self.now) }
-        ensures memory { IsOkUnless result Refusal.OutOfMemory }
-    {
-        Ok(self.clone()?)
-    }
 }
 
 /// The members of a group. Contracts see them in order.
@@ -115,14 +107,6 @@ impl Members {
     {
         Ok(self.members.make_shared()?)
     }
-
-    /// The same members once more.
-    pub fn copy(&self) -> Result<Members, Refusal>
-        ensures copy { IfOk result (λ members. members ≡ self.now) }
-        ensures memory { IsOkUnless result Refusal.OutOfMemory }
-    {
-        Ok(self.clone()?)
-    }
 }
 
 /// Items, each with its value. Contracts see the pairs in order.
@@ -168,14 +152,6 @@ impl ItemValues {
         ensures memory { IsOkUnless result Refusal.OutOfMemory }
     {
         share_each(self.rows.as_mut_slice())
-    }
-
-    /// The same items with the same values once more.
-    pub fn copy(&self) -> Result<ItemValues, Refusal>
-        ensures copy { IfOk result (λ rows. rows ≡ self.now) }
-        ensures memory { IsOkUnless result Refusal.OutOfMemory }
-    {
-        Ok(self.clone()?)
     }
 }
 

@@ -63,36 +63,6 @@ impl Head {
     }
 }
 
-impl Picture {
-    /// The same picture once more.
-    pub fn copy(&self) -> Result<Picture, Refusal>
-        ensures copy { IfOk result (λ picture. picture ≡ self.now) }
-        ensures memory { IsOkUnless result Refusal.OutOfMemory }
-    {
-        Ok(self.clone()?)
-    }
-}
-
-impl Album {
-    /// The same album once more.
-    pub fn copy(&self) -> Result<Album, Refusal>
-        ensures copy { IfOk result (λ album. album ≡ self.now) }
-        ensures memory { IsOkUnless result Refusal.OutOfMemory }
-    {
-        Ok(self.clone()?)
-    }
-}
-
-impl Group {
-    /// The same group once more.
-    pub fn copy(&self) -> Result<Group, Refusal>
-        ensures copy { IfOk result (λ group. group ≡ self.now) }
-        ensures memory { IsOkUnless result Refusal.OutOfMemory }
-    {
-        Ok(self.clone()?)
-    }
-}
-
 impl Value {
     /// Whether an item of the kind can have the value: each can be missing.
     pub fn is_of(&self, kind: Kind) -> bool

@@ -105,7 +105,7 @@ fn read(alloc: Global, object: ItemId, stamp: Stamp, value: &Value) -> Result<Se
         Value::Group(group) => Ok(Served::Group {
             object,
             stamp,
-            members: group.members.copy()?,
+            members: group.members.clone()?,
         }),
         Value::Missing | Value::Album(_) | Value::List(_) => Ok(Served::Group {
             object,

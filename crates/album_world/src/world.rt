@@ -15,7 +15,7 @@ ghost use Rattle.album_world.specs.State.{message_of};
 
 use crate::clients::Clients;
 use crate::events::Event;
-use crate::opening::{partitions_of, terms_of};
+use crate::opening::terms_of;
 use crate::outs::Out;
 use crate::state::State;
 use crate::stopped::Stopped;
@@ -57,7 +57,7 @@ impl World {
     {
         opening.check()?;
         let terms = terms_of(opening);
-        let partitions = partitions_of(alloc, opening, terms.parts())?;
+        let partitions = Partition::all_of(alloc, opening)?;
         let state = State {
             partitions,
             messages: Vec::new(alloc),
