@@ -27,7 +27,8 @@ use Rattle.album_world.specs.Past.{World, Asked, Begun, Read, Told, Noted, last_
 use Rattle.album_world.specs.Changes.Change.{AtPart, AtClient, Stops}
 use Rattle.album_world.specs.Runs.{changed, read_over, reads_after, nth_after, told_to, noted_of}
 use Rattle.album_world.specs.Committing.{parts_of}
-use Rattle.album_world.specs.Viewed.{IsOnView, Finds, Notes}
+use Rattle.album_permits.specs.Meaning.{Finds, Notes}
+use Rattle.album_world.specs.Viewed.{IsOnView}
 use Rattle.album_world.specs.Rulings.{IsServedBy, IsBegunBy, HasNotes, IsNotedFor}
 use Rattle.album_world.specs.Granted.{IsDrawnBy, IsGranted}
 use Rattle.album_world.specs.Outcomes.{IsToldFull, IsAlbumFull, IsSpent, IsRefusedFor}

@@ -57,7 +57,8 @@ use Rattle.album_world.specs.Past.{World, Begun, Read, last_begun, last_read}
 use Rattle.album_world.specs.Changes.Change.{AtClient, Nothing}
 use Rattle.album_world.specs.Changes.{client_takes_by, client_takes}
 use Rattle.album_world.specs.Runs.{changed, read_over, told_to, noted_of}
-use Rattle.album_world.specs.Viewed.{IsOnView, Notes}
+use Rattle.album_permits.specs.Meaning.{Notes}
+use Rattle.album_world.specs.Viewed.{IsOnView}
 use Rattle.album_world.specs.Rulings.{IsBegunBy, HasNotes, IsNotedFor}
 use Rattle.album_world.specs.Granted.{IsDrawnBy, IsGranted}
 use Rattle.album_world.specs.Outcomes.{IsRefusedFor}

@@ -7,7 +7,8 @@ use Rattle.album_permits.specs.declared.serving.Served.{Served}
 use Rattle.album_client.specs.Terms.{Terms}
 use Rattle.album_client.specs.Turns.{Transaction}
 use Rattle.album_world.specs.Past.{Told, Noted, World}
-use Rattle.album_world.specs.Viewed.{IsOnView, IsToldOn, Finds, Notes}
+use Rattle.album_permits.specs.Meaning.{Finds, Notes}
+use Rattle.album_world.specs.Viewed.{IsOnView, IsToldOn}
 use Rattle.album_writer.specs.declared.answers.Answer.{Answer}
 use Rattle.album_writer.specs.declared.answers.Answer.TheVariants as answer
 

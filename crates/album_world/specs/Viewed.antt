@@ -2,12 +2,7 @@
 use Rattle.std.specs.Prelude.{◌≡◌, ℕ, List, Option, Some, Contains}
 use Rattle.album_reader.specs.Answers.{ReadVersion}
 use Rattle.album_views.specs.Views.{IsView}
-use Rattle.album_listing.specs.Basis.{Basis, IsBasis}
-use Rattle.album_permits.specs.Findings.{ruling_of}
-use Rattle.album_permits.specs.Notes.{notes_of}
 use Rattle.album_permits.specs.Permits.{PermitState, permit_on}
-use Rattle.album_permits.specs.declared.findings.Finding.{Finding}
-use Rattle.album_permits.specs.declared.notes.Note.{Note}
 use Rattle.album_client.specs.Terms.{Terms}
 use Rattle.album_world.specs.Past.{Read, Told, World}
 
@@ -27,15 +22,3 @@ pub record IsOnView
 -- the same of the view on which a client was told something
 abbrev pub IsToldOn : Terms → World → Told → (PermitState → Type 0) → Type 0
 IsToldOn terms world told Holds = IsOnView terms world told.client told.last Holds
-
--- the written policy finds this
-pub record Finds (case : PermitState) (finding : Finding) : Type 0 where
-  pub basis : Basis
-  pub based : IsBasis case.policy case.principal case.view.rows basis
-  pub is : ruling_of basis case.view.ask ≡ finding
-
--- and this is noted of it
-pub record Notes (case : PermitState) (notes : List Note) : Type 0 where
-  pub basis : Basis
-  pub based : IsBasis case.policy case.principal case.view.rows basis
-  pub is : notes_of basis case.view.ask ≡ notes

@@ -27,7 +27,7 @@ ghost use Rattle.album_world.specs.Rulings.{RulingsHold};
 ghost use Rattle.album_world.specs.Runs.{changed, happens, run, run_of, tells, told_to};
 ghost use Rattle.album_world.specs.State.{Now, client_at, is_stopped};
 ghost use Rattle.album_world.specs.Told.{IsToldOnce, all_told};
-ghost use Rattle.album_world.specs.Viewed.{Finds};
+ghost use Rattle.album_permits.specs.Meaning.{Finds};
 ghost use Rattle.album_world.specs.declared.events.Event.{Event as Happening};
 ghost use Rattle.album_world.specs.declared.events.Event.TheVariants as Event;
 ghost use Rattle.album_writer.specs.declared.answers.Answer.{Answer as Answered};
