@@ -38,15 +38,15 @@ use Rattle.album_permits.proofs.Spending.{served-alike}
 use Rattle.album_writer.specs.Rounds.{WriteStep, prepares_by, prepares_left, prepare_stepped}
 use Rattle.album_writer.specs.Rounds.WriteStep.{Waits, Commits as Decides, Ends}
 use Rattle.album_writer.specs.Writing.{WritingState, places_in, prepare_to, prepares_of, commit_to, commit_round}
-use Rattle.album_writer.specs.Told.{told_of}
-use Rattle.album_writer.specs.declared.told.Told.{Told}
-use Rattle.album_writer.specs.declared.told.Told.TheVariants as told
+use Rattle.album_writer.specs.WriteReplies.{reply_in}
+use Rattle.album_writer.specs.declared.write_replies.WriteReply.{WriteReply}
+use Rattle.album_writer.specs.declared.write_replies.WriteReply.TheVariants as write_reply
 use Rattle.album_writer.proofs.Placing.{few_places}
 use Rattle.album_client.specs.declared.transitions.Transition.{Transition}
 use Rattle.album_client.specs.Terms.{Terms}
 use Rattle.album_client.specs.Clients.{Client}
 use Rattle.album_client.specs.Grants.{served_for}
-use Rattle.album_client.specs.Turns.{rules_by, rules, clock_after_rows}
+use Rattle.album_client.specs.Steps.{rules_by, rules, clock_after_rows}
 use Rattle.album_client.specs.Transitions.{IsMoved, IsTakenOf}
 use Rattle.album_client.proofs.GrantLemmas.{served_is, unserved_writes}
 
@@ -156,24 +156,24 @@ AreJust most (Waits writing) = Unit {0}
 AreJust most (Decides writing messages) = length messages ≤ most
 AreJust most (Ends outcome) = Unit {0}
 
--- the Commits are as many as the partitions concerned
+-- the Commits are as many as the participants
 pub just_commits : (writing next : WritingState) (message : Message) (messages : List Message)
     → prepare_stepped writing message ≡ Decides next messages → length messages ≤ length (places_in writing)
 just_commits writing next message messages e =
-    subst (AreJust (length (places_in writing))) e (by (told_of writing message))
+    subst (AreJust (length (places_in writing))) e (by (reply_in writing message))
   where
-    left : (some : WritingState) → length (places_in some) ≤ length (places_in writing) → (awaited : List ℕ)
-        → AreJust (length (places_in writing)) (prepares_left some awaited)
+    left : (some : WritingState) → length (places_in some) ≤ length (places_in writing) → (outstanding : List ℕ)
+        → AreJust (length (places_in writing)) (prepares_left some outstanding)
     left some few [] =
         omega (arith, few, length-map (places_in (commit_round some)) (commit_to (commit_round some)))
     left some few (place ∷ places) = tt
 
-    by : (f : Told) → AreJust (length (places_in writing)) (prepares_by writing message.from f)
-    by told.Prepared = left _ (omega arith) _
-    by told.Committed = tt
-    by told.Discarded = tt
-    by told.Full = tt
-    by told.Nothing = tt
+    by : (f : WriteReply) → AreJust (length (places_in writing)) (prepares_by writing message.from f)
+    by write_reply.Prepared = left _ (omega arith) _
+    by write_reply.Committed = tt
+    by write_reply.Discarded = tt
+    by write_reply.Full = tt
+    by write_reply.Nothing = tt
 
 -- ---- a view
 

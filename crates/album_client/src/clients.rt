@@ -1,6 +1,6 @@
 // What a client does between two events.
 ghost use Rattle.std.specs.Prelude.{◌≡◌, false, true, IfOk, IsOkUnless, OnErr};
-ghost use Rattle.album_client.specs.Turns.{is_waiting, IsTakenBy};
+ghost use Rattle.album_client.specs.Steps.{is_waiting, IsTakenBy};
 
 use crate::pending_asks::PendingAsk;
 use album_calls::Message;
@@ -56,13 +56,13 @@ impl Phase {
     ghost use Rattle.album_client.specs.Clients.{is_reading, stamp_at_work, tag_of, IsProper};
 
     /// Whether it reads.
-    pub fn reads(&self) -> bool
+    pub fn is_reading(&self) -> bool
         ensures reads { result ≡ is_reading self.now }
         ensures proper { IsProper self.now }
     {
         match self {
             Phase::Reads(_, reading) => {
-                // What is true of each reading is known once it is looked at.
+                // The invariant of a reading is known once a method of it is called.
                 let _tag = reading.tag();
                 true
             }
@@ -95,13 +95,13 @@ impl Phase {
 }
 
 impl Phase {
-    /// Takes a message that ends no round of a read, in place, since nothing else comes of it, and most messages are
-    /// such. Tells whether it was one: any other is left to `ClientStep::takes`.
+    /// Takes a message that ends no round of a read. Nothing but the phase changes then, and most messages are such, so
+    /// it is done in place. True for such a message; any other is left to `ClientStep::take`.
     ///
     /// # Errors
     ///
     /// `OutOfMemory`. Nothing is changed then.
-    pub fn waits(&mut self, message: &Message) -> Result<bool, Refusal>
+    pub fn take_in_place(&mut self, message: &Message) -> Result<bool, Refusal>
         ensures test { IfOk result (λ waits. waits ≡ is_waiting self.old message.now) }
         ensures taken { IfOk result (λ waits. waits ≡ true → IsTakenBy self.old message.now self.new) }
         ensures left { IfOk result (λ waits. waits ≡ false → self.new ≡ self.old) }

@@ -15,7 +15,7 @@ pub struct PendingAsk {
 }
 
 impl Model for PendingAsk {
-    ghost use Rattle.album_client.specs.Askings.{PendingAsk as State, IsTaken};
+    ghost use Rattle.album_client.specs.PendingAsks.{PendingAsk as State, IsTaken};
 
     ghost Value = { State };
 
@@ -25,7 +25,7 @@ impl Model for PendingAsk {
 }
 
 impl PendingAsk {
-    ghost use Rattle.album_client.specs.Askings.{IsTaken};
+    ghost use Rattle.album_client.specs.PendingAsks.{IsTaken};
 
     /// This viewing for the principal.
     pub(crate) fn of(viewing: Viewing, principal: Principal) -> PendingAsk

@@ -1,23 +1,22 @@
-// What a client does with a view.
+// What a client does with a closed view.
 ghost use Rattle.std.specs.Prelude.{◌≡◌, ◌+◌, ◌<◌, ◌^◌, None, Some, IfOk, IsOkUnless};
 ghost use Rattle.album_permits.specs.Permits.{PermitState};
 ghost use Rattle.album_permits.specs.Rulings.{told_by, Keeps};
 ghost use Rattle.album_views.specs.Checks.{refusal_of};
 ghost use Rattle.album_client.specs.Grants.{served_for};
 ghost use Rattle.album_client.specs.Transitions.{client_of, IsMoved};
-ghost use Rattle.album_client.specs.Turns.{clock_after_rows, grants, rules, rules_by};
+ghost use Rattle.album_client.specs.Steps.{clock_after_rows, grants, rules, rules_by};
 
 use crate::transitions::{ClientStep, Transition};
 use album_eval::Principal;
-use album_permits::{Permit, Ruled, Ruling, rule_on};
+use album_permits::{Answer, Permit, Ruled, Ruling, rule_on};
 use album_reader::ReadVersion;
 use album_stamps::{Clock, Refusal, Refused};
 use album_views::View;
-use album_writer::Answer;
 
 impl ClientStep {
-    /// The ask of the view is ruled on, once the clock has seen the view's stamps.
-    pub(crate) fn rules(
+    /// Rules on the ask of the view, once the clock has seen the view's stamps.
+    pub(crate) fn rule(
         self,
         tag: u64,
         principal: &Principal,
@@ -32,10 +31,10 @@ impl ClientStep {
         let policy = self.terms.policy();
         let client_step = self.after(&view);
         let ruled = rule_on(alloc, view, principal, policy)?;
-        client_step.tells(tag, ruled)
+        client_step.note_ruling(tag, ruled)
     }
 
-    /// The same client_step once its clock has seen the view's stamps.
+    /// The same step once its clock has seen the view's stamps.
     fn after(self, view: &View) -> ClientStep
         ensures client { client_of result ≡ record (client_of self) {
           clock = clock_after_rows self.clock view.now.rows;
@@ -50,8 +49,8 @@ impl ClientStep {
         }
     }
 
-    /// The ruling is told by its notes, and leads on.
-    fn tells(self, tag: u64, ruled: Ruled) -> Result<Transition, Refusal>
+    /// Outputs the notes of the ruling, and follows it.
+    fn note_ruling(self, tag: u64, ruled: Ruled) -> Result<Transition, Refusal>
         requires fits { tag + 2 < 2 ^ 64 }
         ensures transition { (permit : PermitState) → Keeps permit.policy permit.principal permit.view ruled.ruling
             → IfOk result (IsMoved (record (rules_by self.terms (client_of self) tag permit (told_by ruled.ruling)) {
@@ -60,36 +59,36 @@ impl ClientStep {
         ensures memory { IsOkUnless result Refusal.OutOfMemory }
     {
         let Ruled { ruling, notes } = ruled;
-        let transition = self.ruled(tag, ruling)?;
-        Ok(transition.noting(notes))
+        let transition = self.follow_ruling(tag, ruling)?;
+        Ok(transition.with_notes(notes))
     }
 
-    /// What the ruling leads to.
-    fn ruled(self, tag: u64, ruling: Ruling) -> Result<Transition, Refusal>
+    /// The transition by the ruling.
+    fn follow_ruling(self, tag: u64, ruling: Ruling) -> Result<Transition, Refusal>
         requires fits { tag + 2 < 2 ^ 64 }
         ensures transition { (permit : PermitState) → Keeps permit.policy permit.principal permit.view ruling
             → IfOk result (IsMoved (rules_by self.terms (client_of self) tag permit (told_by ruling))) }
         ensures memory { IsOkUnless result Refusal.OutOfMemory }
     {
         match ruling {
-            Ruling::Granted(permit) => self.grants(tag, permit),
-            Ruling::Denied(denial, _view) => Ok(self.ask_ends(tag, Answer::Denied(denial))),
-            Ruling::Missing(object, _view) => Ok(self.ask_ends(tag, Answer::Missing(object))),
+            Ruling::Granted(permit) => self.grant(tag, permit),
+            Ruling::Denied(denial, _view) => Ok(self.end_ask(tag, Answer::Denied(denial))),
+            Ruling::Missing(object, _view) => Ok(self.end_ask(tag, Answer::Missing(object))),
         }
     }
 
-    /// What is granted is served, or is written.
-    fn grants(self, tag: u64, permit: Permit) -> Result<Transition, Refusal>
+    /// Serves what is granted, or begins its write.
+    fn grant(self, tag: u64, permit: Permit) -> Result<Transition, Refusal>
         requires fits { tag + 2 < 2 ^ 64 }
         ensures transition { IfOk result
             (IsMoved (grants self.terms (client_of self) tag permit (served_for permit permit.view.ask))) }
         ensures memory { IsOkUnless result Refusal.OutOfMemory }
     {
         if permit.writes() {
-            return self.draws(tag, permit);
+            return self.draw(tag, permit);
         }
         match permit.serve(self.alloc) {
-            Ok(served) => Ok(self.ask_ends(tag, Answer::Served(served))),
+            Ok(served) => Ok(self.end_ask(tag, Answer::Served(served))),
             Err(Refused { refusal, given }) => {
                 drop(given.give_back());
                 Err(refusal)

@@ -1,16 +1,15 @@
-// Where a client goes on from, and what it has become.
+// A client's step: its number, clock and terms before, and the transition after.
 ghost use Rattle.std.specs.Prelude.{◌≡◌, ◌≤◌, [], length};
 ghost use Rattle.album_stamps.specs.declared.limits.TheConstants.{MAX_READ_ITEMS};
 
 use crate::clients::{Client, Phase};
 use crate::terms::Terms;
 use album_calls::Message;
-use album_permits::Note;
+use album_permits::{Answer, Note};
 use album_stamps::{ClientNo, Clock};
-use album_writer::Answer;
 use std::alloc::Global;
 
-/// What a client has become, and what it tells.
+/// A client's next state, with its outputs: notes, messages to send, and at most one answer.
 #[derive(Drop)]
 pub struct Transition {
     pub client: Client,
@@ -22,7 +21,7 @@ pub struct Transition {
 
 impl Transition {
     /// The same with these notes.
-    pub(crate) fn noting(self, notes: Vec<Note>) -> Transition
+    pub(crate) fn with_notes(self, notes: Vec<Note>) -> Transition
         ensures client { result.client ≡ self.client }
         ensures notes { result.notes ≡ notes }
         ensures sent { result.sent ≡ self.sent }
@@ -57,7 +56,7 @@ pub struct ClientStep {
 impl Client {
     ghost use Rattle.album_client.specs.Transitions.{client_of};
 
-    /// Where it goes on from, on these terms.
+    /// The step of this client, on these terms.
     pub fn client_step(&self, alloc: Global, terms: Terms) -> ClientStep
         ensures client { client_of result ≡ record self.now { phase = Phase.Idle 0 } }
         ensures terms { result.terms ≡ terms }
@@ -73,9 +72,9 @@ impl Client {
 
 impl ClientStep {
     ghost use Rattle.album_client.specs.Transitions.{client_of, IsMoved};
-    ghost use Rattle.album_client.specs.Turns.{ask_ends};
+    ghost use Rattle.album_client.specs.Steps.{ask_ends};
 
-    /// The same once more, for whoever goes on from here several times: a value that is `Copy` and holds one with a
+    /// A copy, for a caller that may take several ways from here: a value that is `Copy` and holds one with a
     /// Model is not copied where it is passed.
     pub fn again(&self) -> ClientStep
         ensures client { client_of result ≡ client_of self.now }
@@ -89,7 +88,7 @@ impl ClientStep {
         }
     }
 
-    /// The client does this from now on, and sends and answers so.
+    /// The transition to this phase, with these messages and this answer.
     pub(crate) fn with(self, phase: Phase, sent: Vec<Message>, answer: Option<Answer>) -> Transition
         requires { length sent.items ≤ MAX_READ_ITEMS }
         ensures client { result.client ≡ record (client_of self) { phase = phase } }
@@ -110,8 +109,8 @@ impl ClientStep {
         }
     }
 
-    /// The ask is answered.
-    pub(crate) fn ask_ends(self, tag: u64, answer: Answer) -> Transition
+    /// Ends the ask with this answer.
+    pub(crate) fn end_ask(self, tag: u64, answer: Answer) -> Transition
         ensures { IsMoved (ask_ends (client_of self) tag answer) result }
     {
         self.with(Phase::Idle(tag), Vec::new(self.alloc), Some(answer))

@@ -4,35 +4,35 @@ ghost use Rattle.album_permits.specs.Effects.{is_full_for};
 ghost use Rattle.album_stamps.specs.Stamps.{client_of as drawer_of};
 ghost use Rattle.album_views.specs.Asks.{is_write};
 ghost use Rattle.album_client.specs.Transitions.{client_of, IsMoved};
-ghost use Rattle.album_client.specs.Turns.{answer_of, commit_turn, draws, prepare_turn, writes_unless};
+ghost use Rattle.album_client.specs.Steps.{answer_of, commit_transition, draws, prepare_transition, writes_unless};
 ghost use Rattle.album_writer.specs.Rounds.{commit_stepped, prepare_stepped};
 
 use crate::clients::Phase;
 use crate::transitions::{ClientStep, Transition};
 use album_calls::Message;
-use album_permits::Permit;
+use album_permits::{Answer, Permit};
 use album_stamps::{Refusal, Refused, Stamp};
-use album_writer::{Answer, CommitStep, Committing, Outcome, PrepareStep, Preparing};
+use album_writer::{CommitStep, Committing, Outcome, PrepareStep, Preparing};
 
 impl ClientStep {
-    /// A stamp is drawn for the write of the permit's ask.
-    pub(crate) fn draws(mut self, tag: u64, permit: Permit) -> Result<Transition, Refusal>
+    /// Draws a stamp for the write of the permit's ask.
+    pub(crate) fn draw(mut self, tag: u64, permit: Permit) -> Result<Transition, Refusal>
         requires fits { tag + 2 < 2 ^ 64 }
         requires change { IsTrue (is_write permit.view.ask) }
         ensures transition { IfOk result (IsMoved (draws self.terms (client_of self) tag permit)) }
         ensures memory { IsOkUnless result Refusal.OutOfMemory }
     {
         match self.clock.next() {
-            Ok(stamp) => self.write_begins(tag, permit, stamp),
+            Ok(stamp) => self.begin_write(tag, permit, stamp),
             Err(refusal) => {
                 drop(permit.give_back());
-                Ok(self.ask_ends(tag, Answer::Refused(refusal)))
+                Ok(self.end_ask(tag, Answer::Refused(refusal)))
             }
         }
     }
 
-    /// The write begins, unless the album that gets a child is full.
-    fn write_begins(self, tag: u64, permit: Permit, stamp: Stamp) -> Result<Transition, Refusal>
+    /// Begins the write, unless the album that gets a child is full.
+    fn begin_write(self, tag: u64, permit: Permit, stamp: Stamp) -> Result<Transition, Refusal>
         requires fits { tag + 2 < 2 ^ 64 }
         requires change { IsTrue (is_write permit.view.ask) }
         requires own { drawer_of stamp ≡ Some self.number }
@@ -48,16 +48,17 @@ impl ClientStep {
             Err(Refused { refusal, given }) => {
                 drop(given.give_back());
                 match refusal {
-                    Refusal::AlbumFull => Ok(self.ask_ends(tag, Answer::Refused(refusal))),
+                    Refusal::AlbumFull => Ok(self.end_ask(tag, Answer::Refused(refusal))),
                     _ => Err(refusal),
                 }
             }
         }
     }
 
-    /// What one does in a round of Prepares.
-    pub fn prepares(self, preparing: Preparing, message: &Message) -> Transition
-        ensures { IsMoved (prepare_turn (client_of self) preparing.tag (prepare_stepped preparing message.now)) result }
+    /// The transition of a round of Prepares at a message.
+    pub fn prepare(self, preparing: Preparing, message: &Message) -> Transition
+        ensures { IsMoved
+            (prepare_transition (client_of self) preparing.tag (prepare_stepped preparing message.now)) result }
     {
         let tag = preparing.tag();
         let _few = preparing.count();
@@ -68,20 +69,21 @@ impl ClientStep {
             PrepareStep::Commit(committing, commits) => {
                 self.with(Phase::Commits(committing), commits, None)
             }
-            PrepareStep::Ended(outcome) => self.ask_ends(tag, answer_of(outcome)),
+            PrepareStep::Ended(outcome) => self.end_ask(tag, answer_of(outcome)),
         }
     }
 
-    /// And in one of Commits.
-    pub fn commits(self, committing: Committing, message: &Message) -> Transition
-        ensures { IsMoved (commit_turn (client_of self) committing.tag (commit_stepped committing message.now)) result }
+    /// The transition of a round of Commits at a message.
+    pub fn commit(self, committing: Committing, message: &Message) -> Transition
+        ensures { IsMoved
+            (commit_transition (client_of self) committing.tag (commit_stepped committing message.now)) result }
     {
         let tag = committing.tag();
         match committing.on_reply(message) {
             CommitStep::Same(committing) => {
                 self.with(Phase::Commits(committing), Vec::new(self.alloc), None)
             }
-            CommitStep::Ended(outcome) => self.ask_ends(tag, answer_of(outcome)),
+            CommitStep::Ended(outcome) => self.end_ask(tag, answer_of(outcome)),
         }
     }
 }

@@ -26,7 +26,7 @@ pub record Finds (case : PermitState) (finding : Finding) : Type 0 where
   pub based : IsBasis case.policy case.principal case.view.rows basis
   pub is : ruling_of basis case.view.ask ≡ finding
 
--- and this is noted of it
+-- and these are its notes
 pub record Notes (case : PermitState) (notes : List Note) : Type 0 where
   pub basis : Basis
   pub based : IsBasis case.policy case.principal case.view.rows basis

@@ -4,7 +4,9 @@
 //! what it writes; or why it is denied; or which object is missing.
 //!
 //! Read `needs` and `findings` first, then `permits` with what they are spent on. Tables of what is needed, found,
-//! noted, served and written stand in specs/, a definition for each.
+//! noted, served and written stand in specs/, a definition for each. `Event`, `Answer` and `Out` are what a store is
+//! given and what it tells: they stand here, below the crates that carry them out and the crate that writes their
+//! lines.
 #![tactic(auto)]
 
 // What is ruled on an ask, and what is noted of it.
@@ -24,6 +26,11 @@ mod effects;
 mod merging;
 mod writes;
 
+// What happens to a store, what comes of an ask, and what an event tells.
+mod answers;
+mod events;
+mod outs;
+
 // What holds of rulings, and of what is written.
 mod disclosure;
 mod laws;
@@ -32,12 +39,15 @@ mod noting;
 mod rights;
 mod transactions;
 
+pub use answers::Answer;
 pub use disclosure::{answers_disclose_nothing, secrets_decide_nothing};
+pub use events::Event;
 pub use findings::{Denial, Finding};
 pub use laws::{one_ruling, permits_are_spent_on_what_is_named, rulings_look_at_what_is_named};
 pub use meaning::{granted_where_each_need_is_met, what_is_written_is_needed};
 pub use notes::Note;
 pub use noting::{notes_go_with_the_ruling, notes_tell_the_verdict, what_takes_note_is_noted};
+pub use outs::Out;
 pub use permits::Permit;
 pub use rights::{what_changes_is_granted, what_is_served_is_granted};
 pub use rulings::{Ruled, Ruling, rule_on};

@@ -13,17 +13,17 @@ use Rattle.album_world.specs.Past.{Past, World}
 use Rattle.album_world.specs.Changes.{Change, change_of}
 use Rattle.album_world.specs.Runs.{now_after, past_after, outs_of, happens, changed_by, requested}
 use Rattle.album_world.specs.Seen.{WorldState, IsDone}
-use Rattle.album_world.specs.declared.events.Event.{Event}
-use Rattle.album_world.specs.declared.events.Event.TheVariants as event
-use Rattle.album_world.specs.declared.outs.Out.{Out}
+use Rattle.album_permits.specs.declared.events.Event.{Event}
+use Rattle.album_permits.specs.declared.events.Event.TheVariants as event
+use Rattle.album_permits.specs.declared.outs.Out.{Out}
 use Rattle.album_wire.specs.EventLine.{deliveries}
-use Rattle.album_wire.specs.Output.{refusal_line}
-use Rattle.album_wire.specs.Lines.{Line}
+use Rattle.album_lines.specs.Output.{refusal_line}
+use Rattle.album_lines.specs.Lines.{Line}
 use Rattle.album_wire.specs.declared.event_shape.Spelled.{Spelled}
 use Rattle.album_server.specs.Replay.{Happens, Delivers, Spells, Runs, IsTold, event_line_read, told_text, event_text, delivery_text, delivered}
 use Rattle.album_server.specs.Stages.{Leads, MayLead, with_past}
-use Rattle.album_server.specs.declared.fault.Fault.{Fault}
-use Rattle.album_server.specs.Writes.{Writes, IsPrefixOf, LeavesOf}
+use Rattle.album_judge.specs.declared.fault.Fault.{Fault}
+use Rattle.album_judge.specs.Writes.{Writes, IsPrefixOf, LeavesOf}
 use Rattle.album_server.proofs.Leaving.{writes_left, leaves_before, leaves_behind}
 use Rattle.album_server.proofs.Replaying.{delivers}
 
@@ -66,7 +66,7 @@ told_so text_of says terms trace old new event outs past done =
     ap (λ now. world_of now then) done.kept ∙ ap (changed_by world event) (sym done.is) in
     let text : told_text trace new.kept outs ≡ text_of trace old.kept (change_of terms old.kept event) =
     ap (λ now. told_text trace now outs) done.kept
-    ∙ ap (told_text trace (now_after old.kept done.change)) done.told
+    ∙ ap (told_text trace (now_after old.kept done.change)) done.outputs
     ∙ sym (says trace old.kept done.change)
     ∙ ap (text_of trace old.kept) (sym done.is) in
     (then, inl (next, text))

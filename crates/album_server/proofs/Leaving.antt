@@ -2,11 +2,11 @@
 use Rattle.std.proofs.Common.{◌≡◌, ℕ, List, [], ◌++◌, Option, refl, sym, subst, append_assoc}
 use Rattle.std.proofs.KnownBytes.{Appends-nil}
 use Rattle.std.specs.Io.KnownBytes.{Appends}
-use Rattle.album_server.specs.declared.fault.Fault.{Fault}
-use Rattle.album_server.specs.declared.fault.Fault.TheVariants.{Reading, Writing, Memory}
-use Rattle.album_server.specs.Writes.{Writes, IsPrefixOf, IsCutShort, LeavesOf}
-use Rattle.album_server.proofs.Answering.{goes_on}
-use Rattle.album_server.proofs.Texts.{writes_weaker}
+use Rattle.album_judge.specs.declared.fault.Fault.{Fault}
+use Rattle.album_judge.specs.declared.fault.Fault.TheVariants.{Reading, Writing, Memory}
+use Rattle.album_judge.specs.Writes.{Writes, IsPrefixOf, IsCutShort, LeavesOf}
+use Rattle.album_judge.proofs.Answering.{goes_on}
+use Rattle.album_judge.proofs.Texts.{writes_weaker}
 
 -- nothing of a text is there
 pub leaves_nothing : (whole : List ℕ) (a : Option (List ℕ)) → Writes (LeavesOf Memory (λ text. text ≡ whole)) a a

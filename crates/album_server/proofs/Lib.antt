@@ -1,10 +1,3 @@
-pub mod Parts
-pub mod Answering
-pub mod Texts
-pub mod Exchanging
-pub mod Pieces
-pub mod Turns
-pub mod Judging
 pub mod Replaying
 pub mod OnLiterals
 pub mod Leaving

@@ -15,18 +15,18 @@ use Rattle.album_client.specs.Terms.{Terms, terms_of}
 use Rattle.album_world.specs.State.{Now}
 use Rattle.album_world.specs.Past.{World}
 use Rattle.album_world.specs.Changes.{Change, change_of}
-use Rattle.album_world.specs.Runs.{now_after, outs_of, run_of, start, tells, outs_by}
+use Rattle.album_world.specs.Runs.{now_after, outs_of, run_of, start, event_outputs, outs_by}
 use Rattle.album_world.specs.Seen.{IsInPast}
-use Rattle.album_world.specs.declared.events.Event.{Event}
-use Rattle.album_world.specs.declared.outs.Out.{Out}
-use Rattle.album_world.specs.declared.outs.Out.TheVariants as out
+use Rattle.album_permits.specs.declared.events.Event.{Event}
+use Rattle.album_permits.specs.declared.outs.Out.{Out}
+use Rattle.album_permits.specs.declared.outs.Out.TheVariants as out
 use Rattle.album_world.proofs.StoryLemmas.{run_more, in_past_told}
 use Rattle.album_world.proofs.AnsweredLemmas.{answers_are_to_requests}
 use Rattle.album_world.proofs.PromiseLemmas.{rulings_hold, writes_are_granted, views_are_read_atomic, views_are_fresh, outcomes_are_true, busy_has_its_cause}
 use Rattle.album_world.proofs.ListLemmas.{In, contains, within, in_cases, in_nil, in_uncons, in_map}
 use Rattle.album_wire.specs.EventLine.{deliveries}
-use Rattle.album_wire.specs.Lines.{Line, is_blank, lines_of}
-use Rattle.album_wire.specs.Output.{refusal_line}
+use Rattle.album_lines.specs.Lines.{Line, is_blank, lines_of}
+use Rattle.album_lines.specs.Output.{refusal_line}
 use Rattle.album_wire.specs.OutJson.{out_line}
 use Rattle.album_wire.specs.declared.event_shape.Spelled.{Spelled}
 use Rattle.album_wire.specs.declared.event_shape.Spelled.TheVariants as spelled
@@ -36,7 +36,7 @@ use Rattle.album_wire.specs.declared.opening_shape.Header.{Header}
 use Rattle.album_server.specs.Replay.{Stage, Unopened, BeingOpened, Running, Over, Step, refused, silently, opening_of, first_line, later_line, opened_by, message_shown, event_text, delivery_text, Happens, Delivers, Runs, opening_line_read, event_line_read, IsOpened, IsTold, IsRun, Takes, IsStep, Replays, IsReplay, end_text}
 use Rattle.album_server.specs.Promise.{opening_said, item_said, SpellsOpening, events_read, events_spelled, AreAmong, Spell, IsSpelledBy, AllHold, IsOf, Printed, Refused, Told, text_of, IsRight, IsAsPromised}
 use Rattle.album_server.specs.Promise.AreAmong.{nothing, taken, left}
-use Rattle.album_server.specs.Writes.{Writes}
+use Rattle.album_judge.specs.Writes.{Writes}
 
 -- ---- some of the events
 

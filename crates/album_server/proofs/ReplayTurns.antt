@@ -4,21 +4,21 @@ use Rattle.std.proofs.Common.{◌≡◌, ◌≢◌, ◌≤◌, ◌<◌, ◌+◌,
 use Rattle.std.specs.Io.KnownBytes.{Consumes, IsAtEnd, Keeps}
 use Rattle.std.proofs.KnownBytes.{Consumes-trans, Consumes-nil, Appends-nil}
 use Rattle.album_world.specs.Past.{Past}
-use Rattle.album_wire.specs.Lines.{Line, cut, last, ended, begun, lines_of}
-use Rattle.album_server.specs.declared.engine.TheConstants.{PIECE}
-use Rattle.album_server.specs.declared.fault.Fault.{Fault}
-use Rattle.album_server.specs.declared.fault.Fault.TheVariants.{Reading, Writing, Memory}
-use Rattle.album_server.specs.declared.stages.Stage.{Stage as Kept}
-use Rattle.album_server.specs.declared.stages.Stage.TheVariants as kept
+use Rattle.album_lines.specs.Lines.{Line, cut, last, ended, begun, lines_of}
+use Rattle.album_judge.specs.declared.engines.judge.TheConstants.{PIECE}
+use Rattle.album_judge.specs.declared.fault.Fault.{Fault}
+use Rattle.album_judge.specs.declared.fault.Fault.TheVariants.{Reading, Writing, Memory}
+use Rattle.album_server.specs.declared.engines.replay.stages.Stage.{Stage as Kept}
+use Rattle.album_server.specs.declared.engines.replay.stages.Stage.TheVariants as kept
 use Rattle.album_server.specs.Replay.{Stage, Unopened, Over, Replays, IsReplay, StopsAmid, EndsAmid, IsLeftOf, IsOverBy, end_text, replayed, step_of}
 use Rattle.album_server.specs.Stages.{Ends, IsLeftAmid, IsLeftAtEnd, Replayed, is_over, no_past, stage_of}
-use Rattle.album_server.specs.Writes.{HasRead, Writes, Exchanges, IsPrefixOf}
-use Rattle.album_server.proofs.Exchanging.{exchanges_weaker, exchanges_kept, exchanges_more, exchanges_last, by_input, by_whole_input}
-use Rattle.album_server.proofs.Pieces.{lines_split, both_cut, both_lines, some_lines}
+use Rattle.album_judge.specs.Writes.{HasRead, Writes, Exchanges, IsPrefixOf}
+use Rattle.album_judge.proofs.Exchanging.{exchanges_weaker, exchanges_kept, exchanges_more, exchanges_last, by_input, by_whole_input}
+use Rattle.album_judge.proofs.Pieces.{lines_split, both_cut, both_lines, some_lines}
 use Rattle.album_server.proofs.Replaying.{front_of_replay, nothing_printed, replays, replays_append, steps}
 use Rattle.album_server.proofs.Standing.{over}
-use Rattle.album_server.proofs.Answering.{goes_on}
-use Rattle.album_server.proofs.Texts.{writes_none}
+use Rattle.album_judge.proofs.Answering.{goes_on}
+use Rattle.album_judge.proofs.Texts.{writes_none}
 
 -- so many turns have read these bytes, and of the lines that end in them the text is printed, up to this stage
 pub record IsReplayed (turns : ℕ) (unfinished : Line) (stage : Stage) (given text : List ℕ) : Type 0 where

@@ -6,14 +6,14 @@ use Rattle.album_stamps.specs.declared.refusals.Refusal.{Refusal}
 use Rattle.album_client.specs.Terms.{Terms}
 use Rattle.album_world.specs.Past.{World}
 use Rattle.album_world.specs.Runs.{happens}
-use Rattle.album_world.specs.declared.events.Event.{Event}
-use Rattle.album_wire.specs.Lines.{Line, is_blank, cut, last, ended, begun, lines_of}
+use Rattle.album_permits.specs.declared.events.Event.{Event}
+use Rattle.album_lines.specs.Lines.{Line, is_blank, cut, last, ended, begun, lines_of}
 use Rattle.album_wire.specs.EventLine.{deliveries}
 use Rattle.album_wire.specs.declared.event_shape.Spelled.{Spelled}
 use Rattle.album_wire.specs.declared.event_shape.Spelled.TheVariants as spelled
 use Rattle.album_server.specs.Replay.{Stage, Unopened, BeingOpened, Running, Over, silently, Delivers, Runs, IsStep, Takes, Replays, IsReplay, event_line_read, delivered, line_run, taken, step_of, replayed, end_text, replay_text}
-use Rattle.album_server.specs.Writes.{IsPrefixOf}
-use Rattle.album_server.proofs.Pieces.{lines_split}
+use Rattle.album_judge.specs.Writes.{IsPrefixOf}
+use Rattle.album_judge.proofs.Pieces.{lines_split}
 
 pub delivers : (terms : Terms) (trace : Bool) (world : World) (events : List Event)
     → Delivers terms trace world events (delivered terms trace world events).0 (delivered terms trace world events).1

@@ -12,21 +12,21 @@ use Rattle.album_world.specs.Past.{Past}
 use Rattle.album_world.specs.Runs.{start}
 use Rattle.album_world.specs.Seen.{WorldState, opened}
 use Rattle.album_wire.specs.declared.opening_line.OpeningLine.{OpeningLine}
-use Rattle.album_wire.specs.Lines.{Line, is_blank}
-use Rattle.album_wire.specs.Output.{refusal_line}
-use Rattle.album_server.specs.declared.fault.Fault.{Fault}
-use Rattle.album_server.specs.declared.fault.Fault.TheVariants.{Reading, Writing, Memory}
+use Rattle.album_lines.specs.Lines.{Line, is_blank}
+use Rattle.album_lines.specs.Output.{refusal_line}
+use Rattle.album_judge.specs.declared.fault.Fault.{Fault}
+use Rattle.album_judge.specs.declared.fault.Fault.TheVariants.{Reading, Writing, Memory}
 use Rattle.album_server.specs.declared.openings.SoFar.{SoFar}
-use Rattle.album_server.specs.declared.stages.Stage.{Stage as Kept}
-use Rattle.album_server.specs.declared.stages.Stage.TheVariants as kept
+use Rattle.album_server.specs.declared.engines.replay.stages.Stage.{Stage as Kept}
+use Rattle.album_server.specs.declared.engines.replay.stages.Stage.TheVariants as kept
 use Rattle.album_server.specs.Replay.{Stage, Running, Over, Step, IsStep, IsOpened, IsRun, IsTold, Takes, Prints, Replays, begun, opened_by, refused, silently, end_text, replayed}
 use Rattle.album_server.specs.Stages.{GoesOn, Opens, Steps, Replayed, Ends, IsLeftAmid, IsLeftAtEnd, Leads, MayLead, is_over, no_past, stage_of, step_by, with_past}
-use Rattle.album_server.specs.Writes.{Writes, IsPrefixOf, LeavesOf}
+use Rattle.album_judge.specs.Writes.{Writes, IsPrefixOf, LeavesOf}
 use Rattle.album_server.proofs.Happening.{memory_or_not}
 use Rattle.album_server.proofs.Leaving.{writes_left}
 use Rattle.album_server.proofs.Replaying.{replays, replays_append}
-use Rattle.album_server.proofs.Answering.{goes_on}
-use Rattle.album_server.proofs.Texts.{writes_weaker, up_to_next, with_others}
+use Rattle.album_judge.proofs.Answering.{goes_on}
+use Rattle.album_judge.proofs.Texts.{writes_weaker, up_to_next, with_others}
 
 -- ---- a line
 

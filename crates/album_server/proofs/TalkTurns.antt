@@ -4,15 +4,15 @@ use Rattle.std.proofs.Common.{◌≡◌, ◌≢◌, ◌≤◌, ◌<◌, ◌+◌,
 use Rattle.std.specs.Io.KnownBytes.{Consumes, IsAtEnd, Keeps}
 use Rattle.album_eval.specs.declared.policies.Policy.{Policy}
 use Rattle.album_threads.specs.Sessions.{SessionState}
-use Rattle.album_wire.specs.Lines.{Line, cut, last, lines_of}
-use Rattle.album_server.specs.declared.engine.TheConstants.{PIECE}
-use Rattle.album_server.specs.declared.fault.Fault.{Fault}
-use Rattle.album_server.specs.declared.fault.Fault.TheVariants.{Reading, Memory}
+use Rattle.album_lines.specs.Lines.{Line, cut, last, lines_of}
+use Rattle.album_judge.specs.declared.engines.judge.TheConstants.{PIECE}
+use Rattle.album_judge.specs.declared.fault.Fault.{Fault}
+use Rattle.album_judge.specs.declared.fault.Fault.TheVariants.{Reading, Memory}
 use Rattle.album_server.specs.Talk.{Talker, stranger, Talks, MayTalk, IsTalk}
-use Rattle.album_server.specs.Writes.{HasRead, Writes, Exchanges, IsPrefixOf, IsLeftBy, IsEndedBy}
-use Rattle.album_server.proofs.Answering.{Answering, Are, Joins, GoesOn}
+use Rattle.album_judge.specs.Writes.{HasRead, Writes, Exchanges, IsPrefixOf, IsLeftBy, IsEndedBy}
+use Rattle.album_judge.proofs.Answering.{Answering, Are, Joins, GoesOn}
 use Rattle.album_server.proofs.Talking.{talks_append, some_talk}
-use Rattle.album_server.proofs.Turns as turns
+use Rattle.album_judge.proofs.Turns as turns
 
 -- the texts of talks from one state to another, by their lines
 abbrev pub Talked : ℕ → Policy → Talker → Talker → Answering

@@ -6,13 +6,13 @@ use Rattle.std.proofs.KnownBytes.{Appends-nil}
 use Rattle.std.specs.Io.KnownBytes.{Appends}
 use Rattle.album_stamps.specs.declared.refusals.Refusal.TheVariants.{OutOfMemory}
 use Rattle.album_eval.specs.declared.policies.Policy.{Policy}
-use Rattle.album_wire.specs.Lines.{Line, is_blank}
-use Rattle.album_wire.specs.Output.{refusal_line}
-use Rattle.album_server.specs.declared.fault.Fault.TheVariants.{Writing, Memory}
+use Rattle.album_lines.specs.Lines.{Line, is_blank}
+use Rattle.album_lines.specs.Output.{refusal_line}
+use Rattle.album_judge.specs.declared.fault.Fault.TheVariants.{Writing, Memory}
 use Rattle.album_server.specs.Talk.{Talker, Hears, TalksOnce, Talks, MayTalk}
-use Rattle.album_server.specs.Writes.{Writes, IsCutShort, IsLeftBy}
-use Rattle.album_server.proofs.Answering.{goes_on}
-use Rattle.album_server.proofs.Texts.{up_to_next, with_others, writes_weaker, writes_both}
+use Rattle.album_judge.specs.Writes.{Writes, IsCutShort, IsLeftBy}
+use Rattle.album_judge.proofs.Answering.{goes_on}
+use Rattle.album_judge.proofs.Texts.{up_to_next, with_others, writes_weaker, writes_both}
 
 module _ (limit : ℕ) (policy : Policy) where
   -- any line can be told that memory ran out

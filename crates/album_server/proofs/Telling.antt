@@ -4,11 +4,11 @@ use Rattle.std.proofs.lemmas.List.{take_more}
 use Rattle.std.specs.Io.KnownBytes.{Appends}
 use Rattle.std.proofs.KnownBytes.{Appends-trans, Appends-nil}
 use Rattle.album_world.specs.State.{Now}
-use Rattle.album_world.specs.declared.outs.Out.{Out}
+use Rattle.album_permits.specs.declared.outs.Out.{Out}
 use Rattle.album_wire.specs.OutJson.{out_line}
-use Rattle.album_server.specs.declared.fault.Fault.{Fault}
+use Rattle.album_judge.specs.declared.fault.Fault.{Fault}
 use Rattle.album_server.specs.Replay.{message_shown, told_text}
-use Rattle.album_server.specs.Writes.{Writes, LeavesOf}
+use Rattle.album_judge.specs.Writes.{Writes, LeavesOf}
 use Rattle.album_server.proofs.Leaving.{leaves_behind, leaves_before}
 
 told_append : (trace : Bool) (now : Now) (xs ys : List Out)

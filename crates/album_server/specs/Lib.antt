@@ -1,5 +1,3 @@
-pub mod Answers
-pub mod Writes
 pub mod Replay
 pub mod Promise
 pub mod WorkedOpening

@@ -21,13 +21,13 @@ use Rattle.album_world.specs.Granted.{WritesAreGranted}
 use Rattle.album_world.specs.Outcomes.{OutcomesAreTrue}
 use Rattle.album_world.specs.Requests.{AnswersAreToRequests, IsAnsweredLast}
 use Rattle.album_world.specs.Rulings.{RulingsHold}
-use Rattle.album_world.specs.Runs.{run_of, told_to}
-use Rattle.album_world.specs.declared.events.Event.{Event}
-use Rattle.album_world.specs.declared.outs.Out.{Out}
-use Rattle.album_world.specs.declared.outs.Out.TheVariants as out
+use Rattle.album_world.specs.Runs.{run_of, past_answer}
+use Rattle.album_permits.specs.declared.events.Event.{Event}
+use Rattle.album_permits.specs.declared.outs.Out.{Out}
+use Rattle.album_permits.specs.declared.outs.Out.TheVariants as out
 use Rattle.album_wire.specs.EventLine.{deliveries}
-use Rattle.album_wire.specs.Lines.{Line, is_blank, lines_of}
-use Rattle.album_wire.specs.Output.{refusal_line}
+use Rattle.album_lines.specs.Lines.{Line, is_blank, lines_of}
+use Rattle.album_lines.specs.Output.{refusal_line}
 use Rattle.album_wire.specs.OutJson.{out_line}
 use Rattle.album_wire.specs.declared.event_shape.Spelled.{Spelled}
 use Rattle.album_wire.specs.declared.event_shape.Spelled.TheVariants as spelled
@@ -103,7 +103,7 @@ abbrev pub IsOf : World → Out → Type 0
 IsOf world (out.Sent number) = Unit {0}
 IsOf world (out.Noted client note) = IsNoteKept world client note
 IsOf world (out.Answered client answer) =
-    IsAnsweredLast world client answer × Contains world.past.told (told_to world.past.reads client answer)
+    IsAnsweredLast world client answer × Contains world.past.answers (past_answer world.past.reads client answer)
 
 -- a part of what is printed: a refusal, or something told once these lines are read, of the world that opened so and in
 -- which these events have happened, with the message of it in a trace

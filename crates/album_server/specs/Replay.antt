@@ -11,22 +11,22 @@ use Rattle.album_world.specs.State.{Now, message_of}
 use Rattle.album_world.specs.Past.{World}
 use Rattle.album_world.specs.Changes.{Change, change_of}
 use Rattle.album_world.specs.Runs.{now_after, outs_of, happens, start}
-use Rattle.album_world.specs.declared.events.Event.{Event}
-use Rattle.album_world.specs.declared.outs.Out.{Out}
-use Rattle.album_world.specs.declared.outs.Out.TheVariants as out
-use Rattle.album_wire.specs.Lines.{Line, is_blank, ended, lines_of}
+use Rattle.album_permits.specs.declared.events.Event.{Event}
+use Rattle.album_permits.specs.declared.outs.Out.{Out}
+use Rattle.album_permits.specs.declared.outs.Out.TheVariants as out
+use Rattle.album_lines.specs.Lines.{Line, is_blank, ended, lines_of}
 use Rattle.album_wire.specs.OpeningLine.{opening_line_of}
 use Rattle.album_wire.specs.EventLine.{event_line_of, deliveries}
-use Rattle.album_wire.specs.Output.{refusal_line}
+use Rattle.album_lines.specs.Output.{refusal_line}
 use Rattle.album_wire.specs.OutJson.{out_line}
 use Rattle.album_wire.specs.declared.event_shape.Spelled.{Spelled}
 use Rattle.album_wire.specs.declared.event_shape.Spelled.TheVariants as spelled
 use Rattle.album_wire.specs.declared.opening_line.OpeningLine.{OpeningLine}
 use Rattle.album_wire.specs.declared.opening_line.OpeningLine.TheVariants as line
 use Rattle.album_wire.specs.declared.opening_shape.Header.{Header}
-use Rattle.album_server.specs.declared.fault.Fault.{Fault}
-use Rattle.album_server.specs.declared.fault.Fault.TheVariants.{Reading, Writing, Memory}
-use Rattle.album_server.specs.Writes.{IsPrefixOf, IsCutShort}
+use Rattle.album_judge.specs.declared.fault.Fault.{Fault}
+use Rattle.album_judge.specs.declared.fault.Fault.TheVariants.{Reading, Writing, Memory}
+use Rattle.album_judge.specs.Writes.{IsPrefixOf, IsCutShort}
 
 -- Where a replay stands between two lines: nothing is opened yet; it is being opened, with these items so far; the
 -- world runs, in a trace or not; or the opening was refused, and nothing more is printed.

@@ -5,15 +5,15 @@ use Rattle.album_stamps.specs.declared.refusals.Refusal.{Refusal}
 use Rattle.album_stamps.specs.declared.refusals.Refusal.TheVariants.{OutOfMemory}
 use Rattle.album_world.specs.Past.{Past, World}
 use Rattle.album_world.specs.Seen.{WorldState}
-use Rattle.album_wire.specs.Lines.{Line}
+use Rattle.album_lines.specs.Lines.{Line}
 use Rattle.album_server.specs.Replay.{Stage, Unopened, BeingOpened, Running, Over, Step, IsStep, Replays, StopsAmid, EndsAmid, begun, opening_of, refused, silently, end_text}
-use Rattle.album_server.specs.declared.fault.Fault.{Fault}
-use Rattle.album_server.specs.declared.fault.Fault.TheVariants.{Reading, Writing, Memory}
+use Rattle.album_judge.specs.declared.fault.Fault.{Fault}
+use Rattle.album_judge.specs.declared.fault.Fault.TheVariants.{Reading, Writing, Memory}
 use Rattle.album_server.specs.declared.openings.SoFar.{SoFar}
 use Rattle.album_server.specs.declared.openings.SoFar.TheVariants as so_far
-use Rattle.album_server.specs.declared.stages.Stage.{Stage as Kept}
-use Rattle.album_server.specs.declared.stages.Stage.TheVariants as kept
-use Rattle.album_server.specs.Writes.{IsCutShort}
+use Rattle.album_server.specs.declared.engines.replay.stages.Stage.{Stage as Kept}
+use Rattle.album_server.specs.declared.engines.replay.stages.Stage.TheVariants as kept
+use Rattle.album_judge.specs.Writes.{IsCutShort}
 
 -- the world that is kept, where this has happened to it
 abbrev pub with_past : WorldState → Past → World
@@ -38,7 +38,7 @@ MayLead Goes old past text = (next : World) × Goes (with_past old past) next te
 
 -- nothing has happened to a world that opens
 abbrev pub no_past : Past
-no_past = record { asked = []; transactions = []; begun = []; reads = []; told = []; noted = [] }
+no_past = record { asked = []; transactions = []; begun = []; reads = []; answers = []; noted = [] }
 
 -- what the lines have said so far, as a step
 abbrev pub step_to : SoFar → Step

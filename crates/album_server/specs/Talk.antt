@@ -8,15 +8,15 @@ use Rattle.album_eval.specs.declared.facts.Principal.{Principal}
 use Rattle.album_eval.specs.declared.policies.Policy.{Policy}
 use Rattle.album_views.specs.Checks.{refusal_of}
 use Rattle.album_views.specs.declared.asks.Ask.{Ask}
-use Rattle.album_writer.specs.declared.answers.Answer.{Answer}
+use Rattle.album_permits.specs.declared.answers.Answer.{Answer}
 use Rattle.album_passes.specs.Cuts.{prefix_at}
 use Rattle.album_threads.specs.Asks.{IsOn}
 use Rattle.album_threads.specs.Controls.{IsUntrimmed}
 use Rattle.album_threads.specs.Resting.{RestsOn}
-use Rattle.album_threads.specs.Sessions.{SessionState, IsNoWord}
-use Rattle.album_world.specs.declared.outs.Out.TheVariants as out
-use Rattle.album_wire.specs.Lines.{Line, is_blank}
-use Rattle.album_wire.specs.Output.{line_text, refusal_line}
+use Rattle.album_threads.specs.Sessions.{SessionState, IsClosedOrOutOfMemory}
+use Rattle.album_permits.specs.declared.outs.Out.TheVariants as out
+use Rattle.album_lines.specs.Lines.{Line, is_blank}
+use Rattle.album_lines.specs.Output.{line_text, refusal_line}
 use Rattle.album_wire.specs.OutJson.{out_line}
 use Rattle.album_wire.specs.TalkJson.{pending_json, talk_text}
 use Rattle.album_wire.specs.declared.talk_json.TalkOut.{TalkOut}
@@ -30,7 +30,7 @@ use Rattle.album_wire.specs.declared.talk_line.TalkLine.TheVariants as line
 -- of an ask: the answer, on what it rests; or it is refused by its check, or no word comes
 abbrev pub TellsAsk : ℕ → Policy → Principal → Ask → SessionState → SessionState → Result Answer Refusal → Type 0
 TellsAsk limit policy who ask old new (Ok answer) = RestsOn limit policy who ask old new answer
-TellsAsk limit policy who ask old new (Err why) = (refusal_of ask who ≡ Some why) ⊎ IsNoWord why
+TellsAsk limit policy who ask old new (Err why) = (refusal_of ask who ≡ Some why) ⊎ IsClosedOrOutOfMemory why
 
 -- there is no partition of this number
 pub record IsNowhere (session : SessionState) (part : ℕ) (why : Refusal) : Type 0 where
@@ -40,7 +40,7 @@ pub record IsNowhere (session : SessionState) (part : ℕ) (why : Refusal) : Typ
 -- the stamps that are pending at a partition
 abbrev pub TellsPending : ℕ → SessionState → SessionState → Result (List ℕ) Refusal → Type 0
 TellsPending part old new (Ok stamps) = ArePending (prefix_at new.cut part) stamps
-TellsPending part old new (Err why) = IsNowhere old part why ⊎ IsNoWord why
+TellsPending part old new (Err why) = IsNowhere old part why ⊎ IsClosedOrOutOfMemory why
 
 -- the stamp is not pending there
 pub record IsUnprepared (session : SessionState) (part stamp : ℕ) (why : Refusal) : Type 0 where
@@ -50,7 +50,7 @@ pub record IsUnprepared (session : SessionState) (part stamp : ℕ) (why : Refus
 -- of a sweep: the stamp is pending at the partition, and the others are asked how it stands
 abbrev pub TellsSwept : ℕ → ℕ → SessionState → SessionState → Result Unit Refusal → Type 0
 TellsSwept part stamp old new (Ok done) = state_of (prefix_at new.cut part) stamp ≡ state.Pending
-TellsSwept part stamp old new (Err why) = IsNowhere old part why ⊎ (IsUnprepared new part stamp why ⊎ IsNoWord why)
+TellsSwept part stamp old new (Err why) = IsNowhere old part why ⊎ (IsUnprepared new part stamp why ⊎ IsClosedOrOutOfMemory why)
 
 -- no version of the item is kept at the partition that is below its latest stamp, nor below that which the session knew
 pub record IsTrimmed (part item : ℕ) (old new : SessionState) : Type 0 where
@@ -60,7 +60,7 @@ pub record IsTrimmed (part item : ℕ) (old new : SessionState) : Type 0 where
 abbrev pub TellsTrimmed : ℕ → ℕ → ℕ → SessionState → SessionState → Result Unit Refusal → Type 0
 TellsTrimmed limit part item old new (Ok done) = IsTrimmed part item old new
 TellsTrimmed limit part item old new (Err why) =
-    IsNowhere old part why ⊎ (IsUntrimmed limit new.cut part item why ⊎ IsNoWord why)
+    IsNowhere old part why ⊎ (IsUntrimmed limit new.cut part item why ⊎ IsClosedOrOutOfMemory why)
 
 -- ---- the text of what is told, or of why nothing is
 

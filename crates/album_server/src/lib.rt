@@ -1,34 +1,29 @@
-//! The engine from a reader of lines to a writer of answers.
+//! The engines of a store: each from a reader of lines to a writer of what comes of them.
 //!
-//! A reader and a writer come in, whatever they are, and what was written goes with what was read. Read
-//! `engine` first; `answers` makes the text of one line, by `judged`, and `writing` writes it. What a replay prints is
-//! defined in specs/Replay.antt; `scripts` is its engine, and `replays` has laws of it.
+//! What comes in: a reader and a writer, whatever they are; for a connection a session too, and for a service the port.
+//! What goes out: the text that the lines read bring about; or a fault, before which a prefix of such a text was written.
+//!
+//! Read `engines/replay` first: `Stage` takes a line (`replay/stages`), and a line's events run (`replay/events`).
+//! specs/Replay.antt has the text of a replay, specs/Promise.antt what is promised of it, and `laws` what holds of both.
+//! Then `engines/converse`, the engine of a connection, with specs/Talk.antt; and `engines/serve`, which opens a service
+//! and gives each connection a thread (`serve/accepting`, `serve/connections`). The engine of judge lines is
+//! `album_judge`'s, and is passed on here.
 #![tactic(auto)]
 
-mod accepting;
-mod answers;
-mod connections;
-mod engine;
-mod events;
-mod fault;
-mod faults;
-mod judged;
+// What the lines of an opening say. Both a replay and a service begin with them.
 mod openings;
-mod replays;
-mod scripts;
-mod serving;
-mod stages;
-mod talk_answers;
-mod talks;
-mod writing;
 
-pub use engine::judge;
-pub use fault::Fault;
-pub use judged::one_judgement;
-pub use replays::{
+// The engines.
+mod engines;
+
+// What holds of replays.
+mod laws;
+
+pub use album_judge::{Fault, judge, one_judgement};
+pub use engines::converse::converse;
+pub use engines::replay::replay;
+pub use engines::serve::{Host, Served, Serving, serve, serve_for, serve_until};
+pub use laws::{
     a_replay_runs_what_its_lines_spell, replays_are_computed, replays_go_on, what_replay_prints,
     worked_replays,
 };
-pub use scripts::replay;
-pub use serving::{Served, Serving, serve, serve_for, serve_until};
-pub use talks::converse;

@@ -1,13 +1,14 @@
 // An opening, line by line: the header comes first, behind it the items, and then that these are all.
 ghost use Rattle.std.specs.Prelude.{◌≡◌};
 ghost use Rattle.album_stamps.specs.Outcome.{Gives};
-ghost use Rattle.album_wire.specs.Lines.{said};
+ghost use Rattle.album_lines.specs.Lines.{said};
 ghost use Rattle.album_server.specs.Replay.{first_line, later_line, opened_by, opening_line_read, opening_of};
 ghost use Rattle.album_server.specs.Stages.{GoesOn};
 
 use album_items::{ItemId, ItemValues, Opening, Value};
+use album_lines::LineIn;
 use album_stamps::Refusal;
-use album_wire::{Header, LineIn, OpeningLine, read_opening_line};
+use album_wire::{Header, OpeningLine, read_opening_line};
 use json::Scratch;
 use std::alloc::Global;
 
@@ -60,10 +61,7 @@ pub(crate) fn later_line(
 fn opening_line(alloc: Global, scratch: &mut Scratch, line: &LineIn) -> Result<OpeningLine, Refusal>
     ensures { Gives (λ line. line) result (opening_line_read (said line.now)) }
 {
-    match line {
-        LineIn::TooLong => Err(Refusal::BadLine),
-        LineIn::Text(bytes) => read_opening_line(alloc, scratch, bytes),
-    }
+    read_opening_line(alloc, scratch, line.bytes()?)
 }
 
 /// The opening that they have said.

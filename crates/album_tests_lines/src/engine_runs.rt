@@ -1,7 +1,8 @@
 // `judge` and `replay` over readers and writers that give and take little, or fail.
 use crate::runs::{Engine, Script, assert_kept, assert_read, stops_at_each_write};
 use crate::streams::{Pieces, Taking};
-use album_server::{Fault, judge, replay};
+use album_judge::{Fault, judge};
+use album_server::replay;
 use std::alloc::Global;
 
 #[derive(Drop)]

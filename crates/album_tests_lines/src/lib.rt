@@ -5,12 +5,12 @@
 #[cfg(test)]
 mod engine_runs;
 #[cfg(test)]
+mod lines;
+#[cfg(test)]
 mod runs;
 #[cfg(test)]
 mod streams;
 #[cfg(test)]
 mod talk_runs;
-#[cfg(test)]
-mod wire;
 #[cfg(test)]
 mod worlds;

@@ -6,10 +6,10 @@
 use album_eval::Principal;
 use album_items::{Content, Head, ItemId, ItemValues, Kind, Opening, Picture, Title, Value};
 use album_lists::{AccessList, Name};
+use album_permits::{Answer, Event, Out};
 use album_stamps::{ClientNo, Refusal};
 use album_views::{Ask, NewList, NewLists};
-use album_world::{Event, Out, World};
-use album_writer::Answer;
+use album_world::World;
 use bytes::Bytes;
 use std::alloc::Global;
 

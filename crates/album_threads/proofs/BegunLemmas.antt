@@ -3,7 +3,7 @@
 use Rattle.std.proofs.Common.{◌≡◌, ℕ, ◌≤◌, true, inl, inr, List, Option, Some, None, refl, sym, ap, ◌∙◌, subst}
 use Rattle.album_calls.specs.declared.messages.Message.{Message}
 use Rattle.album_client.specs.Clients.{stamp_at_work}
-use Rattle.album_client.specs.Turns.{answer_of}
+use Rattle.album_client.specs.Steps.{answer_of}
 use Rattle.album_client.specs.declared.clients.Phase.{Phase}
 use Rattle.album_client.specs.declared.clients.Phase.TheVariants as phase
 use Rattle.album_eval.specs.declared.policies.Policy.{Policy}
@@ -22,7 +22,7 @@ use Rattle.album_threads.specs.Sessions.{SessionState, IsClosedOrOutOfMemory}
 use Rattle.album_threads.specs.Writes.{IsBegunOn, IsEndOf}
 use Rattle.album_threads.proofs.GroundLemmas.{seen_more}
 use Rattle.album_writer.specs.Writing.{WritingState, prepare_round}
-use Rattle.album_writer.specs.declared.answers.Answer.TheVariants as answer
+use Rattle.album_permits.specs.declared.answers.Answer.TheVariants as answer
 use Rattle.album_writer.specs.declared.outcomes.Outcome.{Outcome}
 use Rattle.album_writer.specs.declared.outcomes.Outcome.TheVariants as outcome
 use Rattle.album_writer.proofs.Placing.{some-place}

@@ -4,12 +4,12 @@ use Rattle.std.proofs.Common.{◌≡◌, ℕ, ◌+◌, ◌<◌, ◌≤◌, Bool,
 use Rattle.std.proofs.lemmas.Bool.Decides.{nat_tests}
 use Rattle.std.proofs.lemmas.List.Elements.{All-nil, All-cons}
 use Rattle.album_calls.specs.declared.messages.Message.{Message}
-use Rattle.album_client.specs.Askings.{PendingAsk}
+use Rattle.album_client.specs.PendingAsks.{PendingAsk}
 use Rattle.album_client.specs.Clients.{Client}
 use Rattle.album_client.specs.Grants.{served_for}
 use Rattle.album_client.specs.Transitions.{IsMoved}
 use Rattle.album_client.specs.Terms.{Terms}
-use Rattle.album_client.specs.Turns.{Turn, turn_of, writes_unless, draws_by, grants, rules_by, rules, views_by, read_turn, prepare_turn, commit_turn, clock_after_rows}
+use Rattle.album_client.specs.Steps.{TransitionState, transition_of, writes_unless, draws_by, grants, rules_by, rules, views_by, read_transition, prepare_transition, commit_transition, clock_after_rows}
 use Rattle.album_client.specs.declared.clients.Phase.{Phase}
 use Rattle.album_client.specs.declared.clients.Phase.TheVariants as phase
 use Rattle.album_client.specs.declared.transitions.Transition.{Transition}
@@ -70,12 +70,12 @@ number_above c n t low = omega arith
 -- ---- what a turn does to it
 
 -- it is of the same client, and at no lower counter
-record IsClockOn (old : ClockState) (turn : Turn) : Type 0 where
+record IsClockOn (old : ClockState) (turn : TransitionState) : Type 0 where
   own : turn.client.clock.client ≡ old.client
   risen : old.counter ≤ turn.client.clock.counter
 
 module _ (terms : Terms) (x : Client) where
-  same_clock : (turn : Turn) → turn.client.clock ≡ x.clock → IsClockOn x.clock turn
+  same_clock : (turn : TransitionState) → turn.client.clock ≡ x.clock → IsClockOn x.clock turn
   same_clock turn is = record {
     own = ap (λ (k : ClockState). k.client) is;
     risen = le_of_eq (ap (λ (k : ClockState). k.counter) (sym is));
@@ -86,7 +86,7 @@ module _ (terms : Terms) (x : Client) where
     abbrev drawn : Client
     drawn = record y { clock = clock_after_next y.clock }
 
-    drawn_clock : (turn : Turn) → turn.client.clock ≡ clock_after_next y.clock → IsClockOn x.clock turn
+    drawn_clock : (turn : TransitionState) → turn.client.clock ≡ clock_after_next y.clock → IsClockOn x.clock turn
     drawn_clock turn is = go (nat_lt y.clock.counter MAX_COUNTER) is
       where
         go : (b : Bool) → turn.client.clock ≡ (if b then record y.clock { counter = y.clock.counter + 1 } else y.clock)
@@ -132,7 +132,7 @@ module _ (terms : Terms) (x : Client) where
   views_clock tag who (Closed view) = viewed_clock tag who view
   views_clock tag who (Busy why) = same_clock _ refl
 
-  read_clock : (tag : ℕ) (pending_ask : PendingAsk) (step : Step) → IsClockOn x.clock (read_turn terms x tag pending_ask step)
+  read_clock : (tag : ℕ) (pending_ask : PendingAsk) (step : Step) → IsClockOn x.clock (read_transition terms x tag pending_ask step)
   read_clock tag pending_ask (Same round) = same_clock _ refl
   read_clock tag pending_ask (Next round messages) = same_clock _ refl
   read_clock tag pending_ask (Done rows) =
@@ -140,23 +140,23 @@ module _ (terms : Terms) (x : Client) where
   read_clock tag pending_ask (Gone items) =
       let c = views_clock tag pending_ask.principal (again pending_ask.viewing items) in record { own = c.own; risen = c.risen }
 
-  prepare_clock : (tag : ℕ) (step : WriteStep) → IsClockOn x.clock (prepare_turn x tag step)
+  prepare_clock : (tag : ℕ) (step : WriteStep) → IsClockOn x.clock (prepare_transition x tag step)
   prepare_clock tag (Waits writing) = same_clock _ refl
   prepare_clock tag (Commits writing messages) = same_clock _ refl
   prepare_clock tag (Ends outcome) = same_clock _ refl
 
-  commit_clock : (tag : ℕ) (step : WriteStep) → IsClockOn x.clock (commit_turn x tag step)
+  commit_clock : (tag : ℕ) (step : WriteStep) → IsClockOn x.clock (commit_transition x tag step)
   commit_clock tag (Waits writing) = same_clock _ refl
   commit_clock tag (Commits writing messages) = same_clock _ refl
   commit_clock tag (Ends outcome) = same_clock _ refl
 
-  turn_clock : (m : Message) (d : Phase) → IsClockOn x.clock (turn_of terms x m d)
+  turn_clock : (m : Message) (d : Phase) → IsClockOn x.clock (transition_of terms x m d)
   turn_clock m (phase.Idle tag) = same_clock _ refl
   turn_clock m (phase.Reads pending_ask round) = read_clock round.asker.tag pending_ask (stepped round m)
   turn_clock m (phase.Prepares writing) = prepare_clock writing.tag (prepare_stepped writing m)
   turn_clock m (phase.Commits writing) = commit_clock writing.tag (commit_stepped writing m)
 
-  pub moved_clock : (m : Message) (d : Phase) (transition : Transition) → IsMoved (turn_of terms x m d) transition
+  pub moved_clock : (m : Message) (d : Phase) (transition : Transition) → IsMoved (transition_of terms x m d) transition
       → (transition.client.clock.client ≡ x.clock.client) × (x.clock.counter ≤ transition.client.clock.counter)
   moved_clock m d transition is =
       let c = turn_clock m d in (

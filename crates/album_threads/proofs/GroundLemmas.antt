@@ -34,13 +34,13 @@ kept_at_more c d x permit t p h = record {
 }
 
 pub kept_more : (c d : Cut) (permit : PermitState) (t : ℕ) → Extends c d → IsKept c permit t → IsKept d permit t
-kept_more c d permit t x h = λ p concerned. kept_at_more c d x permit t p
-    (h p (subst (λ (n : ℕ). Contains (places_of n (items_of permit t)) p) x.parts concerned))
+kept_more c d permit t x h = λ p participant. kept_at_more c d x permit t p
+    (h p (subst (λ (n : ℕ). Contains (places_of n (items_of permit t)) p) x.parts participant))
 
 pub without_room_more : (limit : ℕ) (c d : Cut) (permit : PermitState) (t : ℕ) → Extends c d → IsWithoutRoom limit c permit t → IsWithoutRoom limit d permit t
 without_room_more limit c d permit t x h = record {
   place = h.place;
-  concerned = subst (λ (n : ℕ). Contains (places_of n (items_of permit t)) h.place) (sym x.parts) h.concerned;
+  participant = subst (λ (n : ℕ). Contains (places_of n (items_of permit t)) h.place) (sym x.parts) h.participant;
   marks = h.marks;
   had = prefix_trans h.marks (prefix_at c h.place) (prefix_at d h.place) h.had (x.prefixes h.place);
   full = h.full;

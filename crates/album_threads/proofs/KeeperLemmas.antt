@@ -18,7 +18,7 @@ use Rattle.album_calls.specs.declared.nodes.Vote.{Vote}
 use Rattle.album_calls.specs.declared.nodes.Vote.TheVariants as vote
 use Rattle.album_calls.specs.declared.requests.Request.TheVariants.{Prepare, Commit, Check}
 use Rattle.album_calls.specs.declared.replies.Reply.TheVariants as reply
-use Rattle.album_partition.specs.Answers.{Action, nothing, to_body, action_of, after}
+use Rattle.album_partition.specs.Answers.{Action, nothing, on_body, action_of, after}
 use Rattle.album_partition.specs.Laws.{IsCause}
 use Rattle.album_partition.specs.Marks.{prepares, items_at, may_follow, is_legal, load}
 use Rattle.album_partition.specs.Partition.{PartitionState}
@@ -75,7 +75,7 @@ item_there p parts is e =
 is_here : (p : PartitionState) (m : Message) (mark : Mark) → (action_of p m).mark ≡ Some mark → is_part m.to p.number ≡ true
 is_here p m mark e = go (is_part m.to p.number) e
   where
-    go : (b : Bool) → (if b then to_body p m.from m.body else nothing).mark ≡ Some mark → b ≡ true
+    go : (b : Bool) → (if b then on_body p m.from m.body else nothing).mark ≡ Some mark → b ≡ true
     go true f = refl
     go false f = absurd (cc (f))
 

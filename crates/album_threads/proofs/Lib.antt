@@ -1,4 +1,4 @@
-pub mod LetterLemmas
+pub mod EnvelopeLemmas
 pub mod KeeperLemmas
 pub mod SweepLemmas
 pub mod OpenedLemmas
@@ -13,7 +13,7 @@ pub mod WriteLemmas
 pub mod ClockLemmas
 pub mod SendLemmas
 pub mod BegunLemmas
-pub mod MovedLemmas
+pub mod TransitionLemmas
 pub mod RuledLemmas
 pub mod ReadingLemmas
 pub mod CarryLemmas

@@ -3,11 +3,11 @@
 use Rattle.std.proofs.Common.{◌≡◌, ℕ, ◌+◌, Bool, true, false, List, [], ◌∷◌, map, length, Some, None, is_some, All, refl, sym, ap, ◌∙◌, subst, arith, nat_lt, nat_le, if◌then◌else◌}
 use Rattle.std.proofs.lemmas.Bool.{ltb-false}
 use Rattle.album_calls.specs.declared.messages.Message.{Message}
-use Rattle.album_client.specs.Askings.{PendingAsk}
+use Rattle.album_client.specs.PendingAsks.{PendingAsk}
 use Rattle.album_client.specs.Clients.{Client, IsProper}
 use Rattle.album_client.specs.Transitions.{IsMoved}
 use Rattle.album_client.specs.Terms.{Terms}
-use Rattle.album_client.specs.Turns.{asker_at, read_begins, read_turn, views_by, rules}
+use Rattle.album_client.specs.Steps.{asker_at, read_begins, read_transition, views_by, rules}
 use Rattle.album_client.specs.declared.clients.Phase.{Phase}
 use Rattle.album_client.specs.declared.clients.Phase.TheVariants as phase
 use Rattle.album_client.specs.declared.transitions.Transition.{Transition}
@@ -32,8 +32,8 @@ use Rattle.album_threads.specs.Sessions.{SessionState, AnnouncesNothing}
 use Rattle.album_threads.specs.Turns.{client_step_in, terms_in}
 use Rattle.album_threads.proofs.EndLemmas.{read_so, overtaken}
 use Rattle.album_threads.proofs.LookLemmas.{done_so, gone_so, looking_first, looking_next, looks_seen, looks_busy, on_self}
-use Rattle.album_threads.proofs.MovedLemmas.{IsNoted, IsMovedOn, on_heard, heard_same, goes_plain, goes_sent}
-use Rattle.album_threads.proofs.MovedLemmas.IsMovedOn.{Told}
+use Rattle.album_threads.proofs.TransitionLemmas.{IsNoted, IsMovedOn, on_heard, heard_same, goes_plain, goes_sent}
+use Rattle.album_threads.proofs.TransitionLemmas.IsMovedOn.{Told}
 use Rattle.album_threads.proofs.RoundLemmas.{leads, none_yet, under_first, gets_shown}
 use Rattle.album_threads.proofs.RuledLemmas.{ruled_on}
 use Rattle.album_threads.proofs.SendLemmas.{gets_plain}
@@ -49,7 +49,7 @@ use Rattle.album_views.specs.declared.viewing.ViewStep.TheVariants.{Again, Close
 use Rattle.album_views.specs.declared.viewing.Why.{Why}
 use Rattle.album_views.specs.declared.viewing.Why.TheVariants.{Rounds, Wide}
 use Rattle.album_views.proofs.Closing.{names-readable}
-use Rattle.album_writer.specs.declared.answers.Answer.TheVariants as answer
+use Rattle.album_permits.specs.declared.answers.Answer.TheVariants as answer
 
 -- ---- messages of a round
 
@@ -254,7 +254,7 @@ module _ (limit : ℕ) (policy : Policy) (o : Outset) (now next noted : SessionS
   -- what a step of a round leads to
   steps : (tag : ℕ) (pending_ask : PendingAsk) (round : RoundState) (f : Step)
       (w : IsReading o.principal o.ask a at c sent pending_ask round)
-      → Leads at d w.begun f → IsMoved (read_turn terms x tag pending_ask f) transition → After
+      → Leads at d w.begun f → IsMoved (read_transition terms x tag pending_ask f) transition → After
   steps tag pending_ask round (Same other) w led is =
       waits is.noted (ap (λ (z : Client). z.clock.counter) is.client) pending_ask other is.answer
       (ap (λ (z : Client). z.phase) is.client) is.sent (record {
@@ -342,7 +342,7 @@ module _ (limit : ℕ) (policy : Policy) (o : Outset) (now next noted : SessionS
   -- what a reply leads to
   pub read_on : (pending_ask : PendingAsk) (round : RoundState) (m : Message)
       → IsReading o.principal o.ask a at c sent pending_ask round
-      → IsReplied limit at d sent m → IsMoved (read_turn terms x round.asker.tag pending_ask (stepped round m)) transition → After
+      → IsReplied limit at d sent m → IsMoved (read_transition terms x round.asker.tag pending_ask (stepped round m)) transition → After
   read_on pending_ask round m w r is =
       steps round.asker.tag pending_ask round (stepped round m) w
       (leads limit at c d w.begun round m w.on N.heard.grown (extends_trans at c d w.on N.heard.grown) w.parts

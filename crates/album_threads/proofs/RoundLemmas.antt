@@ -17,7 +17,7 @@ use Rattle.album_calls.specs.declared.nodes.Node.TheVariants.{Part}
 use Rattle.album_calls.specs.declared.replies.Reply.{Reply}
 use Rattle.album_calls.specs.declared.replies.Reply.TheVariants as reply
 use Rattle.album_calls.specs.declared.requests.Request.TheVariants.{Get}
-use Rattle.album_partition.specs.Answers.{says, nothing, get_by, to_body, action_of, answer, reply_to}
+use Rattle.album_partition.specs.Answers.{says, nothing, get_by, on_body, action_of, answer, reply_to}
 use Rattle.album_partition.specs.Laws.{IsReadAt}
 use Rattle.album_partition.specs.Marks.{value_in, kept_version}
 use Rattle.album_partition.specs.Partition.{PartitionState, read_at}
@@ -98,8 +98,8 @@ get_marks_nothing p m i ts e = by (is_part m.to p.number)
     placed true = read (read_at p.marks i ts)
     placed false = refl
 
-    by : (b : Bool) → (if b then to_body p m.from m.body else nothing).mark ≡ None
-    by true = subst (λ (x : Body). (to_body p m.from x).mark ≡ None) (sym e) (placed (is_placed p.number p.parts i))
+    by : (b : Bool) → (if b then on_body p m.from m.body else nothing).mark ≡ None
+    by true = subst (λ (x : Body). (on_body p m.from x).mark ≡ None) (sym e) (placed (is_placed p.number p.parts i))
     by false = refl
 
 -- what was sent for a round asks with its stamps

@@ -7,7 +7,7 @@ use Rattle.album_calls.specs.declared.messages.Message.{Message}
 use Rattle.album_client.specs.Clients.{Client, IsProper, stamp_at_work}
 use Rattle.album_client.specs.Transitions.{IsMoved}
 use Rattle.album_client.specs.Terms.{Terms}
-use Rattle.album_client.specs.Turns.{turn_of, prepare_turn, commit_turn}
+use Rattle.album_client.specs.Steps.{transition_of, prepare_transition, commit_transition}
 use Rattle.album_client.specs.declared.clients.Phase.{Phase}
 use Rattle.album_client.specs.declared.clients.Phase.TheVariants as phase
 use Rattle.album_client.specs.declared.transitions.Transition.{Transition}
@@ -31,16 +31,16 @@ use Rattle.album_threads.specs.declared.session.ask.Way.TheVariants.{Answered, A
 use Rattle.album_threads.proofs.BegunLemmas.{cut_rests}
 use Rattle.album_threads.proofs.CarryLemmas.{prepared_on, committed_on}
 use Rattle.album_threads.proofs.ClockLemmas.{moved_clock}
-use Rattle.album_threads.proofs.MovedLemmas.{IsNoted, IsMovedOn}
+use Rattle.album_threads.proofs.TransitionLemmas.{IsNoted, IsMovedOn}
 use Rattle.album_threads.proofs.ReadingLemmas.{read_on}
 use Rattle.album_writer.specs.Rounds.{WriteStep, prepare_stepped, commit_stepped}
 use Rattle.album_writer.specs.Rounds.WriteStep.{Waits, Commits as Decides, Ends}
-use Rattle.album_writer.specs.declared.answers.Answer.{Answer}
-use Rattle.album_writer.specs.declared.answers.Answer.TheVariants as answer
+use Rattle.album_permits.specs.declared.answers.Answer.{Answer}
+use Rattle.album_permits.specs.declared.answers.Answer.TheVariants as answer
 
 moved_on : (limit : ℕ) (policy : Policy) (o : Outset) (now next noted : SessionState) (at : Cut) (sent : List Message) (transition : Transition)
     (d : Phase) (m : Message) → IsNoted o now next noted transition → IsPhase policy o now at sent d → IsReplied limit at next.cut sent m
-    → IsMoved (turn_of (terms_in policy next) (client_step_in next) m d) transition → IsMovedOn limit policy o noted at sent transition
+    → IsMoved (transition_of (terms_in policy next) (client_step_in next) m d) transition → IsMovedOn limit policy o noted at sent transition
 moved_on limit policy o now next noted at sent transition (phase.Idle tag) m N w r is = absurd w
 moved_on limit policy o now next noted at sent transition (phase.Reads pending_ask round) m N w r is =
     read_on limit policy o now next noted at sent transition N w.1 w.2 pending_ask round m w.0 r is
@@ -53,7 +53,7 @@ moved_on limit policy o now next noted at sent transition (phase.Commits writing
 
 -- it was heard, and has led to this
 pub taken_so : (limit : ℕ) (at now : Cut) (sent : List Message) (terms : Terms) (x : Client) (d : Phase) (heard : Result Message Refusal) (transition : Transition)
-    → IfOk heard (IsReplied limit at now sent) → IsOkAnd heard (λ reply. IsMoved (turn_of terms x reply d) transition)
+    → IfOk heard (IsReplied limit at now sent) → IsOkAnd heard (λ reply. IsMoved (transition_of terms x reply d) transition)
     → IsTaken limit at now sent terms x d transition
 taken_so limit at now sent terms x d (Ok reply) transition replied is = record { reply = reply; replied = replied; is = is }
 taken_so limit at now sent terms x d (Err why) transition replied is = absurd is
@@ -155,14 +155,14 @@ module _ (limit : ℕ) (policy : Policy) (o : Outset) where
   unbegun_noted now next noted at sent (phase.Prepares writing) transition w h cut t some =
       absurd (some (t.is.noted ∙ none (prepare_stepped writing t.reply)))
     where
-      none : (f : WriteStep) → unwrap_or (prepare_turn (client_step_in next) writing.tag f).noted [] ≡ []
+      none : (f : WriteStep) → unwrap_or (prepare_transition (client_step_in next) writing.tag f).noted [] ≡ []
       none (Waits other) = refl
       none (Decides other messages) = refl
       none (Ends out) = refl
   unbegun_noted now next noted at sent (phase.Commits writing) transition w h cut t some =
       absurd (some (t.is.noted ∙ none (commit_stepped writing t.reply)))
     where
-      none : (f : WriteStep) → unwrap_or (commit_turn (client_step_in next) writing.tag f).noted [] ≡ []
+      none : (f : WriteStep) → unwrap_or (commit_transition (client_step_in next) writing.tag f).noted [] ≡ []
       none (Waits other) = refl
       none (Decides other messages) = refl
       none (Ends out) = refl

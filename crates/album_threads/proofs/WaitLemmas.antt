@@ -3,10 +3,10 @@
 use Rattle.std.proofs.Common.{◌≡◌, ℕ, Bool, true, false, not, List, Option, Some, None, Result, Ok, Err, IfOk, IsSome, sym, ap, ◌∙◌, subst}
 use Rattle.std.specs.Prelude.{IsOkAnd, IfSome, IfNone, IfErr}
 use Rattle.album_calls.specs.declared.messages.Message.{Message}
-use Rattle.album_client.specs.Askings.{PendingAsk}
+use Rattle.album_client.specs.PendingAsks.{PendingAsk}
 use Rattle.album_client.specs.Clients.{Client}
 use Rattle.album_client.specs.Terms.{Terms}
-use Rattle.album_client.specs.Turns.{Turn, is_waiting, read_turn, still, IsTakenBy}
+use Rattle.album_client.specs.Steps.{TransitionState, is_waiting, read_transition, still, IsTakenBy}
 use Rattle.album_client.specs.declared.clients.Phase.{Phase}
 use Rattle.album_client.specs.declared.clients.Phase.TheVariants as phase
 use Rattle.album_eval.specs.declared.policies.Policy.{Policy}
@@ -20,7 +20,7 @@ use Rattle.album_threads.specs.Phases.{Outset, IsReading, IsUnderWay}
 use Rattle.album_threads.specs.Replies.{IsReplied, Leads}
 use Rattle.album_threads.specs.Sessions.{SessionState}
 use Rattle.album_threads.specs.Turns.{client_step_in, terms_in}
-use Rattle.album_threads.proofs.MovedLemmas.{on_heard}
+use Rattle.album_threads.proofs.TransitionLemmas.{on_heard}
 use Rattle.album_threads.proofs.RoundLemmas.{leads}
 
 module _ (limit : ℕ) (policy : Policy) (o : Outset) (now next : SessionState) (at : Cut) (sent : List Message) (m : Message)
@@ -42,11 +42,11 @@ module _ (limit : ℕ) (policy : Policy) (o : Outset) (now next : SessionState) 
       since = extends_trans at now.cut next.cut read.on h.grown
 
       go : (f : Step) → Leads at next.cut read.begun f → not (is_end f) ≡ true
-          → ((terms : Terms) (x : Client) → read_turn terms x round.asker.tag pending_ask f ≡ still (record x { phase = new }))
+          → ((terms : Terms) (x : Client) → read_transition terms x round.asker.tag pending_ask f ≡ still (record x { phase = new }))
           → IsUnderWay policy o next at sent new
       go (Same other) led e t =
           subst (IsUnderWay policy o next at sent)
-          (ap (λ (y : Turn). y.client.phase) (t (terms_in policy next) (client_step_in next)))
+          (ap (λ (y : TransitionState). y.client.phase) (t (terms_in policy next) (client_step_in next)))
           (record {
             taken = w.taken;
             on = on_heard o.session now next w.on h;

@@ -24,7 +24,7 @@ use Rattle.album_calls.specs.declared.replies.Reply.TheVariants as reply
 use Rattle.album_calls.proofs.Sameness.{rows_tell}
 use Rattle.album_terminate.specs.declared.deciding.StampState.{StampState}
 use Rattle.album_terminate.specs.declared.deciding.StampState.TheVariants as state
-use Rattle.album_partition.specs.Answers.{says, nothing, is_same, prepare_by, to_prepare, to_body, action_of, with_action, after, reply_to, answer}
+use Rattle.album_partition.specs.Answers.{says, nothing, is_same, prepare_by, on_prepare, on_body, action_of, with_action, after, reply_to, answer}
 use Rattle.album_partition.specs.Laws.{IsTrueOf}
 use Rattle.album_partition.specs.Marks.{prepares, commits, discards, state_of, is_full, mark_writes, mark_items, writes_at, items_at}
 use Rattle.album_partition.specs.Partition.{PartitionState}
@@ -43,16 +43,16 @@ use Rattle.album_threads.specs.Envelopes.{Shows}
 use Rattle.album_threads.specs.Replies.{IsReplied}
 use Rattle.album_threads.specs.Writes.{IsPreparedAt, IsCommittedAt, IsFurther, IsEndOf, AreCommits, AreAllCommitted, PrepareTells, CommitTells}
 use Rattle.album_threads.proofs.GroundLemmas.{has_more}
-use Rattle.album_threads.proofs.LetterLemmas.{discarded_tells}
+use Rattle.album_threads.proofs.EnvelopeLemmas.{discarded_tells}
 use Rattle.album_writer.specs.Rounds.{answered_by, prepares_left, prepares_by, prepare_stepped, commits_left, commits_by, commit_stepped}
 use Rattle.album_writer.specs.Rounds.WriteStep.{Waits}
-use Rattle.album_writer.specs.Told.{told_of}
+use Rattle.album_writer.specs.WriteReplies.{reply_in}
 use Rattle.album_writer.specs.Writing.{WritingState, writes_in, items_in, places_in, prepare_to, prepares_of, commit_to, commit_round, commits_of}
 use Rattle.album_writer.specs.declared.outcomes.Outcome.{Outcome}
 use Rattle.album_writer.specs.declared.outcomes.Outcome.TheVariants as outcome
-use Rattle.album_writer.specs.declared.told.Told.{Told}
-use Rattle.album_writer.specs.declared.told.Told.TheVariants as told
-use Rattle.album_writer.proofs.Placing.{concerned, filter-has}
+use Rattle.album_writer.specs.declared.write_replies.WriteReply.{WriteReply}
+use Rattle.album_writer.specs.declared.write_replies.WriteReply.TheVariants as write_reply
+use Rattle.album_writer.proofs.Placing.{participant, filter-has}
 use Rattle.album_writer.proofs.Strays.{told-is, part-number}
 
 -- ---- what a partition did with a Prepare
@@ -75,8 +75,8 @@ same_there ms t ws is some same =
         let items : is ≡ x.1 = h ∙ ap (λ (y : Mark). mark_items (Some y)) x.2 in
         subst (λ (y : Mark). Contains ms y) (x.2 ∙ sym (ap (λ (vs : List Row). Prepared t vs x.1) writes) ∙ sym (ap (λ (js : List ℕ). Prepared t ws js) items)) r.0
 
-prepare_leaves : (p : PartitionState) (t : ℕ) (ws : List Row) (is : List ℕ) (u : ℕ) → (to_prepare p t ws is).reply ≡ Some (reply.Prepared u)
-    → Contains (with_action p (to_prepare p t ws is)).marks (Prepared t ws is)
+prepare_leaves : (p : PartitionState) (t : ℕ) (ws : List Row) (is : List ℕ) (u : ℕ) → (on_prepare p t ws is).reply ≡ Some (reply.Prepared u)
+    → Contains (with_action p (on_prepare p t ws is)).marks (Prepared t ws is)
 prepare_leaves p t ws is u = go (is_proper p.number p.parts t ws is) refl
   where
     new : Contains (p.marks ++ Prepared t ws is ∷ []) (Prepared t ws is)
@@ -107,18 +107,18 @@ prepare_left : (p : PartitionState) (q : Message) (t : ℕ) (ws : List Row) (is 
     → (action_of p q).reply ≡ Some (reply.Prepared u) → Contains (after p q).marks (Prepared t ws is)
 prepare_left p q t ws is u asked = go (is_part q.to p.number)
   where
-    go : (b : Bool) → (if b then to_body p q.from q.body else nothing).reply ≡ Some (reply.Prepared u)
-        → Contains (with_action p (if b then to_body p q.from q.body else nothing)).marks (Prepared t ws is)
+    go : (b : Bool) → (if b then on_body p q.from q.body else nothing).reply ≡ Some (reply.Prepared u)
+        → Contains (with_action p (if b then on_body p q.from q.body else nothing)).marks (Prepared t ws is)
     go false f = absurd (cc)
     go true f =
-        subst (λ (x : Body). Contains (with_action p (to_body p q.from x)).marks (Prepared t ws is)) (sym asked)
-        (prepare_leaves p t ws is u (subst (λ (x : Body). (to_body p q.from x).reply ≡ Some (reply.Prepared u)) asked f))
+        subst (λ (x : Body). Contains (with_action p (on_body p q.from x)).marks (Prepared t ws is)) (sym asked)
+        (prepare_leaves p t ws is u (subst (λ (x : Body). (on_body p q.from x).reply ≡ Some (reply.Prepared u)) asked f))
 
 -- a message to another partition isn't answered
 to_this : (p : PartitionState) (q : Message) (r : Reply) → (action_of p q).reply ≡ Some r → q.to ≡ Part p.number
 to_this p q r f = is_part-own q.to p.number (go (is_part q.to p.number) refl f)
   where
-    go : (b : Bool) → is_part q.to p.number ≡ b → (if b then to_body p q.from q.body else nothing).reply ≡ Some r → is_part q.to p.number ≡ true
+    go : (b : Bool) → is_part q.to p.number ≡ b → (if b then on_body p q.from q.body else nothing).reply ≡ Some r → is_part q.to p.number ≡ true
     go true e g = e
     go false e g = absurd (cc)
 
@@ -179,7 +179,7 @@ module _ (limit : ℕ) (b d : Cut) (sent : List Message) (m : Message) (place : 
       let only = full_only there r.request t (said_so there r.request m (reply.Full t) r.answered.answered says) in
       record {
         place = place;
-        concerned = of;
+        participant = of;
         marks = there.marks;
         had = subst (λ (n : ℕ). IsPrefix there.marks (prefix_at d n)) (sym here)
             (prefix_trans there.marks (after there r.request).marks (prefix_at d there.number) (option_to_list (action_of there r.request).mark, refl) seen);
@@ -203,18 +203,18 @@ heard_prepared limit b d begun m place r from says =
 -- ---- a step of a round
 
 -- once a partition has answered, of each the answer is awaited, or what was asked is done
-answered_further : (xs awaited : List ℕ) (node : Node) (place : ℕ) (P Q : ℕ → Type 0) → node ≡ Part place → Q place → ((n : ℕ) → P n → Q n)
-    → ((n : ℕ) → Contains xs n → Contains awaited n ⊎ P n)
-    → (n : ℕ) → Contains xs n → Contains (filter (λ place. not (is_part node place)) awaited) n ⊎ Q n
-answered_further xs awaited node place P Q from done on h n there = ⊎_elim (go (is_part node n) refl) (λ p. inr (on n p)) (h n there)
+answered_further : (xs outstanding : List ℕ) (node : Node) (place : ℕ) (P Q : ℕ → Type 0) → node ≡ Part place → Q place → ((n : ℕ) → P n → Q n)
+    → ((n : ℕ) → Contains xs n → Contains outstanding n ⊎ P n)
+    → (n : ℕ) → Contains xs n → Contains (filter (λ place. not (is_part node place)) outstanding) n ⊎ Q n
+answered_further xs outstanding node place P Q from done on h n there = ⊎_elim (go (is_part node n) refl) (λ p. inr (on n p)) (h n there)
   where
-    go : (b : Bool) → is_part node n ≡ b → Contains awaited n → Contains (filter (λ place. not (is_part node place)) awaited) n ⊎ Q n
+    go : (b : Bool) → is_part node n ≡ b → Contains outstanding n → Contains (filter (λ place. not (is_part node place)) outstanding) n ⊎ Q n
     go true e w = inr (subst Q (part-number place n (sym from ∙ is_part-own node n e)) done)
-    go false e w = inl (filter-has (λ place. not (is_part node place)) awaited n w (ap not e))
+    go false e w = inl (filter-has (λ place. not (is_part node place)) outstanding n w (ap not e))
 
 -- where nothing is awaited, all is done
-none_awaited : (xs awaited : List ℕ) (Q : ℕ → Type 0) → awaited ≡ [] → ((n : ℕ) → Contains xs n → Contains awaited n ⊎ Q n) → (n : ℕ) → Contains xs n → Q n
-none_awaited xs awaited Q none h n there =
+none_outstanding : (xs outstanding : List ℕ) (Q : ℕ → Type 0) → outstanding ≡ [] → ((n : ℕ) → Contains xs n → Contains outstanding n ⊎ Q n) → (n : ℕ) → Contains xs n → Q n
+none_outstanding xs outstanding Q none h n there =
     ⊎_elim (λ w. absurd (let gone = subst (λ (ns : List ℕ). Contains ns n) none w in omega (arith, gone.1))) (λ q. q) (h n there)
 
 prepared_on : (c d : Cut) (begun : WritingState) → Extends c d → (n : ℕ) → IsPreparedAt c begun n → IsPreparedAt d begun n
@@ -225,7 +225,7 @@ committed_on c d begun x n h = any_more (commits begun.stamp) (prefix_at c n) (p
 
 module _ (limit : ℕ) (b c d : Cut) (begun : WritingState) (m : Message) (x : Extends c d) where
   abbrev with : List ℕ → WritingState
-  with ns = record begun { awaited = ns }
+  with ns = record begun { outstanding = ns }
 
   abbrev left : List ℕ → List ℕ
   left ns = filter (λ place. not (is_part m.from place)) ns
@@ -234,75 +234,75 @@ module _ (limit : ℕ) (b c d : Cut) (begun : WritingState) (m : Message) (x : E
   pub prepare_tells : IsSound d → begun.parts ≡ d.parts → IsReplied limit b d (prepares_of begun) m
       → (w : WritingState) → IsFurther begun (IsPreparedAt c begun) w → PrepareTells limit d begun (prepare_stepped w m)
   prepare_tells sound parts r w h =
-      subst (λ (v : WritingState). PrepareTells limit d begun (prepare_stepped v m)) (sym h.same) (go (told_of (with w.awaited) m) refl)
+      subst (λ (v : WritingState). PrepareTells limit d begun (prepare_stepped v m)) (sym h.same) (go (reply_in (with w.outstanding) m) refl)
     where
-      still : PrepareTells limit d begun (Waits (with w.awaited))
+      still : PrepareTells limit d begun (Waits (with w.outstanding))
       still = record {
         same = refl;
         done = λ n there. ⊎_elim (λ a. inl a) (λ p. inr (prepared_on c d begun x n p)) (h.done n there);
       }
 
       more : (place : ℕ) → m.from ≡ Part place → IsPreparedAt d begun place
-          → (n : ℕ) → Contains (places_in begun) n → Contains (left w.awaited) n ⊎ IsPreparedAt d begun n
+          → (n : ℕ) → Contains (places_in begun) n → Contains (left w.outstanding) n ⊎ IsPreparedAt d begun n
       more place from done =
-          answered_further (places_in begun) w.awaited m.from place (IsPreparedAt c begun) (IsPreparedAt d begun) from done (prepared_on c d begun x) h.done
+          answered_further (places_in begun) w.outstanding m.from place (IsPreparedAt c begun) (IsPreparedAt d begun) from done (prepared_on c d begun x) h.done
 
-      by : ((n : ℕ) → Contains (places_in begun) n → Contains (left w.awaited) n ⊎ IsPreparedAt d begun n)
-          → (ns : List ℕ) → left w.awaited ≡ ns → PrepareTells limit d begun (prepares_left (answered_by (with w.awaited) m.from) ns)
+      by : ((n : ℕ) → Contains (places_in begun) n → Contains (left w.outstanding) n ⊎ IsPreparedAt d begun n)
+          → (ns : List ℕ) → left w.outstanding ≡ ns → PrepareTells limit d begun (prepares_left (answered_by (with w.outstanding) m.from) ns)
       by now [] e = record {
         next_is = refl;
         messages_are = refl;
-        prepared = none_awaited (places_in begun) (left w.awaited) (IsPreparedAt d begun) e now;
+        prepared = none_outstanding (places_in begun) (left w.outstanding) (IsPreparedAt d begun) e now;
       }
       by now (n ∷ ns) e = record { same = refl; done = now }
 
-      go : (what : Told) → told_of (with w.awaited) m ≡ what → PrepareTells limit d begun (prepares_by (with w.awaited) m.from what)
-      go told.Prepared e =
-          let t = told-is (with w.awaited) m told.Prepared e (λ f. absurd (cc)) in
-          by (more t.0 t.1.sender (heard_prepared limit b d begun m t.0 r t.1.sender t.1.tells)) (left w.awaited) refl
-      go told.Committed e = still
-      go told.Discarded e =
-          let t = told-is (with w.awaited) m told.Discarded e (λ f. absurd (cc)) in
-          (refl, heard_discarded limit b d (prepares_of begun) m t.0 r t.1.sender begun.stamp sound t.1.tells)
-      go told.Full e =
-          let t = told-is (with w.awaited) m told.Full e (λ f. absurd (cc)) in
-          let of = subst (λ (k : ℕ). Contains (places_of k (items_in begun)) t.0) parts t.1.concerned in
-          (refl, heard_full limit b d (prepares_of begun) m t.0 r t.1.sender begun.permit begun.stamp of t.1.tells)
-      go told.Nothing e = still
+      go : (what : WriteReply) → reply_in (with w.outstanding) m ≡ what → PrepareTells limit d begun (prepares_by (with w.outstanding) m.from what)
+      go write_reply.Prepared e =
+          let t = told-is (with w.outstanding) m write_reply.Prepared e (λ f. absurd (cc)) in
+          by (more t.0 t.1.sender (heard_prepared limit b d begun m t.0 r t.1.sender t.1.body)) (left w.outstanding) refl
+      go write_reply.Committed e = still
+      go write_reply.Discarded e =
+          let t = told-is (with w.outstanding) m write_reply.Discarded e (λ f. absurd (cc)) in
+          (refl, heard_discarded limit b d (prepares_of begun) m t.0 r t.1.sender begun.stamp sound t.1.body)
+      go write_reply.Full e =
+          let t = told-is (with w.outstanding) m write_reply.Full e (λ f. absurd (cc)) in
+          let of = subst (λ (k : ℕ). Contains (places_of k (items_in begun)) t.0) parts t.1.participant in
+          (refl, heard_full limit b d (prepares_of begun) m t.0 r t.1.sender begun.permit begun.stamp of t.1.body)
+      go write_reply.Nothing e = still
 
   -- what comes of a reply to one of a round's Commits
   pub commit_tells : IsReplied limit b d (commits_of begun) m
       → (w : WritingState) → IsFurther begun (IsCommittedAt c begun) w → CommitTells d begun (commit_stepped w m)
   commit_tells r w h =
-      subst (λ (v : WritingState). CommitTells d begun (commit_stepped v m)) (sym h.same) (go (told_of (with w.awaited) m) refl)
+      subst (λ (v : WritingState). CommitTells d begun (commit_stepped v m)) (sym h.same) (go (reply_in (with w.outstanding) m) refl)
     where
-      still : CommitTells d begun (Waits (with w.awaited))
+      still : CommitTells d begun (Waits (with w.outstanding))
       still = record {
         same = refl;
         done = λ n there. ⊎_elim (λ a. inl a) (λ p. inr (committed_on c d begun x n p)) (h.done n there);
       }
 
       more : (place : ℕ) → m.from ≡ Part place → IsCommittedAt d begun place
-          → (n : ℕ) → Contains (places_in begun) n → Contains (left w.awaited) n ⊎ IsCommittedAt d begun n
+          → (n : ℕ) → Contains (places_in begun) n → Contains (left w.outstanding) n ⊎ IsCommittedAt d begun n
       more place from done =
-          answered_further (places_in begun) w.awaited m.from place (IsCommittedAt c begun) (IsCommittedAt d begun) from done (committed_on c d begun x) h.done
+          answered_further (places_in begun) w.outstanding m.from place (IsCommittedAt c begun) (IsCommittedAt d begun) from done (committed_on c d begun x) h.done
 
-      by : ((n : ℕ) → Contains (places_in begun) n → Contains (left w.awaited) n ⊎ IsCommittedAt d begun n)
-          → (ns : List ℕ) → left w.awaited ≡ ns → CommitTells d begun (commits_left (answered_by (with w.awaited) m.from) ns)
-      by now [] e = (refl, none_awaited (places_in begun) (left w.awaited) (IsCommittedAt d begun) e now)
+      by : ((n : ℕ) → Contains (places_in begun) n → Contains (left w.outstanding) n ⊎ IsCommittedAt d begun n)
+          → (ns : List ℕ) → left w.outstanding ≡ ns → CommitTells d begun (commits_left (answered_by (with w.outstanding) m.from) ns)
+      by now [] e = (refl, none_outstanding (places_in begun) (left w.outstanding) (IsCommittedAt d begun) e now)
       by now (n ∷ ns) e = record { same = refl; done = now }
 
-      go : (what : Told) → told_of (with w.awaited) m ≡ what → CommitTells d begun (commits_by (with w.awaited) m.from what)
-      go told.Prepared e = still
-      go told.Committed e =
-          let t = told-is (with w.awaited) m told.Committed e (λ f. absurd (cc)) in
-          by (more t.0 t.1.sender (heard_committed limit b d (commits_of begun) m t.0 r t.1.sender begun.stamp t.1.tells)) (left w.awaited) refl
-      go told.Discarded e = still
-      go told.Full e = still
-      go told.Nothing e = still
+      go : (what : WriteReply) → reply_in (with w.outstanding) m ≡ what → CommitTells d begun (commits_by (with w.outstanding) m.from what)
+      go write_reply.Prepared e = still
+      go write_reply.Committed e =
+          let t = told-is (with w.outstanding) m write_reply.Committed e (λ f. absurd (cc)) in
+          by (more t.0 t.1.sender (heard_committed limit b d (commits_of begun) m t.0 r t.1.sender begun.stamp t.1.body)) (left w.outstanding) refl
+      go write_reply.Discarded e = still
+      go write_reply.Full e = still
+      go write_reply.Nothing e = still
 
 -- a round in which each answer is awaited
-pub begun_further : (begun : WritingState) (P : ℕ → Type 0) → begun.awaited ≡ places_in begun → IsFurther begun P begun
+pub begun_further : (begun : WritingState) (P : ℕ → Type 0) → begun.outstanding ≡ places_in begun → IsFurther begun P begun
 begun_further begun P all = record {
   same = refl;
   done = λ n there. inl (subst (λ (ns : List ℕ). Contains ns n) (sym all) there);
@@ -323,7 +323,7 @@ prepared_all c w parts some announced all = record {
   where
     one : (i : ℕ) → Contains (items_in w) i → IsPreparedFor c w.stamp i
     one i there =
-        let at = all (place_of w.parts i) ((concerned w.parts (place_of w.parts i) (items_in w) some).1 (i, there, refl)) in
+        let at = all (place_of w.parts i) ((participant w.parts (place_of w.parts i) (items_in w) some).1 (i, there, refl)) in
         subst (λ (n : ℕ). list_any (prepares w.stamp) (prefix_at c (place_of n i)) ≡ true) parts
         (list_any_at (prepares w.stamp) (prefix_at c (place_of w.parts i)) at.0 _ at.1 (ap (prepares w.stamp) at.2 ∙ same_stamp w.stamp))
 
@@ -332,7 +332,7 @@ shows_commits c w h = All-map (Shows c) (commit_to w) (places_in w) (λ k e l. h
 
 -- ---- how a write ends
 
--- what is prepared and committed at each partition concerned is kept
+-- what is prepared and committed at each participant is kept
 kept_end : (c d : Cut) (w : WritingState) → Extends c d → w.parts ≡ c.parts
     → ((n : ℕ) → Contains (places_in w) n → IsPreparedAt c w n)
     → ((n : ℕ) → Contains (places_in w) n → IsCommittedAt d w n) → IsKept d w.permit w.stamp

@@ -1,4 +1,4 @@
--- What an ask leaves of a session as it goes on, and what is read for it.
+-- The parts of a session that an ask keeps, and the items that it reads.
 use Rattle.std.specs.Prelude.{◌≡◌, ◌⊎◌, ◌+◌, ◌<◌, ◌≤◌, ℕ, List, [], ◌∷◌, All, length, map, None, IsTrue}
 use Rattle.album_stamps.specs.Stamps.{is_client, counter_of}
 use Rattle.album_stamps.specs.declared.limits.TheConstants.{MAX_READ_ITEMS, MAX_READS}
@@ -81,7 +81,7 @@ LooksOnce begun now viewing items (Again next names) =
     × (((rows : List ReadVersion) × IsVain begun now viewing.ask items rows × (names ≡ names_of rows viewing.ask))
     ⊎ ((trims_in begun < trims_in now) × (names ≡ items)))
 
--- the items that are read behind reads in vain, of which the first was of these items
+-- the items read after reads in vain, the first of which read these items
 abbrev pub items_next : Ask → List ℕ → List (List ReadVersion) → List ℕ
 items_next ask items [] = items
 items_next ask items (rows ∷ later) = items_next ask (names_of rows ask) later

@@ -1,4 +1,4 @@
--- What travels between threads: a message with a pass, and what the pass's cut shows beside the message.
+-- Envelopes between threads: a message with a pass, and what the pass's cut shows about the message.
 use Rattle.std.specs.Prelude.{◌≡◌, ℕ, Bool, true, List, Some, None}
 use Rattle.std.specs.List.{list_any}
 use Rattle.atomic_table.specs.Seated.{TableId}
@@ -21,9 +21,9 @@ use Rattle.album_partition.specs.declared.marks.Mark.{Mark}
 use Rattle.album_passes.specs.Cuts.{Cut, prefix_at, announced_for, IsPreparedThroughout}
 use Rattle.album_passes.specs.Pass.{PassState}
 
--- ---- what a cut shows beside a message
+-- ---- what a cut shows about a message
 
--- the mark is one by which a partition has come to its vote
+-- the mark is one that decides a partition's vote
 abbrev pub is_mark_for : Vote → ℕ → Mark → Bool
 is_mark_for vote.Prepared stamp = prepares stamp
 is_mark_for vote.Committed stamp = commits stamp
@@ -75,20 +75,20 @@ ShowsBody cut from to (body.Reply reply) = ShowsReply cut from reply
 abbrev pub Shows : Cut → Message → Type 0
 Shows cut message = ShowsBody cut message.from message.to message.body
 
--- ---- a envelope
+-- ---- an envelope
 
 -- a message, and the pass that goes with it
-pub record LetterState : Type 0 where
+pub record RequestEnvelopeState : Type 0 where
   pub message : Message
   pub pass : PassState
 
 -- the pass is of this table and has no number, and its cut shows what the message rests on
-pub record IsLetter (table : TableId) (envelope : LetterState) : Type 0 where
+pub record IsRequestEnvelope (table : TableId) (envelope : RequestEnvelopeState) : Type 0 where
   pub of : envelope.pass.table ≡ table
   pub unnumbered : envelope.pass.number ≡ None
   pub shown : Shows envelope.pass.cut envelope.message
 
--- ---- a response
+-- ---- a reply
 
 -- The cut shows the partition as it is: of so many partitions and with so much room, with the first values that are
 -- placed at it, and with all its marks.
@@ -105,14 +105,14 @@ pub record IsAnswered (limit : ℕ) (cut : Cut) (request reply : Message) : Type
   pub answered : answer partition request ≡ Some reply
   pub shown : IsShown limit cut (after partition request)
 
--- what was asked, what is replied, and the pass that goes with it
-pub record ResponseState : Type 0 where
+-- the request, the reply, and the pass that goes with it
+pub record ReplyEnvelopeState : Type 0 where
   pub request : Message
   pub reply : Message
   pub pass : PassState
 
 -- the pass is of this table and has no number, and its cut shows the partition that has replied so
-pub record IsResponse (table : TableId) (limit : ℕ) (told : ResponseState) : Type 0 where
-  pub of : told.pass.table ≡ table
-  pub unnumbered : told.pass.number ≡ None
-  pub answered : IsAnswered limit told.pass.cut told.request told.reply
+pub record IsReplyEnvelope (table : TableId) (limit : ℕ) (envelope : ReplyEnvelopeState) : Type 0 where
+  pub of : envelope.pass.table ≡ table
+  pub unnumbered : envelope.pass.number ≡ None
+  pub answered : IsAnswered limit envelope.pass.cut envelope.request envelope.reply

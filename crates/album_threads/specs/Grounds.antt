@@ -28,8 +28,8 @@ pub record IsSeen (begun now : Cut) (rows : List ReadVersion) : Type 0 where
   pub atomic : IsReadAtomic now rows
   pub fresh : IsFreshFrom begun now rows
 
--- The ask has a view, of what was so read. Of that, who asks, and the policy, as they would stand in a permit, this
--- holds.
+-- The ask has a view, made of versions that were read so. The property holds of the permit that the view, the principal
+-- and the policy would make.
 pub record IsOnView
     (begun now : Cut) (policy : Policy) (principal : Principal) (ask : Ask) (Holds : PermitState → Type 0)
     : Type 0 where
@@ -40,29 +40,28 @@ pub record IsOnView
 
 -- ---- a write
 
--- the items that a permit writes at a stamp, and the partitions concerned
+-- the items that a permit writes at a stamp, and its participants: the partitions of these items
 abbrev pub items_of : PermitState → ℕ → List ℕ
 items_of permit stamp = items_written (effect_of permit stamp)
 
 abbrev pub places_in : Cut → PermitState → ℕ → List ℕ
 places_in cut permit stamp = places_of cut.parts (items_of permit stamp)
 
--- a partition has prepared just what is written there, and has committed it
+-- a partition has prepared exactly what is written there, and has committed it
 pub record IsKeptAt (now : Cut) (permit : PermitState) (stamp place : ℕ) : Type 0 where
   pub prepared : Contains (prefix_at now place)
       (Prepared stamp (rows_placed_at place now.parts (effect_of permit stamp)) (items_of permit stamp))
   pub committed : list_any (commits stamp) (prefix_at now place) ≡ true
 
--- each partition concerned has
+-- each participant has
 abbrev pub IsKept : Cut → PermitState → ℕ → Type 0
 IsKept now permit stamp =
     (place : ℕ) → Contains (places_in now permit stamp) place → IsKeptAt now permit stamp place
 
--- A partition concerned had no room for the stamp when it was unknown there, at a point of its history that the cut has
--- seen. (So it never prepares it: law `full_stays`.)
+-- A participant had no room for the stamp when it was unknown there, at a point of its history that the cut has seen. (So it never prepares it: law `full_stays`.)
 pub record IsWithoutRoom (limit : ℕ) (now : Cut) (permit : PermitState) (stamp : ℕ) : Type 0 where
   pub place : ℕ
-  pub concerned : Contains (places_in now permit stamp) place
+  pub participant : Contains (places_in now permit stamp) place
   pub marks : List Mark
   pub had : IsPrefix marks (prefix_at now place)
   pub full : is_full limit marks ≡ true
@@ -77,7 +76,8 @@ pub record IsWide (begun now : Cut) (ask : Ask) : Type 0 where
   pub lacking : IsClosed ask rows → ⊥
   pub wide : MAX_READ_ITEMS < length (names_of rows ask)
 
--- Reads that led to no view, one after another: the first of these items, each next of just what the one before names.
+-- Reads that led to no view, one after another: the first of these items, each next of exactly the read set of the one
+-- before.
 pub data AreInVain (begun now : Cut) (ask : Ask) : List ℕ → List (List ReadVersion) → Type 0 where
   NoRead : (items : List ℕ) → AreInVain begun now ask items []
   OneMore :
@@ -97,8 +97,8 @@ is_trim (Trimmed item) = true
 abbrev pub trims_in : Cut → ℕ
 trims_in cut = sum_by (λ marks. count_by is_trim marks) cut.prefixes
 
--- As many reads were made as an ask may have: those that led to no view, the first of the ask's objects, and beside
--- them no more that were overtaken by a trim than the cut has gained trims.
+-- As many reads were made as an ask may have. Those that led to no view begin with one of the ask's objects. The others
+-- were overtaken by a trim, and are no more than the trims that the cut has gained.
 pub record IsOutOfReads (begun now : Cut) (ask : Ask) : Type 0 where
   pub reads : List (List ReadVersion)
   pub in_vain : AreInVain begun now ask (objects_of ask) reads

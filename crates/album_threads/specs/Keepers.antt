@@ -1,4 +1,4 @@
--- A partition beside the owner of its history.
+-- A partition with the owner of its history.
 use Rattle.std.specs.Prelude.{◌≡◌, ℕ, true, List, ◌++◌, All, Option, Some, option_to_list}
 use Rattle.std.specs.List.{list_any}
 use Rattle.atomic_table.specs.Seated.{TableId}
@@ -16,12 +16,12 @@ pub record KeeperState : Type 0 where
   pub partition : PartitionState
   pub owner : OwnerState
 
--- of each vote that was noted the cut shows what it tells: its partition has prepared the stamp
+-- the cut shows each vote that was noted: its partition has prepared the stamp
 abbrev pub AreShown : Cut → List NotedVote → Type 0
 AreShown cut votes = All (λ vote. list_any (prepares vote.stamp) (prefix_at cut vote.part) ≡ true) votes
 
--- The owner is of this table and of the partition's own history, and its cut shows the partition as it is, and what the
--- votes tell that it noted.
+-- The owner is of this table and of the partition's own history. Its cut shows the partition as it is, and the votes
+-- that the partition has noted.
 pub record IsKeeper (table : TableId) (limit : ℕ) (keeper : KeeperState) : Type 0 where
   pub of : keeper.owner.table ≡ table
   pub own : keeper.owner.part ≡ keeper.partition.number

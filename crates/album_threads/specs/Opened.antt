@@ -16,7 +16,7 @@ pub record AreFirst (terms : Terms) (count : ℕ) (partitions : List PartitionSt
   pub each : (part : ℕ) (other : PartitionState) → part < count
       → slice_index_or partitions part other ≡ first_partition terms.parts terms.limit terms.opening part
 
--- a desk, the policy by which is ruled, and the names of the ledgers of an audit book
+-- a desk, the policy of rulings, and the names of the ledgers of an audit book
 pub record OpenedState : Type 0 where
   pub desk : DeskState
   pub policy : Policy

@@ -1,7 +1,7 @@
 -- What is under way for an ask between two replies, a case for each phase of its client.
 use Rattle.std.specs.Prelude.{◌≡◌, List, None}
 use Rattle.album_calls.specs.declared.messages.Message.{Message}
-use Rattle.album_client.specs.Askings.{PendingAsk}
+use Rattle.album_client.specs.PendingAsks.{PendingAsk}
 use Rattle.album_client.specs.declared.clients.Phase.{Phase}
 use Rattle.album_client.specs.declared.clients.Phase.TheVariants.{Idle, Reads, Prepares, Commits}
 use Rattle.album_eval.specs.declared.facts.Principal.{Principal}
@@ -17,7 +17,7 @@ use Rattle.album_views.specs.Checks.{refusal_of}
 use Rattle.album_views.specs.declared.asks.Ask.{Ask}
 use Rattle.album_writer.specs.Writing.{WritingState, prepares_of, commits_of, commit_round}
 
--- an ask as it began: who asks what, and what the session was then
+-- an ask as it began: its principal, the request, and the session at that time
 pub record Outset : Type 0 where
   pub principal : Principal
   pub ask : Ask
@@ -50,13 +50,13 @@ pub record IsReading
 
 -- ---- a write
 
--- the Prepares of the write are sent, and of each partition the answer is awaited, or it has prepared
+-- the Prepares of the write are sent, and each participant is outstanding or has prepared
 pub record IsPreparing (at now : Cut) (sent : List Message) (begun writing : WritingState) : Type 0 where
   pub over : IsBegunOn at begun
   pub asks : sent ≡ prepares_of begun
   pub further : IsFurther begun (IsPreparedAt now begun) writing
 
--- each has prepared, the Commits are sent, and of each the answer is awaited, or it has committed
+-- each participant has prepared, the Commits are sent, and each is outstanding or has committed
 pub record IsCommitting (at now : Cut) (sent : List Message) (begun writing : WritingState) : Type 0 where
   pub next : WritingState
   pub prepared : AreCommits at begun next (commits_of (commit_round begun))
@@ -93,8 +93,8 @@ IsPhase policy outset now at sent (Reads pending_ask round) =
 IsPhase policy outset now at sent (Prepares writing) = IsWriting policy outset now at sent (Prepares writing)
 IsPhase policy outset now at sent (Commits writing) = IsWriting policy outset now at sent (Commits writing)
 
--- The principal may ask it, the session goes on from what it was, and is at this phase: replies to the messages are
--- awaited, which were sent with that cut.
+-- The principal may ask it, the session extends what it was at the outset, and its client is in this phase: replies are
+-- outstanding to these messages, which were sent with that cut.
 pub record IsUnderWay
     (policy : Policy) (outset : Outset) (now : SessionState) (at : Cut) (sent : List Message) (phase : Phase)
     : Type 0 where

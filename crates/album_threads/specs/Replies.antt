@@ -46,7 +46,7 @@ pub record AreOf (old new : Cut) (begun : RoundState) (answers : List ReadVersio
   pub items : items_read answers ≡ begun.items
   pub between : All (IsAnsweredBetween old new (asked_stamps begun)) answers
 
--- the first round is over, and the second asks with just the stamps of its answers
+-- the first round is over, and the second asks with exactly the stamps of its answers
 pub record IsFirstOver (old new : Cut) (begun next : RoundState) (gets : List Message) : Type 0 where
   pub first : begun.stamps ≡ None
   pub answers : List ReadVersion
@@ -71,7 +71,7 @@ pub record IsGoneFrom (old new : Cut) (begun : RoundState) (items : List ℕ) : 
   pub items_are : items ≡ begun.items
   pub gone : IsGoneBetween old new (asked_stamps begun) begun.items
 
--- what a step of a round tells
+-- what a step of a round shows
 abbrev pub Leads : Cut → Cut → RoundState → Step → Type 0
 Leads old new begun (Same round) = IsUnder old new begun round
 Leads old new begun (Next next gets) = IsFirstOver old new begun next gets

@@ -18,8 +18,8 @@ use Rattle.album_permits.specs.declared.notes.Note.{Note}
 use Rattle.album_permits.specs.Meaning.{Finds, Notes}
 use Rattle.album_threads.specs.Grounds.{IsOnView, items_of, IsKept, IsWithoutRoom, IsWide, IsOutOfReads}
 use Rattle.album_threads.specs.Sessions.{SessionState}
-use Rattle.album_writer.specs.declared.answers.Answer.{Answer}
-use Rattle.album_writer.specs.declared.answers.Answer.TheVariants as answer
+use Rattle.album_permits.specs.declared.answers.Answer.{Answer}
+use Rattle.album_permits.specs.declared.answers.Answer.TheVariants as answer
 use Rattle.album_views.specs.declared.asks.Ask.{Ask}
 use Rattle.album_views.specs.declared.viewing.Why.TheVariants.{Rounds, Wide}
 
@@ -37,7 +37,7 @@ IsFoundOnView policy principal ask old new found Holds =
     (λ case. Finds case found × IsShared old.client old.share new.share case × Holds case)
 
 -- The stamp is the client's own, above all that was read, and the last that its clock drew in this ask. It was
--- announced in this ask, with just the items that are written.
+-- announced in this ask, with exactly the items that are written.
 pub record IsAnnounced (old new : SessionState) (permit : PermitState) (stamp : ℕ) : Type 0 where
   pub own : client_number stamp ≡ old.client
   pub above : All (λ row. row.stamp < stamp) permit.view.rows
@@ -52,8 +52,8 @@ IsBegun policy principal ask old new stamp Holds =
     IsFoundOnView policy principal ask old new finding.Granted
     (λ permit. IsAnnounced old new permit stamp × Holds permit)
 
--- why a write that was begun isn't settled: a partition concerned had no room for it; or there was no memory, or the
--- service is closed, of which nothing is said
+-- why a write that was begun isn't settled: a participant had no room for it; or memory ran out, or the service is
+-- closed, and then nothing more is known
 abbrev pub IsUnsettledBy : ℕ → SessionState → ℕ → Refusal → PermitState → Type 0
 IsUnsettledBy limit new stamp why permit =
     ((why ≡ Full) × IsWithoutRoom limit new.cut permit stamp) ⊎ ((why ≡ OutOfMemory) ⊎ (why ≡ Closed))

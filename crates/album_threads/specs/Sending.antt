@@ -1,4 +1,4 @@
--- What a session announces before it sends messages, and of which messages replies are awaited then.
+-- What a session announces before it sends messages, and the messages to which replies are outstanding then.
 use Rattle.std.specs.Prelude.{◌≡◌, ℕ, ◌≤◌, List, [], ◌∷◌, Option, Some, None}
 use Rattle.album_calls.specs.declared.messages.Body.{Body}
 use Rattle.album_calls.specs.declared.messages.Body.TheVariants as body
@@ -65,9 +65,9 @@ pub record IsAnnouncedBy (old new : SessionState) (messages : List Message) : Ty
   pub grown : Extends old.cut new.cut
   pub sound : IsSound new.cut
 
--- ---- what is awaited
+-- ---- outstanding replies
 
--- replies to the messages are awaited, or further to those before, where there are none
+-- replies are outstanding to these messages, or still to those before, where there are none
 abbrev pub sent_last : List Message → List Message → List Message
 sent_last before [] = before
 sent_last before (message ∷ messages) = message ∷ messages

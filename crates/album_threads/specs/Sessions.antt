@@ -12,7 +12,7 @@ use Rattle.album_passes.specs.Changes.{KeepsOwn}
 use Rattle.album_passes.specs.Cuts.{Cut, announced_for, Extends}
 use Rattle.album_passes.specs.Pass.{PassState}
 
--- ---- who asks the partitions
+-- ---- a session's channel to the partitions
 
 -- the client, and what was seen
 pub record ChannelState : Type 0 where
@@ -27,13 +27,13 @@ pub record IsChannel (table : TableId) (client parts : ℕ) (pass : PassState) :
   pub some : 1 ≤ parts
   pub few : parts ≤ MAX_PARTS
 
--- the same client has seen more, and just that is announced of its stamps which was before
+-- the same client has seen more, and its announced stamps are exactly those of before
 pub record IsLater (old new : ChannelState) : Type 0 where
   pub client : new.client ≡ old.client
   pub grown : Extends old.cut new.cut
   pub own : KeepsOwn (Some old.client) old.cut new.cut
 
--- no word comes: there is no memory for one, or the service is closed
+-- no reply can come: memory ran out, or the service is closed
 abbrev pub IsClosedOrOutOfMemory : Refusal → Type 0
 IsClosedOrOutOfMemory why = (why ≡ OutOfMemory) ⊎ (why ≡ Closed)
 

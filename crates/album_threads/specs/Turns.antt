@@ -4,7 +4,7 @@ use Rattle.album_calls.specs.declared.messages.Message.{Message}
 use Rattle.album_client.specs.Clients.{Client, stamp_at_work}
 use Rattle.album_client.specs.Transitions.{IsMoved}
 use Rattle.album_client.specs.Terms.{Terms}
-use Rattle.album_client.specs.Turns.{turn_of}
+use Rattle.album_client.specs.Steps.{transition_of}
 use Rattle.album_client.specs.declared.clients.Phase.{Phase}
 use Rattle.album_client.specs.declared.clients.Phase.TheVariants.{Idle}
 use Rattle.album_client.specs.declared.transitions.Transition.{Transition}
@@ -22,8 +22,8 @@ use Rattle.album_threads.specs.declared.session.turn.Turned.{Turned}
 use Rattle.album_threads.specs.declared.session.turn.Turned.TheVariants.{Answers, Sends}
 use Rattle.album_threads.specs.declared.session.ask.Way.{Way}
 use Rattle.album_threads.specs.declared.session.ask.Way.TheVariants.{Answered, Awaits}
-use Rattle.album_writer.specs.declared.answers.Answer.{Answer}
-use Rattle.album_writer.specs.declared.answers.Answer.TheVariants as answer
+use Rattle.album_permits.specs.declared.answers.Answer.{Answer}
+use Rattle.album_permits.specs.declared.answers.Answer.TheVariants as answer
 
 -- a session's client, whatever it does, and the terms on which it asks
 abbrev pub client_step_in : SessionState → Client
@@ -54,7 +54,7 @@ pub record IsTaken
     : Type 0 where
   pub reply : Message
   pub replied : IsReplied limit at now sent reply
-  pub is : IsMoved (turn_of terms client reply phase) transition
+  pub is : IsMoved (transition_of terms client reply phase) transition
 
 -- the client has answered, or does this and sends these messages
 abbrev pub IsTurned : Phase → List Message → Option Answer → Turned → Type 0
@@ -69,7 +69,7 @@ pub record IsCutOff (phase : Phase) (told : Answer) : Type 0 where
   pub none : IsClosedOrOutOfMemory why
   pub is : told ≡ answer.Unsettled stamp why
 
--- the messages are sent, and replies are awaited; or it is cut off
+-- the messages are sent, and replies are outstanding; or the ask is cut off
 abbrev pub IsSent : Asked → Phase → List Message → Cut → Way → Type 0
 IsSent asked phase messages now (Answered told) = IsCutOff phase told
 IsSent asked phase messages now (Awaits more next) =

@@ -15,7 +15,7 @@ use Rattle.album_writer.specs.declared.outcomes.Outcome.TheVariants as outcome
 
 -- ---- a round
 
--- the partition has prepared just what is written there
+-- the partition has prepared exactly what is written there
 abbrev pub IsPreparedAt : Cut → WritingState → ℕ → Type 0
 IsPreparedAt cut writing place =
     Contains (prefix_at cut place)
@@ -25,17 +25,17 @@ IsPreparedAt cut writing place =
 abbrev pub IsCommittedAt : Cut → WritingState → ℕ → Type 0
 IsCommittedAt cut writing place = list_any (commits writing.stamp) (prefix_at cut place) ≡ true
 
--- The round is the one that began, and of each partition concerned the answer is awaited, or this holds.
+-- The round is the one that began, and each participant is outstanding, or the property holds of it.
 pub record IsFurther (begun : WritingState) (Holds : ℕ → Type 0) (writing : WritingState) : Type 0 where
-  pub same : writing ≡ record begun { awaited = writing.awaited }
-  pub done : (place : ℕ) → Contains (places_in begun) place → Contains writing.awaited place ⊎ Holds place
+  pub same : writing ≡ record begun { outstanding = writing.outstanding }
+  pub done : (place : ℕ) → Contains (places_in begun) place → Contains writing.outstanding place ⊎ Holds place
 
--- It is to write in the cut's partitions, of which some is concerned, and each answer is awaited.
+-- It writes in the cut's partitions, has some participant, and each is outstanding.
 pub record IsBegunOn (cut : Cut) (begun : WritingState) : Type 0 where
   pub parts : begun.parts ≡ cut.parts
   pub some_parts : 1 ≤ begun.parts
   pub some : places_in begun ≢ []
-  pub all : begun.awaited ≡ places_in begun
+  pub all : begun.outstanding ≡ places_in begun
 
 -- ---- how it ends
 
@@ -48,26 +48,26 @@ IsEndOf limit cut writing (outcome.Aborted stamp) =
 IsEndOf limit cut writing (outcome.Full stamp) =
     (stamp ≡ writing.stamp) × IsWithoutRoom limit cut writing.permit writing.stamp
 
--- each partition concerned has prepared what is written there, and these are the Commits
+-- each participant has prepared what is written there, and these are the Commits
 pub record AreCommits (cut : Cut) (begun next : WritingState) (messages : List Message) : Type 0 where
   pub next_is : next ≡ commit_round begun
   pub messages_are : messages ≡ commits_of (commit_round begun)
   pub prepared : (place : ℕ) → Contains (places_in begun) place → IsPreparedAt cut begun place
 
--- what a step of a round of Prepares tells
+-- what a step of a round of Prepares shows
 abbrev pub PrepareTells : ℕ → Cut → WritingState → WriteStep → Type 0
 PrepareTells limit cut begun (Waits writing) = IsFurther begun (IsPreparedAt cut begun) writing
 PrepareTells limit cut begun (Commits next messages) = AreCommits cut begun next messages
 PrepareTells limit cut begun (Ends outcome) = IsEndOf limit cut begun outcome
 
--- each partition concerned has committed, where that is how it ends
+-- each participant has committed, where the outcome is Committed
 abbrev pub AreAllCommitted : Cut → WritingState → Outcome → Type 0
 AreAllCommitted cut begun (outcome.Committed stamp) =
     (stamp ≡ begun.stamp) × ((place : ℕ) → Contains (places_in begun) place → IsCommittedAt cut begun place)
 AreAllCommitted cut begun (outcome.Aborted stamp) = ⊥
 AreAllCommitted cut begun (outcome.Full stamp) = ⊥
 
--- what a step of a round of Commits tells
+-- what a step of a round of Commits shows
 abbrev pub CommitTells : Cut → WritingState → WriteStep → Type 0
 CommitTells cut begun (Waits writing) = IsFurther begun (IsCommittedAt cut begun) writing
 CommitTells cut begun (Commits next messages) = ⊥

@@ -1,4 +1,4 @@
-// What travels between threads: a message, and a pass that shows what it rests on.
+// Envelopes between threads: a message, and a pass that shows what the message rests on.
 ghost use Rattle.std.specs.Prelude.{◌≡◌, None};
 ghost use Rattle.album_threads.specs.Envelopes.{Shows, IsAnswered};
 
@@ -7,10 +7,13 @@ use album_calls::Message;
 use album_passes::Pass;
 use std::marker::{Model, PhantomData};
 
-/// A message to a partition, with a pass of the desk that J names. The pass has no number, and its cut
-/// shows what has to be so where such a message is sent: that the items of a Prepare are announced,
-/// that each partition has prepared what a Commit is of, that an item of the stamp that a Check is of
-/// is placed at the partition, and of a vote the mark that it tells.
+/// A message to a partition, with a pass of the desk that J names. The pass has no number. Its cut shows what the
+/// message needs:
+///
+/// - a Prepare: its items are announced;
+/// - a Commit: each participant has prepared its stamp;
+/// - a Check: an item of its stamp is placed at the receiver;
+/// - a vote: the mark that it reports.
 #[derive(Drop)]
 pub struct RequestEnvelope<J: ServiceNames> {
     message: Message,
@@ -19,13 +22,13 @@ pub struct RequestEnvelope<J: ServiceNames> {
 }
 
 impl<J: ServiceNames> Model for RequestEnvelope<J> {
-    ghost use Rattle.album_threads.specs.Envelopes.{LetterState, IsLetter};
+    ghost use Rattle.album_threads.specs.Envelopes.{RequestEnvelopeState, IsRequestEnvelope};
 
-    ghost Value = { LetterState };
+    ghost Value = { RequestEnvelopeState };
 
     ghost view = { λ l. record { message = l.message; pass = l.pass } };
 
-    ghost invariant = { λ l. IsLetter J.table (record { message = l.message; pass = l.pass }) };
+    ghost invariant = { λ l. IsRequestEnvelope J.table (record { message = l.message; pass = l.pass }) };
 }
 
 impl<J: ServiceNames> RequestEnvelope<J> {
@@ -67,8 +70,8 @@ impl<J: ServiceNames> RequestEnvelope<J> {
     }
 }
 
-/// What a partition replies, with the request that it answers and a pass of the desk that J names. The
-/// pass has no number, and its cut shows the partition just as it was when it had replied.
+/// A partition's reply, with the request that it answers and a pass of the desk that J names. The pass has no number,
+/// and its cut shows the partition exactly as it was when it had replied.
 #[derive(Drop)]
 pub struct ReplyEnvelope<J: ServiceNames> {
     request: Message,
@@ -78,13 +81,13 @@ pub struct ReplyEnvelope<J: ServiceNames> {
 }
 
 impl<J: ServiceNames> Model for ReplyEnvelope<J> {
-    ghost use Rattle.album_threads.specs.Envelopes.{ResponseState, IsResponse};
+    ghost use Rattle.album_threads.specs.Envelopes.{ReplyEnvelopeState, IsReplyEnvelope};
 
-    ghost Value = { ResponseState };
+    ghost Value = { ReplyEnvelopeState };
 
     ghost view = { λ a. record { request = a.request; reply = a.reply; pass = a.pass } };
 
-    ghost invariant = { λ a. IsResponse J.table J.terms.limit
+    ghost invariant = { λ a. IsReplyEnvelope J.table J.terms.limit
         (record { request = a.request; reply = a.reply; pass = a.pass }) };
 }
 
@@ -129,7 +132,7 @@ impl<J: ServiceNames> ReplyEnvelope<J> {
         (request, reply, pass)
     }
 
-    /// The reply alone, as it goes to another partition: its pass shows what it tells.
+    /// The reply alone, as it goes to another partition: its pass shows the mark that it reports.
     pub fn into_envelope(self) -> RequestEnvelope<J>
         ensures { result ≡ record { message = self.reply; pass = self.pass } }
     {

@@ -6,7 +6,7 @@ ghost use Rattle.album_passes.specs.Cuts.{Cut, IsSound, IsPromisedSomewhere, Ext
 ghost use Rattle.album_threads.specs.Grounds.{IsSeen, IsKept, IsWithoutRoom};
 
 /// A law: the grounds of an answer stay as the cut grows. What was read stays read atomic and fresh,
-/// what each partition concerned has committed stays so, and so do a promise against a stamp and the
+/// what each participant has committed stays so, and so do a promise against a stamp and the
 /// want of room for it.
 pub fn grounds_stay()
     ensures seen { (begun old new : Cut) (rows : List ReadVersion) → IsSound old → IsSound new

@@ -1,4 +1,4 @@
-// Mailboxes: what lies in them, and how the next of it is taken.
+// Mailboxes: their mails, and how a thread waits for the next.
 use crate::control::{ControlReply, ControlRequest};
 use crate::envelopes::{ReplyEnvelope, RequestEnvelope};
 use crate::service_names::ServiceNames;
@@ -24,14 +24,14 @@ const LATE: u64 = 1_000;
 /// How many times a thread that was let run late sleeps at once, before it looks again.
 const NAPS: u32 = 256;
 
-/// What lies in a partition's mailbox. What is large lies behind a pointer, since a mailbox moves what it takes.
+/// A mail to a partition. Large ones are boxed, since a mailbox moves what it takes.
 #[derive(Drop)]
 pub(crate) enum PartitionMail<J: ServiceNames> {
-    /// A session of this number begins, and takes here what it is told.
+    /// A session of this number begins, and takes its mails here.
     Register(u16, Sender<SessionMail<J>>),
     /// Messages of one session, or one of another partition: those of a round that go to this partition, in order.
     Envelopes(Vec<RequestEnvelope<J>>),
-    /// What a session asks beside messages.
+    /// A control request of a session.
     ControlRequest(Box<ControlRequest<J>, Global>),
     /// The session of this number is over.
     Forget(u16),
@@ -39,12 +39,12 @@ pub(crate) enum PartitionMail<J: ServiceNames> {
     Leave,
 }
 
-/// What lies in a session's mailbox.
+/// A mail to a session.
 #[derive(Drop)]
 pub(crate) enum SessionMail<J: ServiceNames> {
     /// The replies to the messages of one mail, in order.
     Replies(VecDeque<ReplyEnvelope<J>>),
-    /// What is told to a request.
+    /// The reply to a control request.
     ControlReply(Box<ControlReply<J>, Global>),
 }
 

@@ -32,6 +32,7 @@ struct Seed<J: ServiceNames> {
     ghost table_is: { pass.table ≡ J.table },
     ghost unnumbered: { pass.number ≡ None },
     ghost parts_are: { pass.cut.parts ≡ J.terms.parts },
+    ghost opening_is: { pass.cut.opening ≡ J.terms.opening },
 }
 
 impl<J: ServiceNames> Seed<J> {
@@ -41,6 +42,7 @@ impl<J: ServiceNames> Seed<J> {
         ensures of { result.table ≡ J.table }
         ensures unnumbered { result.number ≡ None }
         ensures parts { result.cut.parts ≡ J.terms.parts }
+        ensures opening { result.cut.opening ≡ J.terms.opening }
     {
         self.pass.split(desk)
     }
@@ -156,6 +158,7 @@ impl<J: ServiceNames> Service<J> {
         ensures unheard { IfOk result (λ session. IsUnheard session.client session.cut) }
         ensures most { IfOk result (λ session. session.client ≤ J.terms.sessions) }
         ensures parts { IfOk result (λ session. session.cut.parts ≡ J.terms.parts) }
+        ensures opening { IfOk result (λ session. session.cut.opening ≡ J.terms.opening) }
         ensures counter { IfOk result (λ session. session.counter ≡ 0) }
         ensures share { IfOk result (λ session. session.share ≡ none) }
         ensures refused { IfErr result (λ e. (e ≡ Refusal.OutOfMemory) ⊎ (e ≡ Refusal.SessionsSpent)) }
@@ -172,11 +175,12 @@ impl<J: ServiceNames> Service<J> {
         }
     }
 
-    /// Who asks for a new session. Each partition knows of it.
+    /// The channel of a new session, which each partition has registered.
     fn channel<R: Wait>(&self, rt: &R) -> Result<PartitionChannel<J>, Refusal>
         ensures unheard { IfOk result (λ channel. IsUnheard channel.client channel.cut) }
         ensures most { IfOk result (λ channel. channel.client ≤ J.terms.sessions) }
         ensures parts { IfOk result (λ channel. channel.cut.parts ≡ J.terms.parts) }
+        ensures opening { IfOk result (λ channel. channel.cut.opening ≡ J.terms.opening) }
         ensures refused { IfErr result (λ e. (e ≡ Refusal.OutOfMemory) ⊎ (e ≡ Refusal.SessionsSpent)) }
     {
         let desk = Arc::try_clone(&self.desk)?;
@@ -231,7 +235,7 @@ fn mailboxes_for<J: ServiceNames>(
     Ok((mailboxes, mails))
 }
 
-/// Answers each partition's thread to leave, and joins those that run.
+/// Has each partition's thread leave, and joins those that run.
 fn leave_all<J: ServiceNames, R: Threads + Wait>(
     rt: &R,
     mailboxes: &[Sender<PartitionMail<J>>],
@@ -245,7 +249,7 @@ fn leave_all<J: ServiceNames, R: Threads + Wait>(
     }
 }
 
-/// Answers a partition's thread to leave, again until its mailbox takes it.
+/// Has a partition's thread leave, again until its mailbox takes it.
 fn leave<J: ServiceNames, R: Wait>(rt: &R, mailbox: &Sender<PartitionMail<J>>) {
     for _ in rt.forever() {
         let sent = mailbox.send(rt, PartitionMail::Leave);
@@ -256,5 +260,6 @@ fn leave<J: ServiceNames, R: Wait>(rt: &R, mailbox: &Sender<PartitionMail<J>>) {
         }
         thread::yield_now();
     }
+    // `forever` has no end.
     unreachable!()
 }

@@ -57,7 +57,7 @@ impl<J: ServiceNames> Model for Session<J> {
 }
 
 impl<J: ServiceNames> Session<J> {
-    /// The session of who asks so, of whom nothing is announced yet.
+    /// The session of this channel, whose client has announced no stamp yet.
     #[tactic(auto, using(crate::proofs::SessionLemmas::ahead_new))]
     pub(crate) fn new(
         alloc: Global,

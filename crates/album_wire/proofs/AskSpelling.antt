@@ -9,19 +9,20 @@ use Rattle.album_lists.specs.declared.whos.Member.{Member}
 use Rattle.album_views.specs.declared.asks.Ask.{Ask}
 use Rattle.album_views.specs.declared.asks.Ask.TheVariants as ask
 use Rattle.album_views.specs.declared.asks.NewList.{NewList}
-use Rattle.album_wire.specs.Fields.{sized, only_of, field_of, text_of}
-use Rattle.album_wire.specs.Shapes.{entry_shapes_of, texts_of}
-use Rattle.album_wire.specs.Values.{each_of, owner_read, title_read, content_read, entries_read, members_read}
-use Rattle.album_wire.specs.Spelling.{HasOnly, IsList, AreMembers, list_data}
+use Rattle.album_lines.specs.Fields.{sized, only_of, field_of, text_of}
+use Rattle.album_lines.specs.Shapes.{entry_shapes_of, texts_of}
+use Rattle.album_lines.specs.Values.{each_of, entries_read, members_read}
+use Rattle.album_wire.specs.ItemTexts.{owner_read, title_read, content_read}
+use Rattle.album_lines.specs.Spelling.{HasOnly, IsList, AreMembers, list_data}
 use Rattle.album_wire.specs.ItemShapes.{item_named}
 use Rattle.album_wire.specs.AskShape.{SpelledNewList, SpelledAsk, Read, ListAlbum, GetList, AddPicture, AddAlbum, Retitle, Replace, Delete, Move, SetLists, SetOwner, SetMembers, read_shape_of, list_shape_of, get_list_shape_of, add_picture_shape_of, add_album_shape_of, retitle_shape_of, replace_shape_of, delete_shape_of, move_shape_of, new_list_shape_of, set_lists_shape_of, set_owner_shape_of, set_members_shape_of, shape_by_word, ask_shape_of}
 use Rattle.album_wire.specs.EventLine.{new_list_read, ask_read}
 use Rattle.album_wire.specs.ObjectSpelling.{HasMember}
 use Rattle.album_wire.specs.ItemSpelling.{IsItem, IsOwner, IsTitle, IsContent}
 use Rattle.album_wire.specs.AskSpelling.{IsNewList, IsAsk}
-use Rattle.album_wire.proofs.Steps.{step_taken, same_value, value_there, taken, there, each_of_read, read_each_of, zip_through, zip_between}
-use Rattle.album_wire.proofs.Json.{two, sized_read}
-use Rattle.album_wire.proofs.Entries.{members_spelled, members_parts}
+use Rattle.album_lines.proofs.Steps.{step_taken, same_value, value_there, taken, there, each_of_read, read_each_of, zip_through, zip_between}
+use Rattle.album_lines.proofs.Json.{two, sized_read}
+use Rattle.album_lines.proofs.Entries.{members_spelled, members_parts}
 use Rattle.album_wire.proofs.Forms.{step_then, on_test, IsString, string_form, names_taken, names_then, member_as, member_parts, list_taken, list_then, known_taken, known_then, string_taken, whole_taken, whole_then}
 use Rattle.album_wire.proofs.ItemSpelling.{ReadsItems, owner_form, owner_parts, title_form, title_then, title_valid, content_form, content_parts, entries_form, entries_parts, item_form, read_item, item_taken, item_then}
 

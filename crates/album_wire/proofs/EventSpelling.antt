@@ -10,9 +10,9 @@ use Rattle.album_eval.specs.Matching.{principal_of}
 use Rattle.album_eval.specs.declared.facts.Principal.{Principal}
 use Rattle.album_eval.proofs.Principals.{principal_spelled, spelled_principal}
 use Rattle.album_views.specs.declared.asks.Ask.{Ask}
-use Rattle.album_world.specs.declared.events.Event.TheVariants as event
-use Rattle.album_wire.specs.Fields.{guard, sized, has, is_list, text_of, whole_of}
-use Rattle.album_wire.specs.Spelling.{HasOnly, list_data}
+use Rattle.album_permits.specs.declared.events.Event.TheVariants as event
+use Rattle.album_lines.specs.Fields.{guard, sized, has, is_list, text_of, whole_of}
+use Rattle.album_lines.specs.Spelling.{HasOnly, list_data}
 use Rattle.album_wire.specs.AskShape.{SpelledAsk, ask_shape_of}
 use Rattle.album_wire.specs.EventShape.{SpelledEvent, Asked, Whole, client_named, stamp_named, part_named, asked_shape_of, range_of, delivered_of, deliver_shape_of, sweep_of, sweep_shape_of, stop_shape_of, trim_of, trim_shape_of, event_shape_of}
 use Rattle.album_wire.specs.EventLine.{ask_read, event_read, event_line_of}
@@ -22,8 +22,8 @@ use Rattle.album_wire.specs.EventSpelling.{IsPrincipal, IsClient, IsStamp, IsPar
 use Rattle.album_wire.specs.declared.event_shape.Spelled.{Spelled}
 use Rattle.album_wire.specs.declared.event_shape.Spelled.TheVariants as spelled
 use Rattle.album_wire.specs.declared.event_shape.TheConstants.{MAX_DELIVERIES, MAX_PART}
-use Rattle.album_wire.proofs.Steps.{step_taken, same_value, value_there, test_passed, taken, there}
-use Rattle.album_wire.proofs.Json.{whole_read, two, sized_read, same_two}
+use Rattle.album_lines.proofs.Steps.{step_taken, same_value, value_there, test_passed, taken, there}
+use Rattle.album_lines.proofs.Json.{whole_read, two, sized_read, same_two}
 use Rattle.album_wire.proofs.Forms.{step_then, on_test, on_true, on_false, IsString, read_whole, names_taken, names_then, member_taken, member_then, member_as, member_parts, is_in, is_out, line_by, known_taken, known_then, string_taken}
 use Rattle.album_wire.proofs.ItemSpelling.{ReadsItems, item_taken, item_then}
 use Rattle.album_wire.proofs.AskSpelling.{ask_spelled, ask_parts}

@@ -22,9 +22,9 @@ use Rattle.album_listing.specs.declared.rows.Row.{Row}
 use Rattle.album_permits.specs.declared.notes.Note.{Note}
 use Rattle.album_permits.specs.declared.serving.Served.{Served}
 use Rattle.album_permits.specs.declared.serving.Served.TheVariants as served
-use Rattle.album_writer.specs.declared.answers.Answer.{Answer}
-use Rattle.album_writer.specs.declared.answers.Answer.TheVariants as answer
-use Rattle.album_wire.specs.Spelling.{whole_data}
+use Rattle.album_permits.specs.declared.answers.Answer.{Answer}
+use Rattle.album_permits.specs.declared.answers.Answer.TheVariants as answer
+use Rattle.album_lines.specs.Spelling.{whole_data}
 use Rattle.album_wire.specs.ValueJson.{item_json, entry_json, member_json, home_json, value_json}
 use Rattle.album_wire.specs.MessageJson.{write_json, request_json, reply_json, message_json}
 use Rattle.album_wire.specs.OutJson.{note_json, row_json, at_json, reason_json, served_json, answer_json}

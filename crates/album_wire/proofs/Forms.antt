@@ -8,12 +8,12 @@ use Rattle.serde_json.specs.View.{items_of}
 use Rattle.album_stamps.specs.declared.refusals.Refusal.{Refusal}
 use Rattle.album_stamps.specs.declared.refusals.Refusal.TheVariants.{BadRequest}
 use Rattle.album_stamps.specs.Outcome.{◌>>=◌}
-use Rattle.album_wire.specs.Fields.{data_of, is_among, only_of, field_of, has, member_or, text_of, whole_of, truth_of, list_of, each}
-use Rattle.album_wire.specs.Spelling.{IsJson, HasOnly, IsList}
+use Rattle.album_lines.specs.Fields.{data_of, is_among, only_of, field_of, has, member_or, text_of, whole_of, truth_of, list_of, each}
+use Rattle.album_lines.specs.Spelling.{IsJson, HasOnly, IsList}
 use Rattle.album_wire.specs.ObjectSpelling.{IsWhole, IsTruth, HasMember}
-use Rattle.album_wire.proofs.Steps.{step_taken, value_there, there, taken, each_read, read_each, zip_weaker}
-use Rattle.album_wire.proofs.Members.{data_read, data_spelled}
-use Rattle.album_wire.proofs.Json.{text_read, whole_read, list_read, names_spelled, names_read, is_there}
+use Rattle.album_lines.proofs.Steps.{step_taken, value_there, there, taken, each_read, read_each, zip_weaker}
+use Rattle.album_lines.proofs.LineValues.{data_read, data_spelled}
+use Rattle.album_lines.proofs.Json.{text_read, whole_read, list_read, names_spelled, names_read, is_there}
 
 -- ---- steps
 

@@ -21,18 +21,19 @@ use Rattle.album_items.specs.declared.values.Head.{Head}
 use Rattle.album_items.specs.declared.values.Picture.{Picture}
 use Rattle.album_items.specs.declared.values.Value.{Value}
 use Rattle.album_items.specs.declared.values.Value.TheVariants as value
-use Rattle.album_wire.specs.Fields.{guard, field_of, has, text_of, whole_of, is_nothing}
-use Rattle.album_wire.specs.Shapes.{SpelledEntry, entry_shapes_of, texts_of}
-use Rattle.album_wire.specs.Values.{owner_read, title_read, or_bad_text, bytes_read, short, content_read, entries_read, members_read}
-use Rattle.album_wire.specs.Spelling.{IsList, AreMembers}
-use Rattle.album_wire.specs.JudgeLine.{carried, carried_list_of}
+use Rattle.album_lines.specs.Fields.{guard, field_of, has, text_of, whole_of, is_nothing}
+use Rattle.album_lines.specs.Shapes.{SpelledEntry, entry_shapes_of, texts_of}
+use Rattle.album_lines.specs.Values.{entries_read, members_read}
+use Rattle.album_wire.specs.ItemTexts.{owner_read, title_read, or_bad_text, bytes_read, short, content_read}
+use Rattle.album_lines.specs.Spelling.{IsList, AreMembers}
+use Rattle.album_lines.specs.JudgeLine.{carried, carried_list_of}
 use Rattle.album_wire.specs.ItemShapes.{item_named, may_be_child, child_of, SpelledHead, SpelledValue, Picture as PictureShape, Album as AlbumShape, Entries as EntriesShape, Group as GroupShape, head_shape_of, home_shape_of, picture_keys, album_keys, list_keys, group_keys, picture_shape_of, album_shape_of, list_shape_of, group_shape_of, value_shape_of}
 use Rattle.album_wire.specs.OpeningLine.{head_with, value_read}
 use Rattle.album_wire.specs.ObjectSpelling.{HasMember, HasJust}
 use Rattle.album_wire.specs.ItemSpelling.{IsItem, IsChild, IsOwner, IsTitle, IsHexText, IsContent, IsEntries, IsHome, HasHead, IsPicture, IsAlbum, IsGroupValue, IsValue}
-use Rattle.album_wire.proofs.Steps.{step_taken, same_value, value_there, test_passed, taken}
-use Rattle.album_wire.proofs.Json.{whole_read}
-use Rattle.album_wire.proofs.Entries.{access_list_spelled, access_list_read, members_spelled, members_parts}
+use Rattle.album_lines.proofs.Steps.{step_taken, same_value, value_there, test_passed, taken}
+use Rattle.album_lines.proofs.Json.{whole_read}
+use Rattle.album_lines.proofs.Entries.{access_list_spelled, access_list_read, members_spelled, members_parts}
 use Rattle.album_wire.proofs.HexTexts.{hex_spelled, spelled_hex}
 use Rattle.album_wire.proofs.Forms.{step_then, on_test, on_true, on_false, IsString, string_form, names_taken, names_then, member_taken, member_then, member_as, member_parts, list_taken, list_then, is_in, is_out, known_taken, known_then, string_taken, whole_taken, whole_then}
 

@@ -1,15 +1,3 @@
-pub mod Cuts
-pub mod Newlines
-pub mod Reading
-pub mod Members
-pub mod Lists
-pub mod Distinct
-pub mod Wide
-pub mod Steps
-pub mod Json
-pub mod Entries
-pub mod Questions
-pub mod Texts
 pub mod Floats
 pub mod OnLiterals
 pub mod Forms

@@ -8,9 +8,10 @@ use Rattle.album_lists.specs.Whos.{before, user_of, whole_number_of, group_of, m
 use Rattle.album_lists.specs.Entries.{access_list_of, is_spelled}
 use Rattle.album_eval.specs.Matching.{principal_of}
 use Rattle.album_items.specs.ItemIds.{code_named, item_of}
-use Rattle.album_wire.specs.Fields.{data_of}
-use Rattle.album_wire.specs.Shapes.{entry_shape_of}
-use Rattle.album_wire.specs.Values.{entry_read, entries_read, members_read, bytes_read, content_read}
+use Rattle.album_lines.specs.Fields.{data_of}
+use Rattle.album_lines.specs.Shapes.{entry_shape_of}
+use Rattle.album_lines.specs.Values.{entry_read, entries_read, members_read}
+use Rattle.album_wire.specs.ItemTexts.{bytes_read, content_read}
 use Rattle.album_wire.specs.ItemShapes.{child_of, head_shape_of, picture_shape_of, album_shape_of, list_shape_of, group_shape_of}
 use Rattle.album_wire.specs.OpeningShape.{header_of, open_shape_of, item_shape_of, begin_shape_of}
 use Rattle.album_wire.specs.OpeningLine.{value_read, opening_read, opening_line_of}

@@ -3,7 +3,7 @@ use Rattle.std.proofs.Common.{◌≡◌, ◌↔◌, ℕ, List, [], ◌∷◌, co
 use Rattle.serde_json.specs.Data.{Data}
 use Rattle.serde_json.specs.Find.{get}
 use Rattle.album_items.specs.declared.values.Value.{Value}
-use Rattle.album_wire.specs.Fields.{guard, has, member_or, whole_of, truth_of}
+use Rattle.album_lines.specs.Fields.{guard, has, member_or, whole_of, truth_of}
 use Rattle.album_wire.specs.ItemShapes.{SpelledValue, value_shape_of}
 use Rattle.album_wire.specs.OpeningShape.{SpelledOpening, Open, Item, Begin, header_keys, header_of, open_shape_of, item_shape_of, begin_shape_of, opening_shape_of}
 use Rattle.album_wire.specs.OpeningLine.{value_read, opening_read, opening_line_of}
@@ -14,7 +14,7 @@ use Rattle.album_wire.specs.declared.opening_line.OpeningLine.{OpeningLine}
 use Rattle.album_wire.specs.declared.opening_line.OpeningLine.TheVariants as line
 use Rattle.album_wire.specs.declared.opening_shape.Header.{Header}
 use Rattle.album_wire.specs.declared.opening_shape.TheConstants.{DEFAULT_LIMIT, DEFAULT_POLICY}
-use Rattle.album_wire.proofs.Steps.{step_taken, same_value, test_passed}
+use Rattle.album_lines.proofs.Steps.{step_taken, same_value, test_passed}
 use Rattle.album_wire.proofs.Forms.{step_then, on_test, on_true, on_false, whole_form, read_whole, truth_form, read_truth, names_taken, names_then, member_taken, member_then, member_as, member_parts, may_form, read_may, is_in, is_out, line_by, known_taken, known_then, whole_taken, whole_then}
 use Rattle.album_wire.proofs.ItemSpelling.{ReadsItems, value_spelled, value_parts, item_taken, item_then}
 

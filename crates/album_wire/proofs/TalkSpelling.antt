@@ -7,7 +7,7 @@ use Rattle.album_stamps.specs.declared.refusals.Refusal.TheVariants.{BadWho}
 use Rattle.album_eval.specs.Matching.{principal_of}
 use Rattle.album_eval.specs.declared.facts.Principal.{Principal}
 use Rattle.album_views.specs.declared.asks.Ask.{Ask}
-use Rattle.album_wire.specs.Fields.{has, text_of}
+use Rattle.album_lines.specs.Fields.{has, text_of}
 use Rattle.album_wire.specs.AskShape.{SpelledAsk, ask_shape_of}
 use Rattle.album_wire.specs.EventShape.{part_named, sweep_of, trim_of}
 use Rattle.album_wire.specs.EventLine.{ask_read}
@@ -19,7 +19,7 @@ use Rattle.album_wire.specs.EventSpelling.{IsPrincipal, IsPart, IsSweep, IsTrim}
 use Rattle.album_wire.specs.TalkSpelling.{IsHello, IsTalk, IsHelloLine, IsTalkLine}
 use Rattle.album_wire.specs.declared.talk_line.TalkLine.{TalkLine}
 use Rattle.album_wire.specs.declared.talk_line.TalkLine.TheVariants as line
-use Rattle.album_wire.proofs.Steps.{step_taken, same_value}
+use Rattle.album_lines.proofs.Steps.{step_taken, same_value}
 use Rattle.album_wire.proofs.Forms.{step_then, on_test, on_true, on_false, IsString, string_form, names_taken, names_then, member_form, read_member, member_taken, member_then, member_as, member_parts, is_in, is_out, line_by, known_taken, known_then}
 use Rattle.album_wire.proofs.ItemSpelling.{ReadsItems}
 use Rattle.album_wire.proofs.AskSpelling.{ask_spelled, ask_parts}

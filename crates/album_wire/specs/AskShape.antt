@@ -4,8 +4,8 @@ use Rattle.serde_json.specs.Data.{Data}
 use Rattle.album_stamps.specs.declared.refusals.Refusal.{Refusal}
 use Rattle.album_stamps.specs.declared.refusals.Refusal.TheVariants.{BadRequest}
 use Rattle.album_stamps.specs.Outcome.{◌>>=◌}
-use Rattle.album_wire.specs.Fields.{only_of, field_of, item_of, text_of, whole_of, list_of, sized, each}
-use Rattle.album_wire.specs.Shapes.{SpelledEntry, spelled_entry, entry_shapes_of, texts_of}
+use Rattle.album_lines.specs.Fields.{only_of, field_of, item_of, text_of, whole_of, list_of, sized, each}
+use Rattle.album_lines.specs.Shapes.{SpelledEntry, spelled_entry, entry_shapes_of, texts_of}
 use Rattle.album_wire.specs.ItemShapes.{item_named}
 use Rattle.album_wire.specs.declared.ask_shape.NewListShape.{NewListShape}
 use Rattle.album_wire.specs.declared.ask_shape.AskShape.{AskShape}

@@ -5,7 +5,7 @@ use Rattle.serde_json.specs.Find.{get}
 use Rattle.album_views.specs.declared.asks.Ask.{Ask}
 use Rattle.album_views.specs.declared.asks.Ask.TheVariants as ask
 use Rattle.album_views.specs.declared.asks.NewList.{NewList}
-use Rattle.album_wire.specs.Spelling.{HasOnly, IsList, AreMembers, list_data}
+use Rattle.album_lines.specs.Spelling.{HasOnly, IsList, AreMembers, list_data}
 use Rattle.album_wire.specs.ObjectSpelling.{IsWhole, HasMember}
 use Rattle.album_wire.specs.ItemSpelling.{IsItem, IsOwner, IsTitle, IsContent, IsEntries}
 

@@ -9,10 +9,11 @@ use Rattle.album_eval.specs.Matching.{principal_of}
 use Rattle.album_views.specs.declared.asks.Ask.{Ask}
 use Rattle.album_views.specs.declared.asks.Ask.TheVariants as ask
 use Rattle.album_views.specs.declared.asks.NewList.{NewList}
-use Rattle.album_world.specs.declared.events.Event.{Event}
-use Rattle.album_world.specs.declared.events.Event.TheVariants as event
-use Rattle.album_wire.specs.Fields.{data_of}
-use Rattle.album_wire.specs.Values.{each_of, owner_read, title_read, content_read, entries_read, members_read}
+use Rattle.album_permits.specs.declared.events.Event.{Event}
+use Rattle.album_permits.specs.declared.events.Event.TheVariants as event
+use Rattle.album_lines.specs.Fields.{data_of}
+use Rattle.album_lines.specs.Values.{each_of, entries_read, members_read}
+use Rattle.album_wire.specs.ItemTexts.{owner_read, title_read, content_read}
 use Rattle.album_wire.specs.AskShape.{SpelledNewList, SpelledAsk, Read, ListAlbum, GetList, AddPicture, AddAlbum, Retitle, Replace, Delete, Move, SetLists, SetOwner, SetMembers}
 use Rattle.album_wire.specs.EventShape.{SpelledEvent, Asked, Whole, event_shape_of}
 use Rattle.album_wire.specs.declared.event_shape.Spelled.{Spelled}

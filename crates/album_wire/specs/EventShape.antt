@@ -6,8 +6,8 @@ use Rattle.album_stamps.specs.declared.refusals.Refusal.{Refusal}
 use Rattle.album_stamps.specs.declared.refusals.Refusal.TheVariants.{BadRequest}
 use Rattle.album_stamps.specs.Outcome.{◌>>=◌}
 use Rattle.album_stamps.specs.Stamps.{client_of_number, stamp_of_value}
-use Rattle.album_world.specs.declared.events.Event.TheVariants as event
-use Rattle.album_wire.specs.Fields.{guard, only_of, field_of, has, item_of, text_of, whole_of, is_list, sized}
+use Rattle.album_permits.specs.declared.events.Event.TheVariants as event
+use Rattle.album_lines.specs.Fields.{guard, only_of, field_of, has, item_of, text_of, whole_of, is_list, sized}
 use Rattle.album_wire.specs.ItemShapes.{item_named}
 use Rattle.album_wire.specs.AskShape.{SpelledAsk, spelled_ask, ask_shape_of}
 use Rattle.album_wire.specs.declared.event_shape.EventShape.{EventShape}

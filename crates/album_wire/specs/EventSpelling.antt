@@ -5,9 +5,9 @@ use Rattle.album_stamps.specs.Stamps.{is_client, is_stamp}
 use Rattle.album_eval.specs.Matching.{IsPrincipalText}
 use Rattle.album_eval.specs.declared.facts.Principal.{Principal}
 use Rattle.album_views.specs.declared.asks.Ask.{Ask}
-use Rattle.album_world.specs.declared.events.Event.{Event}
-use Rattle.album_world.specs.declared.events.Event.TheVariants as event
-use Rattle.album_wire.specs.Spelling.{IsJson, HasOnly, IsText, whole_data, list_data}
+use Rattle.album_permits.specs.declared.events.Event.{Event}
+use Rattle.album_permits.specs.declared.events.Event.TheVariants as event
+use Rattle.album_lines.specs.Spelling.{IsJson, HasOnly, IsText, whole_data, list_data}
 use Rattle.album_wire.specs.ObjectSpelling.{IsWhole, HasMember, HasJust}
 use Rattle.album_wire.specs.ItemSpelling.{IsItem}
 use Rattle.album_wire.specs.AskSpelling.{IsAsk}

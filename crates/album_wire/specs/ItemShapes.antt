@@ -6,8 +6,8 @@ use Rattle.album_stamps.specs.declared.refusals.Refusal.{Refusal}
 use Rattle.album_stamps.specs.declared.refusals.Refusal.TheVariants.{BadRequest}
 use Rattle.album_stamps.specs.Outcome.{◌>>=◌}
 use Rattle.album_items.specs.ItemIds.{kind_of, item_of}
-use Rattle.album_wire.specs.Fields.{guard, only_of, field_of, has, text_of, whole_of, is_nothing, list_of, each}
-use Rattle.album_wire.specs.Shapes.{SpelledEntry, spelled_entry, entry_shapes_of, texts_of}
+use Rattle.album_lines.specs.Fields.{guard, only_of, field_of, has, text_of, whole_of, is_nothing, list_of, each}
+use Rattle.album_lines.specs.Shapes.{SpelledEntry, spelled_entry, entry_shapes_of, texts_of}
 use Rattle.album_wire.specs.declared.item_shapes.HeadShape.{HeadShape}
 use Rattle.album_wire.specs.declared.item_shapes.ValueShape.{ValueShape}
 use Rattle.album_wire.specs.declared.item_shapes.ValueShape.TheVariants as shape

@@ -15,7 +15,7 @@ use Rattle.album_items.specs.declared.values.Head.{Head}
 use Rattle.album_items.specs.declared.values.Picture.{Picture}
 use Rattle.album_items.specs.declared.values.Value.{Value}
 use Rattle.album_items.specs.declared.values.Value.TheVariants as value
-use Rattle.album_wire.specs.Spelling.{HasOnly, IsText, IsList, IsAccessList, AreMembers}
+use Rattle.album_lines.specs.Spelling.{HasOnly, IsText, IsList, IsAccessList, AreMembers}
 use Rattle.album_wire.specs.ObjectSpelling.{IsWhole, HasMember, HasJust}
 
 -- ---- items

@@ -13,7 +13,7 @@ use Rattle.album_calls.specs.declared.replies.Reply.{Reply}
 use Rattle.album_calls.specs.declared.replies.Reply.TheVariants as reply
 use Rattle.album_calls.specs.declared.requests.Request.{Request}
 use Rattle.album_calls.specs.declared.requests.Request.TheVariants as request
-use Rattle.album_wire.specs.Spelling.{whole_data, list_data}
+use Rattle.album_lines.specs.Spelling.{whole_data, list_data}
 use Rattle.album_wire.specs.ValueJson.{object_data, item_json, item_list_json, value_json}
 use Rattle.album_wire.specs.declared.message_json.Envelope.{Envelope}
 

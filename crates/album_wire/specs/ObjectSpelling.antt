@@ -2,7 +2,7 @@
 use Rattle.std.specs.Prelude.{◌≡◌, ℕ, List, [], ◌∷◌, Bool, IsSomeAnd, MatchOption}
 use Rattle.serde_json.specs.Data.{Data, boolean}
 use Rattle.serde_json.specs.Find.{get}
-use Rattle.album_wire.specs.Spelling.{HasOnly, whole_data}
+use Rattle.album_lines.specs.Spelling.{HasOnly, whole_data}
 
 -- a whole number
 abbrev pub IsWhole : ℕ → Data → Type 0

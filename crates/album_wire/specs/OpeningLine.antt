@@ -5,10 +5,11 @@ use Rattle.album_stamps.specs.Outcome.{◌>>=◌}
 use Rattle.album_items.specs.declared.values.Head.{Head}
 use Rattle.album_items.specs.declared.values.Value.{Value}
 use Rattle.album_items.specs.declared.values.Value.TheVariants as value
-use Rattle.album_wire.specs.Fields.{data_of}
+use Rattle.album_lines.specs.Fields.{data_of}
 use Rattle.album_wire.specs.ItemShapes.{SpelledHead, SpelledValue, Picture, Album, Entries, Group}
 use Rattle.album_wire.specs.OpeningShape.{SpelledOpening, Open, Item, Begin, opening_shape_of}
-use Rattle.album_wire.specs.Values.{title_read, content_read, owner_read, entries_read, members_read}
+use Rattle.album_lines.specs.Values.{entries_read, members_read}
+use Rattle.album_wire.specs.ItemTexts.{title_read, content_read, owner_read}
 use Rattle.album_wire.specs.declared.opening_line.OpeningLine.{OpeningLine}
 use Rattle.album_wire.specs.declared.opening_line.OpeningLine.TheVariants as line
 

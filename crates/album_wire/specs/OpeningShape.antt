@@ -4,7 +4,7 @@ use Rattle.serde_json.specs.Data.{Data}
 use Rattle.serde_json.specs.Find.{get}
 use Rattle.album_stamps.specs.declared.refusals.Refusal.{Refusal}
 use Rattle.album_stamps.specs.Outcome.{◌>>=◌}
-use Rattle.album_wire.specs.Fields.{guard, only_of, field_of, has, member_or, whole_of, truth_of}
+use Rattle.album_lines.specs.Fields.{guard, only_of, field_of, has, member_or, whole_of, truth_of}
 use Rattle.album_wire.specs.ItemShapes.{SpelledValue, spelled_value, item_named, value_shape_of}
 use Rattle.album_wire.specs.declared.opening_shape.Header.{Header}
 use Rattle.album_wire.specs.declared.opening_shape.OpeningShape.{OpeningShape}

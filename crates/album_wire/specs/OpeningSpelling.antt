@@ -2,7 +2,7 @@
 use Rattle.std.specs.Prelude.{◌≡◌, ℕ, List, [], ◌∷◌, codes, true, false}
 use Rattle.serde_json.specs.Data.{Data}
 use Rattle.album_items.specs.declared.values.Value.{Value}
-use Rattle.album_wire.specs.Spelling.{IsJson, HasOnly}
+use Rattle.album_lines.specs.Spelling.{IsJson, HasOnly}
 use Rattle.album_wire.specs.ObjectSpelling.{IsWhole, IsTruth, HasMember, MayHave, HasJust}
 use Rattle.album_wire.specs.ItemSpelling.{IsItem, IsValue}
 use Rattle.album_wire.specs.declared.opening_line.OpeningLine.{OpeningLine}

@@ -16,12 +16,12 @@ use Rattle.album_listing.specs.declared.rows.Row.{Row}
 use Rattle.album_permits.specs.declared.notes.Note.{Note}
 use Rattle.album_permits.specs.declared.serving.Served.{Served}
 use Rattle.album_permits.specs.declared.serving.Served.TheVariants as served
-use Rattle.album_writer.specs.declared.answers.Answer.{Answer}
-use Rattle.album_writer.specs.declared.answers.Answer.TheVariants as answer
-use Rattle.album_world.specs.declared.outs.Out.{Out}
-use Rattle.album_world.specs.declared.outs.Out.TheVariants as out
-use Rattle.album_wire.specs.Spelling.{whole_data, list_data}
-use Rattle.album_wire.specs.Output.{line_text}
+use Rattle.album_permits.specs.declared.answers.Answer.{Answer}
+use Rattle.album_permits.specs.declared.answers.Answer.TheVariants as answer
+use Rattle.album_permits.specs.declared.outs.Out.{Out}
+use Rattle.album_permits.specs.declared.outs.Out.TheVariants as out
+use Rattle.album_lines.specs.Spelling.{whole_data, list_data}
+use Rattle.album_lines.specs.Output.{line_text}
 use Rattle.album_wire.specs.ValueJson.{object_data, item_json, entries_json, members_json, content_json}
 use Rattle.album_wire.specs.MessageJson.{message_json}
 

@@ -1,10 +1,10 @@
 -- The lines that a service writes beside the answers to asks.
 use Rattle.std.specs.Prelude.{ℕ, List, [], ◌∷◌, codes}
 use Rattle.serde_json.specs.Data.{Data, string}
-use Rattle.album_wire.specs.Spelling.{whole_data, list_data}
+use Rattle.album_lines.specs.Spelling.{whole_data, list_data}
 use Rattle.album_wire.specs.ValueJson.{object_data}
 use Rattle.album_wire.specs.MessageJson.{stamps_json}
-use Rattle.album_wire.specs.Output.{line_text}
+use Rattle.album_lines.specs.Output.{line_text}
 use Rattle.album_wire.specs.declared.talk_json.Counted.{Counted}
 use Rattle.album_wire.specs.declared.talk_json.TalkOut.{TalkOut}
 use Rattle.album_wire.specs.declared.talk_json.TalkOut.TheVariants as out

@@ -3,7 +3,7 @@ use Rattle.std.specs.Prelude.{ℕ, List, [], ◌∷◌, codes, if◌then◌else�
 use Rattle.serde_json.specs.Data.{Data}
 use Rattle.album_stamps.specs.declared.refusals.Refusal.{Refusal}
 use Rattle.album_stamps.specs.Outcome.{◌>>=◌}
-use Rattle.album_wire.specs.Fields.{only_of, field_of, has, text_of}
+use Rattle.album_lines.specs.Fields.{only_of, field_of, has, text_of}
 use Rattle.album_wire.specs.AskShape.{SpelledAsk, spelled_ask, ask_shape_of}
 use Rattle.album_wire.specs.EventShape.{part_named, sweep_of, trim_of}
 use Rattle.album_wire.specs.declared.talk_shape.TalkShape.{TalkShape}

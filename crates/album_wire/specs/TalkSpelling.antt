@@ -2,7 +2,7 @@
 use Rattle.std.specs.Prelude.{ℕ, List, codes}
 use Rattle.serde_json.specs.Data.{Data}
 use Rattle.album_eval.specs.declared.facts.Principal.{Principal}
-use Rattle.album_wire.specs.Spelling.{IsJson}
+use Rattle.album_lines.specs.Spelling.{IsJson}
 use Rattle.album_wire.specs.ObjectSpelling.{HasJust}
 use Rattle.album_wire.specs.AskSpelling.{IsAsk}
 use Rattle.album_wire.specs.EventSpelling.{IsPrincipal, IsPart, IsSweep, IsTrim}

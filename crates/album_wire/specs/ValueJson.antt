@@ -14,7 +14,7 @@ use Rattle.album_items.specs.declared.values.Group.{Group}
 use Rattle.album_items.specs.declared.values.Picture.{Picture}
 use Rattle.album_items.specs.declared.values.Value.{Value}
 use Rattle.album_items.specs.declared.values.Value.TheVariants as value
-use Rattle.album_wire.specs.Spelling.{whole_data, list_data, type_word}
+use Rattle.album_lines.specs.Spelling.{whole_data, list_data, type_word}
 
 -- an object, member by member; they are given in the order of their names
 abbrev pub members_named : List (List ℕ × Data) → Members

@@ -1,14 +1,15 @@
 // The shape of an ask in a line: {do = the ask's word, and its fields}.
 ghost use Rattle.std.specs.Prelude.{◌≡◌, map};
 ghost use Rattle.album_stamps.specs.Outcome.{Gives};
-ghost use Rattle.album_wire.specs.Fields.{each};
+ghost use Rattle.album_lines.specs.Fields.{each};
 ghost use Rattle.album_wire.specs.AskShape.{spelled_new_list, spelled_ask, read_shape_of, list_shape_of, get_list_shape_of, add_picture_shape_of, add_album_shape_of, retitle_shape_of, replace_shape_of, delete_shape_of, move_shape_of, new_list_shape_of, set_lists_shape_of, set_owner_shape_of, set_members_shape_of, shape_by_word, ask_shape_of};
-ghost use Rattle.album_wire.specs.Trees.{value_data, items_data};
+ghost use Rattle.album_lines.specs.Trees.{value_data, items_data};
 
-use crate::fields::{field, item, list, only, sized_list, text, whole};
 use crate::item_shapes::item_named;
-use crate::shapes::{EntryShape, entry_shapes, texts};
 use album_items::ItemId;
+use album_lines::{
+    EntryShape, entry_shapes, field, item, list, only, sized_list, text, texts, whole,
+};
 use album_stamps::Refusal;
 use json::Value;
 use std::alloc::Global;

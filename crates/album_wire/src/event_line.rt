@@ -5,17 +5,17 @@ ghost use Rattle.album_items.specs.ItemIds.{picture, album};
 ghost use Rattle.album_wire.specs.AskShape.{spelled_new_list, spelled_ask};
 ghost use Rattle.album_wire.specs.EventLine.{new_list_read, ask_read, event_read, event_line_of};
 ghost use Rattle.album_wire.specs.EventShape.{spelled_event};
-ghost use Rattle.album_wire.specs.Values.{each_of};
+ghost use Rattle.album_lines.specs.Values.{each_of};
 
 use crate::ask_shape::{AskShape, NewListShape};
 use crate::event_shape::{EventShape, Spelled, event_shape};
-use crate::trees::data;
-use crate::values::{access_list, content, members, owner, title};
+use crate::item_texts::{content, owner, title};
 use album_eval::Principal;
 use album_items::Members;
+use album_lines::{access_list, data, members};
+use album_permits::Event;
 use album_stamps::Refusal;
 use album_views::{Ask, NewList, NewLists};
-use album_world::Event;
 use json::Scratch;
 use std::alloc::Global;
 

@@ -5,14 +5,14 @@ ghost use Rattle.std.specs.Option.{ok_or};
 ghost use Rattle.album_stamps.specs.Outcome.{Gives};
 ghost use Rattle.album_stamps.specs.Stamps.{client_of_number};
 ghost use Rattle.album_wire.specs.EventShape.{spelled_event, client_named, stamp_named, part_named, asked_shape_of, range_of, delivered_of, deliver_shape_of, sweep_of, sweep_shape_of, stop_shape_of, trim_of, trim_shape_of, event_shape_of};
-ghost use Rattle.album_wire.specs.Trees.{value_data};
+ghost use Rattle.album_lines.specs.Trees.{value_data};
 
 use crate::ask_shape::{AskShape, ask_shape};
-use crate::fields::{field, has, is_list, item, only, sized_list, text, whole};
 use crate::item_shapes::item_named;
 use album_items::ItemId;
+use album_lines::{field, has, is_list, item, only, sized_list, text, whole};
+use album_permits::Event;
 use album_stamps::{ClientNo, Refusal, Stamp};
-use album_world::Event;
 use json::Value;
 use std::alloc::Global;
 

@@ -1,45 +1,49 @@
-//! Lines in and out: cut out of a text that comes in pieces, read by their JSON, and written.
+//! The lines of a store: read by their JSON, and written.
 //!
-//! Bytes come in, and a judge line, a line of an opening or the events of a line go out, or the line's refusal; a
-//! verdict or what a world tells comes in, and a line goes out. Read `lines` first, then `judge_line`: the shape of a
-//! line (`judge_shape`, by `shapes` and `fields`), then its `values`. `opening_line` and `event_line` go the same
-//! way, by `opening_shape` and `item_shapes`, by `event_shape` and `ask_shape`; `talk_line`, what a connection says,
-//! by `talk_shape`. That what is read is just what the bytes spell, `laws` says. What is written is `output`,
-//! `out_json` and `talk_json`, which make a JSON value first, by `value_json` and `message_json`.
+//! What comes in: the bytes of a line of an opening, of an event, or of a connection. What goes out: what it says, or the
+//! first test that it fails. What a store tells comes in too, and its line goes out.
+//!
+//! Read `opening_line` first: the shape of a line (`opening_shape`, `item_shapes`), then its values (`item_texts`).
+//! `event_line` goes the same way, by `event_shape` and `ask_shape`; `talk_line`, what a connection says, by
+//! `talk_shape`. That what is read is exactly what the bytes spell, `laws` says. What is written is in `out_json` and
+//! `talk_json`, which make a JSON value first, by `value_json` and `message_json`. How lines are cut out of a text, and
+//! what stands where in one, is in `album_lines`, whose public names are passed on here.
 #![tactic(auto)]
 
+// An opening: its items, and its lines.
+mod item_shapes;
+mod item_texts;
+mod opening_line;
+mod opening_shape;
+
+// The line of an event, whose ask a connection may have too.
 mod ask_shape;
 mod event_line;
 mod event_shape;
-mod fields;
-mod item_shapes;
-mod judge_line;
-mod judge_shape;
-mod laws;
-mod lines;
-mod message_json;
-mod numbers;
-mod opening_line;
-mod opening_shape;
-mod out_json;
-mod output;
-mod shapes;
-mod talk_json;
+
+// What a connection says.
 mod talk_line;
 mod talk_shape;
-mod trees;
-mod value_json;
-mod values;
 
+// What holds of each line that is read.
+mod laws;
+
+// The lines that are written.
+mod message_json;
+mod out_json;
+mod talk_json;
+mod value_json;
+
+pub use album_lines::{
+    Group, JudgeLine, LineIn, Lines, any_pieces, joined_lines, questions_by_line, read_judge,
+    refusal_texts, verdict_texts, write_refusal, write_verdict,
+};
 pub use event_line::{read_event, worked_events};
 pub use event_shape::{MAX_DELIVERIES, Spelled};
-pub use judge_line::{Group, JudgeLine, questions_by_line, read_judge};
 pub use laws::{events_by_line, hellos_by_line, openings_by_line, talks_by_line};
-pub use lines::{LineIn, Lines, any_pieces, joined_lines};
 pub use message_json::worked_messages;
 pub use opening_line::{OpeningLine, read_opening_line, worked_openings};
 pub use opening_shape::{DEFAULT_LIMIT, DEFAULT_POLICY, Header};
 pub use out_json::{worked_outs, write_out};
-pub use output::{refusal_texts, verdict_texts, write_refusal, write_verdict};
 pub use talk_json::{Counted, TalkOut, worked_talk_outs, write_talk};
 pub use talk_line::{TalkLine, read_hello, read_talk, worked_talks};

@@ -3,7 +3,7 @@ ghost use Rattle.std.specs.Prelude.{◌≡◌, ◌++◌, [], ◌∷◌, codes, s
 ghost use Rattle.serde_json.specs.View.{view};
 ghost use Rattle.album_items.specs.ItemIds.{picture, album};
 ghost use Rattle.album_items.specs.declared.values.Value.TheVariants as ItemValue;
-ghost use Rattle.album_wire.specs.Output.{line_text};
+ghost use Rattle.album_lines.specs.Output.{line_text};
 ghost use Rattle.album_wire.specs.MessageJson.{node_text, vote_word, stamps_json, write_json, writes_json, envelope_of, get_json, prepare_json, version_json, status_json, gone_json, clash_json, stamped_json, request_json, reply_json, said_json, message_json};
 
 use crate::value_json::{item_json, item_list_json, value_json};

@@ -7,10 +7,10 @@ ghost use Rattle.album_wire.specs.OpeningLine.{head_with, value_read, opening_re
 ghost use Rattle.album_wire.specs.OpeningShape.{spelled_opening};
 
 use crate::item_shapes::{HeadShape, ValueShape};
+use crate::item_texts::{content, owner, title};
 use crate::opening_shape::{Header, OpeningShape, opening_shape};
-use crate::trees::data;
-use crate::values::{access_list, content, members, owner, title};
 use album_items::{Album, Group, Head, ItemId, Items, Members, Picture, Value};
+use album_lines::{access_list, data, members};
 use album_lists::Name;
 use album_stamps::Refusal;
 use json::Scratch;

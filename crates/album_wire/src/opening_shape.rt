@@ -1,13 +1,13 @@
 // The shape of a line of an opening: {open: {parts, and perhaps limit, policy, trace}}, {item, value} or {begin}.
 ghost use Rattle.std.specs.Prelude.{◌≡◌, option_map};
 ghost use Rattle.album_stamps.specs.Outcome.{Gives};
-ghost use Rattle.album_wire.specs.Fields.{member_or, whole_of, truth_of};
+ghost use Rattle.album_lines.specs.Fields.{member_or, whole_of, truth_of};
 ghost use Rattle.album_wire.specs.OpeningShape.{spelled_opening, header_of, open_shape_of, item_shape_of, begin_shape_of, opening_shape_of};
-ghost use Rattle.album_wire.specs.Trees.{value_data};
+ghost use Rattle.album_lines.specs.Trees.{value_data};
 
-use crate::fields::{field, has, member, only, truth, whole};
 use crate::item_shapes::{ValueShape, item_named, value_shape};
 use album_items::ItemId;
+use album_lines::{field, has, member, only, truth, whole};
 use album_stamps::Refusal;
 use json::Value;
 use std::alloc::Global;

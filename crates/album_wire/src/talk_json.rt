@@ -1,7 +1,7 @@
 // The lines that a service writes beside the answers to asks.
 ghost use Rattle.std.specs.Prelude.{◌≡◌, ◌++◌, ◌∷◌, [], codes, IfOk, IsOkUnless};
 ghost use Rattle.serde_json.specs.View.{view};
-ghost use Rattle.album_wire.specs.Output.{line_text};
+ghost use Rattle.album_lines.specs.Output.{line_text};
 ghost use Rattle.album_wire.specs.TalkJson.{hello_json, pending_json, done_json, serving_json, counted_json, totals_json, talk_json, talk_text};
 
 use crate::message_json::stamps_json;

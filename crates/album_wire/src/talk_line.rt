@@ -7,9 +7,9 @@ ghost use Rattle.album_wire.specs.TalkShape.{spelled_talk};
 
 use crate::event_line::ask_of;
 use crate::talk_shape::{TalkShape, hello_shape, talk_shape};
-use crate::trees::data;
 use album_eval::Principal;
 use album_items::ItemId;
+use album_lines::data;
 use album_stamps::{Refusal, Stamp};
 use album_views::Ask;
 use json::Scratch;

@@ -2,12 +2,12 @@
 // {trim: {item, part}} of those behind it.
 ghost use Rattle.album_stamps.specs.Outcome.{Gives};
 ghost use Rattle.album_wire.specs.TalkShape.{spelled_talk, hello_shape_of, talk_ask_shape_of, pending_shape_of, talk_sweep_shape_of, talk_trim_shape_of, talk_shape_of};
-ghost use Rattle.album_wire.specs.Trees.{value_data};
+ghost use Rattle.album_lines.specs.Trees.{value_data};
 
 use crate::ask_shape::{AskShape, ask_shape};
 use crate::event_shape::{part_named, sweep, trim};
-use crate::fields::{field, has, only, text};
 use album_items::ItemId;
+use album_lines::{field, has, only, text};
 use album_stamps::{Refusal, Stamp};
 use json::Value;
 use std::alloc::Global;

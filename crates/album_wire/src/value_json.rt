@@ -2,7 +2,7 @@
 ghost use Rattle.std.specs.Prelude.{◌≡◌, string_bytes, IfOk};
 ghost use Rattle.hex.specs.Hex.{encode_lower};
 ghost use Rattle.serde_json.specs.View.{view};
-ghost use Rattle.album_wire.specs.Spelling.{type_word};
+ghost use Rattle.album_lines.specs.Spelling.{type_word};
 ghost use Rattle.album_wire.specs.ValueJson.{owner_text, group_text, who_text, member_text, item_json, item_list_json, entry_json, entries_json, member_json, members_json, picture_json, album_json, list_json, group_json, value_json};
 
 use album_access::AceType;

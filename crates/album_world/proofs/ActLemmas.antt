@@ -27,7 +27,7 @@ use Rattle.album_terminate.specs.declared.deciding.StampState.TheVariants as sta
 use Rattle.album_partition.specs.declared.marks.Mark.{Mark}
 use Rattle.album_partition.specs.declared.marks.Mark.TheVariants.{Prepared, Committed, Discarded, Trimmed}
 use Rattle.album_partition.specs.Votes.{NotedVote, new_vote, heard, has_vote}
-use Rattle.album_partition.specs.Answers.{Action, nothing, says, marks, marks_and_says, prepare_by, commit_by, check_by, get_by, to_get, mark_by, deliver_to_partition, to_prepared, to_vote, to_status, to_request, to_reply, to_body, action_of}
+use Rattle.album_partition.specs.Answers.{Action, nothing, says, marks, marks_and_says, prepare_by, commit_by, check_by, get_by, on_get, mark_by, on_vote_of, on_prepared, on_vote, on_status, on_request, on_reply, on_body, action_of}
 use Rattle.album_partition.specs.Partition.{PartitionState, value_at, stamp_for, read_at}
 use Rattle.album_partition.specs.Proper.{is_proper}
 use Rattle.album_partition.specs.Marks.{prepares, commits, state_by, state_of, is_pending, is_full, value_in, version, mark_items, items_at, IsPromisedAgainst}
@@ -277,7 +277,7 @@ module _ (o : Opening) (some : 0 < o.parts) (w : World) (k : IsKept o w) (p : �
       go false f = subst (λ (z : NotedVote). IsPreparedIn (history w z.part) z.stamp) (some_same f) d
 
   part_action : (t q : ℕ) → state_of h.marks t ≡ state.Pending → IsPreparedIn (history w q) t
-      → IsAction o w p h.marks m (deliver_to_partition h q t)
+      → IsAction o w p h.marks m (on_vote_of h q t)
   part_action t q u d = go (have_told (q ∷ heard h.votes t) (others_of h.number h.parts (items_at h.marks t))) refl
     where
       go : (b : Bool) → have_told (q ∷ heard h.votes t) (others_of h.number h.parts (items_at h.marks t)) ≡ b
@@ -301,19 +301,19 @@ module _ (o : Opening) (some : 0 < o.parts) (w : World) (k : IsKept o w) (p : �
       }
 
   prepared_action : (n : Node) (t : ℕ) → state_of h.marks t ≡ state.Pending → IsVote o w n t vote.Prepared
-      → IsAction o w p h.marks m (to_prepared h n t)
+      → IsAction o w p h.marks m (on_prepared h n t)
   prepared_action (Part q) t u d = else_action o w p h.marks m (lies_at q h.parts (items_at h.marks t)) _ _
       (λ l. part_action t q u d) (silent_action o w p h.marks m)
   prepared_action (ToClient c) t u d = silent_action o w p h.marks m
 
   vote_action : (t : ℕ) (x : Vote) → state_of h.marks t ≡ state.Pending → IsVote o w m.from t x
-      → IsAction o w p h.marks m (to_vote h m.from t x)
+      → IsAction o w p h.marks m (on_vote h m.from t x)
   vote_action t vote.Prepared u d = prepared_action m.from t u d
   vote_action t vote.Committed u d = mark_action o w p h.marks m (Committed t) (made_committed u d)
   vote_action t vote.Never u d = mark_action o w p h.marks m (Discarded t) (made_discarded u d)
 
   status_action : (t : ℕ) (x : Vote) → m.body ≡ body.Reply (reply.Status t x)
-      → IsAction o w p h.marks m (to_status h m.from t x)
+      → IsAction o w p h.marks m (on_status h m.from t x)
   status_action t x e = else_action o w p h.marks m (is_pending (state_of h.marks t)) _ _
       (λ l. vote_action t x (is_pending_tells (state_of h.marks t) l) (told (body.Reply (reply.Status t x)) e))
       (silent_action o w p h.marks m)
@@ -341,7 +341,7 @@ module _ (o : Opening) (some : 0 < o.parts) (w : World) (k : IsKept o w) (p : �
       value_of ne x e = ap (λ (b : Bool). unwrap_or (if b then value_in h.items i else version h.marks i s) Missing)
           ne ∙ ap (λ (f : Option Value). unwrap_or f Missing) e
 
-  get_action : (i : ℕ) (ts : List ℕ) → m.body ≡ body.Request (Get i ts) → IsAction o w p h.marks m (to_get h i ts)
+  get_action : (i : ℕ) (ts : List ℕ) → m.body ≡ body.Request (Get i ts) → IsAction o w p h.marks m (on_get h i ts)
   get_action i ts e = else_action o w p h.marks m (place_of h.parts i == h.number) _ _
       (λ b. go (sym (ap (λ (z : ℕ). place_of z i) placed.parts) ∙ eqb-true (place_of h.parts i) h.number b
       ∙ placed.number) (read_at h.marks i ts) refl)
@@ -361,7 +361,7 @@ module _ (o : Opening) (some : 0 < o.parts) (w : World) (k : IsKept o w) (p : �
             tells = λ P f r l. subst (SaysWith P) (some_same l) (subst (λ (z : ℕ). P i z) is (f i ts e at));
           }
 
-  request_action : (r : Request) → m.body ≡ body.Request r → IsAction o w p h.marks m (to_request h r)
+  request_action : (r : Request) → m.body ≡ body.Request r → IsAction o w p h.marks m (on_request h r)
   request_action (Prepare t ws js) e =
       else_action o w p h.marks m (is_proper h.number h.parts t ws js) _ _
       (λ l. prepare_action t ws js e _ _ refl _ refl)
@@ -372,7 +372,7 @@ module _ (o : Opening) (some : 0 < o.parts) (w : World) (k : IsKept o w) (p : �
   request_action (Check t) e = else_action o w p h.marks m (t == 0) _ _ (λ l. clash_action o w p h.marks m)
       (check_action t e _ refl _ refl)
 
-  reply_action : (r : Reply) → m.body ≡ body.Reply r → IsAction o w p h.marks m (to_reply h m.from r)
+  reply_action : (r : Reply) → m.body ≡ body.Reply r → IsAction o w p h.marks m (on_reply h m.from r)
   reply_action (reply.Status t x) e = status_action t x e
   reply_action (reply.Prepared t) e = silent_action o w p h.marks m
   reply_action (reply.Committed t) e = silent_action o w p h.marks m
@@ -383,7 +383,7 @@ module _ (o : Opening) (some : 0 < o.parts) (w : World) (k : IsKept o w) (p : �
   reply_action (reply.Full t) e = silent_action o w p h.marks m
   reply_action (reply.Gone i) e = silent_action o w p h.marks m
 
-  body_action : (b : Body) → m.body ≡ b → IsAction o w p h.marks m (to_body h m.from b)
+  body_action : (b : Body) → m.body ≡ b → IsAction o w p h.marks m (on_body h m.from b)
   body_action (body.Request r) e = request_action r e
   body_action (body.Reply r) e = reply_action r e
 

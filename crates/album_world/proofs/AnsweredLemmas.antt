@@ -9,7 +9,7 @@ use Rattle.album_partition.specs.Partition.{PartitionState}
 use Rattle.album_partition.specs.declared.marks.Mark.{Mark}
 use Rattle.album_reader.specs.Answers.{ReadVersion}
 use Rattle.album_client.specs.Terms.{Terms, terms_of}
-use Rattle.album_world.specs.declared.events.Event.{Event}
+use Rattle.album_permits.specs.declared.events.Event.{Event}
 use Rattle.album_world.specs.State.{history_in}
 use Rattle.album_world.specs.Past.{World, Asked, Read}
 use Rattle.album_world.specs.Committing.{history, IsCommittedAt}
@@ -52,7 +52,7 @@ served_alone t w fresh a h = record {
   one_write = h.one_write;
   one_answer = h.one_answer;
   answered = λ x l. let d = h.answers x (within _ l) in
-      record { told = contains d.told; last = d.last; begun = d.begun };
+      record { kept = contains d.told; last = d.last; begun = d.begun };
 }
 
 got : (xs : List Asked) (j : ℕ) (d : Asked) → j < length xs → In (slice_index_or xs j d) xs
@@ -75,7 +75,7 @@ answers_are_to_requests o es is =
     let fresh = views_are_fresh o es is in
     record {
       alone = λ a l. served_alone (terms_of o) w fresh a (q.alone a (within _ l));
-      told = λ x l. let d = q.told x (within _ l) in
+      answers = λ x l. let d = q.told x (within _ l) in
           record { asked = d.asked; made = contains d.made; answers = contains d.answers; is = d.is };
       begun = λ r l. let d = q.begun r (within _ l) in
           record { asked = d.asked; made = contains d.made; writes = contains d.writes };

@@ -39,27 +39,27 @@ use Rattle.album_permits.specs.declared.findings.Finding.TheVariants as finding
 use Rattle.album_permits.specs.declared.notes.Note.{Note}
 use Rattle.album_permits.specs.declared.serving.Served.{Served}
 use Rattle.album_writer.specs.Rounds.{answered_by, prepares_left, prepares_by, commits_left, commits_by}
-use Rattle.album_writer.specs.Told.{told_of}
+use Rattle.album_writer.specs.WriteReplies.{reply_in}
 use Rattle.album_writer.specs.Writing.{WritingState, commit_round, commits_of}
-use Rattle.album_writer.specs.declared.told.Told.{Told as Heard}
-use Rattle.album_writer.specs.declared.told.Told.TheVariants as told
-use Rattle.album_writer.specs.declared.answers.Answer.{Answer}
-use Rattle.album_writer.specs.declared.answers.Answer.TheVariants as answer
+use Rattle.album_writer.specs.declared.write_replies.WriteReply.{WriteReply}
+use Rattle.album_writer.specs.declared.write_replies.WriteReply.TheVariants as write_reply
+use Rattle.album_permits.specs.declared.answers.Answer.{Answer}
+use Rattle.album_permits.specs.declared.answers.Answer.TheVariants as answer
 use Rattle.album_client.specs.declared.clients.Phase.{Phase}
 use Rattle.album_client.specs.declared.clients.Phase.TheVariants as phase
 use Rattle.album_client.specs.Terms.{Terms, terms_of}
-use Rattle.album_client.specs.Askings.{PendingAsk}
+use Rattle.album_client.specs.PendingAsks.{PendingAsk}
 use Rattle.album_client.specs.Clients.{Client}
 use Rattle.album_client.specs.Grants.{served_for}
-use Rattle.album_client.specs.Turns.{Transaction, Ended, Turn, sends, read_begins, ask_ends, round_for, write_begins, writes_unless, draws_by, grants, rules_by, clock_after_rows, read_ends, read_turn, prepare_turn, commit_turn}
-use Rattle.album_world.specs.declared.events.Event.{Event}
-use Rattle.album_world.specs.declared.events.Event.TheVariants as event
-use Rattle.album_world.specs.declared.outs.Out.TheVariants as out
+use Rattle.album_client.specs.Steps.{Transaction, Ended, TransitionState, sends, read_begins, ask_ends, round_for, write_begins, writes_unless, draws_by, grants, rules_by, clock_after_rows, read_ends, read_transition, prepare_transition, commit_transition}
+use Rattle.album_permits.specs.declared.events.Event.{Event}
+use Rattle.album_permits.specs.declared.events.Event.TheVariants as event
+use Rattle.album_permits.specs.declared.outs.Out.TheVariants as out
 use Rattle.album_world.specs.State.{client_at, history_in, is_stopped, message_of}
 use Rattle.album_world.specs.Past.{World, Asked, Begun, Read, last_asked, last_begun, last_read}
 use Rattle.album_world.specs.Changes.{Change, asks_unless, asks_by, part_takes, client_takes_by, arrives, delivers, sweeps, trims, change_of}
 use Rattle.album_world.specs.Changes.Change.{Nothing, AtPart, AtClient, Stops}
-use Rattle.album_world.specs.Runs.{changed, changed_by, happens, new_request, nth_after, read_over, reads_after, outs_by, requested, run, run_of, start, tells, asked_on}
+use Rattle.album_world.specs.Runs.{changed, changed_by, happens, new_request, nth_after, read_over, reads_after, outs_by, requested, run, run_of, start, event_outputs, asked_on}
 use Rattle.album_world.specs.Requests.{AreAtOrAfter, IsOneAt, HasBegun, IsAnsweredLast}
 use Rattle.album_world.proofs.ListLemmas.{In, within, in_nil, in_uncons, some_same, none_some, self_eqb}
 use Rattle.album_world.proofs.ListLemmas.In.{there}
@@ -73,7 +73,7 @@ use Rattle.album_world.proofs.BookLemmas.{begun_client, last_here}
 use Rattle.album_world.proofs.RequestLemmas.{IsAlone, ReadsFor, WritesFor, IsUnder, IsRequestedBut, IsRequested, IsTurnFor, Lasts, all_answered, alone_lasts, on_last, turn_requested, turn_answers, idle_under}
 
 -- the client had this turn: what is true of each request is so still, and its answer is to the last one
-abbrev IsHad : World → ℕ → Turn → Type 0
+abbrev IsHad : World → ℕ → TransitionState → Type 0
 IsHad w c t = IsRequested (changed w (AtClient c t)) ×
     ((x : Answer) → t.answer ≡ Some x → IsAnsweredLast (changed w (AtClient c t)) c x)
 
@@ -174,7 +174,7 @@ module _ (o : Opening) (w : World) (k : IsKept o w) (c : ℕ) (q : IsRequestedBu
     abbrev read_now : Read
     read_now = read_over begun_here ended
 
-    over_here : (turn : Turn) → turn.over ≡ Some ended → (e : Ended) → turn.over ≡ Some e
+    over_here : (turn : TransitionState) → turn.over ≡ Some ended → (e : Ended) → turn.over ≡ Some e
         → (e.ask ≡ u.asked.ask) × (e.principal ≡ u.asked.principal) ×
         AreAtOrAfter begun_here.partitions u.asked.partitions
     over_here turn is e l = subst
@@ -185,7 +185,7 @@ module _ (o : Opening) (w : World) (k : IsKept o w) (c : ℕ) (q : IsRequestedBu
     last_of : (fs : List Read) → last_read (read_now ∷ fs) c ≡ Some read_now
     last_of fs = last_here c begun_here ended fs (begun_client w.past.begun c)
 
-    read_here : (turn : Turn) → turn.over ≡ Some ended
+    read_here : (turn : TransitionState) → turn.over ≡ Some ended
         → last_read (asked_on begun_here turn u.asked).reads c ≡ last_read (reads_after w.past c turn) c
     read_here turn is =
         ap (λ (z : Option Ended). last_read (option_to_list (option_map (read_over begun_here) z) ++ u.asked.reads) c) is
@@ -193,7 +193,7 @@ module _ (o : Opening) (w : World) (k : IsKept o w) (c : ℕ) (q : IsRequestedBu
         ∙ sym (ap
         (λ (z : Option Ended). last_read (option_to_list (option_map (read_over begun_here) z) ++ w.past.reads) c) is)
 
-    some_here : (turn : Turn) → turn.over ≡ Some ended → last_read (reads_after w.past c turn) c ≡ None → ⊥
+    some_here : (turn : TransitionState) → turn.over ≡ Some ended → last_read (reads_after w.past c turn) c ≡ None → ⊥
     some_here turn is none = none_some (sym none
         ∙ ap (λ (z : Option Ended). last_read (option_to_list (option_map (read_over begun_here) z) ++ w.past.reads) c) is
         ∙ last_of w.past.reads)
@@ -223,7 +223,7 @@ module _ (o : Opening) (w : World) (k : IsKept o w) (c : ℕ) (q : IsRequestedBu
         → IsHad w c (record (read_begins t x tag (record { viewing = later; principal = pending_ask.principal }) items)
         { over = Some ended })
     reads_again began later items same =
-        let turn : Turn = record (read_begins t x tag (record { viewing = later; principal = pending_ask.principal }) items)
+        let turn : TransitionState = record (read_begins t x tag (record { viewing = later; principal = pending_ask.principal }) items)
         { over = Some ended } in
         let h : IsTurnFor w c turn u.asked = record {
           over = over_here turn refl;
@@ -257,7 +257,7 @@ module _ (o : Opening) (w : World) (k : IsKept o w) (c : ℕ) (q : IsRequestedBu
 
     module _ (y : Client) (ny : y.number ≡ c) (oy : y.clock.client ≡ c) (n : Option (List Note)) (permit : PermitState)
         (ask_is : permit.view.ask ≡ pending_ask.viewing.ask) (principal_is : permit.principal ≡ pending_ask.principal) where
-      abbrev noting : Turn → Turn
+      abbrev noting : TransitionState → TransitionState
       noting turn = with_past turn (Some ended) n
 
       write_had : (v : Client) → v.number ≡ c → v.clock.client ≡ c → (stamp : ℕ)
@@ -355,7 +355,7 @@ module _ (o : Opening) (w : World) (k : IsKept o w) (c : ℕ) (q : IsRequestedBu
       go false = wide (nat_lt MAX_READ_ITEMS (length (names_of rows pending_ask.viewing.ask)))
 
   reading_had : (pending_ask : PendingAsk) → ReadsFor w c pending_ask → ((p : ℕ) → BeganFrom w begun_here.partitions p) → (tag : ℕ)
-      → (s : Step) → IsHad w c (read_turn t x tag pending_ask s)
+      → (s : Step) → IsHad w c (read_transition t x tag pending_ask s)
   reading_had pending_ask u began tag (Same round) = reads_on pending_ask u (phase.Reads pending_ask round) [] (λ v d. d)
   reading_had pending_ask u began tag (Next round sent) = reads_on pending_ask u (phase.Reads pending_ask round) sent (λ v d. d)
   reading_had pending_ask u began tag (Done rows) = done_had pending_ask u began tag rows
@@ -363,30 +363,30 @@ module _ (o : Opening) (w : World) (k : IsKept o w) (c : ℕ) (q : IsRequestedBu
 
   -- ---- a message in a write
 
-  preparing_had : (z : WritingState) → WritesFor w c z → (from : Node) (what : Heard)
-      → IsHad w c (prepare_turn x z.tag (prepares_by z from what))
-  preparing_had z u from told.Prepared = go (answered_by z from).awaited
+  preparing_had : (z : WritingState) → WritesFor w c z → (from : Node) (what : WriteReply)
+      → IsHad w c (prepare_transition x z.tag (prepares_by z from what))
+  preparing_had z u from write_reply.Prepared = go (answered_by z from).outstanding
     where
-      go : (awaited : List ℕ) → IsHad w c (prepare_turn x z.tag (prepares_left (answered_by z from) awaited))
+      go : (outstanding : List ℕ) → IsHad w c (prepare_transition x z.tag (prepares_left (answered_by z from) outstanding))
       go [] = writes_on z (commit_round (answered_by z from)) refl u (phase.Commits (commit_round (answered_by z from)))
           (commits_of (commit_round (answered_by z from))) (λ v d. d)
       go (p ∷ ps) = writes_on z (answered_by z from) refl u (phase.Prepares (answered_by z from)) [] (λ v d. d)
-  preparing_had z u from told.Discarded = outcome_had z u z.tag (answer.Aborted z.stamp) (λ ws e. e)
-  preparing_had z u from told.Full = outcome_had z u z.tag (answer.Unsettled z.stamp refusal.Full) (λ ws e. e)
-  preparing_had z u from told.Committed = writes_on z z refl u (phase.Prepares z) [] (λ v d. d)
-  preparing_had z u from told.Nothing = writes_on z z refl u (phase.Prepares z) [] (λ v d. d)
+  preparing_had z u from write_reply.Discarded = outcome_had z u z.tag (answer.Aborted z.stamp) (λ ws e. e)
+  preparing_had z u from write_reply.Full = outcome_had z u z.tag (answer.Unsettled z.stamp refusal.Full) (λ ws e. e)
+  preparing_had z u from write_reply.Committed = writes_on z z refl u (phase.Prepares z) [] (λ v d. d)
+  preparing_had z u from write_reply.Nothing = writes_on z z refl u (phase.Prepares z) [] (λ v d. d)
 
-  committing_had : (z : WritingState) → WritesFor w c z → (from : Node) (what : Heard)
-      → IsHad w c (commit_turn x z.tag (commits_by z from what))
-  committing_had z u from told.Committed = go (answered_by z from).awaited
+  committing_had : (z : WritingState) → WritesFor w c z → (from : Node) (what : WriteReply)
+      → IsHad w c (commit_transition x z.tag (commits_by z from what))
+  committing_had z u from write_reply.Committed = go (answered_by z from).outstanding
     where
-      go : (awaited : List ℕ) → IsHad w c (commit_turn x z.tag (commits_left (answered_by z from) awaited))
+      go : (outstanding : List ℕ) → IsHad w c (commit_transition x z.tag (commits_left (answered_by z from) outstanding))
       go [] = outcome_had z u z.tag (answer.Committed (answered_by z from).stamp) (λ ws e. e)
       go (p ∷ ps) = writes_on z (answered_by z from) refl u (phase.Commits (answered_by z from)) [] (λ v d. d)
-  committing_had z u from told.Prepared = writes_on z z refl u (phase.Commits z) [] (λ v d. d)
-  committing_had z u from told.Discarded = writes_on z z refl u (phase.Commits z) [] (λ v d. d)
-  committing_had z u from told.Full = writes_on z z refl u (phase.Commits z) [] (λ v d. d)
-  committing_had z u from told.Nothing = writes_on z z refl u (phase.Commits z) [] (λ v d. d)
+  committing_had z u from write_reply.Prepared = writes_on z z refl u (phase.Commits z) [] (λ v d. d)
+  committing_had z u from write_reply.Discarded = writes_on z z refl u (phase.Commits z) [] (λ v d. d)
+  committing_had z u from write_reply.Full = writes_on z z refl u (phase.Commits z) [] (λ v d. d)
+  committing_had z u from write_reply.Nothing = writes_on z z refl u (phase.Commits z) [] (λ v d. d)
 
   -- ---- a request
 
@@ -587,8 +587,8 @@ module _ (o : Opening) (some : 0 < o.parts) (w : World) (k : IsKept o w) (q : Is
   client_had c m (phase.Idle tag) kept u = (q, tt)
   client_had c m (phase.Reads pending_ask r) kept u = reading_had o w k c (but c) pending_ask u kept.begun r.asker.tag
       (stepped r m)
-  client_had c m (phase.Prepares z) kept u = preparing_had o w k c (but c) z u m.from (told_of z m)
-  client_had c m (phase.Commits z) kept u = committing_had o w k c (but c) z u m.from (told_of z m)
+  client_had c m (phase.Prepares z) kept u = preparing_had o w k c (but c) z u m.from (reply_in z m)
+  client_had c m (phase.Commits z) kept u = committing_had o w k c (but c) z u m.from (reply_in z m)
 
   arrival_had : (n : ℕ) (m : Message) (to : Node) → IsKeptBy w (event.Deliver n) (Ok (arrives ts w.now m to))
   arrival_had n m (Part p) = go (slice_get w.now.partitions p)
@@ -645,7 +645,7 @@ module _ (o : Opening) (some : 0 < o.parts) (w : World) (k : IsKept o w) (q : Is
   last_of_change next (Stops d) c a h s = absurd s
 
   -- an answer that the event tells is to the last request of its client
-  pub answers_last : (e : Event) (c : ℕ) (a : Answer) → Contains (tells ts w e) (out.Answered c a)
+  pub answers_last : (e : Event) (c : ℕ) (a : Answer) → Contains (event_outputs ts w e) (out.Answered c a)
       → IsAnsweredLast (happens ts w e) c a
   answers_last e c a h = go (change_of ts w.now e) (event_had e) (within _ h)
     where

@@ -14,24 +14,24 @@ use Rattle.album_permits.specs.Permits.{PermitState, IsPermit, permit_on}
 use Rattle.album_permits.specs.declared.findings.Finding.TheVariants as finding
 use Rattle.album_permits.specs.declared.notes.Note.{Note}
 use Rattle.album_writer.specs.Writing.{WritingState, places_in}
-use Rattle.album_writer.specs.declared.answers.Answer.{Answer}
-use Rattle.album_writer.specs.declared.answers.Answer.TheVariants as answer
+use Rattle.album_permits.specs.declared.answers.Answer.{Answer}
+use Rattle.album_permits.specs.declared.answers.Answer.TheVariants as answer
 use Rattle.album_client.specs.declared.clients.Phase.{Phase}
 use Rattle.album_client.specs.declared.clients.Phase.TheVariants as phase
 use Rattle.album_client.specs.Terms.{Terms, terms_of}
-use Rattle.album_client.specs.Askings.{PendingAsk}
+use Rattle.album_client.specs.PendingAsks.{PendingAsk}
 use Rattle.album_client.specs.Clients.{Client}
-use Rattle.album_client.specs.Turns.{Transaction, Ended, Turn}
+use Rattle.album_client.specs.Steps.{Transaction, Ended, TransitionState}
 use Rattle.album_world.specs.State.{client_at, with_number}
-use Rattle.album_world.specs.Past.{World, Asked, Begun, Read, Told, Noted, last_begun, last_read}
+use Rattle.album_world.specs.Past.{World, Asked, Begun, Read, PastAnswer, Noted, last_begun, last_read}
 use Rattle.album_world.specs.Changes.Change.{AtPart, AtClient, Stops}
-use Rattle.album_world.specs.Runs.{changed, read_over, reads_after, nth_after, told_to, noted_of}
+use Rattle.album_world.specs.Runs.{changed, read_over, reads_after, nth_after, past_answer, noted_of}
 use Rattle.album_world.specs.Committing.{parts_of}
 use Rattle.album_permits.specs.Meaning.{Finds, Notes}
 use Rattle.album_world.specs.Viewed.{IsOnView}
 use Rattle.album_world.specs.Rulings.{IsServedBy, IsBegunBy, HasNotes, IsNotedFor}
 use Rattle.album_world.specs.Granted.{IsDrawnBy, IsGranted}
-use Rattle.album_world.specs.Outcomes.{IsToldFull, IsAlbumFull, IsSpent, IsRefusedFor}
+use Rattle.album_world.specs.Outcomes.{IsRepliedFull, IsAlbumFull, IsSpent, IsRefusedFor}
 use Rattle.album_world.specs.Busy.{HasCause}
 use Rattle.album_world.proofs.ListLemmas.{In, contains, within, in_left, in_right, in_cases, in_option, in_mapped, self_eqb, and_right}
 use Rattle.album_world.proofs.Invariant.{IsKept}
@@ -42,10 +42,10 @@ use Rattle.album_world.proofs.TurnLemmas.{IsNew, client_cases, begun_other}
 -- the write was begun by this permit, and one of its partitions told that it is full
 pub record IsBegunFull (t : Terms) (w : World) (c s : ℕ) (permit : PermitState) : Type 0 where
   pub begun : IsBegunBy w c s permit
-  pub full : IsToldFull t w begun.by
+  pub full : IsRepliedFull t w begun.by
 
 -- what led to an answer
-abbrev pub IsLed : Terms → World → Told → Answer → Type 0
+abbrev pub IsLed : Terms → World → PastAnswer → Answer → Type 0
 IsLed t w told (answer.Served served) = IsOnView t w told.client told.last (λ case. IsServedBy case served)
 IsLed t w told (answer.Denied reasons) = IsOnView t w told.client told.last
     (λ case. Finds case (finding.Denied reasons))
@@ -95,8 +95,8 @@ IsAt t w c (phase.Commits z) = IsWriteOn t w c z (λ by. Unit {0})
 
 pub record IsBooked (t : Terms) (w : World) : Type 0 where
   pub granted : (by : Transaction) → In by w.past.transactions → IsGranted t w by
-  pub led : (told : Told) → In told w.past.told → IsLed t w told told.answer
-  pub noting : (told : Told) → In told w.past.told → IsNotedFor w told told.answer
+  pub led : (told : PastAnswer) → In told w.past.answers → IsLed t w told told.answer
+  pub noting : (told : PastAnswer) → In told w.past.answers → IsNotedFor w told told.answer
   pub noted : (n : Noted) → In n w.past.noted → IsOnView t w n.client n.last (λ case. Notes case n.notes)
   pub at : (c : ℕ) → IsAt t w c (client_at w.now.clients c).phase
 
@@ -154,7 +154,7 @@ module _ (t : Terms) (w1 w2 : World) (g : Adds w1 w2) where
         with_it = h.with_it;
       }
 
-  full_adds : (r : Transaction) → IsToldFull t w1 r → IsToldFull t w2 r
+  full_adds : (r : Transaction) → IsRepliedFull t w1 r → IsRepliedFull t w2 r
   full_adds r h = record {
     message = h.message;
     part = h.part;
@@ -180,7 +180,7 @@ module _ (t : Terms) (w1 w2 : World) (g : Adds w1 w2) where
       (λ (d : (why ≡ refusal.StampsSpent) × IsSpent w1 c). inr (d.0, le_trans d.1 (g.clocks c)))
       h
 
-  cause_adds : (told : Told) (why : Why) → HasCause w1 told why → HasCause w2 told why
+  cause_adds : (told : PastAnswer) (why : Why) → HasCause w1 told why → HasCause w2 told why
   cause_adds told why h =
       record {
         read = h.read;
@@ -190,7 +190,7 @@ module _ (t : Terms) (w1 w2 : World) (g : Adds w1 w2) where
         cause = h.cause;
       }
 
-  pub led_adds : (told : Told) (a : Answer) → IsLed t w1 told a → IsLed t w2 told a
+  pub led_adds : (told : PastAnswer) (a : Answer) → IsLed t w1 told a → IsLed t w2 told a
   led_adds told (answer.Served served) h = view_adds told.client told.last _ _ (λ case e. e) h
   led_adds told (answer.Denied reasons) h = view_adds told.client told.last _ _ (λ case e. e) h
   led_adds told (answer.Missing object) h = view_adds told.client told.last _ _ (λ case e. e) h
@@ -207,7 +207,7 @@ module _ (t : Terms) (w1 w2 : World) (g : Adds w1 w2) where
       (λ case. IsPermit case × IsRefusedFor w2 told.client why case)
       (λ case e. (e.0, refused_adds told.client why case e.1)) h
 
-  notes_add : (told : Told) → HasNotes w1 told → HasNotes w2 told
+  notes_add : (told : PastAnswer) → HasNotes w1 told → HasNotes w2 told
   notes_add told h = record {
     noted = h.noted;
     kept = contains (g.noted h.noted (within _ h.kept));
@@ -215,7 +215,7 @@ module _ (t : Terms) (w1 w2 : World) (g : Adds w1 w2) where
     same = h.same;
   }
 
-  pub noting_adds : (told : Told) (a : Answer) → IsNotedFor w1 told a → IsNotedFor w2 told a
+  pub noting_adds : (told : PastAnswer) (a : Answer) → IsNotedFor w1 told a → IsNotedFor w2 told a
   noting_adds told (answer.Served served) h = notes_add told h
   noting_adds told (answer.Denied reasons) h = notes_add told h
   noting_adds told (answer.Missing object) h = notes_add told h
@@ -259,7 +259,7 @@ module _ (t : Terms) (w1 w2 : World) (g : Adds w1 w2) where
   at_adds c (phase.Commits z) n same h = write_adds c z (λ by. Unit {0}) same h
 
 -- where notes were told, whatever the answer is
-pub noting_by : (w : World) (told : Told) (a : Answer) → HasNotes w told → IsNotedFor w told a
+pub noting_by : (w : World) (told : PastAnswer) (a : Answer) → HasNotes w told → IsNotedFor w told a
 noting_by w told (answer.Served served) h = h
 noting_by w told (answer.Denied reasons) h = h
 noting_by w told (answer.Missing object) h = h
@@ -273,7 +273,7 @@ noting_by w told (answer.Refused why) h = h
 
 same_booked : (t : Terms) (w next : World) → Adds w next → IsBooked t w
     → ((r : Transaction) → In r next.past.transactions → In r w.past.transactions)
-    → ((told : Told) → In told next.past.told → In told w.past.told)
+    → ((told : PastAnswer) → In told next.past.answers → In told w.past.answers)
     → ((n : Noted) → In n next.past.noted → In n w.past.noted)
     → ((c : ℕ) → IsAt t next c (client_at next.now.clients c).phase) → IsBooked t next
 same_booked t w next g b rs ts ns at = record {
@@ -349,7 +349,7 @@ pub last_here : (c : ℕ) (begun : Begun) (e : Ended) (fs : List Read) → begun
 last_here c begun e fs is = ap (λ (b : Bool). if b then Some (read_over begun e) else last_read fs c)
     (ap (λ (z : ℕ). eqb z c) is ∙ self_eqb c)
 
-module _ (o : Opening) (w : World) (k : IsKept o w) (b : IsBooked (terms_of o) w) (c : ℕ) (t : Turn)
+module _ (o : Opening) (w : World) (k : IsKept o w) (b : IsBooked (terms_of o) w) (c : ℕ) (t : TransitionState)
     (number : t.client.number ≡ c) (own : t.client.clock.client ≡ c) where
   abbrev next : World
   next = changed w (AtClient c t)
@@ -394,8 +394,8 @@ module _ (o : Opening) (w : World) (k : IsKept o w) (b : IsBooked (terms_of o) w
 
     pub turn_booked : IsAt (terms_of o) next c t.client.phase
         → ((r : Transaction) → t.writes ≡ Some r → IsGranted (terms_of o) next r)
-        → ((a : Answer) → t.answer ≡ Some a → IsLed (terms_of o) next (told_to (reads_after w.past c t) c a) a)
-        → ((a : Answer) → t.answer ≡ Some a → IsNotedFor next (told_to (reads_after w.past c t) c a) a)
+        → ((a : Answer) → t.answer ≡ Some a → IsLed (terms_of o) next (past_answer (reads_after w.past c t) c a) a)
+        → ((a : Answer) → t.answer ≡ Some a → IsNotedFor next (past_answer (reads_after w.past c t) c a) a)
         → ((n : List Note) → t.noted ≡ Some n → IsOnView (terms_of o) next c (last_read (reads_after w.past c t) c)
         (λ case. Notes case n)) → IsBooked (terms_of o) next
     turn_booked does begins answers noting notes = record {
@@ -403,14 +403,14 @@ module _ (o : Opening) (w : World) (k : IsKept o w) (b : IsBooked (terms_of o) w
           (λ l. begins r (in_option t.writes l)) (in_cases w.past.transactions (option_to_list t.writes) h);
       led = λ a h. ⊎_elim
           (λ l. led_adds (terms_of o) w next turn_adds a a.answer (b.led a l))
-          (λ l. let q = in_mapped (told_to (reads_after w.past c t) c) t.answer l in
-          subst (λ (z : Told). IsLed (terms_of o) next z z.answer) (sym q.2) (answers q.0 q.1))
-          (in_cases w.past.told (option_to_list (option_map (told_to (reads_after w.past c t) c) t.answer)) h);
+          (λ l. let q = in_mapped (past_answer (reads_after w.past c t) c) t.answer l in
+          subst (λ (z : PastAnswer). IsLed (terms_of o) next z z.answer) (sym q.2) (answers q.0 q.1))
+          (in_cases w.past.answers (option_to_list (option_map (past_answer (reads_after w.past c t) c) t.answer)) h);
       noting = λ a h. ⊎_elim
           (λ l. noting_adds (terms_of o) w next turn_adds a a.answer (b.noting a l))
-          (λ l. let q = in_mapped (told_to (reads_after w.past c t) c) t.answer l in
-          subst (λ (z : Told). IsNotedFor next z z.answer) (sym q.2) (noting q.0 q.1))
-          (in_cases w.past.told (option_to_list (option_map (told_to (reads_after w.past c t) c) t.answer)) h);
+          (λ l. let q = in_mapped (past_answer (reads_after w.past c t) c) t.answer l in
+          subst (λ (z : PastAnswer). IsNotedFor next z z.answer) (sym q.2) (noting q.0 q.1))
+          (in_cases w.past.answers (option_to_list (option_map (past_answer (reads_after w.past c t) c) t.answer)) h);
       noted = λ a h. ⊎_elim
           (λ l. view_adds (terms_of o) w next turn_adds a.client a.last (λ case. Notes case a.notes)
           (λ case. Notes case a.notes) (λ case e. e) (b.noted a l))

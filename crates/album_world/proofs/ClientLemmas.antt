@@ -21,11 +21,11 @@ use Rattle.album_reader.specs.Rounds.{RoundState, has_item, has_answer, lacks, i
 use Rattle.album_reader.specs.Snapshots.{items_read}
 use Rattle.album_reader.proofs.Rounds.{items_read-in_order}
 use Rattle.album_writer.specs.Writing.{WritingState, places_in}
-use Rattle.album_writer.specs.declared.told.Told.{Told}
-use Rattle.album_writer.specs.declared.told.Told.TheVariants as told
-use Rattle.album_writer.specs.Told.{reply_told, body_told, concerns, told_of}
+use Rattle.album_writer.specs.declared.write_replies.WriteReply.{WriteReply}
+use Rattle.album_writer.specs.declared.write_replies.WriteReply.TheVariants as write_reply
+use Rattle.album_writer.specs.WriteReplies.{write_reply_of, body_reply, is_from_participant, reply_in}
 use Rattle.album_client.specs.Clients.{Client}
-use Rattle.album_client.specs.Turns.{clock_after_rows}
+use Rattle.album_client.specs.Steps.{clock_after_rows}
 use Rattle.album_world.specs.State.{client_at, with_client}
 use Rattle.album_world.proofs.ListLemmas.{In, and_left, and_right, and_both, in_uncons, in_nil, in_any, in_map, none_some, some_same}
 use Rattle.album_world.proofs.ListLemmas.In.{here, there}
@@ -253,68 +253,68 @@ found_is r m f h = version (body_version m.body) refl h
 -- ---- what is told to a write
 
 -- the body by which this is told
-abbrev pub IsToldBy : ℕ → Told → Body → Type 0
-IsToldBy t told.Prepared b = b ≡ body.Reply (reply.Prepared t)
-IsToldBy t told.Committed b = b ≡ body.Reply (reply.Committed t)
-IsToldBy t told.Discarded b = b ≡ body.Reply (reply.Discarded t)
-IsToldBy t told.Full b = b ≡ body.Reply (reply.Full t)
-IsToldBy t told.Nothing b = Unit {0}
+abbrev pub IsReplyFrom : ℕ → WriteReply → Body → Type 0
+IsReplyFrom t write_reply.Prepared b = b ≡ body.Reply (reply.Prepared t)
+IsReplyFrom t write_reply.Committed b = b ≡ body.Reply (reply.Committed t)
+IsReplyFrom t write_reply.Discarded b = b ≡ body.Reply (reply.Discarded t)
+IsReplyFrom t write_reply.Full b = b ≡ body.Reply (reply.Full t)
+IsReplyFrom t write_reply.Nothing b = Unit {0}
 
-reply_told_is : (t : ℕ) (r : Reply) → IsToldBy t (reply_told t r) (body.Reply r)
-reply_told_is t (reply.Prepared s) = go (s == t) refl
+write_reply_of_is : (t : ℕ) (r : Reply) → IsReplyFrom t (write_reply_of t r) (body.Reply r)
+write_reply_of_is t (reply.Prepared s) = go (s == t) refl
   where
-    go : (b : Bool) → (s == t) ≡ b → IsToldBy t (if b then told.Prepared else told.Nothing)
+    go : (b : Bool) → (s == t) ≡ b → IsReplyFrom t (if b then write_reply.Prepared else write_reply.Nothing)
         (body.Reply (reply.Prepared s))
     go true e = ap (λ (z : ℕ). body.Reply (reply.Prepared z)) (eqb-true s t e)
     go false e = tt
-reply_told_is t (reply.Committed s) = go (s == t) refl
+write_reply_of_is t (reply.Committed s) = go (s == t) refl
   where
-    go : (b : Bool) → (s == t) ≡ b → IsToldBy t (if b then told.Committed else told.Nothing)
+    go : (b : Bool) → (s == t) ≡ b → IsReplyFrom t (if b then write_reply.Committed else write_reply.Nothing)
         (body.Reply (reply.Committed s))
     go true e = ap (λ (z : ℕ). body.Reply (reply.Committed z)) (eqb-true s t e)
     go false e = tt
-reply_told_is t (reply.Discarded s) = go (s == t) refl
+write_reply_of_is t (reply.Discarded s) = go (s == t) refl
   where
-    go : (b : Bool) → (s == t) ≡ b → IsToldBy t (if b then told.Discarded else told.Nothing)
+    go : (b : Bool) → (s == t) ≡ b → IsReplyFrom t (if b then write_reply.Discarded else write_reply.Nothing)
         (body.Reply (reply.Discarded s))
     go true e = ap (λ (z : ℕ). body.Reply (reply.Discarded z)) (eqb-true s t e)
     go false e = tt
-reply_told_is t (reply.Full s) = go (s == t) refl
+write_reply_of_is t (reply.Full s) = go (s == t) refl
   where
-    go : (b : Bool) → (s == t) ≡ b → IsToldBy t (if b then told.Full else told.Nothing) (body.Reply (reply.Full s))
+    go : (b : Bool) → (s == t) ≡ b → IsReplyFrom t (if b then write_reply.Full else write_reply.Nothing) (body.Reply (reply.Full s))
     go true e = ap (λ (z : ℕ). body.Reply (reply.Full z)) (eqb-true s t e)
     go false e = tt
-reply_told_is t (reply.Version i s v) = tt
-reply_told_is t (reply.Status s v) = tt
-reply_told_is t (reply.NotPrepared s) = tt
-reply_told_is t reply.Clash = tt
-reply_told_is t (reply.Gone i) = tt
+write_reply_of_is t (reply.Version i s v) = tt
+write_reply_of_is t (reply.Status s v) = tt
+write_reply_of_is t (reply.NotPrepared s) = tt
+write_reply_of_is t reply.Clash = tt
+write_reply_of_is t (reply.Gone i) = tt
 
-body_told_is : (t : ℕ) (b : Body) → IsToldBy t (body_told t b) b
-body_told_is t (body.Request r) = tt
-body_told_is t (body.Reply r) = reply_told_is t r
+body_reply_is : (t : ℕ) (b : Body) → IsReplyFrom t (body_reply t b) b
+body_reply_is t (body.Request r) = tt
+body_reply_is t (body.Reply r) = write_reply_of_is t r
 
-abbrev pub IsSomething : Told → Type 0
-IsSomething told.Prepared = Unit {0}
-IsSomething told.Committed = Unit {0}
-IsSomething told.Discarded = Unit {0}
-IsSomething told.Full = Unit {0}
-IsSomething told.Nothing = ⊥
+abbrev pub IsSomething : WriteReply → Type 0
+IsSomething write_reply.Prepared = Unit {0}
+IsSomething write_reply.Committed = Unit {0}
+IsSomething write_reply.Discarded = Unit {0}
+IsSomething write_reply.Full = Unit {0}
+IsSomething write_reply.Nothing = ⊥
 
 -- one of the round's partitions tells its client this under its tag
-pub record IsToldTo (x : WritingState) (m : Message) (what : Told) : Type 0 where
+pub record IsToldTo (x : WritingState) (m : Message) (what : WriteReply) : Type 0 where
   pub tag : m.tag ≡ x.tag
   pub to : m.to ≡ ToClient x.client
   pub part : ℕ
   pub one_of : In part (places_in x)
   pub from : m.from ≡ Part part
-  pub says : IsToldBy x.stamp what m.body
+  pub says : IsReplyFrom x.stamp what m.body
 
-pub told_to_is : (x : WritingState) (m : Message) (what : Told) → told_of x m ≡ what → IsSomething what
+pub told_to_is : (x : WritingState) (m : Message) (what : WriteReply) → reply_in x m ≡ what → IsSomething what
     → IsToldTo x m what
-told_to_is x m what h some = go (concerns x m) refl h
+told_to_is x m what h some = go (is_from_participant x m) refl h
   where
-    go : (b : Bool) → concerns x m ≡ b → (if b then body_told x.stamp m.body else told.Nothing) ≡ what
+    go : (b : Bool) → is_from_participant x m ≡ b → (if b then body_reply x.stamp m.body else write_reply.Nothing) ≡ what
         → IsToldTo x m what
     go true e k =
         let rest = and_left (m.tag == x.tag && is_client m.to x.client) (list_any (is_part m.from) (places_in x)) e in
@@ -326,6 +326,6 @@ told_to_is x m what h some = go (concerns x m) refl h
           part = a.0;
           one_of = a.1;
           from = part_is m.from a.0 a.2;
-          says = subst (λ (z : Told). IsToldBy x.stamp z m.body) k (body_told_is x.stamp m.body);
+          says = subst (λ (z : WriteReply). IsReplyFrom x.stamp z m.body) k (body_reply_is x.stamp m.body);
         }
     go false e k = absurd (subst IsSomething (sym k) some)

@@ -3,16 +3,16 @@ use Rattle.std.proofs.Common.{◌≡◌, ℕ, zero, suc, ◌+◌, Bool, true, Li
 use Rattle.album_stamps.specs.declared.refusals.Refusal.{Refusal}
 use Rattle.album_permits.specs.declared.notes.Note.{Note}
 use Rattle.album_client.specs.Terms.{Terms}
-use Rattle.album_client.specs.Turns.{Turn}
-use Rattle.album_world.specs.declared.events.Event.{Event}
-use Rattle.album_writer.specs.declared.answers.Answer.{Answer}
-use Rattle.album_world.specs.declared.outs.Out.TheVariants as out
+use Rattle.album_client.specs.Steps.{TransitionState}
+use Rattle.album_permits.specs.declared.events.Event.{Event}
+use Rattle.album_permits.specs.declared.answers.Answer.{Answer}
+use Rattle.album_permits.specs.declared.outs.Out.TheVariants as out
 use Rattle.album_world.specs.State.{Now}
 use Rattle.album_world.specs.Past.{World, Begun, last_begun}
 use Rattle.album_world.specs.Events.{IsNoteKept, IsRemembered}
 use Rattle.album_world.specs.Changes.{Change, change_of}
 use Rattle.album_world.specs.Changes.Change.{Nothing, AtPart, AtClient, Stops}
-use Rattle.album_world.specs.Runs.{changed, changed_by, happens, requested, numbers_after, sent_after, outs_of, outs_by, tells, run, reads_after, read_over, nth_after, told_to, noted_of}
+use Rattle.album_world.specs.Runs.{changed, changed_by, happens, requested, numbers_after, sent_after, outs_of, outs_by, event_outputs, run, reads_after, read_over, nth_after, past_answer, noted_of}
 use Rattle.album_world.proofs.ListLemmas.{In, contains, within, in_left, in_right, in_cases, in_map, in_mapped, mapped_in, in_one, in_nil, self_eqb}
 
 -- ---- what is told
@@ -70,23 +70,23 @@ answer_of_change now (AtClient d t) c a h = ⊎_elim
     (sent_after (length now.messages) t.sent ++ option_to_list (option_map (out.Answered d) t.answer)) h)
 
 answer_in : (w : World) (ch : Change) (c : ℕ) (a : Answer) → TellsAnswer ch c a
-    → In (told_to (changed w ch).past.reads c a) (changed w ch).past.told
+    → In (past_answer (changed w ch).past.reads c a) (changed w ch).past.answers
 answer_in w Nothing c a h = absurd h
 answer_in w (Stops d) c a h = absurd h
 answer_in w (AtPart p held sent) c a h = absurd h
 answer_in w (AtClient d t) c a h =
     let fs = reads_after w.past d t in
-    in_right w.past.told
-    (subst (λ (z : ℕ). In (told_to fs z a) (option_to_list (option_map (told_to fs d) t.answer))) (sym h.0)
-    (mapped_in (told_to fs d) t.answer h.1))
+    in_right w.past.answers
+    (subst (λ (z : ℕ). In (past_answer fs z a) (option_to_list (option_map (past_answer fs d) t.answer))) (sym h.0)
+    (mapped_in (past_answer fs d) t.answer h.1))
 
 pub answers_are_kept : (t : Terms) (w : World) (e : Event) (c : ℕ) (a : Answer)
-    → Contains (tells t w e) (out.Answered c a)
-    → Contains (happens t w e).past.told (told_to (happens t w e).past.reads c a)
+    → Contains (event_outputs t w e) (out.Answered c a)
+    → Contains (happens t w e).past.answers (past_answer (happens t w e).past.reads c a)
 answers_are_kept t w e c a h = go (change_of t w.now e) (within _ h)
   where
     go : (f : Result Change Refusal) → In (out.Answered c a) (outs_by w.now f)
-        → Contains (changed_by w e f).past.told (told_to (changed_by w e f).past.reads c a)
+        → Contains (changed_by w e f).past.answers (past_answer (changed_by w e f).past.reads c a)
     go (Ok ch) h = contains (answer_in (requested w e) ch c a (answer_of_change w.now ch c a h))
     go (Err r) h = in_nil h
 
@@ -121,7 +121,7 @@ note_in w (AtClient d t) c n h = ⊎_elim
     noted : {m : Note} → (c ≡ d) × (n ≡ m) → In m (unwrap_or t.noted []) → IsNoteKept (changed w (AtClient d t)) c n
     noted {m} s i = by t.noted refl m i s
 
-pub notes_are_kept : (t : Terms) (w : World) (e : Event) (c : ℕ) (n : Note) → Contains (tells t w e) (out.Noted c n)
+pub notes_are_kept : (t : Terms) (w : World) (e : Event) (c : ℕ) (n : Note) → Contains (event_outputs t w e) (out.Noted c n)
     → IsNoteKept (happens t w e) c n
 notes_are_kept t w e c n h = go (change_of t w.now e) (within _ h)
   where
@@ -132,44 +132,44 @@ notes_are_kept t w e c n h = go (change_of t w.now e) (within _ h)
 -- ---- what was told stays
 
 remembered_at : (w : World) (ch : Change) → IsRemembered w (changed w ch)
-remembered_at w Nothing = record { transactions = λ r l. l; reads = λ r l. l; told = λ r l. l; noted = λ r l. l }
+remembered_at w Nothing = record { transactions = λ r l. l; reads = λ r l. l; answers = λ r l. l; noted = λ r l. l }
 remembered_at w (AtPart p h sent) = record {
   transactions = λ r l. l;
   reads = λ r l. l;
-  told = λ r l. l;
+  answers = λ r l. l;
   noted = λ r l. l;
 }
-remembered_at w (Stops d) = record { transactions = λ r l. l; reads = λ r l. l; told = λ r l. l; noted = λ r l. l }
+remembered_at w (Stops d) = record { transactions = λ r l. l; reads = λ r l. l; answers = λ r l. l; noted = λ r l. l }
 remembered_at w (AtClient d t) = record {
   transactions = λ r l. contains (in_left (option_to_list t.writes) (within _ l));
   reads = λ r l. contains (in_right (option_to_list (option_map (read_over (last_begun w.past.begun d)) t.over))
       (within _ l));
-  told = λ r l. contains
-      (in_left (option_to_list (option_map (told_to (reads_after w.past d t) d) t.answer)) (within _ l));
+  answers = λ r l. contains
+      (in_left (option_to_list (option_map (past_answer (reads_after w.past d t) d) t.answer)) (within _ l));
   noted = λ r l. contains
       (in_left (option_to_list (option_map (noted_of (reads_after w.past d t) d) t.noted)) (within _ l));
 }
 
 remembered_by : (w : World) (e : Event) (f : Result Change Refusal) → IsRemembered w (changed_by w e f)
 remembered_by w e (Ok ch) = let a = remembered_at (requested w e) ch in
-    record { transactions = a.transactions; reads = a.reads; told = a.told; noted = a.noted }
-remembered_by w e (Err r) = record { transactions = λ r l. l; reads = λ r l. l; told = λ r l. l; noted = λ r l. l }
+    record { transactions = a.transactions; reads = a.reads; answers = a.answers; noted = a.noted }
+remembered_by w e (Err r) = record { transactions = λ r l. l; reads = λ r l. l; answers = λ r l. l; noted = λ r l. l }
 
 pub all_is_remembered : (t : Terms) (w : World) (es : List Event) → IsRemembered w (run t w es)
-all_is_remembered t w [] = record { transactions = λ r l. l; reads = λ r l. l; told = λ r l. l; noted = λ r l. l }
+all_is_remembered t w [] = record { transactions = λ r l. l; reads = λ r l. l; answers = λ r l. l; noted = λ r l. l }
 all_is_remembered t w (e ∷ es) =
     let a = remembered_by w e (change_of t w.now e) in
     let d = all_is_remembered t (happens t w e) es in
     record {
       transactions = λ r l. d.transactions r (a.transactions r l);
       reads = λ r l. d.reads r (a.reads r l);
-      told = λ r l. d.told r (a.told r l);
+      answers = λ r l. d.answers r (a.answers r l);
       noted = λ r l. d.noted r (a.noted r l);
     }
 
 -- ---- a read that begins
 
-pub read_keeps_partitions : (w : World) (c : ℕ) (t : Turn) → t.reads ≡ true
+pub read_keeps_partitions : (w : World) (c : ℕ) (t : TransitionState) → t.reads ≡ true
     → (last_begun (changed w (AtClient c t)).past.begun c).partitions ≡ w.now.partitions
 read_keeps_partitions w c t e =
     ap (λ (f : Bool). (last_begun

@@ -20,9 +20,9 @@ use Rattle.album_partition.specs.Partition.{PartitionState}
 use Rattle.album_partition.specs.Marks.{commits, IsPromisedAgainst}
 use Rattle.album_partition.proofs.GrowthLemmas.{promised_stays}
 use Rattle.album_reader.specs.Answers.{ReadVersion}
-use Rattle.album_writer.specs.declared.answers.Answer.{Answer}
-use Rattle.album_writer.specs.declared.answers.Answer.TheVariants as answer
-use Rattle.album_client.specs.Turns.{Transaction}
+use Rattle.album_permits.specs.declared.answers.Answer.{Answer}
+use Rattle.album_permits.specs.declared.answers.Answer.TheVariants as answer
+use Rattle.album_client.specs.Steps.{Transaction}
 use Rattle.album_world.proofs.ListLemmas.{In}
 use Rattle.album_world.specs.State.{client_at, history_in}
 use Rattle.album_world.specs.Past.{World}

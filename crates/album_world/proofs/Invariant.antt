@@ -27,14 +27,14 @@ use Rattle.album_reader.specs.Rounds.{RoundState, are_in_order}
 use Rattle.album_items.specs.Places.{places_of, rows_placed_at}
 use Rattle.album_items.specs.Transactions.{items_written}
 use Rattle.album_writer.specs.Writing.{WritingState, places_in}
-use Rattle.album_writer.specs.declared.answers.Answer.{Answer}
-use Rattle.album_writer.specs.declared.answers.Answer.TheVariants as answer
+use Rattle.album_permits.specs.declared.answers.Answer.{Answer}
+use Rattle.album_permits.specs.declared.answers.Answer.TheVariants as answer
 use Rattle.album_client.specs.declared.clients.Phase.{Phase}
 use Rattle.album_client.specs.declared.clients.Phase.TheVariants as phase
 use Rattle.album_client.specs.Clients.{Client, tag_of}
-use Rattle.album_client.specs.Turns.{Transaction}
+use Rattle.album_client.specs.Steps.{Transaction}
 use Rattle.album_world.specs.State.{history_in, client_at}
-use Rattle.album_world.specs.Past.{World, Read, Told, last_begun}
+use Rattle.album_world.specs.Past.{World, Read, PastAnswer, last_begun}
 use Rattle.album_world.specs.Committing.{history, IsCommitted, IsCommittedAt}
 use Rattle.album_world.specs.Atomic.{first_value}
 use Rattle.album_world.proofs.ListLemmas.{In}
@@ -257,7 +257,7 @@ pub record IsWriting (o : Opening) (w : World) (c : ℕ) (x : WritingState) (P :
   pub stamp : of.stamp ≡ x.stamp
   pub parts : places_in x ≡ places_of o.parts (items_written of.writes)
   pub client : x.client ≡ c
-  pub told : (p : ℕ) → In p (places_in x) → In p x.awaited ⊎ P p x.stamp
+  pub told : (p : ℕ) → In p (places_in x) → In p x.outstanding ⊎ P p x.stamp
 
 abbrev pub HasPrepared : World → ℕ → ℕ → Type 0
 HasPrepared w p t = IsPreparedIn (history w p) t
@@ -337,4 +337,4 @@ pub record IsKept (o : Opening) (w : World) : Type 0 where
   pub clients : (c : ℕ) → IsClient o w c (client_at w.now.clients c) (last_begun w.past.begun c).partitions
   pub reads : (f : Read) (rows : List ReadVersion) → In f w.past.reads → f.rows ≡ Some rows
       → IsRead o w f.begun.partitions rows
-  pub answers : (t : Told) → In t w.past.told → IsAnswer o w t.answer
+  pub answers : (t : PastAnswer) → In t w.past.answers → IsAnswer o w t.answer

@@ -38,25 +38,25 @@ use Rattle.album_permits.specs.declared.findings.Finding.TheVariants as finding
 use Rattle.album_permits.specs.declared.notes.Note.{Note}
 use Rattle.album_permits.specs.declared.serving.Served.{Served}
 use Rattle.album_writer.specs.Rounds.{answered_by, prepares_left, prepares_by, commits_left, commits_by}
-use Rattle.album_writer.specs.Told.{told_of}
+use Rattle.album_writer.specs.WriteReplies.{reply_in}
 use Rattle.album_writer.specs.Writing.{WritingState, places_in, commit_round, commits_of}
-use Rattle.album_writer.specs.declared.told.Told.{Told as Heard}
-use Rattle.album_writer.specs.declared.told.Told.TheVariants as told
-use Rattle.album_writer.specs.declared.answers.Answer.{Answer}
-use Rattle.album_writer.specs.declared.answers.Answer.TheVariants as answer
+use Rattle.album_writer.specs.declared.write_replies.WriteReply.{WriteReply}
+use Rattle.album_writer.specs.declared.write_replies.WriteReply.TheVariants as write_reply
+use Rattle.album_permits.specs.declared.answers.Answer.{Answer}
+use Rattle.album_permits.specs.declared.answers.Answer.TheVariants as answer
 use Rattle.album_client.specs.declared.clients.Phase.{Phase}
 use Rattle.album_client.specs.declared.clients.Phase.TheVariants as phase
 use Rattle.album_client.specs.Terms.{Terms, terms_of}
-use Rattle.album_client.specs.Askings.{PendingAsk}
+use Rattle.album_client.specs.PendingAsks.{PendingAsk}
 use Rattle.album_client.specs.Clients.{Client}
 use Rattle.album_client.specs.Grants.{served_for}
-use Rattle.album_client.specs.Turns.{Transaction, Ended, Turn, still, sends, read_begins, ask_ends, write_begins, writes_unless, draws_by, grants, rules_by, clock_after_rows, read_ends, read_turn, prepare_turn, commit_turn}
+use Rattle.album_client.specs.Steps.{Transaction, Ended, TransitionState, still, sends, read_begins, ask_ends, write_begins, writes_unless, draws_by, grants, rules_by, clock_after_rows, read_ends, read_transition, prepare_transition, commit_transition}
 use Rattle.album_client.proofs.GrantLemmas.{served_is, unserved_writes, taken_flawless, spent_is}
 use Rattle.album_world.specs.State.{client_at, is_stopped}
 use Rattle.album_world.specs.Past.{World, Begun, Read, last_begun, last_read}
 use Rattle.album_world.specs.Changes.Change.{AtClient, Nothing}
 use Rattle.album_world.specs.Changes.{client_takes_by, client_takes}
-use Rattle.album_world.specs.Runs.{changed, read_over, told_to, noted_of}
+use Rattle.album_world.specs.Runs.{changed, read_over, past_answer, noted_of}
 use Rattle.album_permits.specs.Meaning.{Notes}
 use Rattle.album_world.specs.Viewed.{IsOnView}
 use Rattle.album_world.specs.Rulings.{IsBegunBy, HasNotes, IsNotedFor}
@@ -97,18 +97,18 @@ module _ (o : Opening) (w : World) (k : IsKept o w) (b : IsBooked (terms_of o) w
       (λ r l. none_some l) (λ a l. none_some l) (λ a l. none_some l) (λ a l. none_some l)
 
   -- a write is over
-  outcome_booked : (tag : ℕ) (a : Answer) → IsLed t w (told_to w.past.reads c a) a
-      → IsNotedFor w (told_to w.past.reads c a) a → IsBooked t (changed w (AtClient c (ask_ends x tag a)))
+  outcome_booked : (tag : ℕ) (a : Answer) → IsLed t w (past_answer w.past.reads c a) a
+      → IsNotedFor w (past_answer w.past.reads c a) a → IsBooked t (changed w (AtClient c (ask_ends x tag a)))
   outcome_booked tag a led noting =
       let turn = ask_ends x tag a in
       let next = changed w (AtClient c turn) in
       turn_booked o w k b c turn number own (le_refl _) (λ r l. none_some l) tt (λ r l. none_some l)
-      (λ z l. subst (λ (y : Answer). IsLed t next (told_to w.past.reads c y) y) (some_same l)
+      (λ z l. subst (λ (y : Answer). IsLed t next (past_answer w.past.reads c y) y) (some_same l)
       (led_adds t w next (turn_adds o w k b c turn number own (le_refl _) (λ r l. none_some l))
-      (told_to w.past.reads c a) a led))
-      (λ z l. subst (λ (y : Answer). IsNotedFor next (told_to w.past.reads c y) y) (some_same l)
+      (past_answer w.past.reads c a) a led))
+      (λ z l. subst (λ (y : Answer). IsNotedFor next (past_answer w.past.reads c y) y) (some_same l)
       (noting_adds t w next (turn_adds o w k b c turn number own (le_refl _) (λ r l. none_some l))
-      (told_to w.past.reads c a) a noting))
+      (past_answer w.past.reads c a) a noting))
       (λ a l. none_some l)
 
   -- ---- a read that is over
@@ -129,15 +129,15 @@ module _ (o : Opening) (w : World) (k : IsKept o w) (b : IsBooked (terms_of o) w
     -- there is no view
     busy_booked : (why : Why) (rows : Option (List ReadVersion))
         → ((v : World) → In (read_now rows) v.past.reads
-        → IsLed t v (told_to (read_now rows ∷ w.past.reads) c (answer.Busy why)) (answer.Busy why))
+        → IsLed t v (past_answer (read_now rows ∷ w.past.reads) c (answer.Busy why)) (answer.Busy why))
         → IsBooked t (changed w (AtClient c (read_ends t x tag pending_ask rows (Busy why))))
     busy_booked why rows led =
         let turn = read_ends t x tag pending_ask rows (Busy why) in
         let next = changed w (AtClient c turn) in
         turn_booked o w k b c turn number own (le_refl _) (λ r l. none_some l) tt (λ r l. none_some l)
-        (λ z l. subst (λ (y : Answer). IsLed t next (told_to (read_now rows ∷ w.past.reads) c y) y) (some_same l)
+        (λ z l. subst (λ (y : Answer). IsLed t next (past_answer (read_now rows ∷ w.past.reads) c y) y) (some_same l)
         (led next here))
-        (λ z l. subst (λ (y : Answer). IsNotedFor next (told_to (read_now rows ∷ w.past.reads) c y) y) (some_same l) tt)
+        (λ z l. subst (λ (y : Answer). IsNotedFor next (past_answer (read_now rows ∷ w.past.reads) c y) y) (some_same l) tt)
         (λ a l. none_some l)
 
     again_booked : (rows : Option (List ReadVersion)) → ((read_now rows).rows ≡ None) ⊎ IsNarrow (read_now rows)
@@ -231,7 +231,7 @@ module _ (o : Opening) (w : World) (k : IsKept o w) (b : IsBooked (terms_of o) w
       seen_up = rows_raise x.clock rows
 
       -- what is told and noted at this event
-      abbrev over_with : Turn → Turn
+      abbrev over_with : TransitionState → TransitionState
       over_with turn = with_past turn (Some (ended (Some rows))) (Some notes)
 
       noted_now : (v : World) → In here_read v.past.reads → (n : List Note) → Some notes ≡ Some n
@@ -244,15 +244,15 @@ module _ (o : Opening) (w : World) (k : IsKept o w) (b : IsBooked (terms_of o) w
       tells_booked : (y : Client) → y.number ≡ c → y.clock.client ≡ c → x.clock.counter ≤ y.clock.counter → (a : Answer)
           → ((v : World) → In here_read v.past.reads
           → client_at v.now.clients c ≡ (record y { phase = phase.Idle tag })
-          → v.past.transactions ≡ w.past.transactions ++ [] → IsLed t v (told_to (here_read ∷ w.past.reads) c a) a)
+          → v.past.transactions ≡ w.past.transactions ++ [] → IsLed t v (past_answer (here_read ∷ w.past.reads) c a) a)
           → IsBooked t (changed w (AtClient c (over_with (ask_ends y tag a))))
       tells_booked y ny oy up a led =
           let turn = over_with (ask_ends y tag a) in
           let next = changed w (AtClient c turn) in
           turn_booked o w k b c turn ny oy up (λ r l. none_some l) tt (λ r l. none_some l)
-          (λ z l. subst (λ (q : Answer). IsLed t next (told_to (here_read ∷ w.past.reads) c q) q) (some_same l)
+          (λ z l. subst (λ (q : Answer). IsLed t next (past_answer (here_read ∷ w.past.reads) c q) q) (some_same l)
           (led next here (same_now o w k c turn ny oy) refl))
-          (λ z l. noting_by next (told_to (here_read ∷ w.past.reads) c z) z
+          (λ z l. noting_by next (past_answer (here_read ∷ w.past.reads) c z) z
           (record {
             noted = noted_of (here_read ∷ w.past.reads) c notes;
             kept = contains (in_right w.past.noted here);
@@ -300,7 +300,7 @@ module _ (o : Opening) (w : World) (k : IsKept o w) (b : IsBooked (terms_of o) w
                 (λ (z : Client). drawn.clock.counter ≤ z.clock.counter) (sym e) (le_refl _);
           }
 
-          is_new : (turn : Turn) → turn.client.clock.counter ≡ drawn.clock.counter → (r : Transaction)
+          is_new : (turn : TransitionState) → turn.client.clock.counter ≡ drawn.clock.counter → (r : Transaction)
               → r.stamp ≡ stamp → IsNew c x.clock.counter turn r
           is_new turn same r e = record {
             at = drawn.clock.counter;
@@ -475,7 +475,7 @@ module _ (o : Opening) (w : World) (k : IsKept o w) (b : IsBooked (terms_of o) w
 
     -- ---- a message in a read
 
-    reading_booked : (step : Step) → IsBooked t (changed w (AtClient c (read_turn t x tag pending_ask step)))
+    reading_booked : (step : Step) → IsBooked t (changed w (AtClient c (read_transition t x tag pending_ask step)))
     reading_booked (Same round) = quiet_booked (record x { phase = phase.Reads pending_ask round }) refl refl counted []
     reading_booked (Next round messages) = quiet_booked (record x { phase = phase.Reads pending_ask round }) refl refl
         counted messages
@@ -514,7 +514,7 @@ module _ (o : Opening) (w : World) (k : IsKept o w) (b : IsBooked (terms_of o) w
   committed_led z T h = on_write z T h (IsBegunBy w c z.stamp) (begun_by z T h)
 
   noting_of : (z : WritingState) (T : Transaction → Type 0) → IsWriteOn t w c z T → (a : Answer)
-      → HasNotes w (told_to w.past.reads c a)
+      → HasNotes w (past_answer w.past.reads c a)
   noting_of z T h a = record {
     noted = h.notes;
     kept = contains h.noted;
@@ -563,8 +563,8 @@ module _ (o : Opening) (w : World) (k : IsKept o w) (b : IsBooked (terms_of o) w
     Whatever by = Unit {0}
 
     left_booked : (y : WritingState) → y.stamp ≡ z.stamp → places_in y ≡ places_in z → y.client ≡ z.client
-        → y.tag ≡ z.tag → IsWriteOn t w c z Tagged → (awaited : List ℕ)
-        → IsBooked t (changed w (AtClient c (prepare_turn x z.tag (prepares_left y awaited))))
+        → y.tag ≡ z.tag → IsWriteOn t w c z Tagged → (outstanding : List ℕ)
+        → IsBooked t (changed w (AtClient c (prepare_transition x z.tag (prepares_left y outstanding))))
     left_booked y stamp places client tag h [] =
         quiet_booked (committing (commit_round y)) refl refl
         (same_write z (commit_round y) Tagged Whatever stamp places client (λ r e. tt) h)
@@ -573,14 +573,14 @@ module _ (o : Opening) (w : World) (k : IsKept o w) (b : IsBooked (terms_of o) w
         quiet_booked (preparing y) refl refl
         (same_write z y Tagged (λ by. by.tag ≡ y.tag) stamp places client (λ r e. e ∙ sym tag) h) []
 
-    prepared_booked : IsWriteOn t w c z Tagged → (what : Heard) → told_of z m ≡ what
-        → IsBooked t (changed w (AtClient c (prepare_turn x z.tag (prepares_by z m.from what))))
-    prepared_booked h told.Prepared e = left_booked (answered_by z m.from) refl refl refl refl h
-        (answered_by z m.from).awaited
-    prepared_booked h told.Discarded e = outcome_booked z.tag (answer.Aborted z.stamp) (committed_led z Tagged h)
+    prepared_booked : IsWriteOn t w c z Tagged → (what : WriteReply) → reply_in z m ≡ what
+        → IsBooked t (changed w (AtClient c (prepare_transition x z.tag (prepares_by z m.from what))))
+    prepared_booked h write_reply.Prepared e = left_booked (answered_by z m.from) refl refl refl refl h
+        (answered_by z m.from).outstanding
+    prepared_booked h write_reply.Discarded e = outcome_booked z.tag (answer.Aborted z.stamp) (committed_led z Tagged h)
         (noting_of z Tagged h (answer.Aborted z.stamp))
-    prepared_booked h told.Full e =
-        let d = told_to_is z m told.Full e tt in
+    prepared_booked h write_reply.Full e =
+        let d = told_to_is z m write_reply.Full e tt in
         outcome_booked z.tag (answer.Unsettled z.stamp refusal.Full)
         (on_write z Tagged h (IsBegunFull t w c z.stamp)
         (record {
@@ -597,12 +597,12 @@ module _ (o : Opening) (w : World) (k : IsKept o w) (b : IsBooked (terms_of o) w
           };
         }))
         (noting_of z Tagged h (answer.Unsettled z.stamp refusal.Full))
-    prepared_booked h told.Committed e = quiet_booked (preparing z) refl refl h []
-    prepared_booked h told.Nothing e = quiet_booked (preparing z) refl refl h []
+    prepared_booked h write_reply.Committed e = quiet_booked (preparing z) refl refl h []
+    prepared_booked h write_reply.Nothing e = quiet_booked (preparing z) refl refl h []
 
     ended_booked : (y : WritingState) → y.stamp ≡ z.stamp → places_in y ≡ places_in z → y.client ≡ z.client
-        → IsWriteOn t w c z Whatever → (awaited : List ℕ)
-        → IsBooked t (changed w (AtClient c (commit_turn x z.tag (commits_left y awaited))))
+        → IsWriteOn t w c z Whatever → (outstanding : List ℕ)
+        → IsBooked t (changed w (AtClient c (commit_transition x z.tag (commits_left y outstanding))))
     ended_booked y stamp places client h [] =
         outcome_booked z.tag (answer.Committed y.stamp)
         (committed_led y Whatever (same_write z y Whatever Whatever stamp places client (λ r e. e) h))
@@ -610,14 +610,14 @@ module _ (o : Opening) (w : World) (k : IsKept o w) (b : IsBooked (terms_of o) w
     ended_booked y stamp places client h (p ∷ ps) = quiet_booked (committing y) refl refl
         (same_write z y Whatever Whatever stamp places client (λ r e. e) h) []
 
-    committed_booked : IsWriteOn t w c z Whatever → (what : Heard) → told_of z m ≡ what
-        → IsBooked t (changed w (AtClient c (commit_turn x z.tag (commits_by z m.from what))))
-    committed_booked h told.Committed e = ended_booked (answered_by z m.from) refl refl refl h
-        (answered_by z m.from).awaited
-    committed_booked h told.Prepared e = quiet_booked (committing z) refl refl h []
-    committed_booked h told.Discarded e = quiet_booked (committing z) refl refl h []
-    committed_booked h told.Full e = quiet_booked (committing z) refl refl h []
-    committed_booked h told.Nothing e = quiet_booked (committing z) refl refl h []
+    committed_booked : IsWriteOn t w c z Whatever → (what : WriteReply) → reply_in z m ≡ what
+        → IsBooked t (changed w (AtClient c (commit_transition x z.tag (commits_by z m.from what))))
+    committed_booked h write_reply.Committed e = ended_booked (answered_by z m.from) refl refl refl h
+        (answered_by z m.from).outstanding
+    committed_booked h write_reply.Prepared e = quiet_booked (committing z) refl refl h []
+    committed_booked h write_reply.Discarded e = quiet_booked (committing z) refl refl h []
+    committed_booked h write_reply.Full e = quiet_booked (committing z) refl refl h []
+    committed_booked h write_reply.Nothing e = quiet_booked (committing z) refl refl h []
 
   -- ---- whatever it does
 
@@ -626,8 +626,8 @@ module _ (o : Opening) (w : World) (k : IsKept o w) (b : IsBooked (terms_of o) w
       → IsBooked t (changed w (client_takes_by t c x m f))
   by_booked m sent (phase.Idle tag) kept h = b
   by_booked m sent (phase.Reads pending_ask r) kept h = reading_booked pending_ask h kept.low kept.high r.asker.tag (stepped r m)
-  by_booked m sent (phase.Prepares z) kept h = prepared_booked m sent z h (told_of z m) refl
-  by_booked m sent (phase.Commits z) kept h = committed_booked m sent z h (told_of z m) refl
+  by_booked m sent (phase.Prepares z) kept h = prepared_booked m sent z h (reply_in z m) refl
+  by_booked m sent (phase.Commits z) kept h = committed_booked m sent z h (reply_in z m) refl
 
   pub message_booked : (m : Message) → In m w.now.messages → IsBooked t (changed w (client_takes t w.now c x m))
   message_booked m sent = go (is_stopped w.now c)

@@ -20,7 +20,7 @@ pub mod RequestLemmas
 pub mod AskedLemmas
 pub mod AnsweredLemmas
 pub mod TidyLemmas
-pub mod ToldLemmas
+pub mod OutputLemmas
 pub mod WorldRows
 pub mod FlagLemmas
 pub mod RegisterLemmas

@@ -27,52 +27,52 @@ use Rattle.album_permits.specs.declared.serving.Served.{Served}
 use Rattle.album_writer.specs.Rounds.{WriteStep, commits_by, commits_left, prepare_stepped, commit_stepped}
 use Rattle.album_writer.specs.Rounds.WriteStep.{Waits, Commits as Decides, Ends}
 use Rattle.album_writer.specs.Writing.{WritingState, places_in}
-use Rattle.album_writer.specs.Told.{told_of}
-use Rattle.album_writer.specs.declared.told.Told.{Told}
-use Rattle.album_writer.specs.declared.told.Told.TheVariants as told
+use Rattle.album_writer.specs.WriteReplies.{reply_in}
+use Rattle.album_writer.specs.declared.write_replies.WriteReply.{WriteReply}
+use Rattle.album_writer.specs.declared.write_replies.WriteReply.TheVariants as write_reply
 use Rattle.album_client.specs.declared.clients.Phase.{Phase}
 use Rattle.album_client.specs.declared.clients.Phase.TheVariants as phase
 use Rattle.album_client.specs.declared.transitions.Transition.{Transition}
 use Rattle.album_client.specs.Terms.{Terms}
-use Rattle.album_client.specs.Askings.{PendingAsk}
+use Rattle.album_client.specs.PendingAsks.{PendingAsk}
 use Rattle.album_client.specs.Clients.{Client}
 use Rattle.album_client.specs.Grants.{served_for}
-use Rattle.album_client.specs.Turns.{turn_of, is_waiting, IsTakenBy, Turn, read_begins, writes_unless, draws_by, grants, rules_by, clock_after_rows, views_by, read_turn, prepare_turn, commit_turn}
+use Rattle.album_client.specs.Steps.{transition_of, is_waiting, IsTakenBy, TransitionState, read_begins, writes_unless, draws_by, grants, rules_by, clock_after_rows, views_by, read_transition, prepare_transition, commit_transition}
 use Rattle.album_client.specs.Transitions.{IsMoved}
 use Rattle.album_client.proofs.MoveLemmas.{just_commits}
-use Rattle.album_world.specs.declared.outs.Out.{Out}
-use Rattle.album_world.specs.declared.outs.Out.TheVariants as out
+use Rattle.album_permits.specs.declared.outs.Out.{Out}
+use Rattle.album_permits.specs.declared.outs.Out.TheVariants as out
 use Rattle.album_world.specs.Changes.{asks_by, client_takes_by}
-use Rattle.album_world.specs.Moves.{IsTurned, IsChangedBy, idle_tag, is_writing}
-use Rattle.album_world.specs.Runs.{numbers_after, outs_of_turn}
+use Rattle.album_world.specs.Moves.{IsInstalled, IsChangedBy, idle_tag, is_writing}
+use Rattle.album_world.specs.Runs.{numbers_after, outs_of_transition}
 
 -- ---- how many messages
 
 pub few_prepared : (x : Client) (tag : ℕ) (writing : WritingState) (message : Message)
-    → length (prepare_turn x tag (prepare_stepped writing message)).sent ≤ length (places_in writing)
+    → length (prepare_transition x tag (prepare_stepped writing message)).sent ≤ length (places_in writing)
 few_prepared x tag writing message = go (prepare_stepped writing message) refl
   where
     go : (f : WriteStep) → prepare_stepped writing message ≡ f
-        → length (prepare_turn x tag f).sent ≤ length (places_in writing)
+        → length (prepare_transition x tag f).sent ≤ length (places_in writing)
     go (Waits next) e = omega arith
     go (Decides next messages) e = just_commits writing next message messages e
     go (Ends outcome) e = omega arith
 
 -- a round of Commits sends nothing
 pub none_committed : (x : Client) (tag : ℕ) (writing : WritingState) (message : Message)
-    → length (commit_turn x tag (commit_stepped writing message)).sent ≤ 0
-none_committed x tag writing message = by (told_of writing message)
+    → length (commit_transition x tag (commit_stepped writing message)).sent ≤ 0
+none_committed x tag writing message = by (reply_in writing message)
   where
-    left : (some : WritingState) (awaited : List ℕ) → length (commit_turn x tag (commits_left some awaited)).sent ≤ 0
+    left : (some : WritingState) (outstanding : List ℕ) → length (commit_transition x tag (commits_left some outstanding)).sent ≤ 0
     left some [] = omega arith
     left some (place ∷ places) = omega arith
 
-    by : (f : Told) → length (commit_turn x tag (commits_by writing message.from f)).sent ≤ 0
-    by told.Prepared = omega arith
-    by told.Committed = left _ _
-    by told.Discarded = omega arith
-    by told.Full = omega arith
-    by told.Nothing = omega arith
+    by : (f : WriteReply) → length (commit_transition x tag (commits_by writing message.from f)).sent ≤ 0
+    by write_reply.Prepared = omega arith
+    by write_reply.Committed = left _ _
+    by write_reply.Discarded = omega arith
+    by write_reply.Full = omega arith
+    by write_reply.Nothing = omega arith
 
 -- ---- what a client did doesn't matter to what it does next
 
@@ -105,35 +105,35 @@ module _ (terms : Terms) (x : Client) (d : Phase) where
   same_views : (tag : ℕ) (who : Principal) (f : ViewStep) → views_by terms idle tag who f ≡ views_by terms x tag who f
   same_views tag who (Again viewing items) = refl
   same_views tag who (Closed view) =
-      ap (λ (t : Turn). record t { noted = Some (notes_of (basis_on terms.policy who view.rows) view.ask) })
+      ap (λ (t : TransitionState). record t { noted = Some (notes_of (basis_on terms.policy who view.rows) view.ask) })
       (same_rules (clock_after_rows x.clock view.rows) tag _ (ruling_of (basis_on terms.policy who view.rows) view.ask))
   same_views tag who (Busy why) = refl
 
   same_read : (tag : ℕ) (pending_ask : PendingAsk) (f : ReadStep)
-      → read_turn terms idle tag pending_ask f ≡ read_turn terms x tag pending_ask f
+      → read_transition terms idle tag pending_ask f ≡ read_transition terms x tag pending_ask f
   same_read tag pending_ask (Same round) = refl
   same_read tag pending_ask (Next round messages) = refl
   same_read tag pending_ask (Done rows) =
-      ap (λ (t : Turn). record t {
+      ap (λ (t : TransitionState). record t {
         over = Some (record { ask = pending_ask.viewing.ask; principal = pending_ask.principal; rows = Some rows });
       }) (same_views tag pending_ask.principal (viewed pending_ask.viewing rows))
   same_read tag pending_ask (Gone items) =
-      ap (λ (t : Turn). record t {
+      ap (λ (t : TransitionState). record t {
         over = Some (record { ask = pending_ask.viewing.ask; principal = pending_ask.principal; rows = None });
       }) (same_views tag pending_ask.principal (again pending_ask.viewing items))
 
-  same_prepare : (tag : ℕ) (f : WriteStep) → prepare_turn idle tag f ≡ prepare_turn x tag f
+  same_prepare : (tag : ℕ) (f : WriteStep) → prepare_transition idle tag f ≡ prepare_transition x tag f
   same_prepare tag (Waits writing) = refl
   same_prepare tag (Decides writing messages) = refl
   same_prepare tag (Ends outcome) = refl
 
-  same_commit : (tag : ℕ) (f : WriteStep) → commit_turn idle tag f ≡ commit_turn x tag f
+  same_commit : (tag : ℕ) (f : WriteStep) → commit_transition idle tag f ≡ commit_transition x tag f
   same_commit tag (Waits writing) = refl
   same_commit tag (Decides writing messages) = refl
   same_commit tag (Ends outcome) = refl
 
   -- nor to what a message does
-  pub same_turn : (message : Message) (f : Phase) → turn_of terms idle message f ≡ turn_of terms x message f
+  pub same_turn : (message : Message) (f : Phase) → transition_of terms idle message f ≡ transition_of terms x message f
   same_turn message (phase.Idle tag) = refl
   same_turn message (phase.Reads pending_ask round) = same_read round.asker.tag pending_ask (stepped round message)
   same_turn message (phase.Prepares writing) = same_prepare writing.tag (prepare_stepped writing message)
@@ -170,24 +170,24 @@ module _ (terms : Terms) (x : Client) where
   number_views tag who (Busy why) = refl
 
   number_read : (tag : ℕ) (pending_ask : PendingAsk) (f : ReadStep)
-      → (read_turn terms x tag pending_ask f).client.number ≡ x.number
+      → (read_transition terms x tag pending_ask f).client.number ≡ x.number
   number_read tag pending_ask (Same round) = refl
   number_read tag pending_ask (Next round messages) = refl
   number_read tag pending_ask (Done rows) = number_views tag pending_ask.principal (viewed pending_ask.viewing rows)
   number_read tag pending_ask (Gone items) = number_views tag pending_ask.principal (again pending_ask.viewing items)
 
-number_prepare : (x : Client) (tag : ℕ) (f : WriteStep) → (prepare_turn x tag f).client.number ≡ x.number
+number_prepare : (x : Client) (tag : ℕ) (f : WriteStep) → (prepare_transition x tag f).client.number ≡ x.number
 number_prepare x tag (Waits writing) = refl
 number_prepare x tag (Decides writing messages) = refl
 number_prepare x tag (Ends outcome) = refl
 
-number_commit : (x : Client) (tag : ℕ) (f : WriteStep) → (commit_turn x tag f).client.number ≡ x.number
+number_commit : (x : Client) (tag : ℕ) (f : WriteStep) → (commit_transition x tag f).client.number ≡ x.number
 number_commit x tag (Waits writing) = refl
 number_commit x tag (Decides writing messages) = refl
 number_commit x tag (Ends outcome) = refl
 
 pub number_turn : (terms : Terms) (x : Client) (message : Message) (f : Phase)
-    → (turn_of terms x message f).client.number ≡ x.number
+    → (transition_of terms x message f).client.number ≡ x.number
 number_turn terms x message (phase.Idle tag) = refl
 number_turn terms x message (phase.Reads pending_ask round) =
     number_read terms x round.asker.tag pending_ask (stepped round message)
@@ -198,24 +198,24 @@ number_turn terms x message (phase.Commits writing) = number_commit x writing.ta
 -- ---- what is told
 
 -- all that is told of what it has transition to
-pub told_is : (before one number : ℕ) (turn : Turn) (transition : Transition) (outs : List Out) → one ≡ number
+pub told_is : (before one number : ℕ) (turn : TransitionState) (transition : Transition) (outs : List Out) → one ≡ number
     → IsMoved turn transition
     → outs
     ≡ map (out.Noted one) transition.notes.items
     ++ (numbers_after before (length transition.sent.items) ++ option_to_list (option_map (out.Answered one) transition.answer))
-    → outs ≡ outs_of_turn before number turn
+    → outs ≡ outs_of_transition before number turn
 told_is before one number turn transition outs same is e = rw (← same, ← is.noted, ← is.sent, ← is.answer) e
 
 -- a turn in which nothing is noted
-pub untold_is : (before one : ℕ) (x new : Client) (turn : Turn) (transition : Transition) (outs : List Out) → one ≡ x.number
+pub untold_is : (before one : ℕ) (x new : Client) (turn : TransitionState) (transition : Transition) (outs : List Out) → one ≡ x.number
     → turn.noted ≡ None → IsMoved turn transition → new ≡ transition.client
     → outs
     ≡ numbers_after before (length transition.sent.items) ++ option_to_list (option_map (out.Answered one) transition.answer)
-    → IsTurned before x.number turn new transition.sent.items outs
+    → IsInstalled before x.number turn new transition.sent.items outs
 untold_is before one x new turn transition outs same none is now e = record {
   client = now ∙ is.client;
   sent_is = is.sent;
-  told = rw (none, ← same, ← is.sent, ← is.answer) e;
+  outputs = rw (none, ← same, ← is.sent, ← is.answer) e;
 }
 
 -- ---- an ask
@@ -229,7 +229,7 @@ idle_is (phase.Commits writing) other e = absurd (cc)
 -- it has asked
 pub asked_done : (before : ℕ) (terms : Terms) (x new : Client) (who : Principal) (a : Ask) (tag : ℕ)
     (sent : List Message) (outs : List Out) → idle_tag x.phase ≡ Some tag → refusal_of a who ≡ None
-    → IsTurned before x.number
+    → IsInstalled before x.number
     (read_begins terms x tag (record { viewing = record { ask = a; reads = 0 }; principal = who }) (objects_of a))
     new sent outs
     → IsOkAnd (asks_by terms x.number x who a x.phase) (λ change. IsChangedBy before x change new sent outs)
@@ -239,18 +239,18 @@ asked_done before terms x new who a tag sent outs idles taken is =
 -- ---- a message
 
 -- nothing is noted in a write
-unnoted_prepare : (x : Client) (tag : ℕ) (f : WriteStep) → (prepare_turn x tag f).noted ≡ None
+unnoted_prepare : (x : Client) (tag : ℕ) (f : WriteStep) → (prepare_transition x tag f).noted ≡ None
 unnoted_prepare x tag (Waits writing) = refl
 unnoted_prepare x tag (Decides writing messages) = refl
 unnoted_prepare x tag (Ends outcome) = refl
 
-unnoted_commit : (x : Client) (tag : ℕ) (f : WriteStep) → (commit_turn x tag f).noted ≡ None
+unnoted_commit : (x : Client) (tag : ℕ) (f : WriteStep) → (commit_transition x tag f).noted ≡ None
 unnoted_commit x tag (Waits writing) = refl
 unnoted_commit x tag (Decides writing messages) = refl
 unnoted_commit x tag (Ends outcome) = refl
 
 pub unnoted : (terms : Terms) (x : Client) (message : Message) (f : Phase) → is_writing f ≡ true
-    → (turn_of terms x message f).noted ≡ None
+    → (transition_of terms x message f).noted ≡ None
 unnoted terms x message (phase.Idle tag) w = absurd (cc)
 unnoted terms x message (phase.Reads pending_ask round) w = absurd (cc)
 unnoted terms x message (phase.Prepares writing) w =
@@ -268,19 +268,19 @@ reads_none f pending_ask round e = sym (ap idle_tag e)
 
 -- what it goes on from does what the client did
 pub moved_so : (terms : Terms) (x y : Client) (d f : Phase) (message : Message) (transition : Transition)
-    → y ≡ record x { phase = d } → f ≡ x.phase → IsMoved (turn_of terms y message f) transition
-    → IsMoved (turn_of terms x message x.phase) transition
+    → y ≡ record x { phase = d } → f ≡ x.phase → IsMoved (transition_of terms y message f) transition
+    → IsMoved (transition_of terms x message x.phase) transition
 moved_so terms x y d f message transition at same is =
-    subst (λ (t : Turn). IsMoved t transition) (same_turn terms x d message x.phase) (rw (at, same) at is)
+    subst (λ (t : TransitionState). IsMoved t transition) (same_turn terms x d message x.phase) (rw (at, same) at is)
 
 -- it has taken a message, where it wasn't idle
 pub taken_done : (before : ℕ) (terms : Terms) (x new : Client) (message : Message) (sent : List Message)
     (outs : List Out) → idle_tag x.phase ≡ None
-    → IsTurned before x.number (turn_of terms x message x.phase) new sent outs
+    → IsInstalled before x.number (transition_of terms x message x.phase) new sent outs
     → IsChangedBy before x (client_takes_by terms x.number x message x.phase) new sent outs
 taken_done before terms x new message sent outs busy turned = go x.phase busy turned
   where
-    go : (f : Phase) → idle_tag f ≡ None → IsTurned before x.number (turn_of terms x message f) new sent outs
+    go : (f : Phase) → idle_tag f ≡ None → IsInstalled before x.number (transition_of terms x message f) new sent outs
         → IsChangedBy before x (client_takes_by terms x.number x message f) new sent outs
     go (phase.Idle tag) e is = absurd (cc)
     go (phase.Reads pending_ask round) e is = (refl, is)
@@ -293,8 +293,8 @@ pub waits_done : (terms : Terms) (before : ℕ) (x : Client) (new : Phase) (mess
     → IsChangedBy before x (client_takes_by terms x.number x message x.phase) (record x { phase = new }) [] []
 waits_done terms before x new message waiting taken =
     taken_done before terms x (record x { phase = new }) message [] [] (busy x.phase waiting)
-    (subst (λ (t : Turn). IsTurned before x.number t (record x { phase = new }) [] []) (sym (taken terms x))
-    (record { client = refl; sent_is = refl; told = refl }))
+    (subst (λ (t : TransitionState). IsInstalled before x.number t (record x { phase = new }) [] []) (sym (taken terms x))
+    (record { client = refl; sent_is = refl; outputs = refl }))
   where
     busy : (f : Phase) → is_waiting f message ≡ true → idle_tag f ≡ None
     busy (phase.Idle tag) e = absurd (cc)

@@ -45,7 +45,7 @@ use Rattle.album_world.specs.Changes.{Change}
 use Rattle.album_world.specs.Changes.Change.{AtPart}
 use Rattle.album_world.specs.Changes.{sweeps, trims}
 use Rattle.album_world.specs.Runs.{changed, changed_by}
-use Rattle.album_world.specs.declared.events.Event.TheVariants as event
+use Rattle.album_permits.specs.declared.events.Event.TheVariants as event
 use Rattle.album_world.specs.Committing.{history}
 use Rattle.album_world.proofs.ListLemmas.{in_cases, in_map, in_nil, in_one, find_push, set_same, set_other, none_some, some_same, same_or_not, any_in, in_any, any_more, true_or_false}
 use Rattle.album_world.proofs.MarkLemmas.{IsPreparedIn, prepared_in, commits_is, discards_is, wrote, wrote_more, version_is, some_is, is_some_of, best_least, best_is, latest_least, latest_is, stamp_for_best}

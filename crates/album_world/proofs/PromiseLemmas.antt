@@ -28,24 +28,24 @@ use Rattle.album_permits.specs.declared.findings.Finding.{Finding}
 use Rattle.album_client.specs.declared.clients.Phase.{Phase}
 use Rattle.album_client.specs.declared.clients.Phase.TheVariants as phase
 use Rattle.album_client.specs.Terms.{Terms, terms_of}
-use Rattle.album_client.specs.Turns.{Transaction}
-use Rattle.album_world.specs.declared.events.Event.{Event}
-use Rattle.album_world.specs.declared.events.Event.TheVariants as event
-use Rattle.album_writer.specs.declared.answers.Answer.{Answer}
-use Rattle.album_writer.specs.declared.answers.Answer.TheVariants as answer
+use Rattle.album_client.specs.Steps.{Transaction}
+use Rattle.album_permits.specs.declared.events.Event.{Event}
+use Rattle.album_permits.specs.declared.events.Event.TheVariants as event
+use Rattle.album_permits.specs.declared.answers.Answer.{Answer}
+use Rattle.album_permits.specs.declared.answers.Answer.TheVariants as answer
 use Rattle.album_world.specs.State.{client_at, message_of, is_stopped}
-use Rattle.album_world.specs.Past.{World, Told}
+use Rattle.album_world.specs.Past.{World, PastAnswer}
 use Rattle.album_world.specs.Changes.{Change, asks_unless, asks_by, part_takes, arrives, delivers, sweeps, trims}
 use Rattle.album_world.specs.Changes.Change.{AtPart, Stops}
 use Rattle.album_world.specs.Runs.{changed, changed_by, happens, new_request, requested, start, run, run_of}
 use Rattle.album_world.specs.Committing.{history, IsCommittedEverywhere, IsPromisedSomewhere}
 use Rattle.album_permits.specs.Meaning.{Finds}
-use Rattle.album_world.specs.Viewed.{IsToldOn}
+use Rattle.album_world.specs.Viewed.{IsAnsweredOnView}
 use Rattle.album_world.specs.Rulings.{IsBegunBy, IsRuledBy, RulingsHold}
 use Rattle.album_world.specs.Granted.{IsOfOne, WritesAreGranted}
 use Rattle.album_world.specs.Atomic.{ViewsAreReadAtomic}
 use Rattle.album_world.specs.Fresh.{ViewsAreFresh}
-use Rattle.album_world.specs.Outcomes.{IsOfWrite, IsToldFull, IsRefusedFor, IsTrueOutcome, OutcomesAreTrue}
+use Rattle.album_world.specs.Outcomes.{IsOfWrite, IsRepliedFull, IsRefusedFor, IsTrueOutcome, OutcomesAreTrue}
 use Rattle.album_world.specs.Busy.{IsCaused, BusyHasItsCause}
 use Rattle.album_world.proofs.ListLemmas.{In, contains, within, in_nil, same_or_not, none_some}
 use Rattle.album_world.proofs.MarkLemmas.{wrote_by, version_wrote}
@@ -146,8 +146,8 @@ always_booked o es is =
 
 -- ---- the promises
 
-map_view : (t : Terms) (w : World) (told : Told) (P Q : PermitState → Type 0)
-    → ((case : PermitState) → P case → Q case) → IsToldOn t w told P → IsToldOn t w told Q
+map_view : (t : Terms) (w : World) (told : PastAnswer) (P Q : PermitState → Type 0)
+    → ((case : PermitState) → P case → Q case) → IsAnsweredOnView t w told P → IsAnsweredOnView t w told Q
 map_view t w told P Q more h = record {
   read = h.read;
   rows = h.rows;
@@ -159,7 +159,7 @@ map_view t w told P Q more h = record {
   holds = more _ h.holds;
 }
 
-ruled_by : (t : Terms) (w : World) (told : Told) (a : Answer) → IsLed t w told a → IsRuledBy t w told a
+ruled_by : (t : Terms) (w : World) (told : PastAnswer) (a : Answer) → IsLed t w told a → IsRuledBy t w told a
 ruled_by t w told (answer.Served served) h = h
 ruled_by t w told (answer.Denied reasons) h = h
 ruled_by t w told (answer.Missing object) h = h
@@ -188,7 +188,7 @@ one_finding case f g a b =
     (record { same = λ item n. refl }) a.based b.based
     ∙ b.is
 
-caused_by : (t : Terms) (w : World) (told : Told) (a : Answer) → IsLed t w told a → IsCaused w told a
+caused_by : (t : Terms) (w : World) (told : PastAnswer) (a : Answer) → IsLed t w told a → IsCaused w told a
 caused_by t w told (answer.Served served) h = tt
 caused_by t w told (answer.Denied reasons) h = tt
 caused_by t w told (answer.Missing object) h = tt
@@ -206,7 +206,7 @@ of_write : (w : World) (c s : ℕ) (case : PermitState) (P : Transaction → Typ
     → IsOfWrite w c s P
 of_write w c s case P h holds = record { by = h.by; begun = h.begun; own = h.own; at = h.at; holds = holds }
 
-true_outcome : (o : Opening) → 0 < o.parts → (w : World) → IsKept o w → (told : Told) (a : Answer)
+true_outcome : (o : Opening) → 0 < o.parts → (w : World) → IsKept o w → (told : PastAnswer) (a : Answer)
     → IsLed (terms_of o) w told a → IsAnswer o w a → IsTrueOutcome (terms_of o) w told a
 true_outcome o some w k told (answer.Served served) h d = tt
 true_outcome o some w k told (answer.Denied reasons) h d = tt
@@ -221,7 +221,7 @@ true_outcome o some w k told (answer.Aborted s) h d = (
   lost_against o w k s d,
 )
 true_outcome o some w k told (answer.Unsettled s why) h d =
-    (d.1, of_write w told.client s _ (IsToldFull (terms_of o) w) h.holds.begun h.holds.full, lost_unsettled o w k s d.0)
+    (d.1, of_write w told.client s _ (IsRepliedFull (terms_of o) w) h.holds.begun h.holds.full, lost_unsettled o w k s d.0)
 true_outcome o some w k told (answer.Refused why) h d =
     map_view (terms_of o) w told (λ case. IsPermit case × IsRefusedFor w told.client why case)
     (IsRefusedFor w told.client why) (λ case e. e.1) h

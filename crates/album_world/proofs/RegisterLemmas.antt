@@ -10,12 +10,12 @@ use Rattle.album_views.specs.declared.asks.Ask.{Ask}
 use Rattle.album_reader.proofs.Snapshots.{sameness-sym}
 use Rattle.album_client.specs.Terms.{Terms}
 use Rattle.album_client.specs.Clients.{Client, newcomer}
-use Rattle.album_client.specs.Turns.{Turn}
-use Rattle.album_world.specs.declared.outs.Out.{Out}
+use Rattle.album_client.specs.Steps.{TransitionState}
+use Rattle.album_permits.specs.declared.outs.Out.{Out}
 use Rattle.album_world.specs.State.{client_at, with_client}
 use Rattle.album_world.specs.Changes.{Change, asks_unless}
 use Rattle.album_world.specs.Changes.Change.{Nothing, AtPart, AtClient, Stops}
-use Rattle.album_world.specs.Moves.{IsChangedBy, IsTurned}
+use Rattle.album_world.specs.Moves.{IsChangedBy, IsInstalled}
 use Rattle.album_world.specs.Registers.{AreChangedBy, StandsAt, asks_of, has_number, numbers_of, takes_of}
 
 -- where the number stands
@@ -163,13 +163,13 @@ module _ (before n i : ℕ) (cs : List Client) (old x : Client) (at : StandsAt c
   among Nothing sent outs h = record {
     clients = ap (λ c. set cs i c) h.client ∙ put_back cs i old is;
     silent = h.silent;
-    untold = h.untold;
+    no_outputs = h.no_outputs;
   }
   among (AtPart p held messages) sent outs h = absurd h
   among (AtClient m turn) sent outs h = record {
     clients = sym (at.put x its_number) ∙ ap (λ c. with_client c cs) h.1.client;
     sent_is = h.1.sent_is;
-    told = h.1.told;
+    outputs = h.1.outputs;
   }
   among (Stops m) sent outs h = absurd h
 
@@ -208,7 +208,7 @@ module _ (before n : ℕ) (cs : List Client) (x : Client) (new : has_number cs n
   first_by None h = record {
     clients = sym (put_last cs n x new own_number) ∙ ap (λ c. with_client c cs) h.1.client;
     sent_is = h.1.sent_is;
-    told = h.1.told;
+    outputs = h.1.outputs;
   }
 
   pub first_asked : IsOkAnd (asks_of terms n (newcomer n) principal ask) (λ change. IsChangedBy before (newcomer n) change x sent outs)
@@ -229,7 +229,7 @@ pub new_takes_nothing : (before n : ℕ) (cs : List Client) (terms : Terms) (mes
     → AreChangedBy before cs (takes_of terms n (client_at cs n) message) cs sent outs
 new_takes_nothing before n cs terms message sent outs new s o =
     subst (λ (c : Client). AreChangedBy before cs (takes_of terms n c message) cs sent outs) (sym (new_client cs n new))
-    (record { clients = refl; silent = s; untold = o })
+    (record { clients = refl; silent = s; no_outputs = o })
 
 -- the numbers, once a client has had its turn, and once one has come
 pub keys_set : (cs : List Client) (keys : List ℕ) (i : ℕ) (x old : Client) → keys ≡ numbers_of cs → x.number ≡ old.number
@@ -251,9 +251,9 @@ may_there n i cs old terms p a at is h =
     (subst (λ (c : Client). IsOk (asks_of terms n c p a)) (at.client old ∙ sym is) h)
 
 -- a client that had its turn, or was refused it, keeps its number
-pub turned_number : {Told : Type 0} (r : Result Told Refusal) (old new : Client) (turn : Turn) (before : ℕ)
-    (sent : Told → List Message) (outs : Told → List Out) → turn.client.number ≡ old.number
-    → IfOk r (λ told. IsTurned before old.number turn new (sent told) (outs told)) → OnErr r (new ≡ old)
+pub turned_number : {Outs : Type 0} (r : Result Outs Refusal) (old new : Client) (turn : TransitionState) (before : ℕ)
+    (sent : Outs → List Message) (outs : Outs → List Out) → turn.client.number ≡ old.number
+    → IfOk r (λ told. IsInstalled before old.number turn new (sent told) (outs told)) → OnErr r (new ≡ old)
     → new.number ≡ old.number
 turned_number (Ok told) old new turn before sent outs same h e = ap (λ (c : Client). c.number) h.client ∙ same
 turned_number (Err why) old new turn before sent outs same h e = ap (λ (c : Client). c.number) e

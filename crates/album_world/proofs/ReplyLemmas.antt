@@ -37,19 +37,19 @@ use Rattle.album_permits.specs.declared.findings.Finding.TheVariants as finding
 use Rattle.album_permits.specs.declared.notes.Note.{Note}
 use Rattle.album_permits.specs.declared.serving.Served.{Served}
 use Rattle.album_writer.specs.Rounds.{answered_by, prepares_left, prepares_by, commits_left, commits_by}
-use Rattle.album_writer.specs.Told.{told_of}
+use Rattle.album_writer.specs.WriteReplies.{reply_in}
 use Rattle.album_writer.specs.Writing.{WritingState, places_in, prepare_to, commit_to, commit_round, commits_of}
-use Rattle.album_writer.specs.declared.told.Told.{Told}
-use Rattle.album_writer.specs.declared.told.Told.TheVariants as told
-use Rattle.album_writer.specs.declared.answers.Answer.{Answer}
-use Rattle.album_writer.specs.declared.answers.Answer.TheVariants as answer
+use Rattle.album_writer.specs.declared.write_replies.WriteReply.{WriteReply}
+use Rattle.album_writer.specs.declared.write_replies.WriteReply.TheVariants as write_reply
+use Rattle.album_permits.specs.declared.answers.Answer.{Answer}
+use Rattle.album_permits.specs.declared.answers.Answer.TheVariants as answer
 use Rattle.album_client.specs.declared.clients.Phase.{Phase}
 use Rattle.album_client.specs.declared.clients.Phase.TheVariants as phase
 use Rattle.album_client.specs.Terms.{terms_of}
-use Rattle.album_client.specs.Askings.{PendingAsk}
+use Rattle.album_client.specs.PendingAsks.{PendingAsk}
 use Rattle.album_client.specs.Clients.{Client, tag_of}
 use Rattle.album_client.specs.Grants.{served_for}
-use Rattle.album_client.specs.Turns.{Transaction, Ended, Turn, still, sends, asker_at, read_begins, ask_ends, round_for, write_begins, writes_unless, draws_by, grants, rules_by, clock_after_rows, views_by, read_turn, prepare_turn, commit_turn}
+use Rattle.album_client.specs.Steps.{Transaction, Ended, TransitionState, still, sends, asker_at, read_begins, ask_ends, round_for, write_begins, writes_unless, draws_by, grants, rules_by, clock_after_rows, views_by, read_transition, prepare_transition, commit_transition}
 use Rattle.album_world.specs.State.{client_at, is_stopped}
 use Rattle.album_world.specs.Past.{World, Begun, last_begun}
 use Rattle.album_world.specs.Changes.Change.{AtClient, Nothing}
@@ -76,7 +76,7 @@ part_apart : {p c : ℕ} {R : Type 0} → Part p ≡ ToClient c → R
 part_apart e = absurd (cc)
 
 -- a turn in which a read is over, and something is noted
-abbrev pub with_past : Turn → Option Ended → Option (List Note) → Turn
+abbrev pub with_past : TransitionState → Option Ended → Option (List Note) → TransitionState
 with_past t e n = record t { over = e; noted = n }
 
 module _ (o : Opening) (some : 0 < o.parts) (w : World) (k : IsKept o w) (c : ℕ) where
@@ -128,7 +128,7 @@ module _ (o : Opening) (some : 0 < o.parts) (w : World) (k : IsKept o w) (c : �
   -- ---- what is sent
 
   -- the Gets of a new round
-  asks : (t : Turn) (g : ℕ) → tag_of x.phase ≡ g → (a : Asker) → a.tag ≡ g + 1 → (items ts : List ℕ)
+  asks : (t : TransitionState) (g : ℕ) → tag_of x.phase ≡ g → (a : Asker) → a.tag ≡ g + 1 → (items ts : List ℕ)
       → t.sent ≡ gets_of a ts items → IsAsked (changed w (AtClient c t)) c (g + 1) ts
   asks t g tag a at items ts e = record {
     at = λ m l f q. ⊎_elim
@@ -138,7 +138,7 @@ module _ (o : Opening) (some : 0 < o.parts) (w : World) (k : IsKept o w) (c : �
         (in_cases w.now.messages t.sent l);
   }
 
-  unanswered : (t : Turn) (g : ℕ) → tag_of x.phase ≡ g → (a : Asker) → (items ts : List ℕ) (P : ℕ → ℕ → Type 0)
+  unanswered : (t : TransitionState) (g : ℕ) → tag_of x.phase ≡ g → (a : Asker) → (items ts : List ℕ) (P : ℕ → ℕ → Type 0)
       → t.sent ≡ gets_of a ts items → IsAnswered (changed w (AtClient c t)) c (g + 1) P
   unanswered t g tag a items ts P e = record {
     at = λ m l f q. ⊎_elim
@@ -437,7 +437,7 @@ module _ (o : Opening) (some : 0 < o.parts) (w : World) (k : IsKept o w) (c : �
     end_kept : (r : RoundState) → IsReading o w c began r → tag_of x.phase ≡ r.asker.tag → are_there r.answers ≡ true
         → (f : Option (List ℕ)) → IsRound o w c began r f
         → IsKept o (changed w
-        (AtClient c (read_turn (terms_of o) x r.asker.tag pending_ask (end_by f r (answers_there r.answers)))))
+        (AtClient c (read_transition (terms_of o) x r.asker.tag pending_ask (end_by f r (answers_there r.answers)))))
     end_kept r h tag all None a = fetch_kept r h tag a all
     end_kept r h tag all (Some ts) a =
         let rows = answers_there r.answers in
@@ -450,7 +450,7 @@ module _ (o : Opening) (some : 0 < o.parts) (w : World) (k : IsKept o w) (c : �
     outcome_kept : (r : RoundState) → IsReading o w c began r → tag_of x.phase ≡ r.asker.tag → (b : Bool)
         → are_there r.answers ≡ b
         → IsKept o (changed w
-        (AtClient c (read_turn (terms_of o) x r.asker.tag pending_ask
+        (AtClient c (read_transition (terms_of o) x r.asker.tag pending_ask
         (option_map_or (end_of r) (if b then Some (answers_there r.answers) else None) (Same r)))))
     outcome_kept r h tag true all = end_kept r h tag all r.stamps h.round
     outcome_kept r h tag false all = stays_kept (reading r) refl refl tag h
@@ -458,7 +458,7 @@ module _ (o : Opening) (some : 0 < o.parts) (w : World) (k : IsKept o w) (c : �
     reading_kept : (r : RoundState) (m : Message) → In m w.now.messages → IsReading o w c began r
         → tag_of x.phase ≡ r.asker.tag → (f : Option ReadVersion) → new_answer r m ≡ f
         → IsKept o (changed w
-        (AtClient c (read_turn (terms_of o) x r.asker.tag pending_ask
+        (AtClient c (read_transition (terms_of o) x r.asker.tag pending_ask
         (option_map_or (λ (a : ReadVersion). outcome (with_answer r a)) f (Same r)))))
     reading_kept r m sent h tag None e = stays_kept (reading r) refl refl tag h
     reading_kept r m sent h tag (Some f) e = outcome_kept (with_answer r f)
@@ -468,7 +468,7 @@ module _ (o : Opening) (some : 0 < o.parts) (w : World) (k : IsKept o w) (c : �
     message_read : (r : RoundState) (m : Message) → In m w.now.messages → IsReading o w c began r
         → tag_of x.phase ≡ r.asker.tag → (b : Bool)
         → IsKept o (changed w
-        (AtClient c (read_turn (terms_of o) x r.asker.tag pending_ask (if b then Gone r.items else taken r m))))
+        (AtClient c (read_transition (terms_of o) x r.asker.tag pending_ask (if b then Gone r.items else taken r m))))
     message_read r m sent h tag false = reading_kept r m sent h tag (new_answer r m) refl
     message_read r m sent h tag true =
         views_kept h.low h.high (Some (record { ask = pending_ask.viewing.ask; principal = pending_ask.principal; rows = None }))
@@ -491,17 +491,17 @@ module _ (o : Opening) (some : 0 < o.parts) (w : World) (k : IsKept o w) (c : �
         (λ (e : is_part n p ≡ true).
         let q : part ≡ p = eqb-true part p (sym (ap (λ (a : Node). is_part a p) from) ∙ e) in
         inr (subst (λ (a : ℕ). P a z.stamp) q d))
-        (λ (e : is_part n p ≡ false). inl (filter_in (λ part. not (is_part n part)) p z.awaited i (ap not e)))
+        (λ (e : is_part n p ≡ false). inl (filter_in (λ part. not (is_part n part)) p z.outstanding i (ap not e)))
         (true_or_false (is_part n p)))
         inr (h.told p l);
   }
 
   -- all have answered
-  all_told : (z : WritingState) (P : ℕ → ℕ → Type 0) → z.awaited ≡ [] → IsWriting o w c z P → (p : ℕ)
+  all_told : (z : WritingState) (P : ℕ → ℕ → Type 0) → z.outstanding ≡ [] → IsWriting o w c z P → (p : ℕ)
       → In p (places_in z) → P p z.stamp
   all_told z P e h p l = ⊎_elim (λ i. in_nil (subst (λ (a : List ℕ). In p a) e i)) (λ d. d) (h.told p l)
 
-  settled_by_all : (z : WritingState) → z.awaited ≡ [] → IsWriting o w c z (HasPrepared w) → IsSettled o w z.stamp
+  settled_by_all : (z : WritingState) → z.outstanding ≡ [] → IsWriting o w c z (HasPrepared w) → IsSettled o w z.stamp
   settled_by_all z e h = record {
     of = h.of;
     begun = h.begun;
@@ -515,7 +515,7 @@ module _ (o : Opening) (some : 0 < o.parts) (w : World) (k : IsKept o w) (c : �
         (subst (λ (a : ℕ). IsPreparedIn (history w (place_of o.parts i)) a) (sym h.stamp) d));
   }
 
-  done_by_all : (z : WritingState) → z.awaited ≡ [] → IsWriting o w c z (HasCommitted w) → IsDone o w z.stamp
+  done_by_all : (z : WritingState) → z.outstanding ≡ [] → IsWriting o w c z (HasCommitted w) → IsDone o w z.stamp
   done_by_all z e h = record {
     of = h.of;
     begun = h.begun;
@@ -564,25 +564,25 @@ module _ (o : Opening) (some : 0 < o.parts) (w : World) (k : IsKept o w) (c : �
     abbrev preparing : WritingState → Client
     preparing h = record x { phase = phase.Prepares h }
 
-    commits_kept : (h : WritingState) → h.tag ≡ z.tag → IsWriting o w c h (HasPrepared w) → (awaited : List ℕ)
-        → h.awaited ≡ awaited → IsKept o (changed w (AtClient c (prepare_turn x z.tag (prepares_left h awaited))))
+    commits_kept : (h : WritingState) → h.tag ≡ z.tag → IsWriting o w c h (HasPrepared w) → (outstanding : List ℕ)
+        → h.outstanding ≡ outstanding → IsKept o (changed w (AtClient c (prepare_transition x z.tag (prepares_left h outstanding))))
     commits_kept h q d [] e = commit_kept h (tag ∙ sym q) d (settled_by_all h e d)
     commits_kept h q d (p ∷ ps) e = stays_kept (preparing h) refl refl (tag ∙ sym q) d
 
-    prepared_kept : IsWriting o w c z (HasPrepared w) → (what : Told) → told_of z m ≡ what
-        → IsKept o (changed w (AtClient c (prepare_turn x z.tag (prepares_by z m.from what))))
-    prepared_kept h told.Prepared e =
-        let d = told_to_is z m told.Prepared e tt in
+    prepared_kept : IsWriting o w c z (HasPrepared w) → (what : WriteReply) → reply_in z m ≡ what
+        → IsKept o (changed w (AtClient c (prepare_transition x z.tag (prepares_by z m.from what))))
+    prepared_kept h write_reply.Prepared e =
+        let d = told_to_is z m write_reply.Prepared e tt in
         commits_kept (answered_by z m.from) refl
         (writing_with z (HasPrepared w) d.part m.from d.from
-        (says_from (body.Reply (reply.Prepared z.stamp)) d.part d.from d.says) h) (answered_by z m.from).awaited
+        (says_from (body.Reply (reply.Prepared z.stamp)) d.part d.from d.says) h) (answered_by z m.from).outstanding
         refl
-    prepared_kept h told.Discarded e =
-        let d = told_to_is z m told.Discarded e tt in
+    prepared_kept h write_reply.Discarded e =
+        let d = told_to_is z m write_reply.Discarded e tt in
         outcome_ends z.tag tag (answer.Aborted z.stamp)
         (says_from (body.Reply (reply.Discarded z.stamp)) d.part d.from d.says)
-    prepared_kept h told.Full e =
-        let d = told_to_is z m told.Full e tt in
+    prepared_kept h write_reply.Full e =
+        let d = told_to_is z m write_reply.Full e tt in
         outcome_ends z.tag tag (answer.Unsettled z.stamp refusal.Full) (
           record {
             of = h.of;
@@ -596,26 +596,26 @@ module _ (o : Opening) (some : 0 < o.parts) (w : World) (k : IsKept o w) (c : �
           },
           refl,
         )
-    prepared_kept h told.Committed e = stays_kept (preparing z) refl refl tag h
-    prepared_kept h told.Nothing e = stays_kept (preparing z) refl refl tag h
+    prepared_kept h write_reply.Committed e = stays_kept (preparing z) refl refl tag h
+    prepared_kept h write_reply.Nothing e = stays_kept (preparing z) refl refl tag h
 
-    ended_kept : (h : WritingState) → h.tag ≡ z.tag → IsWriting o w c h (HasCommitted w) → (awaited : List ℕ)
-        → h.awaited ≡ awaited → IsKept o (changed w (AtClient c (commit_turn x z.tag (commits_left h awaited))))
+    ended_kept : (h : WritingState) → h.tag ≡ z.tag → IsWriting o w c h (HasCommitted w) → (outstanding : List ℕ)
+        → h.outstanding ≡ outstanding → IsKept o (changed w (AtClient c (commit_transition x z.tag (commits_left h outstanding))))
     ended_kept h q d [] e = outcome_ends z.tag tag (answer.Committed h.stamp) (done_by_all h e d)
     ended_kept h q d (p ∷ ps) e = stays_kept (committing h) refl refl (tag ∙ sym q) d
 
-    committed_kept : IsWriting o w c z (HasCommitted w) → (what : Told) → told_of z m ≡ what
-        → IsKept o (changed w (AtClient c (commit_turn x z.tag (commits_by z m.from what))))
-    committed_kept h told.Committed e =
-        let d = told_to_is z m told.Committed e tt in
+    committed_kept : IsWriting o w c z (HasCommitted w) → (what : WriteReply) → reply_in z m ≡ what
+        → IsKept o (changed w (AtClient c (commit_transition x z.tag (commits_by z m.from what))))
+    committed_kept h write_reply.Committed e =
+        let d = told_to_is z m write_reply.Committed e tt in
         ended_kept (answered_by z m.from) refl
         (writing_with z (HasCommitted w) d.part m.from d.from
-        (says_from (body.Reply (reply.Committed z.stamp)) d.part d.from d.says) h) (answered_by z m.from).awaited
+        (says_from (body.Reply (reply.Committed z.stamp)) d.part d.from d.says) h) (answered_by z m.from).outstanding
         refl
-    committed_kept h told.Prepared e = stays_kept (committing z) refl refl tag h
-    committed_kept h told.Discarded e = stays_kept (committing z) refl refl tag h
-    committed_kept h told.Full e = stays_kept (committing z) refl refl tag h
-    committed_kept h told.Nothing e = stays_kept (committing z) refl refl tag h
+    committed_kept h write_reply.Prepared e = stays_kept (committing z) refl refl tag h
+    committed_kept h write_reply.Discarded e = stays_kept (committing z) refl refl tag h
+    committed_kept h write_reply.Full e = stays_kept (committing z) refl refl tag h
+    committed_kept h write_reply.Nothing e = stays_kept (committing z) refl refl tag h
 
   -- ---- whatever it does
 
@@ -623,8 +623,8 @@ module _ (o : Opening) (some : 0 < o.parts) (w : World) (k : IsKept o w) (c : �
       → IsKept o (changed w (client_takes_by (terms_of o) c x m f))
   by_kept m sent (phase.Idle tag) e h = k
   by_kept m sent (phase.Reads pending_ask r) e h = message_read pending_ask r m sent h (ap tag_of e) (is_gone r m)
-  by_kept m sent (phase.Prepares z) e h = prepared_kept m sent z (ap tag_of e) h (told_of z m) refl
-  by_kept m sent (phase.Commits z) e h = committed_kept m sent z (ap tag_of e) h (told_of z m) refl
+  by_kept m sent (phase.Prepares z) e h = prepared_kept m sent z (ap tag_of e) h (reply_in z m) refl
+  by_kept m sent (phase.Commits z) e h = committed_kept m sent z (ap tag_of e) h (reply_in z m) refl
 
   pub message_kept : (m : Message) → In m w.now.messages → IsKept o (changed w (client_takes (terms_of o) w.now c x m))
   message_kept m sent = go (is_stopped w.now c)

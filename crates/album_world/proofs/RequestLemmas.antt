@@ -2,16 +2,16 @@
 use Rattle.std.proofs.Common.{◌≡◌, ℕ, ◌≤◌, Bool, true, false, eqb, List, [], ◌∷◌, ◌++◌, length, Option, Some, None, option_to_list, option_map, ◌⊎◌, inl, inr, ⊎_elim, sym, ap, ◌∙◌, subst, refl, arith, eqb-true, append-nil, if◌then◌else◌}
 use Rattle.album_items.specs.declared.openings.Opening.{Opening}
 use Rattle.album_writer.specs.Writing.{WritingState}
-use Rattle.album_writer.specs.declared.answers.Answer.{Answer}
+use Rattle.album_permits.specs.declared.answers.Answer.{Answer}
 use Rattle.album_client.specs.declared.clients.Phase.{Phase}
 use Rattle.album_client.specs.declared.clients.Phase.TheVariants as phase
-use Rattle.album_client.specs.Askings.{PendingAsk}
+use Rattle.album_client.specs.PendingAsks.{PendingAsk}
 use Rattle.album_client.specs.Clients.{Client}
-use Rattle.album_client.specs.Turns.{Transaction, Ended, Turn}
+use Rattle.album_client.specs.Steps.{Transaction, Ended, TransitionState}
 use Rattle.album_world.specs.State.{client_at}
-use Rattle.album_world.specs.Past.{World, Asked, Begun, Read, Told, last_asked, last_begun, last_read}
+use Rattle.album_world.specs.Past.{World, Asked, Begun, Read, PastAnswer, last_asked, last_begun, last_read}
 use Rattle.album_world.specs.Changes.Change.{AtClient}
-use Rattle.album_world.specs.Runs.{changed, read_over, reads_after, nth_after, told_to, asked_on, asked_after}
+use Rattle.album_world.specs.Runs.{changed, read_over, reads_after, nth_after, past_answer, asked_on, asked_after}
 use Rattle.album_world.specs.Requests.{AreAtOrAfter, HasBegun, IsAnsweredLast}
 use Rattle.album_world.proofs.ListLemmas.{In, in_left, in_right, in_cases, in_option, option_in, in_mapped, in_uncons, in_nil, some_same, none_some, apart}
 use Rattle.album_world.proofs.ListLemmas.In.{here, there}
@@ -35,7 +35,7 @@ pub record IsWriteOf (w : World) (a : Asked) (r : Transaction) : Type 0 where
   pub principal : r.permit.principal ≡ a.principal
 
 pub record IsAnswerOf (w : World) (a : Asked) (x : Answer) : Type 0 where
-  pub told : In (told_to a.reads a.client x) w.past.told
+  pub told : In (past_answer a.reads a.client x) w.past.answers
   pub last : last_read a.reads a.client ≡ None → ⊥
   pub begun : HasBegun a.writes x
 
@@ -47,11 +47,11 @@ pub record IsAlone (w : World) (a : Asked) : Type 0 where
   pub one_answer : length a.answers ≤ 1
   pub answers : (x : Answer) → In x a.answers → IsAnswerOf w a x
 
-pub record IsToOne (w : World) (x : Told) : Type 0 where
+pub record IsToOne (w : World) (x : PastAnswer) : Type 0 where
   pub asked : Asked
   pub made : In asked w.past.asked
   pub answers : In x.answer asked.answers
-  pub is : x ≡ told_to asked.reads asked.client x.answer
+  pub is : x ≡ past_answer asked.reads asked.client x.answer
 
 pub record IsForOne (w : World) (r : Transaction) : Type 0 where
   pub asked : Asked
@@ -95,14 +95,14 @@ AreInTurn (a ∷ more) =
 -- all this, but for one client that is having its turn
 pub record IsRequestedBut (w : World) (c : ℕ) : Type 0 where
   pub alone : (a : Asked) → In a w.past.asked → IsAlone w a
-  pub told : (x : Told) → In x w.past.told → IsToOne w x
+  pub told : (x : PastAnswer) → In x w.past.answers → IsToOne w x
   pub begun : (r : Transaction) → In r w.past.transactions → IsForOne w r
   pub turns : AreInTurn w.past.asked
   pub at : (d : ℕ) → eqb c d ≡ false → IsUnder w d (client_at w.now.clients d).phase
 
 pub record IsRequested (w : World) : Type 0 where
   pub alone : (a : Asked) → In a w.past.asked → IsAlone w a
-  pub told : (x : Told) → In x w.past.told → IsToOne w x
+  pub told : (x : PastAnswer) → In x w.past.answers → IsToOne w x
   pub begun : (r : Transaction) → In r w.past.transactions → IsForOne w r
   pub turns : AreInTurn w.past.asked
   pub at : (c : ℕ) → IsUnder w c (client_at w.now.clients c).phase
@@ -121,7 +121,7 @@ last_in (b ∷ xs) c a e = go (eqb b.client c) refl e (last_in xs c a)
     )
     go false q h rest = let r = rest h in (there r.0, r.1)
 
-module _ (begun : Begun) (c : ℕ) (t : Turn) where
+module _ (begun : Begun) (c : ℕ) (t : TransitionState) where
   abbrev on : Asked → Asked
   on a = asked_on begun t a
 
@@ -216,7 +216,7 @@ all_answered (a ∷ xs) c h last b i e = go (eqb a.client c) refl last (in_uncon
 pub record Lasts (w1 w2 : World) : Type 0 where
   pub transactions : (r : Transaction) → In r w1.past.transactions → In r w2.past.transactions
   pub reads : (f : Read) → In f w1.past.reads → In f w2.past.reads
-  pub told : (x : Told) → In x w1.past.told → In x w2.past.told
+  pub told : (x : PastAnswer) → In x w1.past.answers → In x w2.past.answers
 
 module _ (w1 w2 : World) (l : Lasts w1 w2) where
   read_lasts : (a : Asked) (f : Read) → IsReadOf w1 a f → IsReadOf w2 a f
@@ -245,7 +245,7 @@ module _ (w1 w2 : World) (l : Lasts w1 w2) where
 -- ---- a client's turn
 
 -- what a turn does that is for the request
-pub record IsTurnFor (w : World) (c : ℕ) (t : Turn) (b : Asked) : Type 0 where
+pub record IsTurnFor (w : World) (c : ℕ) (t : TransitionState) (b : Asked) : Type 0 where
   pub over : (e : Ended) → t.over ≡ Some e → (e.ask ≡ b.ask) × (e.principal ≡ b.principal) ×
       AreAtOrAfter (last_begun w.past.begun c).partitions b.partitions
   pub writes : (r : Transaction) → t.writes ≡ Some r
@@ -262,7 +262,7 @@ few_more xs (Some x) (inl e) = subst (λ (z : List _). length (z ++ x ∷ []) �
 few_more xs o (inr h) = subst (λ (z : Option _). length (xs ++ option_to_list z) ≤ 1) (sym h.0)
     (subst (λ (z : List _). length z ≤ 1) (sym (append-nil xs)) h.1)
 
-module _ (o : Opening) (w : World) (k : IsKept o w) (c : ℕ) (q : IsRequestedBut w c) (t : Turn)
+module _ (o : Opening) (w : World) (k : IsKept o w) (c : ℕ) (q : IsRequestedBut w c) (t : TransitionState)
     (number : t.client.number ≡ c) (own : t.client.clock.client ≡ c) (b : Asked)
     (last : last_asked w.past.asked c ≡ Some b) (unanswered : b.answers ≡ []) (h : IsTurnFor w c t b) where
   abbrev pub next : World
@@ -284,7 +284,7 @@ module _ (o : Opening) (w : World) (k : IsKept o w) (c : ℕ) (q : IsRequestedBu
   lasts = record {
     transactions = λ r i. in_left (option_to_list t.writes) i;
     reads = λ f i. in_right (option_to_list (option_map (read_over begun_here) t.over)) i;
-    told = λ x i. in_left (option_to_list (option_map (told_to (reads_after w.past c t) c) t.answer)) i;
+    told = λ x i. in_left (option_to_list (option_map (past_answer (reads_after w.past c t) c) t.answer)) i;
   }
 
   pub on_last : last_asked next.past.asked c ≡ Some now_on
@@ -323,10 +323,10 @@ module _ (o : Opening) (w : World) (k : IsKept o w) (c : ℕ) (q : IsRequestedBu
   one_here None e = inr (refl, (q.alone b was).one_write)
   one_here (Some r) e = inl (h.writes r e).0
 
-  told_here : (x : Answer) → t.answer ≡ Some x → told_to now_on.reads now_on.client x ≡ told_to (reads_after w.past c t) c x
+  told_here : (x : Answer) → t.answer ≡ Some x → past_answer now_on.reads now_on.client x ≡ past_answer (reads_after w.past c t) c x
   told_here x e =
-      ap (λ (z : ℕ). told_to now_on.reads z x) mine
-      ∙ ap (λ (z : Option Read). let d : Told = record { client = c; last = z; answer = x } in d) (h.read x e)
+      ap (λ (z : ℕ). past_answer now_on.reads z x) mine
+      ∙ ap (λ (z : Option Read). let d : PastAnswer = record { client = c; last = z; answer = x } in d) (h.read x e)
 
   answer_in : (x : Answer) → In x now_on.answers → t.answer ≡ Some x
   answer_in x i = ⊎_elim
@@ -334,14 +334,14 @@ module _ (o : Opening) (w : World) (k : IsKept o w) (c : ℕ) (q : IsRequestedBu
       (λ j. in_option t.answer j)
       (in_cases b.answers (option_to_list t.answer) i)
 
-  answer_told : (x : Answer) → t.answer ≡ Some x → In (told_to (reads_after w.past c t) c x) next.past.told
-  answer_told x e = in_right w.past.told (go t.answer e)
+  answer_told : (x : Answer) → t.answer ≡ Some x → In (past_answer (reads_after w.past c t) c x) next.past.answers
+  answer_told x e = in_right w.past.answers (go t.answer e)
     where
-      go : (f : Option Answer) → f ≡ Some x → In (told_to (reads_after w.past c t) c x)
-          (option_to_list (option_map (told_to (reads_after w.past c t) c) f))
+      go : (f : Option Answer) → f ≡ Some x → In (past_answer (reads_after w.past c t) c x)
+          (option_to_list (option_map (past_answer (reads_after w.past c t) c) f))
       go None e = none_some e
-      go (Some y) e = subst (λ (z : Answer). In (told_to (reads_after w.past c t) c z)
-          (told_to (reads_after w.past c t) c y ∷ [])) (some_same e) here
+      go (Some y) e = subst (λ (z : Answer). In (past_answer (reads_after w.past c t) c z)
+          (past_answer (reads_after w.past c t) c y ∷ [])) (some_same e) here
 
   alone_now : IsAlone next now_on
   alone_now =
@@ -355,7 +355,7 @@ module _ (o : Opening) (w : World) (k : IsKept o w) (c : ℕ) (q : IsRequestedBu
         one_answer = few_more b.answers t.answer (inl unanswered);
         answers = λ x i. let e = answer_in x i in
             record {
-              told = subst (λ (z : Told). In z next.past.told) (sym (told_here x e)) (answer_told x e);
+              told = subst (λ (z : PastAnswer). In z next.past.answers) (sym (told_here x e)) (answer_told x e);
               last = λ none. h.some x e (sym (h.read x e)
                   ∙ subst (λ (z : ℕ). last_read now_on.reads z ≡ None) mine none);
               begun = h.begun x e;
@@ -363,7 +363,7 @@ module _ (o : Opening) (w : World) (k : IsKept o w) (c : ℕ) (q : IsRequestedBu
       }
 
   -- an answer that was told before is to the same request as before
-  told_lasts : (x : Told) → IsToOne w x → IsToOne next x
+  told_lasts : (x : PastAnswer) → IsToOne w x → IsToOne next x
   told_lasts x d = record {
     asked = d.asked;
     made = ⊎_elim (λ i. i)
@@ -423,7 +423,7 @@ module _ (o : Opening) (w : World) (k : IsKept o w) (c : ℕ) (q : IsRequestedBu
         (was_or_on begun_here c t w.past.asked a b last i);
     told = λ x i. ⊎_elim
         (λ j. told_lasts x (q.told x j))
-        (λ j. let p = in_mapped (told_to (reads_after w.past c t) c) t.answer j in
+        (λ j. let p = in_mapped (past_answer (reads_after w.past c t) c) t.answer j in
         subst (IsToOne next) (sym p.2)
         (record {
           asked = now_on;
@@ -431,7 +431,7 @@ module _ (o : Opening) (w : World) (k : IsKept o w) (c : ℕ) (q : IsRequestedBu
           answers = in_right b.answers (option_in t.answer p.1);
           is = sym (told_here p.0 p.1);
         }))
-        (in_cases w.past.told (option_to_list (option_map (told_to (reads_after w.past c t) c) t.answer)) i);
+        (in_cases w.past.answers (option_to_list (option_map (past_answer (reads_after w.past c t) c) t.answer)) i);
     begun = λ r i. ⊎_elim
         (λ j. begun_lasts r (q.begun r j))
         (λ j. record {

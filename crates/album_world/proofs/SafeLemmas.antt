@@ -13,7 +13,7 @@ use Rattle.album_partition.specs.Marks.{prepares, commits, value_in, IsPromisedA
 use Rattle.album_partition.proofs.StateLemmas.{unknown_tells}
 use Rattle.album_reader.specs.Answers.{ReadVersion}
 use Rattle.album_client.specs.Terms.{terms_of}
-use Rattle.album_client.specs.Turns.{Transaction}
+use Rattle.album_client.specs.Steps.{Transaction}
 use Rattle.album_world.specs.State.{history_in}
 use Rattle.album_world.specs.Past.{World}
 use Rattle.album_world.specs.Committing.{history, IsCommitted, IsCommittedAt, IsCommittedEverywhere, IsPromisedSomewhere}

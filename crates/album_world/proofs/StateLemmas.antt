@@ -17,7 +17,7 @@ use Rattle.album_partition.specs.Trims.{trimmed}
 use Rattle.album_views.specs.declared.asks.Ask.{Ask}
 use Rattle.album_client.specs.Terms.{Terms}
 use Rattle.album_client.specs.Clients.{Client}
-use Rattle.album_world.specs.declared.outs.Out.{Out}
+use Rattle.album_permits.specs.declared.outs.Out.{Out}
 use Rattle.album_world.specs.State.{Now, client_at, is_stopped, message_of, with_number}
 use Rattle.album_world.specs.Changes.{Change, asks, arrives, client_takes, delivers, part_takes, stops, sweeps, trims}
 use Rattle.album_world.specs.Changes.Change.{Nothing, AtPart, AtClient, Stops}
@@ -56,12 +56,12 @@ changed_so : (now new : Now) (change : Change) (sent : List Message) (outs : Lis
     → new.messages ≡ now.messages ++ sent → new.stopped ≡ now.stopped → IsChanged now change new outs
 changed_so now new Nothing sent outs h p m s = record {
   kept = same_kept new now p (m ∙ ap (λ (xs : List Message). now.messages ++ xs) h.silent ∙ append-nil now.messages) h.clients s;
-  told = h.untold;
+  outputs = h.no_outputs;
 }
 changed_so now new (AtPart part held messages) sent outs h p m s = absurd h
 changed_so now new (AtClient number turn) sent outs h p m s = record {
   kept = same_kept new (now_after now (AtClient number turn)) p (m ∙ ap (λ (xs : List Message). now.messages ++ xs) h.sent_is) h.clients s;
-  told = h.told;
+  outputs = h.outputs;
 }
 changed_so now new (Stops number) sent outs h p m s = absurd h
 
@@ -72,7 +72,7 @@ done_by : (terms : Terms) (now new : Now) (n : ℕ) (p : Principal) (ask : Ask) 
     → IsMade (asks terms now n p ask) now new outs
 done_by terms now new n p ask sent outs (Ok change) e h a b c =
     let d = changed_so now new change sent outs h a b c in
-    record { change = change; is = e; kept = d.kept; told = d.told }
+    record { change = change; is = e; kept = d.kept; outputs = d.outputs }
 done_by terms now new n p ask sent outs (Err why) e h a b c = absurd h
 
 pub asked_done : (terms : Terms) (now new : Now) (n : ℕ) (p : Principal) (ask : Ask) (sent : List Message) (outs : List Out)
@@ -108,7 +108,7 @@ part_changed now new part message held outs e p m c s o =
     subst (λ (f : Option PartitionState). IsChanged now (part_takes part message f) new outs) (sym e)
     (record {
       kept = same_kept new (now_after now (AtPart part (after held message) (option_to_list (answer held message)))) p m c s;
-      told = o;
+      outputs = o;
     })
 
 no_more : (xs : List PartitionState) (i : ℕ) → length xs ≤ i → slice_get xs i ≡ None
@@ -123,7 +123,7 @@ pub no_part_takes : (now : Now) (part : ℕ) (message : Message) (outs : List Ou
     → IsChanged now (part_takes part message (slice_get now.partitions part)) now outs
 no_part_takes now part message outs h e =
     subst (λ (f : Option PartitionState). IsChanged now (part_takes part message f) now outs) (sym (no_part now part h))
-    (record { kept = refl; told = e })
+    (record { kept = refl; outputs = e })
 
 -- a client takes it
 pub client_changed : (terms : Terms) (now new : Now) (n : ℕ) (message : Message) (sent : List Message) (outs : List Out)
@@ -139,7 +139,7 @@ pub client_still : (terms : Terms) (now : Now) (n : ℕ) (message : Message) (ou
     → IsChanged now (client_takes terms now n (client_at now.clients n) message) now outs
 client_still terms now n message outs stays e =
     subst (λ (b : Bool). IsChanged now (cond b Nothing (takes_of terms n (client_at now.clients n) message)) now outs) (sym stays)
-    (record { kept = refl; told = e })
+    (record { kept = refl; outputs = e })
 
 module _ (terms : Terms) (now new : Now) (number i : ℕ) (m : Message) (found : message_of now.messages number ≡ slice_get now.messages i)
     (inside : i < length now.messages) (e : m ≡ get_or now.messages i m) (outs : List Out) where
@@ -148,7 +148,7 @@ module _ (terms : Terms) (now new : Now) (number i : ℕ) (m : Message) (found :
     change = arrives terms now m node;
     is = delivered_is terms now number i m found inside e ∙ ap (λ (n : Node). Ok (arrives terms now m n)) to;
     kept = h.kept;
-    told = h.told;
+    outputs = h.outputs;
   }
 
   pub part_delivered : (part : ℕ) → m.to ≡ Part part
@@ -182,7 +182,7 @@ swept_done now new part stamp held messages outs e s p m c t o = record {
   is = swept_is now part stamp held e
       ∙ ap (λ (r : Result (List Message) Refusal). r >>= (λ messages. Ok (AtPart part held messages))) s;
   kept = same_kept new (now_after now (AtPart part held messages)) (p ∙ sym (same_set now.partitions part held e)) m c t;
-  told = o;
+  outputs = o;
 }
 
 pub swept_refused : (now : Now) (part stamp : ℕ) (held : PartitionState) (why : Refusal) → slice_get now.partitions part ≡ Some held
@@ -213,7 +213,7 @@ stopped_done now new n outs runs p m c s o = record {
   change = Stops n;
   is = ap (λ (b : Bool). cond b (Err Stopped) (Ok (Stops n))) runs;
   kept = same_kept new (now_after now (Stops n)) p m c s;
-  told = o;
+  outputs = o;
 }
 
 pub stopped_refused : (now : Now) (n : ℕ) → is_stopped now n ≡ true → stops now n ≡ Err Stopped
@@ -234,7 +234,7 @@ trimmed_done now new part item held later outs e s p m c t o = record {
   is = trimmed_is now part item held e
       ∙ ap (λ (r : Result PartitionState Refusal). r >>= (λ changed. Ok (AtPart part changed []))) s;
   kept = same_kept new (now_after now (AtPart part later [])) p (m ∙ sym (append-nil now.messages)) c t;
-  told = o;
+  outputs = o;
 }
 
 pub trimmed_refused : (now : Now) (part item : ℕ) (held : PartitionState) (why : Refusal) → slice_get now.partitions part ≡ Some held

@@ -33,14 +33,14 @@ use Rattle.album_writer.specs.Rounds.WriteStep.{Waits, Commits, Ends}
 use Rattle.album_client.specs.declared.clients.Phase.{Phase}
 use Rattle.album_client.specs.declared.clients.Phase.TheVariants as phase
 use Rattle.album_client.specs.Terms.{Terms}
-use Rattle.album_client.specs.Askings.{PendingAsk}
+use Rattle.album_client.specs.PendingAsks.{PendingAsk}
 use Rattle.album_client.specs.Clients.{Client}
 use Rattle.album_client.specs.Grants.{served_for}
-use Rattle.album_client.specs.Turns.{Transaction, Ended, Turn, ask_ends, write_begins, writes_unless, draws_by, grants, rules_by, clock_after_rows, views_by, read_turn, prepare_turn, commit_turn}
-use Rattle.album_world.specs.declared.events.Event.{Event}
-use Rattle.album_world.specs.declared.events.Event.TheVariants as event
-use Rattle.album_writer.specs.declared.answers.Answer.{Answer}
-use Rattle.album_writer.specs.declared.answers.Answer.TheVariants as answer
+use Rattle.album_client.specs.Steps.{Transaction, Ended, TransitionState, ask_ends, write_begins, writes_unless, draws_by, grants, rules_by, clock_after_rows, views_by, read_transition, prepare_transition, commit_transition}
+use Rattle.album_permits.specs.declared.events.Event.{Event}
+use Rattle.album_permits.specs.declared.events.Event.TheVariants as event
+use Rattle.album_permits.specs.declared.answers.Answer.{Answer}
+use Rattle.album_permits.specs.declared.answers.Answer.TheVariants as answer
 use Rattle.album_world.specs.State.{Now, client_at, message_of, is_stopped, with_number}
 use Rattle.album_world.specs.Past.{World}
 use Rattle.album_world.specs.Runs.{changed, changed_by, happens, requested, run}
@@ -52,7 +52,7 @@ use Rattle.album_world.proofs.ClientLemmas.{client_same, client_other, rows_clie
 
 -- Where it is answered, no write begins. The client is the same, its clock has not been set back, and the stamp of a
 -- write that begins is the one that it drew.
-record IsSteady (old : Client) (turn : Turn) : Type 0 where
+record IsSteady (old : Client) (turn : TransitionState) : Type 0 where
   over : (a : Answer) → turn.answer ≡ Some a → turn.writes ≡ None
   number : turn.client.number ≡ old.number
   own : turn.client.clock.client ≡ old.clock.client
@@ -134,7 +134,7 @@ module _ (terms : Terms) (now : Now) (c : ℕ) where
     rules_steady (finding.Missing object) = ends_steady (answer.Missing object)
 
   -- the clock stays
-  same_tidy : (turn : Turn) → turn.client.number ≡ x.number → turn.client.clock ≡ x.clock
+  same_tidy : (turn : TransitionState) → turn.client.number ≡ x.number → turn.client.clock ≡ x.clock
       → ((a : Answer) → turn.answer ≡ Some a → turn.writes ≡ None) → turn.writes ≡ None → IsTidy x turn
   same_tidy turn number same over none = record {
     over = over;
@@ -162,7 +162,7 @@ module _ (terms : Terms) (now : Now) (c : ℕ) where
         drawn = λ by e. let d = steady.drawn by e in record { is = d.is; above = d.above };
       }
 
-  read_ends_tidy : (turn : Turn) (over : Option Ended) → IsTidy x turn → IsTidy x (record turn { over = over })
+  read_ends_tidy : (turn : TransitionState) (over : Option Ended) → IsTidy x turn → IsTidy x (record turn { over = over })
   read_ends_tidy turn over d = record {
     over = d.over;
     unread = d.unread;
@@ -172,7 +172,7 @@ module _ (terms : Terms) (now : Now) (c : ℕ) where
     drawn = λ by e. let g = d.drawn by e in record { is = g.is; above = g.above };
   }
 
-  read_tidy : (pending_ask : PendingAsk) (tag : ℕ) (s : Step) → IsTidy x (read_turn terms x tag pending_ask s)
+  read_tidy : (pending_ask : PendingAsk) (tag : ℕ) (s : Step) → IsTidy x (read_transition terms x tag pending_ask s)
   read_tidy pending_ask tag (Same round) = same_tidy _ refl refl (λ a e. none_some e) refl
   read_tidy pending_ask tag (Next round sent) = same_tidy _ refl refl (λ a e. none_some e) refl
   read_tidy pending_ask tag (Done rows) =
@@ -180,12 +180,12 @@ module _ (terms : Terms) (now : Now) (c : ℕ) where
   read_tidy pending_ask tag (Gone items) =
       read_ends_tidy _ _ (views_tidy tag pending_ask.principal (again pending_ask.viewing items))
 
-  prepare_tidy : (tag : ℕ) (s : WriteStep) → IsTidy x (prepare_turn x tag s)
+  prepare_tidy : (tag : ℕ) (s : WriteStep) → IsTidy x (prepare_transition x tag s)
   prepare_tidy tag (Waits z) = same_tidy _ refl refl (λ a e. none_some e) refl
   prepare_tidy tag (Commits z sent) = same_tidy _ refl refl (λ a e. none_some e) refl
   prepare_tidy tag (Ends outcome) = same_tidy _ refl refl (λ a e. refl) refl
 
-  commit_tidy : (tag : ℕ) (s : WriteStep) → IsTidy x (commit_turn x tag s)
+  commit_tidy : (tag : ℕ) (s : WriteStep) → IsTidy x (commit_transition x tag s)
   commit_tidy tag (Waits z) = same_tidy _ refl refl (λ a e. none_some e) refl
   commit_tidy tag (Commits z sent) = same_tidy _ refl refl (λ a e. none_some e) refl
   commit_tidy tag (Ends outcome) = same_tidy _ refl refl (λ a e. refl) refl
@@ -259,7 +259,7 @@ event_tidy terms now (event.Trim p i) = go (slice_get now.partitions p)
 event_tidy terms now (event.Stop c) = unless_tidy terms now c (is_stopped now c) refusal.Stopped (Ok (Stops c))
     (λ awake. tt)
 
-pub turn_tidy : (terms : Terms) (now : Now) (e : Event) (c : ℕ) (t : Turn) → change_of terms now e ≡ Ok (AtClient c t)
+pub turn_tidy : (terms : Terms) (now : Now) (e : Event) (c : ℕ) (t : TransitionState) → change_of terms now e ≡ Ok (AtClient c t)
     → IsTidy (client_at now.clients c) t
 turn_tidy terms now e c t h = (subst (AreTidyIn now) h (event_tidy terms now e)).0
 
@@ -303,7 +303,7 @@ clocks_rise terms w (e ∷ es) c =
     go (Err r) h = le_refl _
 
 -- no client that was stopped has a turn
-pub turn_awake : (terms : Terms) (now : Now) (e : Event) (c : ℕ) (t : Turn)
+pub turn_awake : (terms : Terms) (now : Now) (e : Event) (c : ℕ) (t : TransitionState)
     → change_of terms now e ≡ Ok (AtClient c t) → is_stopped now c ≡ false
 turn_awake terms now e c t h = (subst (AreTidyIn now) h (event_tidy terms now e)).1
 

@@ -9,16 +9,16 @@ use Rattle.album_partition.specs.Marks.{commits}
 use Rattle.album_reader.specs.Answers.{ReadVersion}
 use Rattle.album_reader.specs.Rounds.{RoundState}
 use Rattle.album_writer.specs.Writing.{WritingState}
-use Rattle.album_writer.specs.declared.answers.Answer.{Answer}
+use Rattle.album_permits.specs.declared.answers.Answer.{Answer}
 use Rattle.album_client.specs.declared.clients.Phase.{Phase}
 use Rattle.album_client.specs.declared.clients.Phase.TheVariants as phase
 use Rattle.album_client.specs.Clients.{Client, tag_of}
-use Rattle.album_client.specs.Turns.{Transaction, Ended, Turn}
+use Rattle.album_client.specs.Steps.{Transaction, Ended, TransitionState}
 use Rattle.album_world.proofs.ListLemmas.{In}
 use Rattle.album_world.specs.State.{client_at}
-use Rattle.album_world.specs.Past.{World, Begun, Read, Told, last_begun}
+use Rattle.album_world.specs.Past.{World, Begun, Read, PastAnswer, last_begun}
 use Rattle.album_world.specs.Changes.Change.{AtClient}
-use Rattle.album_world.specs.Runs.{changed, read_over, reads_after, nth_after, told_to}
+use Rattle.album_world.specs.Runs.{changed, read_over, reads_after, nth_after, past_answer}
 use Rattle.album_world.specs.Committing.{history}
 use Rattle.album_world.proofs.ListLemmas.{in_left, in_cases, in_option, in_mapped, some_same, same_or_not, apart}
 use Rattle.album_world.proofs.ClientLemmas.{client_same, client_other}
@@ -43,7 +43,7 @@ pub record IsSent (o : Opening) (w : World) (c g : ℕ) (m : Message) : Type 0 w
   pub is : m ≡ record { from = ToClient c; to = Part part; tag = g; body = body }
   pub fine : IsFine o w (ToClient c) (Part part) body
 
-pub record IsNew (c counter : ℕ) (t : Turn) (r : Transaction) : Type 0 where
+pub record IsNew (c counter : ℕ) (t : TransitionState) (r : Transaction) : Type 0 where
   pub at : ℕ
   pub is : r.stamp ≡ at * 65536 + c
   pub above : counter < at
@@ -51,7 +51,7 @@ pub record IsNew (c counter : ℕ) (t : Turn) (r : Transaction) : Type 0 where
   pub high : c < 65536
   pub drawn : at ≤ t.client.clock.counter
 
-module _ (o : Opening) (w : World) (k : IsKept o w) (c : ℕ) (t : Turn) (number : t.client.number ≡ c)
+module _ (o : Opening) (w : World) (k : IsKept o w) (c : ℕ) (t : TransitionState) (number : t.client.number ≡ c)
     (own : t.client.clock.client ≡ c) where
   abbrev pub next : World
   next = changed w (AtClient c t)
@@ -246,7 +246,7 @@ module _ (o : Opening) (w : World) (k : IsKept o w) (c : ℕ) (t : Turn) (number
         answers = λ a h. ⊎_elim
             (λ l. answer_grows o w next gr a.answer (k.answers a l))
             (λ l.
-            let q = in_mapped (told_to (reads_after w.past c t) c) t.answer l in
-            subst (λ (z : Told). IsAnswer o next z.answer) (sym q.2) (answer_grows o w next gr q.0 (answers q.0 q.1)))
-            (in_cases w.past.told (option_to_list (option_map (told_to (reads_after w.past c t) c) t.answer)) h);
+            let q = in_mapped (past_answer (reads_after w.past c t) c) t.answer l in
+            subst (λ (z : PastAnswer). IsAnswer o next z.answer) (sym q.2) (answer_grows o w next gr q.0 (answers q.0 q.1)))
+            (in_cases w.past.answers (option_to_list (option_map (past_answer (reads_after w.past c t) c) t.answer)) h);
       }

@@ -28,17 +28,17 @@ use Rattle.album_eval.specs.declared.verdicts.Verdict.TheVariants.{DeniedAtEnd}
 use Rattle.album_permits.specs.declared.serving.Served.TheVariants as served
 use Rattle.album_client.specs.declared.clients.Phase.TheVariants.{Idle}
 use Rattle.album_client.specs.Terms.{terms_of}
-use Rattle.album_client.specs.Askings.{PendingAsk}
+use Rattle.album_client.specs.PendingAsks.{PendingAsk}
 use Rattle.album_client.specs.Clients.{Client, newcomer}
-use Rattle.album_client.specs.Turns.{read_turn}
-use Rattle.album_world.specs.declared.events.Event.{Event}
-use Rattle.album_world.specs.declared.events.Event.TheVariants as event
-use Rattle.album_writer.specs.declared.answers.Answer.{Answer}
-use Rattle.album_writer.specs.declared.answers.Answer.TheVariants as answer
+use Rattle.album_client.specs.Steps.{read_transition}
+use Rattle.album_permits.specs.declared.events.Event.{Event}
+use Rattle.album_permits.specs.declared.events.Event.TheVariants as event
+use Rattle.album_permits.specs.declared.answers.Answer.{Answer}
+use Rattle.album_permits.specs.declared.answers.Answer.TheVariants as answer
 use Rattle.album_reader.specs.Rounds.Step.{Done, Gone}
 use Rattle.album_views.specs.declared.viewing.Why.TheVariants.{Rounds}
 use Rattle.album_world.specs.Changes.{Change, change_of}
-use Rattle.album_world.specs.Past.{Read, Told}
+use Rattle.album_world.specs.Past.{Read, PastAnswer}
 use Rattle.album_world.specs.State.{Now}
 use Rattle.album_world.specs.Runs.{run_of}
 
@@ -82,7 +82,7 @@ abbrev delivers : ℕ → ℕ → List Event
 delivers first count = map event.Deliver (range_with_len first count)
 
 abbrev answers : ℕ → List Event → List Answer
-answers limit events = map (λ (told : Told). told.answer) (run_of (opening limit) events).past.told
+answers limit events = map (λ (told : PastAnswer). told.answer) (run_of (opening limit) events).past.answers
 
 abbrev retitle : Event
 retitle = event.Ask 1 amy (ask.Retitle (picture 0) (66 ∷ []))
@@ -161,19 +161,19 @@ picture_alone = record {
   value = value.Picture (record { title = 83 ∷ []; content = []; head = head_with 0; home = 0 });
 } ∷ []
 
-seventh_gone : (read_turn (terms_of (opening 1000)) reader 15 (asked 6) (Gone (picture 0 ∷ []))).answer ≡ None
+seventh_gone : (read_transition (terms_of (opening 1000)) reader 15 (asked 6) (Gone (picture 0 ∷ []))).answer ≡ None
 seventh_gone = refl
 
 eighth_gone :
-    (read_turn (terms_of (opening 1000)) reader 15 (asked 7) (Gone (picture 0 ∷ []))).answer ≡ Some (answer.Busy Rounds)
+    (read_transition (terms_of (opening 1000)) reader 15 (asked 7) (Gone (picture 0 ∷ []))).answer ≡ Some (answer.Busy Rounds)
 eighth_gone = refl
 
-seventh_open : (read_turn (terms_of (opening 1000)) reader 15 (asked 6) (Done picture_alone)).answer ≡ None
+seventh_open : (read_transition (terms_of (opening 1000)) reader 15 (asked 6) (Done picture_alone)).answer ≡ None
 unfolding first_names names_of seen is_closed
 seventh_open = refl
 
 eighth_open :
-    (read_turn (terms_of (opening 1000)) reader 15 (asked 7) (Done picture_alone)).answer ≡ Some (answer.Busy Rounds)
+    (read_transition (terms_of (opening 1000)) reader 15 (asked 7) (Done picture_alone)).answer ≡ Some (answer.Busy Rounds)
 unfolding first_names names_of seen is_closed
 eighth_open = refl
 

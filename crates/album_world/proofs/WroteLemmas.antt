@@ -6,7 +6,7 @@ use Rattle.album_items.specs.declared.openings.Opening.{Opening}
 use Rattle.album_items.specs.declared.values.Value.{Value}
 use Rattle.album_partition.specs.Marks.{value_in}
 use Rattle.album_partition.proofs.GrowthLemmas.{promised_unprepared}
-use Rattle.album_client.specs.Turns.{Transaction}
+use Rattle.album_client.specs.Steps.{Transaction}
 use Rattle.album_world.specs.Past.{World}
 use Rattle.album_world.specs.Committing.{history}
 use Rattle.album_world.proofs.ListLemmas.{In}

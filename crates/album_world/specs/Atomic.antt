@@ -6,7 +6,7 @@ use Rattle.album_items.specs.declared.values.Value.{Value}
 use Rattle.album_items.specs.declared.values.Value.TheVariants.{Missing}
 use Rattle.album_partition.specs.Marks.{value_in}
 use Rattle.album_reader.specs.Answers.{ReadVersion}
-use Rattle.album_client.specs.Turns.{Transaction}
+use Rattle.album_client.specs.Steps.{Transaction}
 use Rattle.album_world.specs.Past.{Read, World}
 use Rattle.album_world.specs.Committing.{IsCommitted}
 

@@ -1,4 +1,4 @@
--- Busy has its cause: an ask has no view only where it looks at too much, or where eight reads did not do.
+-- Busy has its cause: an ask has no view only where its read set is too large, or where eight reads were not enough.
 use Rattle.std.specs.Prelude.{◌≡◌, ◌<◌, ◌≤◌, ◌⊎◌, List, Some, None, length, Contains}
 use Rattle.album_stamps.specs.declared.limits.TheConstants.{MAX_READ_ITEMS, MAX_READS}
 use Rattle.album_reader.specs.Answers.{ReadVersion}
@@ -6,28 +6,28 @@ use Rattle.album_views.specs.ReadSets.{names_of}
 use Rattle.album_views.specs.Views.{IsClosed}
 use Rattle.album_views.specs.declared.viewing.Why.{Why}
 use Rattle.album_views.specs.declared.viewing.Why.TheVariants.{Rounds, Wide}
-use Rattle.album_world.specs.Past.{Read, Told, World}
-use Rattle.album_writer.specs.declared.answers.Answer.{Answer}
-use Rattle.album_writer.specs.declared.answers.Answer.TheVariants as answer
+use Rattle.album_world.specs.Past.{Read, PastAnswer, World}
+use Rattle.album_permits.specs.declared.answers.Answer.{Answer}
+use Rattle.album_permits.specs.declared.answers.Answer.TheVariants as answer
 
 -- the snapshot of the read is not closed
 pub record IsOpen (read : Read) (rows : List ReadVersion) : Type 0 where
   pub shown : read.rows ≡ Some rows
   pub lacking : IsClosed read.ask rows → ⊥
 
--- and it names more items than can be read
+-- and its read set has more items than can be read
 pub record IsWide (read : Read) : Type 0 where
   pub rows : List ReadVersion
   pub lacking : IsOpen read rows
   pub wide : MAX_READ_ITEMS < length (names_of rows read.ask)
 
--- or not more
+-- or it has no more items than can be read
 pub record IsNarrow (read : Read) : Type 0 where
   pub rows : List ReadVersion
   pub lacking : IsOpen read rows
   pub narrow : length (names_of rows read.ask) ≤ MAX_READ_ITEMS
 
--- it was the last read that the ask may have, and an item was gone, or its snapshot is not closed
+-- it was the last read that the ask may have: an item was gone, or its snapshot is not closed
 pub record IsLastRead (read : Read) : Type 0 where
   pub nth : read.begun.nth ≡ MAX_READS
   pub in_vain : (read.rows ≡ None) ⊎ IsNarrow read
@@ -36,24 +36,24 @@ abbrev pub IsCause : Why → Read → Type 0
 IsCause Wide read = IsWide read
 IsCause Rounds read = IsLastRead read
 
--- the cause is in the read that the client had made last
-pub record HasCause (world : World) (told : Told) (why : Why) : Type 0 where
+-- the read that the client had made last has the cause
+pub record HasCause (world : World) (given : PastAnswer) (why : Why) : Type 0 where
   pub read : Read
-  pub last_is : told.last ≡ Some read
+  pub last_is : given.last ≡ Some read
   pub made : Contains world.past.reads read
-  pub own : read.begun.client ≡ told.client
+  pub own : read.begun.client ≡ given.client
   pub cause : IsCause why read
 
-abbrev pub IsCaused : World → Told → Answer → Type 0
-IsCaused world told (answer.Busy why) = HasCause world told why
-IsCaused world told (answer.Served served) = Unit {0}
-IsCaused world told (answer.Denied reasons) = Unit {0}
-IsCaused world told (answer.Missing object) = Unit {0}
-IsCaused world told (answer.Committed stamp) = Unit {0}
-IsCaused world told (answer.Aborted stamp) = Unit {0}
-IsCaused world told (answer.Unsettled stamp why) = Unit {0}
-IsCaused world told (answer.Refused why) = Unit {0}
+abbrev pub IsCaused : World → PastAnswer → Answer → Type 0
+IsCaused world given (answer.Busy why) = HasCause world given why
+IsCaused world given (answer.Served served) = Unit {0}
+IsCaused world given (answer.Denied reasons) = Unit {0}
+IsCaused world given (answer.Missing object) = Unit {0}
+IsCaused world given (answer.Committed stamp) = Unit {0}
+IsCaused world given (answer.Aborted stamp) = Unit {0}
+IsCaused world given (answer.Unsettled stamp why) = Unit {0}
+IsCaused world given (answer.Refused why) = Unit {0}
 
--- each answer Busy that was ever told has its cause
+-- each answer Busy that was ever given has its cause
 abbrev pub BusyHasItsCause : World → Type 0
-BusyHasItsCause world = (told : Told) → Contains world.past.told told → IsCaused world told told.answer
+BusyHasItsCause world = (given : PastAnswer) → Contains world.past.answers given → IsCaused world given given.answer

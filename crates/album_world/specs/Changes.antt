@@ -22,21 +22,21 @@ use Rattle.album_client.specs.declared.clients.Phase.{Phase}
 use Rattle.album_client.specs.declared.clients.Phase.TheVariants.{Idle, Reads, Prepares, Commits}
 use Rattle.album_client.specs.Terms.{Terms}
 use Rattle.album_client.specs.Clients.{Client}
-use Rattle.album_client.specs.Turns.{Turn, read_begins, read_turn, prepare_turn, commit_turn}
-use Rattle.album_world.specs.declared.events.Event.{Event}
-use Rattle.album_world.specs.declared.events.Event.TheVariants as event
+use Rattle.album_client.specs.Steps.{TransitionState, read_begins, read_transition, prepare_transition, commit_transition}
+use Rattle.album_permits.specs.declared.events.Event.{Event}
+use Rattle.album_permits.specs.declared.events.Event.TheVariants as event
 use Rattle.album_world.specs.State.{Now, message_of, client_at, is_stopped}
 
 -- what an event changes: nothing; a partition, which sends messages; a client; or which clients are stopped
 pub data Change : Type 0 where
   Nothing : Change
   AtPart : ℕ → PartitionState → List Message → Change
-  AtClient : ℕ → Turn → Change
+  AtClient : ℕ → TransitionState → Change
   Stops : ℕ → Change
 
 -- ---- an ask
 
--- it begins with a read of its objects, unless it is refused before anything is read
+-- an ask begins with a read of its objects, unless it is refused before anything is read
 abbrev pub asks_unless : Terms → ℕ → Client → ℕ → Principal → Ask → Option Refusal → Result Change Refusal
 asks_unless terms number client tag principal ask (Some refusal) = Err refusal
 asks_unless terms number client tag principal ask None =
@@ -61,33 +61,33 @@ asks terms now number principal ask =
 
 -- ---- a message
 
--- a partition takes it, and sends its reply, if there is one
+-- a partition takes the message, and sends its reply, if there is one
 abbrev pub part_takes : ℕ → Message → Option PartitionState → Change
 part_takes part message None = Nothing
 part_takes part message (Some partition) =
     AtPart part (after partition message) (option_to_list (answer partition message))
 
--- to an idle client it does nothing
+-- a message changes nothing at an idle client
 abbrev pub client_takes_by : Terms → ℕ → Client → Message → Phase → Change
 client_takes_by terms number client message (Idle tag) = Nothing
 client_takes_by terms number client message (Reads pending_ask round) =
-    AtClient number (read_turn terms client round.asker.tag pending_ask (stepped round message))
+    AtClient number (read_transition terms client round.asker.tag pending_ask (stepped round message))
 client_takes_by terms number client message (Prepares writing) =
-    AtClient number (prepare_turn client writing.tag (prepare_stepped writing message))
+    AtClient number (prepare_transition client writing.tag (prepare_stepped writing message))
 client_takes_by terms number client message (Commits writing) =
-    AtClient number (commit_turn client writing.tag (commit_stepped writing message))
+    AtClient number (commit_transition client writing.tag (commit_stepped writing message))
 
--- nor to a stopped one
+-- and nothing at a stopped one
 abbrev pub client_takes : Terms → Now → ℕ → Client → Message → Change
 client_takes terms now number client message =
     if is_stopped now number then Nothing else client_takes_by terms number client message client.phase
 
--- whoever it is sent to takes it
+-- the receiver takes the message
 abbrev pub arrives : Terms → Now → Message → Node → Change
 arrives terms now message (Part part) = part_takes part message (slice_get now.partitions part)
 arrives terms now message (OfClient number) = client_takes terms now number (client_at now.clients number) message
 
--- a message of this number has to be there
+-- the message of this number is delivered, if it is there
 abbrev pub delivers : Terms → Now → Option Message → Result Change Refusal
 delivers terms now None = Err NoSuchMessage
 delivers terms now (Some message) = Ok (arrives terms now message message.to)
@@ -112,7 +112,7 @@ stops now number = if is_stopped now number then Err Stopped else Ok (Stops numb
 
 -- ---- an event
 
--- what it changes in a world with these terms, or the first reason for which it is refused
+-- what an event changes in a world with these terms, or the first reason for which it is refused
 abbrev pub change_of : Terms → Now → Event → Result Change Refusal
 change_of terms now (event.Ask number principal ask) = asks terms now number principal ask
 change_of terms now (event.Deliver number) = delivers terms now (message_of now.messages number)

@@ -9,7 +9,7 @@ use Rattle.album_views.specs.Views.{IsView}
 use Rattle.album_reader.specs.Answers.{ReadVersion}
 use Rattle.album_permits.specs.Permits.{permit_on}
 use Rattle.album_client.specs.Terms.{Terms}
-use Rattle.album_client.specs.Turns.{Transaction}
+use Rattle.album_client.specs.Steps.{Transaction}
 use Rattle.album_world.specs.State.{client_at}
 use Rattle.album_world.specs.Past.{Read, World}
 use Rattle.album_world.specs.Committing.{history}
@@ -21,8 +21,8 @@ pub record IsDrawnBy (world : World) (client stamp : ℕ) : Type 0 where
   pub known : IsTrue (is_client client)
   pub old : counter ≤ (client_at world.now.clients client).clock.counter
 
--- The client had made a read that is a view of its ask, and the ruling on it is Granted. At the stamp, which its own
--- clock drew, and which is greater than each that the view shows, the ask writes just what the transaction writes.
+-- The client had made a read that is a view of its ask, and the ruling on the view is Granted. Its own clock drew the
+-- stamp, which is greater than each stamp of the view. The transaction writes exactly what the ask writes at the stamp.
 pub record IsGranted (terms : Terms) (world : World) (by : Transaction) : Type 0 where
   pub read : Read
   pub rows : List ReadVersion
@@ -36,7 +36,7 @@ pub record IsGranted (terms : Terms) (world : World) (by : Transaction) : Type 0
   pub drawn : IsDrawnBy world by.client by.stamp
   pub later : (row : ReadVersion) → Contains rows row → row.stamp < by.stamp
 
--- just one transaction has the stamp, and it writes the value to the item
+-- exactly one transaction has the stamp, and it writes the value to the item
 pub record IsOfOne (world : World) (item stamp : ℕ) (value : Value) : Type 0 where
   pub by : Transaction
   pub begun : Contains world.past.transactions by
@@ -44,8 +44,8 @@ pub record IsOfOne (world : World) (item stamp : ℕ) (value : Value) : Type 0 w
   pub wrote : value_in by.writes item ≡ Some value
   pub alone : (other : Transaction) → Contains world.past.transactions other → other.stamp ≡ stamp → other ≡ by
 
--- Each write that was ever begun is granted, no two of them have one stamp, and each version that a partition has is of
--- just one of them.
+-- Each write that was ever begun is granted, no two writes have one stamp, and each version that a partition has is of
+-- exactly one write.
 pub record WritesAreGranted (terms : Terms) (world : World) : Type 0 where
   pub granted : (by : Transaction) → Contains world.past.transactions by → IsGranted terms world by
   pub single :

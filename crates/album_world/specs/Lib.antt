@@ -12,7 +12,7 @@ pub mod Granted
 pub mod Outcomes
 pub mod Busy
 pub mod Requests
-pub mod Told
+pub mod OutputsOnce
 pub mod Events
 pub mod Flags
 pub mod Registers

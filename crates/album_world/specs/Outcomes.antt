@@ -1,4 +1,4 @@
--- Outcomes are true: how a write ended is how it stands at the partitions, for good.
+-- Outcomes are true: a write stands at the partitions as it was answered, for good.
 use Rattle.std.specs.Prelude.{◌≡◌, ℕ, ◌≤◌, ◌⊎◌, true, List, Some, Contains}
 use Rattle.album_stamps.specs.declared.limits.TheConstants.{MAX_COUNTER}
 use Rattle.album_stamps.specs.declared.refusals.Refusal.{Refusal}
@@ -11,16 +11,16 @@ use Rattle.album_permits.specs.Effects.{is_full_for}
 use Rattle.album_permits.specs.Permits.{PermitState}
 use Rattle.album_reader.specs.Answers.{ReadVersion}
 use Rattle.album_client.specs.Terms.{Terms}
-use Rattle.album_client.specs.Turns.{Transaction}
+use Rattle.album_client.specs.Steps.{Transaction}
 use Rattle.album_world.specs.State.{client_at}
-use Rattle.album_world.specs.Past.{Read, Told, World}
-use Rattle.album_world.specs.Viewed.{IsToldOn}
+use Rattle.album_world.specs.Past.{Read, PastAnswer, World}
+use Rattle.album_world.specs.Viewed.{IsAnsweredOnView}
 use Rattle.album_world.specs.Committing.{parts_of, IsCommitted, IsCommittedEverywhere, IsPromisedSomewhere}
 use Rattle.album_world.specs.Granted.{IsDrawnBy}
-use Rattle.album_writer.specs.declared.answers.Answer.{Answer}
-use Rattle.album_writer.specs.declared.answers.Answer.TheVariants as answer
+use Rattle.album_permits.specs.declared.answers.Answer.{Answer}
+use Rattle.album_permits.specs.declared.answers.Answer.TheVariants as answer
 
--- this holds of the client's write of this stamp
+-- the client's write of this stamp has the property
 pub record IsOfWrite (world : World) (client stamp : ℕ) (Holds : Transaction → Type 0) : Type 0 where
   pub by : Transaction
   pub begun : Contains world.past.transactions by
@@ -28,15 +28,16 @@ pub record IsOfWrite (world : World) (client stamp : ℕ) (Holds : Transaction �
   pub at : by.stamp ≡ stamp
   pub holds : Holds by
 
--- no partition has committed the stamp, and no snapshot has anything at it
+-- no partition has committed the stamp, and no snapshot has a row at it
 pub record IsLost (world : World) (stamp : ℕ) : Type 0 where
   pub uncommitted : IsCommitted world stamp → ⊥
   pub unseen :
-      (read : Read) (rows : List ReadVersion) (row : ReadVersion) → Contains world.past.reads read → read.rows ≡ Some rows
+      (read : Read) (rows : List ReadVersion) (row : ReadVersion) → Contains world.past.reads read
+      → read.rows ≡ Some rows
       → Contains rows row → row.stamp ≡ stamp → ⊥
 
--- a partition of the write answered its Prepare that it is full: the reply went to its client, under the Prepare's tag
-pub record IsToldFull (terms : Terms) (world : World) (by : Transaction) : Type 0 where
+-- a participant of the write replied Full to its Prepare: the reply went to its client, under the Prepare's tag
+pub record IsRepliedFull (terms : Terms) (world : World) (by : Transaction) : Type 0 where
   pub message : Message
   pub part : ℕ
   pub sent : Contains world.now.messages message
@@ -57,27 +58,27 @@ pub record IsAlbumFull (world : World) (client : ℕ) (permit : PermitState) : T
 abbrev pub IsSpent : World → ℕ → Type 0
 IsSpent world client = MAX_COUNTER ≤ (client_at world.now.clients client).clock.counter
 
--- why a permit could not be used
+-- the permit could not be used for this reason
 abbrev pub IsRefusedFor : World → ℕ → Refusal → PermitState → Type 0
 IsRefusedFor world client why permit =
     ((why ≡ AlbumFull) × IsAlbumFull world client permit) ⊎ ((why ≡ StampsSpent) × IsSpent world client)
 
--- the answer tells how the write stands
-abbrev pub IsTrueOutcome : Terms → World → Told → Answer → Type 0
-IsTrueOutcome terms world told (answer.Served served) = Unit {0}
-IsTrueOutcome terms world told (answer.Denied reasons) = Unit {0}
-IsTrueOutcome terms world told (answer.Missing object) = Unit {0}
-IsTrueOutcome terms world told (answer.Busy why) = Unit {0}
-IsTrueOutcome terms world told (answer.Committed stamp) =
-    IsOfWrite world told.client stamp (IsCommittedEverywhere terms world)
-IsTrueOutcome terms world told (answer.Aborted stamp) =
-    IsOfWrite world told.client stamp (IsPromisedSomewhere terms world) × IsLost world stamp
-IsTrueOutcome terms world told (answer.Unsettled stamp why) =
-    (why ≡ Full) × IsOfWrite world told.client stamp (IsToldFull terms world) × IsLost world stamp
-IsTrueOutcome terms world told (answer.Refused why) =
-    IsToldOn terms world told (IsRefusedFor world told.client why)
+-- the answer says how the write stands
+abbrev pub IsTrueOutcome : Terms → World → PastAnswer → Answer → Type 0
+IsTrueOutcome terms world given (answer.Served served) = Unit {0}
+IsTrueOutcome terms world given (answer.Denied reasons) = Unit {0}
+IsTrueOutcome terms world given (answer.Missing object) = Unit {0}
+IsTrueOutcome terms world given (answer.Busy why) = Unit {0}
+IsTrueOutcome terms world given (answer.Committed stamp) =
+    IsOfWrite world given.client stamp (IsCommittedEverywhere terms world)
+IsTrueOutcome terms world given (answer.Aborted stamp) =
+    IsOfWrite world given.client stamp (IsPromisedSomewhere terms world) × IsLost world stamp
+IsTrueOutcome terms world given (answer.Unsettled stamp why) =
+    (why ≡ Full) × IsOfWrite world given.client stamp (IsRepliedFull terms world) × IsLost world stamp
+IsTrueOutcome terms world given (answer.Refused why) =
+    IsAnsweredOnView terms world given (IsRefusedFor world given.client why)
 
--- each answer that was ever told does, and what has happened since has not changed that
+-- each answer that was ever given does, whatever has happened since
 abbrev pub OutcomesAreTrue : Terms → World → Type 0
 OutcomesAreTrue terms world =
-    (told : Told) → Contains world.past.told told → IsTrueOutcome terms world told told.answer
+    (given : PastAnswer) → Contains world.past.answers given → IsTrueOutcome terms world given given.answer

@@ -5,18 +5,18 @@ use Rattle.album_partition.specs.Partition.{PartitionState}
 use Rattle.album_reader.specs.Answers.{ReadVersion}
 use Rattle.album_views.specs.declared.asks.Ask.{Ask}
 use Rattle.album_permits.specs.declared.notes.Note.{Note}
-use Rattle.album_client.specs.Turns.{Transaction}
+use Rattle.album_client.specs.Steps.{Transaction}
 use Rattle.album_world.specs.State.{Now}
-use Rattle.album_writer.specs.declared.answers.Answer.{Answer}
+use Rattle.album_permits.specs.declared.answers.Answer.{Answer}
 
--- a read that a client began: which one it is of those that are made for one ask, from 1, and the partitions just
--- before the event that began it
+-- a read that a client began: its number among the reads for one ask, from 1, and the partitions right before the event
+-- that began it
 pub record Begun : Type 0 where
   pub client : ℕ
   pub nth : ℕ
   pub partitions : List PartitionState
 
--- a read that is over: how it began, for which ask and whom it was made, and what was read; or nothing, where an item
+-- a read that is over: how it began, its ask and principal, and the versions that were read; or nothing, where an item
 -- was gone
 pub record Read : Type 0 where
   pub begun : Begun
@@ -24,20 +24,20 @@ pub record Read : Type 0 where
   pub principal : Principal
   pub rows : Option (List ReadVersion)
 
--- an answer that a client was told, and the read that it had made last
-pub record Told : Type 0 where
+-- an answer to a client, and the read that the client had made last
+pub record PastAnswer : Type 0 where
   pub client : ℕ
   pub last : Option Read
   pub answer : Answer
 
--- all that was noted as a client's ask was ruled on, and the read that it had made last
+-- the notes of a ruling on a client's ask, and the read that the client had made last
 pub record Noted : Type 0 where
   pub client : ℕ
   pub last : Option Read
   pub notes : List Note
 
--- A request that a client made: for whom, what it asks, and the partitions just before the event that made it. And what
--- has come of it: the reads that are over, the last one first, the writes that began, what was noted, and the answers.
+-- A request that a client made: its principal, its ask, and the partitions right before the event that made it. Then
+-- what was done for it: the reads that are over, the last one first, the writes that began, the notes, and the answers.
 pub record Asked : Type 0 where
   pub client : ℕ
   pub principal : Principal
@@ -48,13 +48,13 @@ pub record Asked : Type 0 where
   pub notes : List (List Note)
   pub answers : List Answer
 
--- all of these, of requests and of reads the last ones first
+-- all of these; of requests and of reads the last ones come first
 pub record Past : Type 0 where
   pub asked : List Asked
   pub transactions : List Transaction
   pub begun : List Begun
   pub reads : List Read
-  pub told : List Told
+  pub answers : List PastAnswer
   pub noted : List Noted
 
 -- a world: what it keeps, and what has happened to it

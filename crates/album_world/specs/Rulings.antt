@@ -1,23 +1,23 @@
--- Rulings hold: what is answered, and what is noted, is what the written policy says of the view.
+-- Rulings hold: answers and notes are what the written policy says of the view.
 use Rattle.std.specs.Prelude.{◌≡◌, ℕ, Contains}
 use Rattle.album_permits.specs.Permits.{PermitState, IsPermit}
 use Rattle.album_permits.specs.Serving.{IsServed}
 use Rattle.album_permits.specs.declared.findings.Finding.TheVariants as finding
 use Rattle.album_permits.specs.declared.serving.Served.{Served}
 use Rattle.album_client.specs.Terms.{Terms}
-use Rattle.album_client.specs.Turns.{Transaction}
-use Rattle.album_world.specs.Past.{Told, Noted, World}
+use Rattle.album_client.specs.Steps.{Transaction}
+use Rattle.album_world.specs.Past.{PastAnswer, Noted, World}
 use Rattle.album_permits.specs.Meaning.{Finds, Notes}
-use Rattle.album_world.specs.Viewed.{IsOnView, IsToldOn}
-use Rattle.album_writer.specs.declared.answers.Answer.{Answer}
-use Rattle.album_writer.specs.declared.answers.Answer.TheVariants as answer
+use Rattle.album_world.specs.Viewed.{IsOnView, IsAnsweredOnView}
+use Rattle.album_permits.specs.declared.answers.Answer.{Answer}
+use Rattle.album_permits.specs.declared.answers.Answer.TheVariants as answer
 
--- it is granted, and this is what the view has for it
+-- the ask is granted, and this is what the view has for it
 pub record IsServedBy (permit : PermitState) (served : Served) : Type 0 where
   pub granted : IsPermit permit
   pub is : IsServed permit served
 
--- it is granted, and the client began its write of this stamp with just this permit
+-- the ask is granted, and the client began its write of this stamp with exactly this permit
 pub record IsBegunBy (world : World) (client stamp : ℕ) (permit : PermitState) : Type 0 where
   pub granted : IsPermit permit
   pub by : Transaction
@@ -26,43 +26,45 @@ pub record IsBegunBy (world : World) (client stamp : ℕ) (permit : PermitState)
   pub at : by.stamp ≡ stamp
   pub with_it : by.permit ≡ permit
 
--- An answer is what the view has led to that its client had read last. (An ask that is answered Busy has no view.)
-abbrev pub IsRuledBy : Terms → World → Told → Answer → Type 0
-IsRuledBy terms world told (answer.Served served) = IsToldOn terms world told (λ case. IsServedBy case served)
-IsRuledBy terms world told (answer.Denied reasons) =
-    IsToldOn terms world told (λ case. Finds case (finding.Denied reasons))
-IsRuledBy terms world told (answer.Missing object) =
-    IsToldOn terms world told (λ case. Finds case (finding.Missing object))
-IsRuledBy terms world told (answer.Busy why) = Unit {0}
-IsRuledBy terms world told (answer.Committed stamp) = IsToldOn terms world told (IsBegunBy world told.client stamp)
-IsRuledBy terms world told (answer.Aborted stamp) = IsToldOn terms world told (IsBegunBy world told.client stamp)
-IsRuledBy terms world told (answer.Unsettled stamp why) = IsToldOn terms world told (IsBegunBy world told.client stamp)
-IsRuledBy terms world told (answer.Refused why) = IsToldOn terms world told IsPermit
+-- An answer follows from the view that its client had read last. (An ask that is answered Busy has no view.)
+abbrev pub IsRuledBy : Terms → World → PastAnswer → Answer → Type 0
+IsRuledBy terms world given (answer.Served served) = IsAnsweredOnView terms world given (λ case. IsServedBy case served)
+IsRuledBy terms world given (answer.Denied reasons) =
+    IsAnsweredOnView terms world given (λ case. Finds case (finding.Denied reasons))
+IsRuledBy terms world given (answer.Missing object) =
+    IsAnsweredOnView terms world given (λ case. Finds case (finding.Missing object))
+IsRuledBy terms world given (answer.Busy why) = Unit {0}
+IsRuledBy terms world given (answer.Committed stamp) =
+    IsAnsweredOnView terms world given (IsBegunBy world given.client stamp)
+IsRuledBy terms world given (answer.Aborted stamp) =
+    IsAnsweredOnView terms world given (IsBegunBy world given.client stamp)
+IsRuledBy terms world given (answer.Unsettled stamp why) =
+    IsAnsweredOnView terms world given (IsBegunBy world given.client stamp)
+IsRuledBy terms world given (answer.Refused why) = IsAnsweredOnView terms world given IsPermit
 
--- of the view on which the client was told something, notes were told too
-pub record HasNotes (world : World) (told : Told) : Type 0 where
+-- the view of the answer has notes too
+pub record HasNotes (world : World) (given : PastAnswer) : Type 0 where
   pub noted : Noted
   pub kept : Contains world.past.noted noted
-  pub own : noted.client ≡ told.client
-  pub same : noted.last ≡ told.last
+  pub own : noted.client ≡ given.client
+  pub same : noted.last ≡ given.last
 
--- of each view that has led to an answer
-abbrev pub IsNotedFor : World → Told → Answer → Type 0
-IsNotedFor world told (answer.Served served) = HasNotes world told
-IsNotedFor world told (answer.Denied reasons) = HasNotes world told
-IsNotedFor world told (answer.Missing object) = HasNotes world told
-IsNotedFor world told (answer.Busy why) = Unit {0}
-IsNotedFor world told (answer.Committed stamp) = HasNotes world told
-IsNotedFor world told (answer.Aborted stamp) = HasNotes world told
-IsNotedFor world told (answer.Unsettled stamp why) = HasNotes world told
-IsNotedFor world told (answer.Refused why) = HasNotes world told
+-- each answer that rests on a view has notes
+abbrev pub IsNotedFor : World → PastAnswer → Answer → Type 0
+IsNotedFor world given (answer.Served served) = HasNotes world given
+IsNotedFor world given (answer.Denied reasons) = HasNotes world given
+IsNotedFor world given (answer.Missing object) = HasNotes world given
+IsNotedFor world given (answer.Busy why) = Unit {0}
+IsNotedFor world given (answer.Committed stamp) = HasNotes world given
+IsNotedFor world given (answer.Aborted stamp) = HasNotes world given
+IsNotedFor world given (answer.Unsettled stamp why) = HasNotes world given
+IsNotedFor world given (answer.Refused why) = HasNotes world given
 
--- Each answer that was ever told is ruled so, and of its view was noted what there is to be noted (it may be
--- nothing). All
--- that was ever noted is noted of such a view.
+-- Each answer that was ever given follows from the ruling on its view, whose notes are in the past (there may be none).
+-- All notes that were ever made are those of such a view.
 pub record RulingsHold (terms : Terms) (world : World) : Type 0 where
-  pub answers : (told : Told) → Contains world.past.told told → IsRuledBy terms world told told.answer
-  pub noted : (told : Told) → Contains world.past.told told → IsNotedFor world told told.answer
+  pub answers : (given : PastAnswer) → Contains world.past.answers given → IsRuledBy terms world given given.answer
+  pub noted : (given : PastAnswer) → Contains world.past.answers given → IsNotedFor world given given.answer
   pub notes :
       (noted : Noted) → Contains world.past.noted noted
       → IsOnView terms world noted.client noted.last (λ case. Notes case noted.notes)

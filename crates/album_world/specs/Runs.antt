@@ -1,4 +1,4 @@
--- How a world opens, what happens to it, and what is told of that.
+-- How a world opens, what its events do, and their outputs.
 use Rattle.std.specs.Prelude.{ℕ, zero, suc, ◌+◌, List, [], ◌∷◌, ◌++◌, ◌==◌, map, filter, length, Option, Some, None, Result, Ok, Err, option_to_list, option_map, slice_set, if◌then◌else◌}
 use Rattle.std.specs.List.{range_with_len}
 use Rattle.std.specs.Option.{unwrap_or}
@@ -10,26 +10,26 @@ use Rattle.album_eval.specs.declared.facts.Principal.{Principal}
 use Rattle.album_permits.specs.declared.notes.Note.{Note}
 use Rattle.album_views.specs.declared.asks.Ask.{Ask}
 use Rattle.album_client.specs.Terms.{Terms, terms_of}
-use Rattle.album_client.specs.Turns.{Ended, Turn}
-use Rattle.album_world.specs.declared.events.Event.{Event}
-use Rattle.album_world.specs.declared.events.Event.TheVariants as event
-use Rattle.album_writer.specs.declared.answers.Answer.{Answer}
-use Rattle.album_world.specs.declared.outs.Out.{Out}
-use Rattle.album_world.specs.declared.outs.Out.TheVariants as out
+use Rattle.album_client.specs.Steps.{Ended, TransitionState}
+use Rattle.album_permits.specs.declared.events.Event.{Event}
+use Rattle.album_permits.specs.declared.events.Event.TheVariants as event
+use Rattle.album_permits.specs.declared.answers.Answer.{Answer}
+use Rattle.album_permits.specs.declared.outs.Out.{Out}
+use Rattle.album_permits.specs.declared.outs.Out.TheVariants as out
 use Rattle.album_world.specs.State.{Now, with_client, with_number}
-use Rattle.album_world.specs.Past.{Asked, Begun, Read, Told, Noted, Past, World, last_begun, last_read}
+use Rattle.album_world.specs.Past.{Asked, Begun, Read, PastAnswer, Noted, Past, World, last_begun, last_read}
 use Rattle.album_world.specs.Changes.{Change, change_of}
 use Rattle.album_world.specs.Changes.Change.{Nothing, AtPart, AtClient, Stops}
 
 -- ---- what it keeps
 
--- what a change makes of it
+-- what a world keeps after a change
 abbrev pub now_after : Now → Change → Now
 now_after now Nothing = now
 now_after now (AtPart part partition messages) =
     record now { partitions = slice_set now.partitions part partition; messages = now.messages ++ messages }
-now_after now (AtClient number turn) =
-    record now { messages = now.messages ++ turn.sent; clients = with_client turn.client now.clients }
+now_after now (AtClient number transition) =
+    record now { messages = now.messages ++ transition.sent; clients = with_client transition.client now.clients }
 now_after now (Stops number) = record now { stopped = with_number number now.stopped }
 
 -- ---- what has happened to it
@@ -39,10 +39,10 @@ abbrev pub read_over : Begun → Ended → Read
 read_over begun ended =
     record { begun = begun; ask = ended.ask; principal = ended.principal; rows = ended.rows }
 
--- the reads that are over, once the client had its turn
-abbrev pub reads_after : Past → ℕ → Turn → List Read
-reads_after past number turn =
-    option_to_list (option_map (read_over (last_begun past.begun number)) turn.over) ++ past.reads
+-- the reads that are over, after the client's transition
+abbrev pub reads_after : Past → ℕ → TransitionState → List Read
+reads_after past number transition =
+    option_to_list (option_map (read_over (last_begun past.begun number)) transition.over) ++ past.reads
 
 -- the first read of an ask is number 1, and one that follows another counts on
 abbrev pub nth_after : Past → ℕ → Option Ended → ℕ
@@ -50,53 +50,58 @@ nth_after past number None = 1
 nth_after past number (Some ended) = (last_begun past.begun number).nth + 1
 
 -- a read that begins, with the partitions before this event
-abbrev pub begun_after : Now → Past → ℕ → Turn → List Begun
-begun_after now past number turn =
-    if turn.reads
-    then record { client = number; nth = nth_after past number turn.over; partitions = now.partitions } ∷ past.begun
+abbrev pub begun_after : Now → Past → ℕ → TransitionState → List Begun
+begun_after now past number transition =
+    if transition.reads
+    then
+    record { client = number; nth = nth_after past number transition.over; partitions = now.partitions } ∷ past.begun
     else past.begun
 
--- an answer, or notes, with the read that its client had made last
-abbrev pub told_to : List Read → ℕ → Answer → Told
-told_to reads number answer = record { client = number; last = last_read reads number; answer = answer }
+-- an answer, and notes, with the read that the client had made last
+abbrev pub past_answer : List Read → ℕ → Answer → PastAnswer
+past_answer reads number answer = record { client = number; last = last_read reads number; answer = answer }
 
 abbrev pub noted_of : List Read → ℕ → List Note → Noted
 noted_of reads number notes = record { client = number; last = last_read reads number; notes = notes }
 
--- what a turn adds to the request that it is for
-abbrev pub asked_on : Begun → Turn → Asked → Asked
-asked_on begun turn asked =
+-- what a transition adds to the request that it is for
+abbrev pub asked_on : Begun → TransitionState → Asked → Asked
+asked_on begun transition asked =
     record asked {
-      reads = option_to_list (option_map (read_over begun) turn.over) ++ asked.reads;
-      writes = asked.writes ++ option_to_list turn.writes;
-      notes = asked.notes ++ option_to_list turn.noted;
-      answers = asked.answers ++ option_to_list turn.answer;
+      reads = option_to_list (option_map (read_over begun) transition.over) ++ asked.reads;
+      writes = asked.writes ++ option_to_list transition.writes;
+      notes = asked.notes ++ option_to_list transition.noted;
+      answers = asked.answers ++ option_to_list transition.answer;
     }
 
--- the requests, once the client had its turn, which is for its last one
-abbrev pub asked_after : Begun → ℕ → Turn → List Asked → List Asked
-asked_after begun number turn [] = []
-asked_after begun number turn (asked ∷ more) =
-    if asked.client == number then asked_on begun turn asked ∷ more else asked ∷ asked_after begun number turn more
+-- the requests, after the client's transition, which is for its last request
+abbrev pub asked_after : Begun → ℕ → TransitionState → List Asked → List Asked
+asked_after begun number transition [] = []
+asked_after begun number transition (asked ∷ more) =
+    if asked.client == number
+    then asked_on begun transition asked ∷ more
+    else asked ∷ asked_after begun number transition more
 
--- what a change adds to it
+-- the past after a change
 abbrev pub past_after : Now → Past → Change → Past
 past_after now past Nothing = past
 past_after now past (AtPart part partition messages) = past
-past_after now past (AtClient number turn) =
+past_after now past (AtClient number transition) =
     record {
-      asked = asked_after (last_begun past.begun number) number turn past.asked;
-      transactions = past.transactions ++ option_to_list turn.writes;
-      begun = begun_after now past number turn;
-      reads = reads_after past number turn;
-      told = past.told ++ option_to_list (option_map (told_to (reads_after past number turn) number) turn.answer);
-      noted = past.noted ++ option_to_list (option_map (noted_of (reads_after past number turn) number) turn.noted);
+      asked = asked_after (last_begun past.begun number) number transition past.asked;
+      transactions = past.transactions ++ option_to_list transition.writes;
+      begun = begun_after now past number transition;
+      reads = reads_after past number transition;
+      answers = past.answers
+          ++ option_to_list (option_map (past_answer (reads_after past number transition) number) transition.answer);
+      noted = past.noted
+          ++ option_to_list (option_map (noted_of (reads_after past number transition) number) transition.noted);
     }
 past_after now past (Stops number) = past
 
 -- ---- an event
 
--- a request of which nothing has come yet
+-- a request for which nothing is done yet
 abbrev pub new_request : World → ℕ → Principal → Ask → Asked
 new_request world client principal ask =
     record {
@@ -118,12 +123,12 @@ requests_of world (event.Sweep part stamp) = []
 requests_of world (event.Stop client) = []
 requests_of world (event.Trim part item) = []
 
--- the world with it in its past, before anything has come of it
+-- the world with this request in its past
 abbrev pub requested : World → Event → World
 requested world event =
     record world { past = record world.past { asked = requests_of world event ++ world.past.asked } }
 
--- the world once this is changed
+-- the world after the change
 abbrev pub changed : World → Change → World
 changed world change = record { now = now_after world.now change; past = past_after world.now world.past change }
 
@@ -136,39 +141,39 @@ changed_by world event (Err refusal) = world
 abbrev pub happens : Terms → World → Event → World
 happens terms world event = changed_by world event (change_of terms world.now event)
 
--- ---- what it tells
+-- ---- outputs
 
--- messages that are sent, by their numbers, where so many were sent before
+-- the numbers of so many messages, where `before` were sent before
 abbrev pub numbers_after : ℕ → ℕ → List Out
 numbers_after before zero = []
 numbers_after before (suc count) = numbers_after before count ++ out.Sent (before + count + 1) ∷ []
 
--- messages that are sent, where so many were sent before
+-- the numbers of these messages, where `before` were sent before
 abbrev pub sent_after : ℕ → List Message → List Out
 sent_after before messages = numbers_after before (length messages)
 
--- what a client's turn tells, where so many messages were sent before: first the notes, then the messages, then the
--- answer
-abbrev pub outs_of_turn : ℕ → ℕ → Turn → List Out
-outs_of_turn before number turn =
-    map (out.Noted number) (unwrap_or turn.noted [])
-    ++ (sent_after before turn.sent ++ option_to_list (option_map (out.Answered number) turn.answer))
+-- the outputs of a client's transition, where `before` messages were sent before: first the notes, then the messages,
+-- then the answer
+abbrev pub outs_of_transition : ℕ → ℕ → TransitionState → List Out
+outs_of_transition before number transition =
+    map (out.Noted number) (unwrap_or transition.noted [])
+    ++ (sent_after before transition.sent ++ option_to_list (option_map (out.Answered number) transition.answer))
 
--- what a change tells
+-- the outputs of a change
 abbrev pub outs_of : Now → Change → List Out
 outs_of now Nothing = []
 outs_of now (AtPart part partition messages) = sent_after (length now.messages) messages
-outs_of now (AtClient number turn) = outs_of_turn (length now.messages) number turn
+outs_of now (AtClient number transition) = outs_of_transition (length now.messages) number transition
 outs_of now (Stops number) = []
 
--- what an event tells: nothing, where it is refused
+-- the outputs of what is due: none, where the event is refused
 abbrev pub outs_by : Now → Result Change Refusal → List Out
 outs_by now (Ok change) = outs_of now change
 outs_by now (Err refusal) = []
 
--- the same, of an event
-abbrev pub tells : Terms → World → Event → List Out
-tells terms world event = outs_by world.now (change_of terms world.now event)
+-- the outputs of an event
+abbrev pub event_outputs : Terms → World → Event → List Out
+event_outputs terms world event = outs_by world.now (change_of terms world.now event)
 
 -- ---- a run
 
@@ -182,7 +187,7 @@ start opening =
         clients = [];
         stopped = [];
       };
-      past = record { asked = []; transactions = []; begun = []; reads = []; told = []; noted = [] };
+      past = record { asked = []; transactions = []; begun = []; reads = []; answers = []; noted = [] };
     }
 
 -- a world once these events have happened, in their order

@@ -1,4 +1,4 @@
--- What contracts see of a world, what a step does, and what may lie behind it.
+-- What contracts see of a world, what a step does, and which pasts may lead to it.
 use Rattle.std.specs.Prelude.{◌≡◌, ◌≢◌, ℕ, true, ◌++◌, List, [], ◌∷◌, Result, Ok, Err, IsOk, Contains, if◌then◌else◌}
 use Rattle.album_stamps.specs.declared.refusals.Refusal.{Refusal}
 use Rattle.album_stamps.specs.declared.refusals.Refusal.TheVariants.{OutOfMemory, BadOpening}
@@ -6,14 +6,14 @@ use Rattle.album_items.specs.Openings.{is_opening}
 use Rattle.album_items.specs.declared.openings.Opening.{Opening}
 use Rattle.album_permits.specs.declared.notes.Note.{Note}
 use Rattle.album_client.specs.Terms.{Terms, terms_of}
-use Rattle.album_world.specs.declared.events.Event.{Event}
-use Rattle.album_writer.specs.declared.answers.Answer.{Answer}
-use Rattle.album_world.specs.declared.outs.Out.{Out}
-use Rattle.album_world.specs.declared.outs.Out.TheVariants as out
+use Rattle.album_permits.specs.declared.events.Event.{Event}
+use Rattle.album_permits.specs.declared.answers.Answer.{Answer}
+use Rattle.album_permits.specs.declared.outs.Out.{Out}
+use Rattle.album_permits.specs.declared.outs.Out.TheVariants as out
 use Rattle.album_world.specs.State.{Now}
 use Rattle.album_world.specs.Past.{World}
 use Rattle.album_world.specs.Changes.{Change, change_of}
-use Rattle.album_world.specs.Runs.{now_after, outs_of, run_of, start, told_to}
+use Rattle.album_world.specs.Runs.{now_after, outs_of, run_of, start, past_answer}
 use Rattle.album_world.specs.Events.{IsNoteKept}
 use Rattle.album_world.specs.Requests.{IsAnsweredLast}
 
@@ -31,38 +31,38 @@ opened opening =
 
 -- ---- a step
 
--- this is changed, and this is told of it
+-- this is changed, and these are its outputs
 pub record IsChanged (old : Now) (change : Change) (new : Now) (outs : List Out) : Type 0 where
   pub kept : new ≡ now_after old change
-  pub told : outs ≡ outs_of old change
+  pub outputs : outs ≡ outs_of old change
 
--- what is to be changed is changed, and is told
+-- the change that is due is made, and these are its outputs
 pub record IsMade (due : Result Change Refusal) (old new : Now) (outs : List Out) : Type 0 where
   pub change : Change
   pub is : due ≡ Ok change
   pub kept : new ≡ now_after old change
-  pub told : outs ≡ outs_of old change
+  pub outputs : outs ≡ outs_of old change
 
--- the event is done: what it changes is changed, and is told
+-- the event is done: its change is made, and these are its outputs
 abbrev pub IsDone : Terms → Now → Event → Now → List Out → Type 0
 IsDone terms old event new outs = IsMade (change_of terms old event) old new outs
 
--- The event is refused: nothing is changed. It is for the reason that the definition gives, or else memory ran out,
--- which is wanted last.
+-- The event is refused: nothing is changed. The reason is that of the definition, or else memory ran out, which comes
+-- last.
 pub record IsRefused (terms : Terms) (old : Now) (event : Event) (new : Now) (why : Refusal) : Type 0 where
   pub kept : new ≡ old
   pub refused : why ≢ OutOfMemory → change_of terms old event ≡ Err why
   pub memory : why ≡ OutOfMemory → IsOk (change_of terms old event)
 
--- it is done, or it is refused
+-- the event is done, or it is refused
 abbrev pub IsStepped :
-    {Told : Type 0} → (Told → List Out) → Terms → Now → Event → Now → Result Told Refusal → Type 0
-IsStepped view terms old event new (Ok told) = IsDone terms old event new (view told)
+    {Outs : Type 0} → (Outs → List Out) → Terms → Now → Event → Now → Result Outs Refusal → Type 0
+IsStepped view terms old event new (Ok outs) = IsDone terms old event new (view outs)
 IsStepped view terms old event new (Err why) = IsRefused terms old event new why
 
--- one event after the other is
+-- one event after the other is done or refused
 abbrev pub AreStepped :
-    {Told : Type 0} → (Told → List Out) → Terms → Now → List Event → Now → List (Result Told Refusal) → Type 0
+    {Outs : Type 0} → (Outs → List Out) → Terms → Now → List Event → Now → List (Result Outs Refusal) → Type 0
 AreStepped view terms old [] new [] = new ≡ old
 AreStepped view terms old [] new (result ∷ results) = ⊥
 AreStepped view terms old (event ∷ events) new [] = ⊥
@@ -70,62 +70,62 @@ AreStepped view terms old (event ∷ events) new (result ∷ results) =
     (next : Now) × IsStepped view terms old event next result × AreStepped view terms next events new results
 
 -- the events that were done
-abbrev pub done_of : {Told : Type 0} → List Event → List (Result Told Refusal) → List Event
+abbrev pub done_of : {Outs : Type 0} → List Event → List (Result Outs Refusal) → List Event
 done_of [] results = []
 done_of (event ∷ events) [] = []
-done_of (event ∷ events) (Ok told ∷ results) = event ∷ done_of events results
+done_of (event ∷ events) (Ok outs ∷ results) = event ∷ done_of events results
 done_of (event ∷ events) (Err why ∷ results) = done_of events results
 
 -- ---- the past
 
--- From this opening, which passes its check, these events lead to what is seen. (Nothing of them is kept: they are one
--- of the pasts that it may have.)
-pub record IsBehind (opening : Opening) (events : List Event) (world : WorldState) : Type 0 where
+-- From this opening, which passes its check, these events lead to the world that is seen. (Code keeps none of them:
+-- they are one of the pasts that the world may have.)
+pub record LeadsTo (opening : Opening) (events : List Event) (world : WorldState) : Type 0 where
   pub passes : is_opening opening ≡ true
   pub terms : world.terms ≡ terms_of opening
   pub kept : world.kept ≡ (run_of opening events).now
 
--- it has a past
+-- the world has a past
 pub record IsReached (world : WorldState) : Type 0 where
   pub opening : Opening
   pub events : List Event
-  pub behind : IsBehind opening events world
+  pub leads : LeadsTo opening events world
 
--- this holds of each past that it may have
+-- each past that the world may have has the property
 abbrev pub OfEachPast : WorldState → (Opening → World → Type 0) → Type 0
 OfEachPast world Holds =
-    (opening : Opening) (events : List Event) → IsBehind opening events world → Holds opening (run_of opening events)
+    (opening : Opening) (events : List Event) → LeadsTo opening events world → Holds opening (run_of opening events)
 
--- What the event told is in the past, of which it is the last: each answer, and each note, with the read that its
--- client had made last. And each answer is the one to its client's last request.
+-- The outputs of the past's last event are in the past: each answer and each note, with the read that its client had
+-- made last. And each answer is the only one to its client's last request.
 pub record IsInPast (past : World) (outs : List Out) : Type 0 where
   pub answers :
       (client : ℕ) (answer : Answer) → Contains outs (out.Answered client answer)
-      → Contains past.past.told (told_to past.past.reads client answer)
+      → Contains past.past.answers (past_answer past.past.reads client answer)
   pub notes :
       (client : ℕ) (note : Note) → Contains outs (out.Noted client note) → IsNoteKept past client note
   pub requests :
       (client : ℕ) (answer : Answer) → Contains outs (out.Answered client answer) → IsAnsweredLast past client answer
 
--- each past that the world may have had goes on with the event, and has what that told
-abbrev pub GoesOn : WorldState → Event → WorldState → List Out → Type 0
-GoesOn old event new outs =
-    (opening : Opening) (events : List Event) → IsBehind opening events old
-    → IsBehind opening (events ++ event ∷ []) new × IsInPast (run_of opening (events ++ event ∷ [])) outs
+-- each past that the world may have had, extended by the event, is one of the new world, and has the outputs
+abbrev pub IsExtendedBy : WorldState → Event → WorldState → List Out → Type 0
+IsExtendedBy old event new outs =
+    (opening : Opening) (events : List Event) → LeadsTo opening events old
+    → LeadsTo opening (events ++ event ∷ []) new × IsInPast (run_of opening (events ++ event ∷ [])) outs
 
--- Each of these events that was done, in its turn behind those before, told what is in the past up to it.
+-- The outputs of each of these events that was done are in the past up to that event.
 abbrev pub AreInPast :
-    {Told : Type 0} → (Told → List Out) → Opening → List Event → List Event → List (Result Told Refusal) → Type 0
+    {Outs : Type 0} → (Outs → List Out) → Opening → List Event → List Event → List (Result Outs Refusal) → Type 0
 AreInPast view opening before [] results = Unit {0}
 AreInPast view opening before (event ∷ events) [] = Unit {0}
-AreInPast view opening before (event ∷ events) (Ok told ∷ results) =
-    IsInPast (run_of opening (before ++ event ∷ [])) (view told)
+AreInPast view opening before (event ∷ events) (Ok outs ∷ results) =
+    IsInPast (run_of opening (before ++ event ∷ [])) (view outs)
     × AreInPast view opening (before ++ event ∷ []) events results
 AreInPast view opening before (event ∷ events) (Err why ∷ results) = AreInPast view opening before events results
 
--- the same of several events, of which those that are refused are no events
-abbrev pub RunsOn :
-    {Told : Type 0} → (Told → List Out) → WorldState → List Event → WorldState → List (Result Told Refusal) → Type 0
-RunsOn view old events new results =
-    (opening : Opening) (before : List Event) → IsBehind opening before old
-    → IsBehind opening (before ++ done_of events results) new × AreInPast view opening before events results
+-- the same for several events, without those that are refused
+abbrev pub AreExtendedBy :
+    {Outs : Type 0} → (Outs → List Out) → WorldState → List Event → WorldState → List (Result Outs Refusal) → Type 0
+AreExtendedBy view old events new results =
+    (opening : Opening) (before : List Event) → LeadsTo opening before old
+    → LeadsTo opening (before ++ done_of events results) new × AreInPast view opening before events results

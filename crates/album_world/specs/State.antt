@@ -34,12 +34,12 @@ history_in partitions part = marks_of (slice_get partitions part)
 
 -- ---- clients
 
--- the client of a number; one that never asked is a newcomer
+-- the client of a number; a client that never asked is a newcomer
 abbrev pub client_at : List Client → ℕ → Client
 client_at [] number = newcomer number
 client_at (client ∷ clients) number = if client.number == number then client else client_at clients number
 
--- the client where it stands, or behind the others
+-- the clients with this one in its place, or after the others
 abbrev pub with_client : Client → List Client → List Client
 with_client client [] = client ∷ []
 with_client client (first ∷ clients) =

@@ -4,10 +4,10 @@ use Rattle.album_reader.specs.Answers.{ReadVersion}
 use Rattle.album_views.specs.Views.{IsView}
 use Rattle.album_permits.specs.Permits.{PermitState, permit_on}
 use Rattle.album_client.specs.Terms.{Terms}
-use Rattle.album_world.specs.Past.{Read, Told, World}
+use Rattle.album_world.specs.Past.{Read, PastAnswer, World}
 
--- What a client had read last is closed: a view of its ask. Of that, who asks, and the policy, as they would stand in a
--- permit, this holds.
+-- The client's last read is closed: a view of its ask. A permit of this view, the principal and the policy would have
+-- the property.
 pub record IsOnView
     (terms : Terms) (world : World) (client : ℕ) (last : Option Read) (Holds : PermitState → Type 0) : Type 0 where
   pub read : Read
@@ -19,6 +19,6 @@ pub record IsOnView
   pub view : IsView (record { ask = read.ask; rows = rows })
   pub holds : Holds (permit_on terms.policy read.principal read.ask rows)
 
--- the same of the view on which a client was told something
-abbrev pub IsToldOn : Terms → World → Told → (PermitState → Type 0) → Type 0
-IsToldOn terms world told Holds = IsOnView terms world told.client told.last Holds
+-- the same for the view that an answer rests on
+abbrev pub IsAnsweredOnView : Terms → World → PastAnswer → (PermitState → Type 0) → Type 0
+IsAnsweredOnView terms world given Holds = IsOnView terms world given.client given.last Holds

@@ -5,11 +5,11 @@ ghost use Rattle.album_client.specs.Clients.{newcomer};
 ghost use Rattle.album_world.specs.Registers.{AreChangedBy, StandsAt, asks_of, has_number, takes_of};
 ghost use Rattle.album_world.specs.State.{client_at};
 
-use crate::outs::Out;
-use crate::turns;
+use crate::client_events;
 use album_calls::Message;
 use album_client::{Client, Terms};
 use album_eval::Principal;
+use album_permits::Out;
 use album_stamps::{ClientNo, Refusal};
 use album_views::Ask;
 use indexmap::IndexSet;
@@ -20,7 +20,7 @@ use std::marker::Model;
 /// asks.
 #[derive(Drop)]
 pub(crate) struct Clients {
-    // At the index of its number stands each client.
+    // Each client is at the index of its number.
     numbers: IndexSet<u16>,
     clients: Vec<Client>,
 }
@@ -48,7 +48,7 @@ impl Clients {
         }
     }
 
-    /// Where the client stands, if it has asked.
+    /// The client's index, if it has asked.
     #[tactic(auto, using(crate::proofs::RegisterLemmas::stands_if))]
     fn index_of(&self, number: ClientNo) -> Option<usize>
         ensures found { IfSome result (StandsAt self.now number) }
@@ -57,7 +57,11 @@ impl Clients {
         self.numbers.get_index_of(&number.number())
     }
 
-    /// Whether the client may ask this, or why not.
+    /// Whether the client may ask this.
+    ///
+    /// # Errors
+    ///
+    /// `ClientBusy` where the client has an ask already; else the first test of the ask that fails.
     #[tactic(auto, using(crate::proofs::CheckLemmas::check_takes_none, crate::proofs::RegisterLemmas::new_client))]
     pub fn may_ask(
         &self,
@@ -72,12 +76,16 @@ impl Clients {
         ensures not_memory { IfErr result (λ e. e ≢ Refusal.OutOfMemory) }
     {
         match self.index_of(number) {
-            Some(index) => turns::may_ask(&self.clients[index], terms, principal, ask),
+            Some(index) => client_events::may_ask(&self.clients[index], terms, principal, ask),
             None => ask.check(principal),
         }
     }
 
-    /// The client asks what it may ask. So many messages were sent before.
+    /// The client asks what it may ask. `before` messages were sent before.
+    ///
+    /// # Errors
+    ///
+    /// `OutOfMemory`. Nothing is changed then.
     #[tactic(auto, using(crate::proofs::RegisterLemmas::asked, crate::proofs::RegisterLemmas::may_there, crate::proofs::RegisterLemmas::new_client, crate::proofs::RegisterLemmas::keys_set))]
     pub fn ask(
         &mut self,
@@ -90,23 +98,23 @@ impl Clients {
     ) -> Result<(Vec<Message>, Vec<Out>), Refusal>
         requires fits { before < 2 ^ 63 }
         requires may { IsOk (asks_of terms number (client_at self.old number) principal.now ask.now) }
-        ensures done { IfOk result (λ told.
+        ensures done { IfOk result (λ r.
             IsOkAnd (asks_of terms number (client_at self.old number) principal.now ask.now)
-            (λ change. AreChangedBy before self.old change self.new told.0.items told.1.items)) }
-        ensures few { IfOk result (λ told. length told.0.items ≤ MAX_READ_ITEMS) }
+            (λ change. AreChangedBy before self.old change self.new r.0.items r.1.items)) }
+        ensures few { IfOk result (λ r. length r.0.items ≤ MAX_READ_ITEMS) }
         ensures memory { IsOkUnless result Refusal.OutOfMemory }
         ensures unchanged { OnErr result (self.new ≡ self.old) }
     {
         match self.index_of(number) {
             Some(index) => {
                 let client = &mut self.clients[index];
-                turns::ask(client, alloc, terms, principal, ask, before)
+                client_events::ask(client, alloc, terms, principal, ask, before)
             }
             None => self.enter(alloc, terms, number, principal, ask, before),
         }
     }
 
-    /// A client asks that never asked.
+    /// A client asks that has never asked before.
     #[tactic(auto, using(crate::proofs::RegisterLemmas::first_asked))]
     fn enter(
         &mut self,
@@ -120,20 +128,20 @@ impl Clients {
         requires fits { before < 2 ^ 63 }
         requires new { has_number self.old number ≡ false }
         requires may { IsOk (asks_of terms number (newcomer number) principal.now ask.now) }
-        ensures done { IfOk result (λ told.
+        ensures done { IfOk result (λ r.
             IsOkAnd (asks_of terms number (client_at self.old number) principal.now ask.now)
-            (λ change. AreChangedBy before self.old change self.new told.0.items told.1.items)) }
-        ensures few { IfOk result (λ told. length told.0.items ≤ MAX_READ_ITEMS) }
+            (λ change. AreChangedBy before self.old change self.new r.0.items r.1.items)) }
+        ensures few { IfOk result (λ r. length r.0.items ≤ MAX_READ_ITEMS) }
         ensures memory { IsOkUnless result Refusal.OutOfMemory }
         ensures unchanged { OnErr result (self.new ≡ self.old) }
     {
         let mut client = Client::new(number);
-        let told = turns::ask(&mut client, alloc, terms, principal, ask, before)?;
+        let done = client_events::ask(&mut client, alloc, terms, principal, ask, before)?;
         self.put(client)?;
-        Ok(told)
+        Ok(done)
     }
 
-    /// Puts a client behind the others, whose number none of them has.
+    /// Puts a client after the others. None of them has its number.
     #[tactic(auto, using(crate::proofs::RegisterLemmas::keys_push))]
     fn put(&mut self, client: Client) -> Result<(), AllocError>
         requires { has_number self.old client.number ≡ false }
@@ -146,7 +154,11 @@ impl Clients {
         Ok(())
     }
 
-    /// A message comes to the client. So many messages were sent before.
+    /// The client takes a message. `before` messages were sent before.
+    ///
+    /// # Errors
+    ///
+    /// `OutOfMemory`. Nothing is changed then.
     #[tactic(auto, using(crate::proofs::RegisterLemmas::taken, crate::proofs::RegisterLemmas::new_takes_nothing, crate::proofs::RegisterLemmas::keys_set))]
     pub fn take(
         &mut self,
@@ -157,14 +169,20 @@ impl Clients {
         before: u64,
     ) -> Result<(Vec<Message>, Vec<Out>), Refusal>
         requires { before < 2 ^ 63 }
-        ensures done { IfOk result (λ told. AreChangedBy before self.old
-            (takes_of terms number (client_at self.old number) message.now) self.new told.0.items told.1.items) }
-        ensures few { IfOk result (λ told. length told.0.items ≤ MAX_READ_ITEMS) }
+        ensures done { IfOk result (λ r. AreChangedBy before self.old
+            (takes_of terms number (client_at self.old number) message.now) self.new r.0.items r.1.items) }
+        ensures few { IfOk result (λ r. length r.0.items ≤ MAX_READ_ITEMS) }
         ensures memory { IsOkUnless result Refusal.OutOfMemory }
         ensures unchanged { OnErr result (self.new ≡ self.old) }
     {
         match self.index_of(number) {
-            Some(index) => turns::take(&mut self.clients[index], alloc, terms, message, before),
+            Some(index) => client_events::take(
+                &mut self.clients[index],
+                alloc,
+                terms,
+                message,
+                before,
+            ),
             None => Ok((Vec::new(alloc), Vec::new(alloc))),
         }
     }

@@ -11,7 +11,7 @@ ghost use Rattle.album_permits.specs.declared.notes.Note.{Note};
 ghost use Rattle.album_permits.specs.declared.serving.Served.{Served};
 ghost use Rattle.album_client.specs.Terms.{Terms, terms_of};
 ghost use Rattle.album_client.specs.Grants.{served_for};
-ghost use Rattle.album_client.specs.Turns.{Turn};
+ghost use Rattle.album_client.specs.Steps.{TransitionState};
 ghost use Rattle.album_world.specs.Atomic.{ViewsAreReadAtomic};
 ghost use Rattle.album_world.specs.Busy.{BusyHasItsCause};
 ghost use Rattle.album_world.specs.Changes.Change.{AtClient};
@@ -24,18 +24,18 @@ ghost use Rattle.album_world.specs.Outcomes.{OutcomesAreTrue};
 ghost use Rattle.album_world.specs.Past.{World, last_begun};
 ghost use Rattle.album_world.specs.Requests.{AnswersAreToRequests};
 ghost use Rattle.album_world.specs.Rulings.{RulingsHold};
-ghost use Rattle.album_world.specs.Runs.{changed, happens, run, run_of, tells, told_to};
+ghost use Rattle.album_world.specs.Runs.{changed, happens, run, run_of, event_outputs, past_answer};
 ghost use Rattle.album_world.specs.State.{Now, client_at, is_stopped};
-ghost use Rattle.album_world.specs.Told.{IsToldOnce, all_told};
+ghost use Rattle.album_world.specs.OutputsOnce.{AreGivenOnce, run_outputs};
 ghost use Rattle.album_permits.specs.Meaning.{Finds};
-ghost use Rattle.album_world.specs.declared.events.Event.{Event as Happening};
-ghost use Rattle.album_world.specs.declared.events.Event.TheVariants as Event;
-ghost use Rattle.album_writer.specs.declared.answers.Answer.{Answer as Answered};
-ghost use Rattle.album_world.specs.declared.outs.Out.TheVariants as Told;
+ghost use Rattle.album_permits.specs.declared.events.Event.{Event as Happening};
+ghost use Rattle.album_permits.specs.declared.events.Event.TheVariants as Event;
+ghost use Rattle.album_permits.specs.declared.answers.Answer.{Answer as Answered};
+ghost use Rattle.album_permits.specs.declared.outs.Out.TheVariants as Out;
 
-/// A law: rulings hold. Each answer Served, Denied, Missing, Committed, Aborted, Unsettled or Refused, and each
-/// note, is what the written policy says of the closed view that its client had read last: of that view's lists,
-/// owners and groups, with the policy that the opening names.
+/// A law: rulings hold. Each note, and each answer Served, Denied, Missing, Committed, Aborted, Unsettled or Refused,
+/// is what the written policy says of the closed view that its client had read last. The policy is the opening's, and it
+/// looks at that view's lists, owners and groups.
 pub fn rulings_hold()
     ensures { (opening : Opening) (events : List Happening) → is_opening opening ≡ true
         → RulingsHold (terms_of opening) (run_of opening events) }
@@ -53,16 +53,16 @@ pub fn what_is_served_is_what_is_asked()
         → served_for permit permit.view.ask ≡ Some served → IsServed permit served }
 {}
 
-/// A law: writes are granted. Each write that a client began, it began on a closed view whose ruling is Granted,
-/// and wrote just its effect, at a stamp greater than all that it saw; each version that a partition has is of
-/// just one of these writes.
+/// A law: writes are granted. A client begins each write on a closed view whose ruling is Granted. It writes exactly
+/// the effect of that grant, at a stamp greater than all that it saw. Each version of a partition is of exactly one of
+/// these writes.
 pub fn writes_are_granted()
     ensures { (opening : Opening) (events : List Happening) → is_opening opening ≡ true
         → WritesAreGranted (terms_of opening) (run_of opening events) }
 {}
 
-/// A law: views are read atomic, and so is every snapshot that a client finishes. No pair fractures it, and each
-/// value is what a committed write wrote at its stamp, or the opening's.
+/// A law: views are read atomic, and so is every snapshot that a client finishes. No two of its rows fracture it. Each
+/// value is what a committed write wrote at its stamp, or the opening's value.
 pub fn views_are_read_atomic()
     ensures { (opening : Opening) (events : List Happening) → is_opening opening ≡ true
         → ViewsAreReadAtomic opening (run_of opening events) }
@@ -75,25 +75,26 @@ pub fn views_are_fresh()
         → ViewsAreFresh (terms_of opening) (run_of opening events) }
 {}
 
-/// A law: outcomes are true. What was answered Committed is committed everywhere; what was answered Aborted is
-/// promised against, and what was answered Unsettled was refused by a full partition: neither is committed by any
-/// partition, or read by anyone, however the run goes on. Refused comes only where the album is full or the clock
-/// is spent.
+/// A law: outcomes are true. A write that was answered Committed is committed at each participant. Where the answer was
+/// Aborted, a participant has promised against the write; where it was Unsettled, a participant was full. No partition
+/// has committed either of these, nobody has read it, and this never changes. Refused is answered only where the album
+/// is full or the client's clock is spent.
 pub fn outcomes_are_true()
     ensures { (opening : Opening) (events : List Happening) → is_opening opening ≡ true
         → OutcomesAreTrue (terms_of opening) (run_of opening events) }
 {}
 
-/// A law: busy has its cause. Wide only where the names of a finished read are too many; Rounds only where the
-/// last read that an ask may have was answered Gone, or is not closed and its names are not too many.
+/// A law: Busy has its cause. It is Wide only where the read set after a finished read is too large. It is Rounds only
+/// where the last read that an ask may have found an item gone, or its snapshot is not closed and names no more items
+/// than can be read.
 pub fn busy_has_its_cause()
     ensures { (opening : Opening) (events : List Happening) → is_opening opening ≡ true
         → BusyHasItsCause (run_of opening events) }
 {}
 
-/// A law: answers are to requests. Each answer is the one answer to a request of its client, told on what was read for
-/// that request alone, and once it was made. An outcome is of the one write that was begun for it, and where any other
-/// answer was given, nothing was begun. No client makes a request before its last one is answered.
+/// A law: answers are to requests. Each answer is the only answer to a request of its client. It rests on what was read
+/// for that request alone, after the request was made. An outcome is that of the one write that was begun for the
+/// request; with any other answer, no write was begun. No client makes a request before its last one is answered.
 pub fn answers_are_to_requests()
     ensures { (opening : Opening) (events : List Happening) → is_opening opening ≡ true
         → AnswersAreToRequests (terms_of opening) (run_of opening events) }
@@ -106,43 +107,45 @@ pub fn committed_is_never_discarded()
         → list_any (discards stamp) (history (run_of opening events) other) ≡ false }
 {}
 
-/// A law: what an event tells is in the past of the world after it, with the read that the client had made last.
-/// So each of the promises is one about what events tell.
-pub fn what_is_told_is_in_the_past()
+/// A law: the answers and notes that an event outputs are in the past of the world after it, with the read that the
+/// client had made last. So each of the promises is about the outputs of events.
+pub fn outputs_are_in_the_past()
     ensures answers { (terms : Terms) (world : World) (event : Happening) (client : ℕ) (answer : Answered)
-        → Contains (tells terms world event) (Told.Answered client answer)
-        → Contains (happens terms world event).past.told
-        (told_to (happens terms world event).past.reads client answer) }
+        → Contains (event_outputs terms world event) (Out.Answered client answer)
+        → Contains (happens terms world event).past.answers
+        (past_answer (happens terms world event).past.reads client answer) }
     ensures notes { (terms : Terms) (world : World) (event : Happening) (client : ℕ) (note : Note)
-        → Contains (tells terms world event) (Told.Noted client note)
+        → Contains (event_outputs terms world event) (Out.Noted client note)
         → IsNoteKept (happens terms world event) client note }
 {}
 
-/// A law: each answer, each note and each message is told once: what an event tells, and what a run of them does, is in
-/// its order just what the past has more after it.
-pub fn each_thing_is_told_once()
+/// A law: each answer, each note and each message is output once. The outputs of an event, and those of a run of
+/// events, are exactly what the past has more after them, in the same order.
+pub fn each_output_is_given_once()
     ensures event { (terms : Terms) (world : World) (event : Happening)
-        → IsToldOnce world (happens terms world event) (tells terms world event) }
+        → AreGivenOnce world (happens terms world event) (event_outputs terms world event) }
     ensures run { (terms : Terms) (world : World) (events : List Happening)
-        → IsToldOnce world (run terms world events) (all_told terms world events) }
+        → AreGivenOnce world (run terms world events) (run_outputs terms world events) }
 {}
 
-/// A law: nothing of the past is forgotten, whatever happens. So what a promise says of an answer holds for good.
+/// A law: nothing of the past is forgotten, whatever happens. So a promise about an answer holds for good.
 pub fn the_past_is_remembered()
     ensures { (terms : Terms) (world : World) (events : List Happening) → IsRemembered world (run terms world events) }
 {}
 
-/// A law: the partitions that the past has for a read are those just before the event that began it.
+/// A law: the partitions that the past has for a read are those right before the event that began it.
 pub fn a_read_begins_with_its_partitions()
-    ensures { (world : World) (client : ℕ) (turn : Turn) → turn.reads ≡ true
-        → (last_begun (changed world (AtClient client turn)).past.begun client).partitions ≡ world.now.partitions }
+    ensures { (world : World) (client : ℕ) (transition : TransitionState) → transition.reads ≡ true
+        → (last_begun (changed world (AtClient client transition)).past.begun client).partitions
+        ≡ world.now.partitions }
 {}
 
 /// A law: a client whose ask is answered begins no write at that event. Its clock sees nothing where no view is ruled
-/// on, is never set back, and draws the stamp of each write that begins, which is above all that it drew or saw.
-pub fn turns_are_tidy()
-    ensures { (terms : Terms) (now : Now) (event : Happening) (client : ℕ) (turn : Turn)
-        → change_of terms now event ≡ Ok (AtClient client turn) → IsTidy (client_at now.clients client) turn }
+/// on, and is never set back. It draws the stamp of each write that begins, above all that it drew or saw.
+pub fn transitions_are_tidy()
+    ensures { (terms : Terms) (now : Now) (event : Happening) (client : ℕ) (transition : TransitionState)
+        → change_of terms now event ≡ Ok (AtClient client transition)
+        → IsTidy (client_at now.clients client) transition }
 {}
 
 /// A law: a clock is never set back, whatever happens. So no stamp is drawn twice.
@@ -152,12 +155,12 @@ pub fn clocks_rise()
         ≤ (client_at (run terms world events).now.clients client).clock.counter }
 {}
 
-/// A law: a client that is stopped stays so, whatever happens, and does nothing any more.
+/// A law: a stopped client stays stopped, whatever happens, and does nothing more.
 pub fn stops_are_for_good()
     ensures stopped { (terms : Terms) (world : World) (client : ℕ)
         → is_stopped (happens terms world (Event.Stop client)).now client ≡ true }
     ensures stays { (terms : Terms) (world : World) (events : List Happening) (client : ℕ)
         → is_stopped world.now client ≡ true → is_stopped (run terms world events).now client ≡ true }
-    ensures still { (terms : Terms) (now : Now) (event : Happening) (client : ℕ) (turn : Turn)
-        → change_of terms now event ≡ Ok (AtClient client turn) → is_stopped now client ≡ false }
+    ensures still { (terms : Terms) (now : Now) (event : Happening) (client : ℕ) (transition : TransitionState)
+        → change_of terms now event ≡ Ok (AtClient client transition) → is_stopped now client ≡ false }
 {}

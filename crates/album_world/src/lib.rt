@@ -1,27 +1,21 @@
 //! The store as one machine: partitions, clients and the messages between them, and what each event does.
 //!
-//! What comes in: an opening, and then events: asks of clients, messages that are delivered, sweeps, stops and
-//! trims, in whatever order. What goes out: the numbers of messages that are sent, notes, and the answers to
-//! asks.
+//! What comes in: an opening, and then events in any order: asks of clients, deliveries of messages, sweeps, stops and
+//! trims. What goes out of each event: notes, the numbers of the messages that it sends, and an answer.
 //!
-//! What holds of it: for every list of events of clients, partitions, losses, repeats and terminations, each request
-//! answered from a view is served, listed or committed only as the written policy allows on that view's lists, owners
-//! and groups, denied exactly where it does not, naming its first denying entry or the list's end; the view is read
-//! atomic and, item by item, no older than what was committed everywhere before its read. `World::step` has it, clause
-//! by clause.
+//! The promises hold for every list of events, with any losses, repeats and reorderings of messages. An answer that
+//! rests on a view is what the written policy says of that view's lists, owners and groups. A denial names the first
+//! denying entry, or the list's end. The view is read atomic. Each of its items is no older than what the item's
+//! partition had committed before the view's read. `World::step` promises this, clause by clause.
 //!
-//! Read `events`, `outs` and `world` first, then specs/, in the order of specs/Lib.antt: what a world keeps, what a
-//! client does at one event, what an event changes, and then what is promised of every run. `laws` has the promises
-//! once more, of the definitions alone.
+//! Read `Event` and `Out` of `album_permits` first, and `world`. Then read specs/ in the order of specs/Lib.antt: what a world keeps, what
+//! has happened to it, what an event changes and outputs, and the promises. `laws` states the promises once more, as
+//! facts of the definitions alone.
 #![tactic(auto)]
 
-// What happens, and what is told of it.
-mod events;
-mod outs;
-
-// What a client does at one event, and what is told of it.
-mod telling;
-mod turns;
+// What a client does at one event, and the outputs of that.
+mod client_events;
+mod outputs;
 
 // What an event does, and the world.
 mod clients;
@@ -34,13 +28,12 @@ mod world;
 // What holds of every run.
 mod laws;
 
-pub use events::Event;
+pub use album_permits::{Event, Out};
 pub use laws::{
     a_read_begins_with_its_partitions, answers_are_to_requests, busy_has_its_cause, clocks_rise,
-    committed_is_never_discarded, each_thing_is_told_once, one_finding_of_a_view,
-    outcomes_are_true, rulings_hold, stops_are_for_good, the_past_is_remembered, turns_are_tidy,
-    views_are_fresh, views_are_read_atomic, what_is_served_is_what_is_asked,
-    what_is_told_is_in_the_past, writes_are_granted,
+    committed_is_never_discarded, each_output_is_given_once, one_finding_of_a_view,
+    outcomes_are_true, outputs_are_in_the_past, rulings_hold, stops_are_for_good,
+    the_past_is_remembered, transitions_are_tidy, views_are_fresh, views_are_read_atomic,
+    what_is_served_is_what_is_asked, writes_are_granted,
 };
-pub use outs::Out;
 pub use world::World;

@@ -7,11 +7,12 @@ use album_client::Terms;
 use album_eval::Policy;
 use album_items::Opening;
 
-/// The terms that the opening names.
+/// The terms of the opening.
 pub(crate) fn terms_of(opening: &Opening) -> Terms
     requires { is_opening opening.now ≡ true }
     ensures { result ≡ terms_of opening.now }
 {
+    // The opening passes its check: its policy is known, and its partitions are at most `MAX_PARTS`.
     let policy = Policy::of(opening.policy).unwrap_or(Policy::One);
     Terms::new(opening.parts as u16, policy)
 }

@@ -1,12 +1,12 @@
-// Messages that are sent, and the outputs that tell of them.
+// Messages that are sent, and the outputs with their numbers.
 ghost use Rattle.std.specs.Prelude.{◌≡◌, ◌+◌, ◌<◌, ◌≤◌, ◌^◌, ◌++◌, length, option_to_list, vec_len, vec_capacity, []};
 ghost use Rattle.album_world.specs.Runs.{numbers_after, sent_after};
 
-use crate::outs::Out;
 use album_calls::Message;
+use album_permits::Out;
 
-/// Tells so many messages by their numbers, behind those that were sent before. There is room for them.
-pub(crate) fn tell_sent(outs: &mut Vec<Out>, before: u64, count: usize)
+/// Adds outputs with the numbers of so many messages, which follow the messages that were sent before. There is room.
+pub(crate) fn push_sent(outs: &mut Vec<Out>, before: u64, count: usize)
     requires many { before + count < 2 ^ 64 }
     requires room { vec_len outs.old + count ≤ vec_capacity outs.old }
     ensures items { outs.new.items ≡ outs.old.items ++ numbers_after before count }
@@ -23,10 +23,11 @@ pub(crate) fn send(messages: &mut Vec<Message>, mut sent: Vec<Message>)
     requires { vec_len messages.old + length sent.items ≤ vec_capacity messages.old }
     ensures { messages.new.items ≡ messages.old.items ++ sent.items }
 {
+    // The append takes no memory, since there is room, so it doesn't fail.
     let _ = messages.append(&mut sent);
 }
 
-/// Sends the reply, if there is one, and tells its number. There is room for both.
+/// Sends the reply, if there is one, and outputs its number. There is room for both.
 pub(crate) fn send_reply(
     messages: &mut Vec<Message>,
     mut outs: Vec<Out>,

@@ -6,15 +6,14 @@ ghost use Rattle.album_world.specs.Seen.{IsChanged, IsMade};
 ghost use Rattle.album_world.specs.State.{message_of, client_at};
 
 use crate::clients::Clients;
-use crate::events::Event;
-use crate::outs::Out;
-use crate::sending::{send, send_reply, tell_sent};
+use crate::sending::{push_sent, send, send_reply};
 use crate::stopped::Stopped;
 use album_calls::{Message, Node};
 use album_client::Terms;
 use album_eval::Principal;
 use album_items::ItemId;
 use album_partition::Partition;
+use album_permits::{Event, Out};
 use album_stamps::{ClientNo, MAX_READ_ITEMS, Refusal, Stamp};
 use album_views::Ask;
 use std::alloc::Global;
@@ -22,6 +21,9 @@ use std::marker::Model;
 
 /// What a world keeps: the partitions, all messages that were ever sent, the clients that have asked, and those that
 /// were stopped.
+///
+/// This is a struct of its own below `World`, since that some past leads to a world is an invariant of `World`. Each
+/// method there would have to prove it anew. Here the work is done without it, and `World::step` proves it once.
 #[derive(Drop)]
 pub(crate) struct State {
     pub partitions: Vec<Partition>,
@@ -44,7 +46,7 @@ impl Model for State {
 }
 
 impl State {
-    /// Does what the event says, and tells what comes of it.
+    /// Does what the event says, and gives its outputs. `World::step` names the errors.
     pub fn step(&mut self, alloc: Global, terms: Terms, event: &Event) -> Result<Vec<Out>, Refusal>
         ensures stop { IfErr result
             (λ e. e ≡ Refusal.OutOfMemory → (client : ℕ) → event.now ≢ Event.Stop client) }
@@ -84,6 +86,7 @@ impl State {
             return Err(Refusal::Stopped);
         }
         self.clients.may_ask(terms, client, principal, ask)?;
+        // Room first, for the most messages that a client sends at one event.
         self.messages.reserve(MAX_READ_ITEMS)?;
         let before = self.messages.len() as u64;
         let (sent, outs) = self
@@ -93,7 +96,7 @@ impl State {
         Ok(outs)
     }
 
-    /// The message of this number comes to whom it is sent.
+    /// The message of this number is delivered to its receiver.
     #[tactic(auto, using(crate::proofs::StateLemmas::part_delivered, crate::proofs::StateLemmas::client_delivered, crate::proofs::StateLemmas::delivered_is, crate::proofs::StateLemmas::not_there))]
     fn deliver(&mut self, alloc: Global, terms: Terms, number: u64) -> Result<Vec<Out>, Refusal>
         ensures done { IfOk result
@@ -115,7 +118,7 @@ impl State {
         Ok(outs)
     }
 
-    /// Where the message of this number stands.
+    /// The index of the message of this number.
     fn index_of(&self, number: u64) -> Option<usize>
         ensures found { IfSome result
             (λ index. message_of self.now.messages number ≡ slice_get self.now.messages index) }
@@ -138,7 +141,7 @@ impl State {
         }
     }
 
-    /// The message comes to a partition.
+    /// The message at this index is delivered to a partition. One that isn't there takes nothing.
     #[tactic(auto, using(crate::proofs::StateLemmas::part_changed, crate::proofs::StateLemmas::no_part_takes, crate::proofs::StateLemmas::part_is))]
     fn deliver_to_partition(
         &mut self,
@@ -157,13 +160,14 @@ impl State {
         if part >= self.partitions.len() {
             return Ok(Vec::new(alloc));
         }
+        // Room first: once the partition has received the message, nothing may fail.
         self.messages.reserve(1)?;
         let outs = Vec::with_capacity(alloc, 1)?;
         let reply = self.partitions[part].receive(&self.messages[index])?;
         Ok(send_reply(&mut self.messages, outs, reply))
     }
 
-    /// The message comes to a client.
+    /// The message at this index is delivered to a client. A stopped one takes nothing.
     #[tactic(auto, using(crate::proofs::StateLemmas::client_changed, crate::proofs::StateLemmas::client_still, crate::proofs::StateLemmas::message_is))]
     fn deliver_to_client(
         &mut self,
@@ -182,6 +186,7 @@ impl State {
         if self.stopped.has(client) {
             return Ok(Vec::new(alloc));
         }
+        // Room first, for the most messages that a client sends at one event.
         self.messages.reserve(MAX_READ_ITEMS)?;
         let before = self.messages.len() as u64;
         let (sent, outs) = self
@@ -191,7 +196,7 @@ impl State {
         Ok(outs)
     }
 
-    /// The partition asks others how the stamp stands there.
+    /// The partition asks the other participants for their votes on the stamp.
     #[tactic(auto, using(crate::proofs::StateLemmas::swept_done, crate::proofs::StateLemmas::swept_refused, crate::proofs::StateLemmas::swept_may, crate::proofs::StateLemmas::swept_nowhere, crate::proofs::StateLemmas::part_is, crate::proofs::StateLemmas::no_part))]
     fn sweep(&mut self, alloc: Global, part: u16, stamp: Stamp) -> Result<Vec<Out>, Refusal>
         ensures done { IfOk result
@@ -209,7 +214,7 @@ impl State {
         let sent = self.partitions[part].sweep(stamp)?;
         self.messages.reserve(sent.len())?;
         let mut outs = Vec::with_capacity(alloc, sent.len())?;
-        tell_sent(&mut outs, self.messages.len() as u64, sent.len());
+        push_sent(&mut outs, self.messages.len() as u64, sent.len());
         send(&mut self.messages, sent);
         Ok(outs)
     }
@@ -229,7 +234,7 @@ impl State {
         Ok(Vec::new(alloc))
     }
 
-    /// The partition lets versions of the item go.
+    /// The partition drops versions of the item below its latest stamp.
     #[tactic(auto, using(crate::proofs::StateLemmas::trimmed_done, crate::proofs::StateLemmas::trimmed_refused, crate::proofs::StateLemmas::trimmed_may, crate::proofs::StateLemmas::trimmed_nowhere, crate::proofs::StateLemmas::part_is, crate::proofs::StateLemmas::no_part))]
     fn trim(&mut self, alloc: Global, part: u16, item: ItemId) -> Result<Vec<Out>, Refusal>
         ensures done { IfOk result

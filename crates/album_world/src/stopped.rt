@@ -8,8 +8,8 @@ use album_stamps::{CLIENTS, ClientNo};
 use std::alloc::{AllocError, Global};
 use std::marker::Model;
 
-/// The clients that were stopped, which contracts see as their numbers, rising. There is a flag for each number
-/// that a client may have, so a stop takes no memory.
+/// The clients that were stopped. Contracts see their numbers, rising. There is a flag for each number that a client
+/// may have, so a stop takes no memory.
 #[derive(Drop)]
 pub(crate) struct Stopped {
     flags: Vec<bool>,

@@ -1,4 +1,4 @@
-// A world: what happens to it, and what it tells.
+// A world: its events, and their outputs.
 ghost use Rattle.std.specs.Prelude.{◌≡◌, ◌≢◌, ℕ, length, slice_get, option_copied, Ok, Err, IsOk, IfOk, IfErr, OnErr, IsOkUnless};
 ghost use Rattle.album_stamps.specs.Outcome.{Makes};
 ghost use Rattle.album_client.specs.Terms.{terms_of};
@@ -10,19 +10,18 @@ ghost use Rattle.album_world.specs.Granted.{WritesAreGranted};
 ghost use Rattle.album_world.specs.Outcomes.{OutcomesAreTrue};
 ghost use Rattle.album_world.specs.Requests.{AnswersAreToRequests};
 ghost use Rattle.album_world.specs.Rulings.{RulingsHold};
-ghost use Rattle.album_world.specs.Seen.{AreStepped, GoesOn, IsDone, IsReached, OfEachPast, RunsOn, opened};
+ghost use Rattle.album_world.specs.Seen.{AreStepped, IsExtendedBy, IsDone, IsReached, OfEachPast, AreExtendedBy, opened};
 ghost use Rattle.album_world.specs.State.{message_of};
 
 use crate::clients::Clients;
-use crate::events::Event;
 use crate::opening::terms_of;
-use crate::outs::Out;
 use crate::state::State;
 use crate::stopped::Stopped;
 use album_calls::Message;
 use album_client::Terms;
 use album_items::Opening;
 use album_partition::Partition;
+use album_permits::{Event, Out};
 use album_stamps::Refusal;
 use std::alloc::Global;
 use std::marker::Model;
@@ -71,19 +70,20 @@ impl World {
         })
     }
 
-    /// Lets the event happen, and tells what comes of it: first what is noted, then the messages that are sent, then
-    /// the answer.
+    /// Lets the event happen, and gives its outputs: first the notes, then the numbers of the messages that are sent,
+    /// then the answer.
     ///
-    /// Whatever past the world may have, its answers are right: see the clauses by their names.
+    /// Its answers are right whatever past the world may have: see the clauses by their names.
     ///
     /// # Errors
     ///
-    /// An ask: `Stopped` where its client was stopped, else `ClientBusy` where it has an ask already, else what
-    /// `Ask::check` says. A message: `NoSuchMessage`. A sweep: `NoSuchPart`, else `NotPrepared`. A stop: `Stopped`. A
-    /// trim: `NoSuchPart`, else what `Partition::trim` says. Else `OutOfMemory`. Nothing is changed then.
-    #[tactic(auto, using(crate::proofs::StoryLemmas::reached_if, crate::proofs::StoryLemmas::goes_on_if))]
+    /// An ask: `Stopped` where its client was stopped, else `ClientBusy` where it has an ask already, else the first
+    /// test of `Ask::check` that fails. A message: `NoSuchMessage`. A sweep: `NoSuchPart`, else `NotPrepared`. A stop:
+    /// `Stopped`. A trim: `NoSuchPart`, else the error of `Partition::trim`. In each case `OutOfMemory` comes last.
+    /// Nothing is changed then.
+    #[tactic(auto, using(crate::proofs::StoryLemmas::reached_if, crate::proofs::StoryLemmas::extended_if))]
     pub fn step(&mut self, event: &Event) -> Result<Vec<Out>, Refusal>
-        // What it does is what the definition says, or else it is refused for the definition's reason or for memory.
+        // The event is done as the definition says. Else it is refused for the definition's reason, or for memory.
         ensures done { IfOk result
             (λ outs. IsDone self.old.terms self.old.kept event.now self.new.kept outs.items) }
         ensures refused { IfErr result
@@ -96,10 +96,10 @@ impl World {
         ensures stop { IfErr result
             (λ e. e ≡ Refusal.OutOfMemory → (client : ℕ) → event.now ≢ Event.Stop client) }
 
-        // Each past goes on with the event, and has what that told.
-        ensures goes_on { IfOk result (λ outs. GoesOn self.old event.now self.new outs.items) }
+        // Each past of the old world, extended by the event, is a past of the new one, and has the outputs.
+        ensures extended { IfOk result (λ outs. IsExtendedBy self.old event.now self.new outs.items) }
 
-        // And this holds of each past.
+        // Each past has these properties.
         ensures rulings_hold { OfEachPast self.new (λ opening past. RulingsHold (terms_of opening) past) }
         ensures writes_are_granted { OfEachPast self.new (λ opening past. WritesAreGranted (terms_of opening) past) }
         ensures views_are_read_atomic { OfEachPast self.new ViewsAreReadAtomic }
@@ -112,7 +112,7 @@ impl World {
         self.state.step(self.alloc, self.terms, event)
     }
 
-    /// Lets one event after the other happen, and gives of each what `step` does.
+    /// Lets one event after the other happen, and gives for each the result of `step`.
     ///
     /// # Errors
     ///
@@ -124,11 +124,11 @@ impl World {
         ensures unchanged { OnErr result (self.new ≡ self.old) }
         ensures terms { self.new.terms ≡ self.old.terms }
 
-        // Each past goes on with the events that are not refused, and has what they told.
-        ensures goes_on { IfOk result
-            (λ results. RunsOn (λ outs. outs.items) self.old events.now self.new results.items) }
+        // Each past, extended by the events that are not refused, is a past of the new world, and has their outputs.
+        ensures extended { IfOk result
+            (λ results. AreExtendedBy (λ outs. outs.items) self.old events.now self.new results.items) }
 
-        // And this holds of each past.
+        // Each past has these properties.
         ensures rulings_hold { OfEachPast self.new (λ opening past. RulingsHold (terms_of opening) past) }
         ensures writes_are_granted { OfEachPast self.new (λ opening past. WritesAreGranted (terms_of opening) past) }
         ensures views_are_read_atomic { OfEachPast self.new ViewsAreReadAtomic }
@@ -166,10 +166,11 @@ impl World {
         self.state.messages.len() as u64
     }
 
-    /// For contracts alone: there is a past that leads here.
+    /// For contracts alone: some past leads to this world.
     pub fn is_reached(&self)
         ensures { IsReached self.now }
     {
+        // The invariant is known once a field is looked at.
         let _state = &self.state;
     }
 }

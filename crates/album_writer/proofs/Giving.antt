@@ -1,17 +1,17 @@
--- How far a write is depends on the messages that were given: `prepare-told` and `commit-told`, for the clauses
--- `all_given` and the law `a_write_is_what_it_was_told`.
+-- A write's state depends on the messages that were given: `prepare-told` and `commit-told`, for the clauses
+-- `all_given` and the law `a_write_depends_on_its_replies`.
 use Rattle.std.proofs.Common.{◌≡◌, ℕ, Bool, true, false, not, ◌&&◌, ◌||◌, cond, List, [], ◌∷◌, ◌++◌, filter, refl, sym, ap, ◌∙◌}
 use Rattle.std.proofs.Math.Bool.{or-false}
 use Rattle.std.proofs.lemmas.List.Folds.{list_any-append}
 use Rattle.album_calls.specs.Nodes.{is_part}
 use Rattle.album_calls.specs.declared.messages.Message.{Message}
 use Rattle.album_permits.specs.Permits.{PermitState}
-use Rattle.album_writer.specs.declared.told.Told.{Told}
-use Rattle.album_writer.specs.declared.told.Told.TheVariants as told
-use Rattle.album_writer.specs.Given.{has_told, told_round, prepares_then, prepare_step_after, commits_then, commit_step_after}
+use Rattle.album_writer.specs.declared.write_replies.WriteReply.{WriteReply}
+use Rattle.album_writer.specs.declared.write_replies.WriteReply.TheVariants as write_reply
+use Rattle.album_writer.specs.Given.{has_replied, replied_round, prepares_then, prepare_step_after, commits_then, commit_step_after}
 use Rattle.album_writer.specs.Rounds.{WriteStep, prepares_left, prepares_by, prepare_stepped, commits_left, commits_by, commit_stepped}
 use Rattle.album_writer.specs.Rounds.WriteStep.{Waits}
-use Rattle.album_writer.specs.Told.{told_of, tells_prepared, tells_committed}
+use Rattle.album_writer.specs.WriteReplies.{reply_in, is_prepared_reply, is_committed_reply}
 use Rattle.album_writer.specs.Writing.{WritingState, places_in, prepare_round, commit_round}
 
 -- ---- filters
@@ -46,35 +46,35 @@ not_or false b = refl
 
 -- ---- one message more
 
-module _ (tells : Told → Bool) (x : WritingState) (given : List Message) (m : Message) where
+module _ (tells : WriteReply → Bool) (x : WritingState) (given : List Message) (m : Message) where
   abbrev unheard : List Message → List ℕ
-  unheard ms = filter (λ place. not (has_told tells x ms place)) (places_in x)
+  unheard ms = filter (λ place. not (has_replied tells x ms place)) (places_in x)
 
   pushed :
       (n : ℕ)
-      → has_told tells x (given ++ m ∷ []) n ≡ (has_told tells x given n || (tells (told_of x m) && is_part m.from n))
+      → has_replied tells x (given ++ m ∷ []) n ≡ (has_replied tells x given n || (tells (reply_in x m) && is_part m.from n))
   pushed n =
-      list_any-append (λ (message : Message). tells (told_of x message) && is_part message.from n) given (m ∷ [])
-      ∙ ap (λ (b : Bool). has_told tells x given n || b) (or-false (tells (told_of x m) && is_part m.from n))
+      list_any-append (λ (message : Message). tells (reply_in x message) && is_part message.from n) given (m ∷ [])
+      ∙ ap (λ (b : Bool). has_replied tells x given n || b) (or-false (tells (reply_in x m) && is_part m.from n))
 
-  -- who answers is awaited no longer
+  -- a participant that has replied is no longer outstanding
   answer-push :
-      tells (told_of x m) ≡ true
+      tells (reply_in x m) ≡ true
       → filter (λ place. not (is_part m.from place)) (unheard given) ≡ unheard (given ++ m ∷ [])
   answer-push e =
-      filter_twice (λ place. not (is_part m.from place)) (λ place. not (has_told tells x given place))
-      (λ place. not (has_told tells x (given ++ m ∷ []) place))
-      (λ n. ap not (pushed n ∙ ap (λ (b : Bool). has_told tells x given n || (b && is_part m.from n)) e)
-      ∙ not_or (has_told tells x given n) (is_part m.from n))
+      filter_twice (λ place. not (is_part m.from place)) (λ place. not (has_replied tells x given place))
+      (λ place. not (has_replied tells x (given ++ m ∷ []) place))
+      (λ n. ap not (pushed n ∙ ap (λ (b : Bool). has_replied tells x given n || (b && is_part m.from n)) e)
+      ∙ not_or (has_replied tells x given n) (is_part m.from n))
       (places_in x)
 
   -- another message changes nothing
-  other-push : tells (told_of x m) ≡ false → unheard given ≡ unheard (given ++ m ∷ [])
+  other-push : tells (reply_in x m) ≡ false → unheard given ≡ unheard (given ++ m ∷ [])
   other-push e =
-      filter_alike (λ place. not (has_told tells x given place))
-      (λ place. not (has_told tells x (given ++ m ∷ []) place))
-      (λ n. ap not (sym (pushed n ∙ ap (λ (b : Bool). has_told tells x given n || (b && is_part m.from n)) e
-      ∙ or-false (has_told tells x given n))))
+      filter_alike (λ place. not (has_replied tells x given place))
+      (λ place. not (has_replied tells x (given ++ m ∷ []) place))
+      (λ n. ap not (sym (pushed n ∙ ap (λ (b : Bool). has_replied tells x given n || (b && is_part m.from n)) e
+      ∙ or-false (has_replied tells x given n))))
       (places_in x)
 
 -- ---- how a round begins
@@ -82,66 +82,66 @@ module _ (tells : Told → Bool) (x : WritingState) (given : List Message) (m : 
 pub first-told :
     (permit : PermitState) (stamp client tag parts : ℕ)
     → prepare_round permit stamp client tag parts
-    ≡ told_round tells_prepared (prepare_round permit stamp client tag parts) []
+    ≡ replied_round is_prepared_reply (prepare_round permit stamp client tag parts) []
 first-told permit stamp client tag parts =
-    ap (λ (z : List ℕ). let a : WritingState = record (prepare_round permit stamp client tag parts) { awaited = z }
+    ap (λ (z : List ℕ). let a : WritingState = record (prepare_round permit stamp client tag parts) { outstanding = z }
     in a)
     (filter_all (λ place. true) (λ n. refl) (places_in (prepare_round permit stamp client tag parts)))
 
-pub second-told : (x : WritingState) → commit_round x ≡ told_round tells_committed (commit_round x) []
+pub second-told : (x : WritingState) → commit_round x ≡ replied_round is_committed_reply (commit_round x) []
 second-told x =
-    ap (λ (z : List ℕ). let a : WritingState = record (commit_round x) { awaited = z } in a)
+    ap (λ (z : List ℕ). let a : WritingState = record (commit_round x) { outstanding = z } in a)
     (filter_all (λ place. true) (λ n. refl) (places_in x))
 
 -- ---- what comes of a message
 
 module _ (x : WritingState) (given : List Message) (m : Message) where
   abbrev with : List ℕ → WritingState
-  with z = record x { awaited = z }
+  with z = record x { outstanding = z }
 
-  pub prepare-told : prepare_stepped (told_round tells_prepared x given) m ≡ prepare_step_after x given m
-  prepare-told = go (told_of x m) refl
+  pub prepare-told : prepare_stepped (replied_round is_prepared_reply x given) m ≡ prepare_step_after x given m
+  prepare-told = go (reply_in x m) refl
     where
       go :
-          (what : Told) → told_of x m ≡ what
-          → prepares_by (told_round tells_prepared x given) m.from what
-          ≡ prepares_then (told_round tells_prepared x (given ++ m ∷ [])) what
-      go told.Prepared e =
-          ap (λ (z : List ℕ). prepares_left (with z) z) (answer-push tells_prepared x given m (ap tells_prepared e))
-      go told.Committed e =
-          ap (λ (z : List ℕ). Waits (with z)) (other-push tells_prepared x given m (ap tells_prepared e))
-      go told.Discarded e = refl
-      go told.Full e = refl
-      go told.Nothing e =
-          ap (λ (z : List ℕ). Waits (with z)) (other-push tells_prepared x given m (ap tells_prepared e))
+          (what : WriteReply) → reply_in x m ≡ what
+          → prepares_by (replied_round is_prepared_reply x given) m.from what
+          ≡ prepares_then (replied_round is_prepared_reply x (given ++ m ∷ [])) what
+      go write_reply.Prepared e =
+          ap (λ (z : List ℕ). prepares_left (with z) z) (answer-push is_prepared_reply x given m (ap is_prepared_reply e))
+      go write_reply.Committed e =
+          ap (λ (z : List ℕ). Waits (with z)) (other-push is_prepared_reply x given m (ap is_prepared_reply e))
+      go write_reply.Discarded e = refl
+      go write_reply.Full e = refl
+      go write_reply.Nothing e =
+          ap (λ (z : List ℕ). Waits (with z)) (other-push is_prepared_reply x given m (ap is_prepared_reply e))
 
-  pub commit-told : commit_stepped (told_round tells_committed x given) m ≡ commit_step_after x given m
-  commit-told = go (told_of x m) refl
+  pub commit-told : commit_stepped (replied_round is_committed_reply x given) m ≡ commit_step_after x given m
+  commit-told = go (reply_in x m) refl
     where
       go :
-          (what : Told) → told_of x m ≡ what
-          → commits_by (told_round tells_committed x given) m.from what
-          ≡ commits_then (told_round tells_committed x (given ++ m ∷ [])) what
-      go told.Prepared e =
-          ap (λ (z : List ℕ). Waits (with z)) (other-push tells_committed x given m (ap tells_committed e))
-      go told.Committed e =
-          ap (λ (z : List ℕ). commits_left (with z) z) (answer-push tells_committed x given m (ap tells_committed e))
-      go told.Discarded e =
-          ap (λ (z : List ℕ). Waits (with z)) (other-push tells_committed x given m (ap tells_committed e))
-      go told.Full e =
-          ap (λ (z : List ℕ). Waits (with z)) (other-push tells_committed x given m (ap tells_committed e))
-      go told.Nothing e =
-          ap (λ (z : List ℕ). Waits (with z)) (other-push tells_committed x given m (ap tells_committed e))
+          (what : WriteReply) → reply_in x m ≡ what
+          → commits_by (replied_round is_committed_reply x given) m.from what
+          ≡ commits_then (replied_round is_committed_reply x (given ++ m ∷ [])) what
+      go write_reply.Prepared e =
+          ap (λ (z : List ℕ). Waits (with z)) (other-push is_committed_reply x given m (ap is_committed_reply e))
+      go write_reply.Committed e =
+          ap (λ (z : List ℕ). commits_left (with z) z) (answer-push is_committed_reply x given m (ap is_committed_reply e))
+      go write_reply.Discarded e =
+          ap (λ (z : List ℕ). Waits (with z)) (other-push is_committed_reply x given m (ap is_committed_reply e))
+      go write_reply.Full e =
+          ap (λ (z : List ℕ). Waits (with z)) (other-push is_committed_reply x given m (ap is_committed_reply e))
+      go write_reply.Nothing e =
+          ap (λ (z : List ℕ). Waits (with z)) (other-push is_committed_reply x given m (ap is_committed_reply e))
 
 -- the clauses: what a step is by the round's own fields, it is by the messages given
 pub prepare-step :
     (x : WritingState) (m : Message) (step : WriteStep) → step ≡ prepare_stepped x m
-    → (given : List Message) → x ≡ told_round tells_prepared x given → step ≡ prepare_step_after x given m
+    → (given : List Message) → x ≡ replied_round is_prepared_reply x given → step ≡ prepare_step_after x given m
 prepare-step x m step e given same =
     e ∙ ap (λ (z : WritingState). prepare_stepped z m) same ∙ prepare-told x given m
 
 pub commit-step :
     (x : WritingState) (m : Message) (step : WriteStep) → step ≡ commit_stepped x m
-    → (given : List Message) → x ≡ told_round tells_committed x given → step ≡ commit_step_after x given m
+    → (given : List Message) → x ≡ replied_round is_committed_reply x given → step ≡ commit_step_after x given m
 commit-step x m step e given same =
     e ∙ ap (λ (z : WritingState). commit_stepped z m) same ∙ commit-told x given m

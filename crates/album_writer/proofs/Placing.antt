@@ -54,7 +54,7 @@ module _ {X : Type 0} (p : X → Bool) where
       go true f c rec = at f c.0 c.1 c.2 rec
       go false f c rec = later (rec c)
 
--- ---- the partitions concerned
+-- ---- the participants
 
 zero_plus : (n : ℕ) → 0 + n ≡ n
 zero_plus n = omega arith
@@ -85,10 +85,10 @@ few_places parts items few =
     let kept = few-filter (λ part. lies_at part parts items) (range_with_len 0 parts) in
     omega (arith, kept, length-range_with_len 0 parts)
 
-pub concerned :
+pub participant :
     (parts place : ℕ) (items : List ℕ) → 1 ≤ parts
     → Contains (places_of parts items) place ↔ ((item : ℕ) × Contains items item × (place_of parts item ≡ place))
-concerned parts place items low = (to, from)
+participant parts place items low = (to, from)
   where
     to : Contains (places_of parts items) place → (item : ℕ) × Contains items item × (place_of parts item ≡ place)
     to there =
@@ -130,7 +130,7 @@ some-place parts [] low some = absurd (true≢false (sym some))
 some-place parts (item ∷ items) low some =
     λ none.
     let there =
-    (concerned parts (place_of parts item) (item ∷ items) low).1
+    (participant parts (place_of parts item) (item ∷ items) low).1
     (item, (0, omega arith, refl), refl)
     in
     let there_too = subst (λ (z : List ℕ). Contains z (place_of parts item)) none there in

@@ -1,4 +1,4 @@
--- What a message tells, in the words of replies (`told-is`, `told-by`), and which messages leave a round as it is, for
+-- What a message replies (`told-is`, `told-by`), and which messages leave a round as it is, for
 -- the clauses `stray` (`prepares-stray`, `commits-stray`) and the law `a_message_counts_or_is_stray`.
 use Rattle.std.proofs.Common.{◌≡◌, ◌≢◌, ℕ, zero, suc, ◌<◌, Bool, true, false, not, ◌&&◌, ◌==◌, cond, List, [], ◌∷◌, filter, get_or, length, Contains, refl, sym, ap, ◌∙◌, subst, arith, true≢false, if◌then◌else◌}
 use Rattle.std.specs.List.{list_any}
@@ -14,96 +14,96 @@ use Rattle.album_calls.specs.declared.nodes.Node.TheVariants.{Part}
 use Rattle.album_calls.specs.declared.replies.Reply.{Reply}
 use Rattle.album_calls.specs.declared.replies.Reply.TheVariants as reply
 use Rattle.album_reader.proofs.Others.{is_client-own, is_part-own}
-use Rattle.album_writer.specs.Counting.{IsToldBy, IsTold, told_of_prepares, told_of_commits, IsStray, IsStrayToPrepares, IsStrayToCommits}
+use Rattle.album_writer.specs.Counting.{IsReplyFrom, IsReplyTo, prepare_replies, commit_replies, IsStray, IsStrayToPrepares, IsStrayToCommits}
 use Rattle.album_writer.specs.Counting.IsStray.{UnderOtherTag, ToOtherNode, FromOtherNode, OfOtherKind, Repeated}
 use Rattle.album_writer.specs.Rounds.{WriteStep, answered_by, prepares_left, prepares_by, prepare_stepped, commits_left, commits_by, commit_stepped}
 use Rattle.album_writer.specs.Rounds.WriteStep.{Waits, Commits, Ends}
-use Rattle.album_writer.specs.Told.{reply_told, body_told, concerns, told_of}
+use Rattle.album_writer.specs.WriteReplies.{write_reply_of, body_reply, is_from_participant, reply_in}
 use Rattle.album_writer.specs.Writing.{WritingState, places_in}
-use Rattle.album_writer.specs.declared.told.Told.{Told}
-use Rattle.album_writer.specs.declared.told.Told.TheVariants as told
+use Rattle.album_writer.specs.declared.write_replies.WriteReply.{WriteReply}
+use Rattle.album_writer.specs.declared.write_replies.WriteReply.TheVariants as write_reply
 
--- ---- what a message tells
+-- ---- what a message replies
 
-concerns-from :
-    (x : WritingState) (m : Message) (r : Reply) (place : ℕ) → IsToldBy x m r place → concerns x m ≡ true
-concerns-from x m r place t =
+is_from_participant-from :
+    (x : WritingState) (m : Message) (r : Reply) (place : ℕ) → IsReplyFrom x m r place → is_from_participant x m ≡ true
+is_from_participant-from x m r place t =
     and_from (m.tag == x.tag && is_client m.to x.client) (list_any (is_part m.from) (places_in x))
     (and_from (m.tag == x.tag) (is_client m.to x.client) (eq-eqb m.tag x.tag t.tag)
     (ap (λ (n : Node). is_client n x.client) t.receiver ∙ eq-eqb x.client x.client refl))
-    (let (at, inside, here) = at_from_Contains (places_in x) place t.concerned in
+    (let (at, inside, here) = at_from_Contains (places_in x) place t.participant in
     list_any_at (is_part m.from) (places_in x) at 0 inside
     (ap (λ (n : Node). is_part n (get_or (places_in x) at 0)) t.sender
     ∙ eq-eqb place (get_or (places_in x) at 0) (sym (here 0))))
 
--- a reply of a partition concerned tells what it tells of the stamp
+-- a message with a reply of a participant is that reply to the write
 pub told-by :
-    (x : WritingState) (m : Message) (r : Reply) (place : ℕ) → IsToldBy x m r place
-    → told_of x m ≡ reply_told x.stamp r
+    (x : WritingState) (m : Message) (r : Reply) (place : ℕ) → IsReplyFrom x m r place
+    → reply_in x m ≡ write_reply_of x.stamp r
 told-by x m r place t =
-    ap (λ (b : Bool). if b then body_told x.stamp m.body else told.Nothing) (concerns-from x m r place t)
-    ∙ ap (body_told x.stamp) t.tells
+    ap (λ (b : Bool). if b then body_reply x.stamp m.body else write_reply.Nothing) (is_from_participant-from x m r place t)
+    ∙ ap (body_reply x.stamp) t.body
 
--- the reply that tells this of the stamp
-abbrev pub the_reply : ℕ → Told → Reply
-the_reply stamp told.Prepared = reply.Prepared stamp
-the_reply stamp told.Committed = reply.Committed stamp
-the_reply stamp told.Discarded = reply.Discarded stamp
-the_reply stamp told.Full = reply.Full stamp
-the_reply stamp told.Nothing = reply.Clash
+-- the reply of this kind for the stamp
+abbrev pub the_reply : ℕ → WriteReply → Reply
+the_reply stamp write_reply.Prepared = reply.Prepared stamp
+the_reply stamp write_reply.Committed = reply.Committed stamp
+the_reply stamp write_reply.Discarded = reply.Discarded stamp
+the_reply stamp write_reply.Full = reply.Full stamp
+the_reply stamp write_reply.Nothing = reply.Clash
 
 by-kind :
-    (make : ℕ → Reply) (kind : Told) (stamp of : ℕ) (what : Told) → make stamp ≡ the_reply stamp kind
-    → (if of == stamp then kind else told.Nothing) ≡ what → what ≢ told.Nothing → make of ≡ the_reply stamp what
+    (make : ℕ → Reply) (kind : WriteReply) (stamp of : ℕ) (what : WriteReply) → make stamp ≡ the_reply stamp kind
+    → (if of == stamp then kind else write_reply.Nothing) ≡ what → what ≢ write_reply.Nothing → make of ≡ the_reply stamp what
 by-kind make kind stamp of what is e some = go (of == stamp) refl e
   where
     go :
-        (b : Bool) → (of == stamp) ≡ b → (if b then kind else told.Nothing) ≡ what → make of ≡ the_reply stamp what
+        (b : Bool) → (of == stamp) ≡ b → (if b then kind else write_reply.Nothing) ≡ what → make of ≡ the_reply stamp what
     go true f g = ap make (eqb-true of stamp f) ∙ is ∙ ap (the_reply stamp) g
     go false f g = absurd (some (sym g))
 
 reply-tells :
-    (stamp : ℕ) (r : Reply) (what : Told) → reply_told stamp r ≡ what → what ≢ told.Nothing → r ≡ the_reply stamp what
-reply-tells stamp (reply.Prepared of) what e some = by-kind reply.Prepared told.Prepared stamp of what refl e some
-reply-tells stamp (reply.Committed of) what e some = by-kind reply.Committed told.Committed stamp of what refl e some
-reply-tells stamp (reply.Discarded of) what e some = by-kind reply.Discarded told.Discarded stamp of what refl e some
+    (stamp : ℕ) (r : Reply) (what : WriteReply) → write_reply_of stamp r ≡ what → what ≢ write_reply.Nothing → r ≡ the_reply stamp what
+reply-tells stamp (reply.Prepared of) what e some = by-kind reply.Prepared write_reply.Prepared stamp of what refl e some
+reply-tells stamp (reply.Committed of) what e some = by-kind reply.Committed write_reply.Committed stamp of what refl e some
+reply-tells stamp (reply.Discarded of) what e some = by-kind reply.Discarded write_reply.Discarded stamp of what refl e some
 reply-tells stamp (reply.Version item at value) what e some = absurd (some (sym e))
 reply-tells stamp (reply.Status of vote) what e some = absurd (some (sym e))
 reply-tells stamp (reply.NotPrepared of) what e some = absurd (some (sym e))
 reply-tells stamp reply.Clash what e some = absurd (some (sym e))
-reply-tells stamp (reply.Full of) what e some = by-kind reply.Full told.Full stamp of what refl e some
+reply-tells stamp (reply.Full of) what e some = by-kind reply.Full write_reply.Full stamp of what refl e some
 reply-tells stamp (reply.Gone item) what e some = absurd (some (sym e))
 
 body-tells :
-    (stamp : ℕ) (b : Body) (what : Told) → body_told stamp b ≡ what → what ≢ told.Nothing
+    (stamp : ℕ) (b : Body) (what : WriteReply) → body_reply stamp b ≡ what → what ≢ write_reply.Nothing
     → b ≡ body.Reply (the_reply stamp what)
 body-tells stamp (body.Request request) what e some = absurd (some (sym e))
 body-tells stamp (body.Reply r) what e some = ap body.Reply (reply-tells stamp r what e some)
 
-own-told : (kind : Told) (stamp : ℕ) → (if stamp == stamp then kind else told.Nothing) ≡ kind
-own-told kind stamp = ap (λ (b : Bool). if b then kind else told.Nothing) (eq-eqb stamp stamp refl)
+own-told : (kind : WriteReply) (stamp : ℕ) → (if stamp == stamp then kind else write_reply.Nothing) ≡ kind
+own-told kind stamp = ap (λ (b : Bool). if b then kind else write_reply.Nothing) (eq-eqb stamp stamp refl)
 
-the_reply-told : (stamp : ℕ) (kind : Told) → reply_told stamp (the_reply stamp kind) ≡ kind
-the_reply-told stamp told.Prepared = own-told told.Prepared stamp
-the_reply-told stamp told.Committed = own-told told.Committed stamp
-the_reply-told stamp told.Discarded = own-told told.Discarded stamp
-the_reply-told stamp told.Full = own-told told.Full stamp
-the_reply-told stamp told.Nothing = refl
+the_reply-told : (stamp : ℕ) (kind : WriteReply) → write_reply_of stamp (the_reply stamp kind) ≡ kind
+the_reply-told stamp write_reply.Prepared = own-told write_reply.Prepared stamp
+the_reply-told stamp write_reply.Committed = own-told write_reply.Committed stamp
+the_reply-told stamp write_reply.Discarded = own-told write_reply.Discarded stamp
+the_reply-told stamp write_reply.Full = own-told write_reply.Full stamp
+the_reply-told stamp write_reply.Nothing = refl
 
--- this reply tells this
+-- the reply is of its kind
 pub told-kind :
-    (x : WritingState) (m : Message) (kind : Told) → IsTold x m (the_reply x.stamp kind) → told_of x m ≡ kind
+    (x : WritingState) (m : Message) (kind : WriteReply) → IsReplyTo x m (the_reply x.stamp kind) → reply_in x m ≡ kind
 told-kind x m kind (place, t) = told-by x m (the_reply x.stamp kind) place t ∙ the_reply-told x.stamp kind
 
--- what is told is told by a reply of a partition concerned
+-- a reply to the write is a reply of a participant
 pub told-is :
-    (x : WritingState) (m : Message) (what : Told) → told_of x m ≡ what → what ≢ told.Nothing
-    → IsTold x m (the_reply x.stamp what)
-told-is x m what e some = go (concerns x m) refl e
+    (x : WritingState) (m : Message) (what : WriteReply) → reply_in x m ≡ what → what ≢ write_reply.Nothing
+    → IsReplyTo x m (the_reply x.stamp what)
+told-is x m what e some = go (is_from_participant x m) refl e
   where
     go :
-        (b : Bool) → concerns x m ≡ b → (if b then body_told x.stamp m.body else told.Nothing) ≡ what
-        → IsTold x m (the_reply x.stamp what)
+        (b : Bool) → is_from_participant x m ≡ b → (if b then body_reply x.stamp m.body else write_reply.Nothing) ≡ what
+        → IsReplyTo x m (the_reply x.stamp what)
     go false f g = absurd (some (sym g))
     go true f g =
         let both = and_parts (m.tag == x.tag && is_client m.to x.client) (list_any (is_part m.from) (places_in x)) f in
@@ -111,15 +111,15 @@ told-is x m what e some = go (concerns x m) refl e
         let (at, place, inside, here, same) = Any-from_list_any (is_part m.from) (places_in x) both.1 in (
           place,
           record {
-            tells = body-tells x.stamp m.body what g some;
+            body = body-tells x.stamp m.body what g some;
             tag = eqb-true m.tag x.tag ours.0;
             receiver = is_client-own m.to x.client ours.1;
             sender = is_part-own m.from place same;
-            concerned = (at, inside, here);
+            participant = (at, inside, here);
           },
         )
 
--- ---- a stray tells nothing that counts, but what was told before
+-- ---- a stray is no reply that counts, but for a repeated one
 
 pub part-number : (a b : ℕ) → Part a ≡ Part b → a ≡ b
 part-number a b e = cc
@@ -129,18 +129,18 @@ same-reply r s e = cc
 
 stray-told :
     (replies : List Reply) (once : Reply) (x : WritingState) (m : Message) (r : Reply) (place : ℕ)
-    → IsStray replies once x m → IsToldBy x m r place → Contains replies r
-    → (r ≡ once) × (Contains x.awaited place → ⊥)
+    → IsStray replies once x m → IsReplyFrom x m r place → Contains replies r
+    → (r ≡ once) × (Contains x.outstanding place → ⊥)
 stray-told replies once x m r place (UnderOtherTag other) t among = absurd (other t.tag)
 stray-told replies once x m r place (ToOtherNode other) t among = absurd (other t.receiver)
-stray-told replies once x m r place (FromOtherNode other) t among = absurd (other place t.concerned t.sender)
-stray-told replies once x m r place (OfOtherKind other) t among = absurd (other r among t.tells)
+stray-told replies once x m r place (FromOtherNode other) t among = absurd (other place t.participant t.sender)
+stray-told replies once x m r place (OfOtherKind other) t among = absurd (other r among t.body)
 stray-told replies once x m r place (Repeated p from tells heard) t among = (
-  same-reply r once (sym t.tells ∙ tells),
-  λ there. heard (subst (λ (n : ℕ). Contains x.awaited n) (part-number place p (sym t.sender ∙ from)) there),
+  same-reply r once (sym t.body ∙ tells),
+  λ there. heard (subst (λ (n : ℕ). Contains x.outstanding n) (part-number place p (sym t.sender ∙ from)) there),
 )
 
--- who isn't awaited can't be left out
+-- a participant that isn't outstanding can't be left out
 unmoved :
     (node : Node) (place : ℕ) (ns : List ℕ) → node ≡ Part place → (Contains ns place → ⊥)
     → filter (λ n. not (is_part node n)) ns ≡ ns
@@ -160,7 +160,7 @@ unmoved node place (n ∷ ns) from absent =
 
 module _ (x : WritingState) (m : Message) where
   abbrev with : List ℕ → WritingState
-  with z = record x { awaited = z }
+  with z = record x { outstanding = z }
 
   prepares-wait : (ns : List ℕ) → ns ≢ [] → prepares_left x ns ≡ Waits x
   prepares-wait [] some = absurd (some refl)
@@ -170,70 +170,70 @@ module _ (x : WritingState) (m : Message) where
   commits-wait [] some = absurd (some refl)
   commits-wait (n ∷ ns) some = refl
 
-  pub prepares-stray : x.awaited ≢ [] → IsStrayToPrepares x m → prepare_stepped x m ≡ Waits x
-  prepares-stray some stray = go (told_of x m) refl
+  pub prepares-stray : x.outstanding ≢ [] → IsStrayToPrepares x m → prepare_stepped x m ≡ Waits x
+  prepares-stray some stray = go (reply_in x m) refl
     where
-      go : (what : Told) → told_of x m ≡ what → prepare_stepped x m ≡ Waits x
-      go told.Prepared e =
-          let (place, t) = told-is x m told.Prepared e (λ q. absurd (cc)) in
+      go : (what : WriteReply) → reply_in x m ≡ what → prepare_stepped x m ≡ Waits x
+      go write_reply.Prepared e =
+          let (place, t) = told-is x m write_reply.Prepared e (λ q. absurd (cc)) in
           let heard =
-          stray-told (told_of_prepares x.stamp) (reply.Prepared x.stamp) x m (reply.Prepared x.stamp) place stray t
+          stray-told (prepare_replies x.stamp) (reply.Prepared x.stamp) x m (reply.Prepared x.stamp) place stray t
           (0, omega arith, refl)
           in
           ap (prepares_by x m.from) e
-          ∙ ap (λ (z : List ℕ). prepares_left (with z) z) (unmoved m.from place x.awaited t.sender heard.1)
-          ∙ prepares-wait x.awaited some
-      go told.Committed e = ap (prepares_by x m.from) e
-      go told.Discarded e =
-          let (place, t) = told-is x m told.Discarded e (λ q. absurd (cc)) in
+          ∙ ap (λ (z : List ℕ). prepares_left (with z) z) (unmoved m.from place x.outstanding t.sender heard.1)
+          ∙ prepares-wait x.outstanding some
+      go write_reply.Committed e = ap (prepares_by x m.from) e
+      go write_reply.Discarded e =
+          let (place, t) = told-is x m write_reply.Discarded e (λ q. absurd (cc)) in
           let heard =
-          stray-told (told_of_prepares x.stamp) (reply.Prepared x.stamp) x m (reply.Discarded x.stamp) place stray t
+          stray-told (prepare_replies x.stamp) (reply.Prepared x.stamp) x m (reply.Discarded x.stamp) place stray t
           (1, omega arith, refl)
           in
           let wrong = heard.0 in
           absurd (cc)
-      go told.Full e =
-          let (place, t) = told-is x m told.Full e (λ q. absurd (cc)) in
+      go write_reply.Full e =
+          let (place, t) = told-is x m write_reply.Full e (λ q. absurd (cc)) in
           let heard =
-          stray-told (told_of_prepares x.stamp) (reply.Prepared x.stamp) x m (reply.Full x.stamp) place stray t
+          stray-told (prepare_replies x.stamp) (reply.Prepared x.stamp) x m (reply.Full x.stamp) place stray t
           (2, omega arith, refl)
           in
           let wrong = heard.0 in
           absurd (cc)
-      go told.Nothing e = ap (prepares_by x m.from) e
+      go write_reply.Nothing e = ap (prepares_by x m.from) e
 
-  pub commits-stray : x.awaited ≢ [] → IsStrayToCommits x m → commit_stepped x m ≡ Waits x
-  commits-stray some stray = go (told_of x m) refl
+  pub commits-stray : x.outstanding ≢ [] → IsStrayToCommits x m → commit_stepped x m ≡ Waits x
+  commits-stray some stray = go (reply_in x m) refl
     where
-      go : (what : Told) → told_of x m ≡ what → commit_stepped x m ≡ Waits x
-      go told.Prepared e = ap (commits_by x m.from) e
-      go told.Committed e =
-          let (place, t) = told-is x m told.Committed e (λ q. absurd (cc)) in
+      go : (what : WriteReply) → reply_in x m ≡ what → commit_stepped x m ≡ Waits x
+      go write_reply.Prepared e = ap (commits_by x m.from) e
+      go write_reply.Committed e =
+          let (place, t) = told-is x m write_reply.Committed e (λ q. absurd (cc)) in
           let heard =
-          stray-told (told_of_commits x.stamp) (reply.Committed x.stamp) x m (reply.Committed x.stamp) place stray t
+          stray-told (commit_replies x.stamp) (reply.Committed x.stamp) x m (reply.Committed x.stamp) place stray t
           (0, omega arith, refl)
           in
           ap (commits_by x m.from) e
-          ∙ ap (λ (z : List ℕ). commits_left (with z) z) (unmoved m.from place x.awaited t.sender heard.1)
-          ∙ commits-wait x.awaited some
-      go told.Discarded e = ap (commits_by x m.from) e
-      go told.Full e = ap (commits_by x m.from) e
-      go told.Nothing e = ap (commits_by x m.from) e
+          ∙ ap (λ (z : List ℕ). commits_left (with z) z) (unmoved m.from place x.outstanding t.sender heard.1)
+          ∙ commits-wait x.outstanding some
+      go write_reply.Discarded e = ap (commits_by x m.from) e
+      go write_reply.Full e = ap (commits_by x m.from) e
+      go write_reply.Nothing e = ap (commits_by x m.from) e
 
 -- ---- and whatever leaves a round as it is, is one
 
--- it tells nothing that counts
+-- it is no reply that counts
 module _
-    (replies : List Reply) (once : Reply) (counts : Told → Bool) (x : WritingState) (m : Message)
-    (known : (r : Reply) → Contains replies r → counts (reply_told x.stamp r) ≡ true)
+    (replies : List Reply) (once : Reply) (counts : WriteReply → Bool) (x : WritingState) (m : Message)
+    (known : (r : Reply) → Contains replies r → counts (write_reply_of x.stamp r) ≡ true)
   where
-    stray-from : counts (told_of x m) ≡ false → counts told.Nothing ≡ false → IsStray replies once x m
-    stray-from e none = go (concerns x m) refl e
+    stray-from : counts (reply_in x m) ≡ false → counts write_reply.Nothing ≡ false → IsStray replies once x m
+    stray-from e none = go (is_from_participant x m) refl e
       where
-        of-other-kind : counts (body_told x.stamp m.body) ≡ false → IsStray replies once x m
+        of-other-kind : counts (body_reply x.stamp m.body) ≡ false → IsStray replies once x m
         of-other-kind f =
             OfOtherKind (λ r among tells. false≢true
-            (sym f ∙ ap (λ (b : Body). counts (body_told x.stamp b)) tells ∙ known r among))
+            (sym f ∙ ap (λ (b : Body). counts (body_reply x.stamp b)) tells ∙ known r among))
 
         from-elsewhere : list_any (is_part m.from) (places_in x) ≡ false → IsStray replies once x m
         from-elsewhere f =
@@ -255,54 +255,54 @@ module _
         elsewhere true f true g true h all = absurd (true≢false all)
 
         go :
-            (b : Bool) → concerns x m ≡ b → counts (if b then body_told x.stamp m.body else told.Nothing) ≡ false
+            (b : Bool) → is_from_participant x m ≡ b → counts (if b then body_reply x.stamp m.body else write_reply.Nothing) ≡ false
             → IsStray replies once x m
         go true f g = of-other-kind g
         go false f g =
             elsewhere (m.tag == x.tag) refl (is_client m.to x.client) refl (list_any (is_part m.from) (places_in x))
             refl f
 
-abbrev counts_in_prepares : Told → Bool
-counts_in_prepares told.Prepared = true
-counts_in_prepares told.Committed = false
-counts_in_prepares told.Discarded = true
-counts_in_prepares told.Full = true
-counts_in_prepares told.Nothing = false
+abbrev counts_in_prepares : WriteReply → Bool
+counts_in_prepares write_reply.Prepared = true
+counts_in_prepares write_reply.Committed = false
+counts_in_prepares write_reply.Discarded = true
+counts_in_prepares write_reply.Full = true
+counts_in_prepares write_reply.Nothing = false
 
-abbrev counts_in_commits : Told → Bool
-counts_in_commits told.Prepared = false
-counts_in_commits told.Committed = true
-counts_in_commits told.Discarded = false
-counts_in_commits told.Full = false
-counts_in_commits told.Nothing = false
+abbrev counts_in_commits : WriteReply → Bool
+counts_in_commits write_reply.Prepared = false
+counts_in_commits write_reply.Committed = true
+counts_in_commits write_reply.Discarded = false
+counts_in_commits write_reply.Full = false
+counts_in_commits write_reply.Nothing = false
 
 prepares-known :
-    (stamp : ℕ) (r : Reply) → Contains (told_of_prepares stamp) r → counts_in_prepares (reply_told stamp r) ≡ true
+    (stamp : ℕ) (r : Reply) → Contains (prepare_replies stamp) r → counts_in_prepares (write_reply_of stamp r) ≡ true
 prepares-known stamp r (k, inside, here) = go k inside here
   where
     by :
-        (s : Reply) → s ≡ r → counts_in_prepares (reply_told stamp s) ≡ true
-        → counts_in_prepares (reply_told stamp r) ≡ true
-    by s same e = subst (λ (z : Reply). counts_in_prepares (reply_told stamp z) ≡ true) same e
+        (s : Reply) → s ≡ r → counts_in_prepares (write_reply_of stamp s) ≡ true
+        → counts_in_prepares (write_reply_of stamp r) ≡ true
+    by s same e = subst (λ (z : Reply). counts_in_prepares (write_reply_of stamp z) ≡ true) same e
 
     go :
-        (k : ℕ) → k < 3 → get_or (told_of_prepares stamp) k r ≡ r
-        → counts_in_prepares (reply_told stamp r) ≡ true
-    go zero l same = by (reply.Prepared stamp) same (ap counts_in_prepares (own-told told.Prepared stamp))
-    go (suc zero) l same = by (reply.Discarded stamp) same (ap counts_in_prepares (own-told told.Discarded stamp))
-    go (suc (suc zero)) l same = by (reply.Full stamp) same (ap counts_in_prepares (own-told told.Full stamp))
+        (k : ℕ) → k < 3 → get_or (prepare_replies stamp) k r ≡ r
+        → counts_in_prepares (write_reply_of stamp r) ≡ true
+    go zero l same = by (reply.Prepared stamp) same (ap counts_in_prepares (own-told write_reply.Prepared stamp))
+    go (suc zero) l same = by (reply.Discarded stamp) same (ap counts_in_prepares (own-told write_reply.Discarded stamp))
+    go (suc (suc zero)) l same = by (reply.Full stamp) same (ap counts_in_prepares (own-told write_reply.Full stamp))
     go (suc (suc (suc k))) l same = absurd (omega (arith, l))
 
 commits-known :
-    (stamp : ℕ) (r : Reply) → Contains (told_of_commits stamp) r → counts_in_commits (reply_told stamp r) ≡ true
+    (stamp : ℕ) (r : Reply) → Contains (commit_replies stamp) r → counts_in_commits (write_reply_of stamp r) ≡ true
 commits-known stamp r (k, inside, here) = go k inside here
   where
     go :
-        (k : ℕ) → k < 1 → get_or (told_of_commits stamp) k r ≡ r
-        → counts_in_commits (reply_told stamp r) ≡ true
+        (k : ℕ) → k < 1 → get_or (commit_replies stamp) k r ≡ r
+        → counts_in_commits (write_reply_of stamp r) ≡ true
     go zero l same =
-        subst (λ (z : Reply). counts_in_commits (reply_told stamp z) ≡ true) same
-        (ap counts_in_commits (own-told told.Committed stamp))
+        subst (λ (z : Reply). counts_in_commits (write_reply_of stamp z) ≡ true) same
+        (ap counts_in_commits (own-told write_reply.Committed stamp))
     go (suc k) l same = absurd (omega (arith, l))
 
 -- what a filter leaves has passed it
@@ -321,7 +321,7 @@ filter-passed p (k ∷ ns) n there = go (p k) refl there (filter-passed p ns n)
     go true e c rec = first e c.0 c.1 c.2 rec
     go false e c rec = rec c
 
--- who is awaited is left out
+-- an outstanding participant is left out
 left-out :
     (node : Node) (place : ℕ) (ns : List ℕ) → node ≡ Part place
     → filter (λ n. not (is_part node n)) ns ≡ ns → Contains ns place → ⊥
@@ -332,10 +332,10 @@ left-out node place ns from same there =
     in
     false≢true (sym (ap not (ap (λ (k : Node). is_part k place) from ∙ eq-eqb place place refl)) ∙ passed)
 
-abbrev awaited_of : WriteStep → List ℕ
-awaited_of (Waits x) = x.awaited
-awaited_of (Commits x messages) = []
-awaited_of (Ends outcome) = []
+abbrev outstanding_of : WriteStep → List ℕ
+outstanding_of (Waits x) = x.outstanding
+outstanding_of (Commits x messages) = []
+outstanding_of (Ends outcome) = []
 
 abbrev is_waits : WriteStep → Bool
 is_waits (Waits x) = true
@@ -344,49 +344,49 @@ is_waits (Ends outcome) = false
 
 module _ (x : WritingState) (m : Message) where
   pub stray-prepares : prepare_stepped x m ≡ Waits x → IsStrayToPrepares x m
-  stray-prepares e = go (told_of x m) refl e
+  stray-prepares e = go (reply_in x m) refl e
     where
-      none-counts : counts_in_prepares (told_of x m) ≡ false → IsStrayToPrepares x m
+      none-counts : counts_in_prepares (reply_in x m) ≡ false → IsStrayToPrepares x m
       none-counts f =
-          stray-from (told_of_prepares x.stamp) (reply.Prepared x.stamp) counts_in_prepares x m (prepares-known x.stamp)
+          stray-from (prepare_replies x.stamp) (reply.Prepared x.stamp) counts_in_prepares x m (prepares-known x.stamp)
           f refl
 
       waits :
           (ns : List ℕ) → prepares_left (answered_by x m.from) ns ≡ Waits x
-          → (answered_by x m.from).awaited ≡ x.awaited
+          → (answered_by x m.from).outstanding ≡ x.outstanding
       waits [] f = absurd (false≢true (ap is_waits f))
-      waits (n ∷ ns) f = ap awaited_of f
+      waits (n ∷ ns) f = ap outstanding_of f
 
-      go : (what : Told) → told_of x m ≡ what → prepares_by x m.from (told_of x m) ≡ Waits x → IsStrayToPrepares x m
-      go told.Prepared f g =
-          let (place, t) = told-is x m told.Prepared f (λ q. absurd (cc)) in
-          let same = waits (answered_by x m.from).awaited (sym (ap (prepares_by x m.from) f) ∙ g) in
-          Repeated place t.sender t.tells (left-out m.from place x.awaited t.sender same)
-      go told.Committed f g = none-counts (ap counts_in_prepares f)
-      go told.Discarded f g = absurd (false≢true (ap is_waits (sym (ap (prepares_by x m.from) f) ∙ g)))
-      go told.Full f g = absurd (false≢true (ap is_waits (sym (ap (prepares_by x m.from) f) ∙ g)))
-      go told.Nothing f g = none-counts (ap counts_in_prepares f)
+      go : (what : WriteReply) → reply_in x m ≡ what → prepares_by x m.from (reply_in x m) ≡ Waits x → IsStrayToPrepares x m
+      go write_reply.Prepared f g =
+          let (place, t) = told-is x m write_reply.Prepared f (λ q. absurd (cc)) in
+          let same = waits (answered_by x m.from).outstanding (sym (ap (prepares_by x m.from) f) ∙ g) in
+          Repeated place t.sender t.body (left-out m.from place x.outstanding t.sender same)
+      go write_reply.Committed f g = none-counts (ap counts_in_prepares f)
+      go write_reply.Discarded f g = absurd (false≢true (ap is_waits (sym (ap (prepares_by x m.from) f) ∙ g)))
+      go write_reply.Full f g = absurd (false≢true (ap is_waits (sym (ap (prepares_by x m.from) f) ∙ g)))
+      go write_reply.Nothing f g = none-counts (ap counts_in_prepares f)
 
   pub stray-commits : commit_stepped x m ≡ Waits x → IsStrayToCommits x m
-  stray-commits e = go (told_of x m) refl e
+  stray-commits e = go (reply_in x m) refl e
     where
-      none-counts : counts_in_commits (told_of x m) ≡ false → IsStrayToCommits x m
+      none-counts : counts_in_commits (reply_in x m) ≡ false → IsStrayToCommits x m
       none-counts f =
-          stray-from (told_of_commits x.stamp) (reply.Committed x.stamp) counts_in_commits x m (commits-known x.stamp)
+          stray-from (commit_replies x.stamp) (reply.Committed x.stamp) counts_in_commits x m (commits-known x.stamp)
           f refl
 
       waits :
           (ns : List ℕ) → commits_left (answered_by x m.from) ns ≡ Waits x
-          → (answered_by x m.from).awaited ≡ x.awaited
+          → (answered_by x m.from).outstanding ≡ x.outstanding
       waits [] f = absurd (false≢true (ap is_waits f))
-      waits (n ∷ ns) f = ap awaited_of f
+      waits (n ∷ ns) f = ap outstanding_of f
 
-      go : (what : Told) → told_of x m ≡ what → commits_by x m.from (told_of x m) ≡ Waits x → IsStrayToCommits x m
-      go told.Prepared f g = none-counts (ap counts_in_commits f)
-      go told.Committed f g =
-          let (place, t) = told-is x m told.Committed f (λ q. absurd (cc)) in
-          let same = waits (answered_by x m.from).awaited (sym (ap (commits_by x m.from) f) ∙ g) in
-          Repeated place t.sender t.tells (left-out m.from place x.awaited t.sender same)
-      go told.Discarded f g = none-counts (ap counts_in_commits f)
-      go told.Full f g = none-counts (ap counts_in_commits f)
-      go told.Nothing f g = none-counts (ap counts_in_commits f)
+      go : (what : WriteReply) → reply_in x m ≡ what → commits_by x m.from (reply_in x m) ≡ Waits x → IsStrayToCommits x m
+      go write_reply.Prepared f g = none-counts (ap counts_in_commits f)
+      go write_reply.Committed f g =
+          let (place, t) = told-is x m write_reply.Committed f (λ q. absurd (cc)) in
+          let same = waits (answered_by x m.from).outstanding (sym (ap (commits_by x m.from) f) ∙ g) in
+          Repeated place t.sender t.body (left-out m.from place x.outstanding t.sender same)
+      go write_reply.Discarded f g = none-counts (ap counts_in_commits f)
+      go write_reply.Full f g = none-counts (ap counts_in_commits f)
+      go write_reply.Nothing f g = none-counts (ap counts_in_commits f)

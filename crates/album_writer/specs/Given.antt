@@ -1,53 +1,53 @@
--- What comes of all the replies that were given in a round.
+-- The step after all messages that were given in a round.
 use Rattle.std.specs.Prelude.{ℕ, Bool, not, ◌&&◌, List, [], ◌∷◌, ◌++◌, filter}
 use Rattle.std.specs.List.{list_any}
 use Rattle.album_calls.specs.Nodes.{is_part}
 use Rattle.album_calls.specs.declared.messages.Message.{Message}
 use Rattle.album_writer.specs.declared.outcomes.Outcome.TheVariants as outcome
-use Rattle.album_writer.specs.declared.told.Told.{Told}
-use Rattle.album_writer.specs.declared.told.Told.TheVariants as told
+use Rattle.album_writer.specs.declared.write_replies.WriteReply.{WriteReply}
+use Rattle.album_writer.specs.declared.write_replies.WriteReply.TheVariants as write_reply
 use Rattle.album_writer.specs.Rounds.{WriteStep, prepares_left, commits_left}
 use Rattle.album_writer.specs.Rounds.WriteStep.{Waits, Ends}
-use Rattle.album_writer.specs.Told.{told_of, tells_prepared, tells_committed}
+use Rattle.album_writer.specs.WriteReplies.{reply_in, is_prepared_reply, is_committed_reply}
 use Rattle.album_writer.specs.Writing.{WritingState, places_in}
 
--- the partition tells this in one of the messages
-abbrev pub has_told : (Told → Bool) → WritingState → List Message → ℕ → Bool
-has_told tells writing given place =
-    list_any (λ message. tells (told_of writing message) && is_part message.from place) given
+-- one of the messages is a reply of the participant that counts
+abbrev pub has_replied : (WriteReply → Bool) → WritingState → List Message → ℕ → Bool
+has_replied counts writing given place =
+    list_any (λ message. counts (reply_in writing message) && is_part message.from place) given
 
--- the round, had just these messages been given in it: of the partitions concerned, it awaits the answers of those that
--- have not told this
-abbrev pub told_round : (Told → Bool) → WritingState → List Message → WritingState
-told_round tells writing given =
-    record writing { awaited = filter (λ place. not (has_told tells writing given place)) (places_in writing) }
+-- the round after exactly these messages: the replies of those participants are outstanding that have given none that
+-- counts
+abbrev pub replied_round : (WriteReply → Bool) → WritingState → List Message → WritingState
+replied_round counts writing given =
+    record writing { outstanding = filter (λ place. not (has_replied counts writing given place)) (places_in writing) }
 
 -- ---- the Prepares
 
--- what comes of the round, once its last message told this
-abbrev pub prepares_then : WritingState → Told → WriteStep
-prepares_then writing told.Prepared = prepares_left writing writing.awaited
-prepares_then writing told.Committed = Waits writing
-prepares_then writing told.Discarded = Ends (outcome.Aborted writing.stamp)
-prepares_then writing told.Full = Ends (outcome.Full writing.stamp)
-prepares_then writing told.Nothing = Waits writing
+-- the step of the round whose last message is this reply
+abbrev pub prepares_then : WritingState → WriteReply → WriteStep
+prepares_then writing write_reply.Prepared = prepares_left writing writing.outstanding
+prepares_then writing write_reply.Committed = Waits writing
+prepares_then writing write_reply.Discarded = Ends (outcome.Aborted writing.stamp)
+prepares_then writing write_reply.Full = Ends (outcome.Full writing.stamp)
+prepares_then writing write_reply.Nothing = Waits writing
 
--- what comes of a message given after these
+-- the step of a message that is given after these
 abbrev pub prepare_step_after : WritingState → List Message → Message → WriteStep
 prepare_step_after writing given message =
-    prepares_then (told_round tells_prepared writing (given ++ message ∷ [])) (told_of writing message)
+    prepares_then (replied_round is_prepared_reply writing (given ++ message ∷ [])) (reply_in writing message)
 
 -- ---- the Commits
 
--- what comes of the round, once its last message told this
-abbrev pub commits_then : WritingState → Told → WriteStep
-commits_then writing told.Prepared = Waits writing
-commits_then writing told.Committed = commits_left writing writing.awaited
-commits_then writing told.Discarded = Waits writing
-commits_then writing told.Full = Waits writing
-commits_then writing told.Nothing = Waits writing
+-- the step of the round whose last message is this reply
+abbrev pub commits_then : WritingState → WriteReply → WriteStep
+commits_then writing write_reply.Prepared = Waits writing
+commits_then writing write_reply.Committed = commits_left writing writing.outstanding
+commits_then writing write_reply.Discarded = Waits writing
+commits_then writing write_reply.Full = Waits writing
+commits_then writing write_reply.Nothing = Waits writing
 
--- what comes of a message given after these
+-- the step of a message that is given after these
 abbrev pub commit_step_after : WritingState → List Message → Message → WriteStep
 commit_step_after writing given message =
-    commits_then (told_round tells_committed writing (given ++ message ∷ [])) (told_of writing message)
+    commits_then (replied_round is_committed_reply writing (given ++ message ∷ [])) (reply_in writing message)

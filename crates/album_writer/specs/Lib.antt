@@ -1,5 +1,5 @@
 pub mod Writing
-pub mod Told
+pub mod WriteReplies
 pub mod Rounds
 pub mod Given
 pub mod Counting

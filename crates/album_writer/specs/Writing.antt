@@ -10,15 +10,15 @@ use Rattle.album_calls.specs.declared.requests.Request.TheVariants.{Prepare, Com
 use Rattle.album_permits.specs.Effects.{effect_of}
 use Rattle.album_permits.specs.Permits.{PermitState}
 
--- A round of a write: the permit that was spent on it, the stamp at which it writes, who writes under which tag, how
--- many partitions there are, and those whose answers are awaited, rising.
+-- A round of a write: the permit that was spent on it, the stamp at which it writes, the client and the tag of its
+-- messages, how many partitions there are, and the participants whose replies are outstanding, rising.
 pub record WritingState : Type 0 where
   pub permit : PermitState
   pub stamp : ℕ
   pub client : ℕ
   pub tag : ℕ
   pub parts : ℕ
-  pub awaited : List ℕ
+  pub outstanding : List ℕ
 
 -- ---- what is written
 
@@ -30,13 +30,13 @@ writes_in writing = effect_of writing.permit writing.stamp
 abbrev pub items_in : WritingState → List ℕ
 items_in writing = items_written (writes_in writing)
 
--- the partitions concerned, rising: those of the items
+-- the participants, rising: the partitions of the items
 abbrev pub places_in : WritingState → List ℕ
 places_in writing = places_of writing.parts (items_in writing)
 
 -- ---- what is sent
 
--- a Prepare, of just the writes that are placed at the partition, with the items of all
+-- a Prepare: exactly the writes that are placed at the partition, with the items of the whole write
 abbrev pub prepare_to : WritingState → ℕ → Message
 prepare_to writing place = record {
   from = Client writing.client;
@@ -45,7 +45,7 @@ prepare_to writing place = record {
   body = Request (Prepare writing.stamp (rows_placed_at place writing.parts (writes_in writing)) (items_in writing));
 }
 
--- one for each partition concerned
+-- one for each participant
 abbrev pub prepares_of : WritingState → List Message
 prepares_of writing = map (prepare_to writing) (places_in writing)
 
@@ -58,13 +58,13 @@ commit_to writing place = record {
   body = Request (Commit writing.stamp);
 }
 
--- one for each partition concerned
+-- one for each participant
 abbrev pub commits_of : WritingState → List Message
 commits_of writing = map (commit_to writing) (places_in writing)
 
 -- ---- how a round begins
 
--- the round of the Prepares, before any answer
+-- the round of the Prepares, before any reply
 abbrev pub prepare_round : PermitState → ℕ → ℕ → ℕ → ℕ → WritingState
 prepare_round permit stamp client tag parts = record {
   permit = permit;
@@ -72,9 +72,9 @@ prepare_round permit stamp client tag parts = record {
   client = client;
   tag = tag;
   parts = parts;
-  awaited = places_of parts (items_written (effect_of permit stamp));
+  outstanding = places_of parts (items_written (effect_of permit stamp));
 }
 
--- the round of the Commits of the same write, under the tag one above, before any answer
+-- the round of the Commits of the same write, under the tag one above, before any reply
 abbrev pub commit_round : WritingState → WritingState
-commit_round writing = record writing { tag = writing.tag + 1; awaited = places_in writing }
+commit_round writing = record writing { tag = writing.tag + 1; outstanding = places_in writing }

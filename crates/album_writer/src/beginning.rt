@@ -14,14 +14,14 @@ use album_stamps::{ClientNo, MAX_PARTS, Refusal, Refused, Stamp};
 use std::alloc::Global;
 
 impl Preparing {
-    /// Spends the permit on a write at the stamp: one Prepare for each partition of the items that its ask writes, in
-    /// rising order, each with just the writes that are placed there and with the items of all. Together they are what
-    /// the permit's ask writes at the stamp. The Commits are made too, and all room, so nothing later wants memory.
+    /// Spends the permit on a write at the stamp. The messages are one Prepare to each participant, in rising order.
+    /// Each has exactly the writes that are placed there, and the items of the whole write. Together they are what the
+    /// permit's ask writes at the stamp. The Commits are made here too, with all room, so nothing later wants memory.
     ///
     /// # Errors
     ///
-    /// `AlbumFull` where the album that gets a child has `MAX_CHILDREN` others, and only there; else `OutOfMemory`.
-    /// The permit is handed back.
+    /// `AlbumFull` exactly where the album that gets a child has `MAX_CHILDREN` others; else `OutOfMemory`. The permit
+    /// is handed back.
     pub fn begin(
         alloc: Global,
         permit: Permit,
@@ -61,7 +61,7 @@ impl Preparing {
     }
 }
 
-/// What a write sends, and the partitions whose answers to its Commits will be awaited.
+/// What a write sends, and the participants whose replies to its Commits will be outstanding.
 #[derive(Drop)]
 struct Plan {
     prepares: Vec<Message>,

@@ -1,24 +1,24 @@
 // A write whose Commits are sent.
 ghost use Rattle.std.specs.Prelude.{◌≡◌, ◌≢◌, List, [], ◌∷◌, ◌++◌};
 ghost use Rattle.album_calls.specs.declared.messages.Message.{Message};
-ghost use Rattle.album_writer.specs.Given.{told_round, commit_step_after};
+ghost use Rattle.album_writer.specs.Given.{replied_round, commit_step_after};
 ghost use Rattle.album_writer.specs.Rounds.{commit_stepped};
 ghost use Rattle.album_writer.specs.Rounds.WriteStep.{Waits};
 ghost use Rattle.album_writer.specs.Steps.{step_of_commits};
 ghost use Rattle.album_writer.specs.Counting.{IsStrayToCommits};
-ghost use Rattle.album_writer.specs.Told.{tells_committed};
+ghost use Rattle.album_writer.specs.WriteReplies.{is_committed_reply};
 
 use crate::outcomes::Outcome;
-use crate::told::Told;
+use crate::write_replies::WriteReply;
 use crate::writing::Writing;
 use album_calls::Message;
 use album_permits::Permit;
 use album_stamps::Stamp;
 use std::marker::Model;
 
-/// A write whose Commits are sent. It can't be copied; to let it go leaves the write where it stands. Contracts see the
-/// permit that was spent on it, its stamp, its client and tag, how many partitions there are, and those whose answers
-/// are awaited.
+/// A write whose Commits are sent. It can't be copied; dropping it leaves the write as it is. Contracts see the permit
+/// that was spent on it, its stamp, its client and tag, how many partitions there are, and the participants whose
+/// replies are outstanding.
 #[derive(Debug, Drop)]
 pub struct Committing {
     writing: Writing,
@@ -32,13 +32,13 @@ impl Model for Committing {
 
     ghost view = { λ c. c.writing };
 
-    ghost invariant = { λ c. c.writing.awaited ≢ [] };
+    ghost invariant = { λ c. c.writing.outstanding ≢ [] };
 }
 
-/// What comes of a message.
+/// The step that a message makes.
 #[derive(Debug, Drop)]
 pub enum CommitStep {
-    /// The write waits for more answers.
+    /// The write waits for more replies.
     Same(Committing),
     /// The write is over.
     Ended(Outcome),
@@ -47,20 +47,19 @@ pub enum CommitStep {
 impl Committing {
     /// The round of Commits of this write.
     pub(crate) fn of(writing: Writing) -> Committing
-        requires { writing.awaited ≢ [] }
+        requires { writing.outstanding ≢ [] }
         ensures { result ≡ writing }
     {
         Committing { writing }
     }
 
-    /// Takes a message. The write is committed with the reply by which each partition concerned has committed it. It
-    /// takes no memory.
+    /// Takes a message. With the last participant's Committed the write is committed. It takes no memory.
     pub fn on_reply(self, message: &Message) -> CommitStep
         ensures step { step_of_commits result ≡ commit_stepped self message.now }
 
-        // Where the round is what a list of messages tells, the step is what these and this one tell: the write is
-        // committed once each partition concerned has told Committed in one of them.
-        ensures all_given { (given : List Message) → self ≡ told_round tells_committed self given
+        // Where the round is that after a list of messages, the step is that after these and this one: the write is
+        // committed once each participant has replied Committed in one of them.
+        ensures all_given { (given : List Message) → self ≡ replied_round is_committed_reply self given
             → step_of_commits result ≡ commit_step_after self given message.now }
 
         // Nothing else changes anything.
@@ -91,13 +90,13 @@ impl Committing {
         self.writing.tag()
     }
 
-    /// What comes of a message in a round that is not over.
+    /// The step that a message makes in a round that is not over.
     fn take(mut writing: Writing, message: &Message) -> CommitStep
-        requires { writing.awaited ≢ [] }
+        requires { writing.outstanding ≢ [] }
         ensures { step_of_commits result ≡ commit_stepped writing message.now }
     {
-        match writing.told(message) {
-            Told::Committed => {
+        match writing.reply_in(message) {
+            WriteReply::Committed => {
                 writing.answered_by(message.from());
                 if writing.is_over() {
                     CommitStep::Ended(Outcome::Committed(writing.stamp()))
@@ -105,9 +104,8 @@ impl Committing {
                     CommitStep::Same(Committing::of(writing))
                 }
             }
-            Told::Prepared | Told::Discarded | Told::Full | Told::Nothing => {
-                CommitStep::Same(Committing::of(writing))
-            }
+            WriteReply::Prepared | WriteReply::Discarded | WriteReply::Full | WriteReply::Nothing =>
+                { CommitStep::Same(Committing::of(writing)) }
         }
     }
 }

@@ -1,20 +1,17 @@
 //! A write of a permit in two rounds, as in RAMP-Small (Bailis and others, SIGMOD 2014).
 //!
-//! What comes in: a permit whose ask writes and a stamp of its client, and then the messages that reach the client.
-//! What goes out: a Prepare to each partition of the items that are written; with the reply by which all of these have
-//! prepared, a Commit to each; and how the write ended. What comes of any ask, a write or not, is told by `Answer`.
+//! What comes in: a permit whose ask writes, a stamp of its client, and then the messages that reach the client.
+//! What goes out: a Prepare to each participant, a Commit to each once all have prepared, and how the write ended. The
+//! participants are the partitions of the items that are written.
 //!
-//! Read `preparing` first, then `committing`, which do their work on `writing`. What a message does is told by
-//! specs/Rounds.antt, over specs/Writing.antt and specs/Told.antt.
+//! Read `preparing` first, then `committing`, which do their work on `writing`. specs/Rounds.antt defines what a
+//! message does, over specs/Writing.antt and specs/WriteReplies.antt.
 #![tactic(auto)]
-
-// What comes of an ask.
-mod answers;
 
 // What a write is made of.
 mod outcomes;
 mod sending;
-mod told;
+mod write_replies;
 mod writing;
 
 // The write.
@@ -25,10 +22,10 @@ mod preparing;
 // What holds of it.
 mod laws;
 
-pub use answers::Answer;
+pub use album_permits::Answer;
 pub use committing::{CommitStep, Committing};
 pub use laws::{
-    a_message_counts_or_is_stray, a_write_ends_by_what_it_is_told, a_write_is_what_it_was_told,
+    a_message_counts_or_is_stray, a_write_depends_on_its_replies, a_write_ends_by_its_replies,
     writes_go_to_their_places,
 };
 pub use outcomes::Outcome;

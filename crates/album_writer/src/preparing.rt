@@ -2,27 +2,27 @@
 ghost use Rattle.std.specs.Prelude.{◌≡◌, ◌≤◌, List, [], ◌∷◌, ◌++◌, length};
 ghost use Rattle.album_stamps.specs.declared.limits.TheConstants.{MAX_PARTS};
 ghost use Rattle.album_calls.specs.declared.messages.Message.{Message};
-ghost use Rattle.album_writer.specs.Given.{told_round, prepare_step_after};
+ghost use Rattle.album_writer.specs.Given.{replied_round, prepare_step_after};
 ghost use Rattle.album_writer.specs.Ready.{IsReady};
 ghost use Rattle.album_writer.specs.Rounds.{prepare_stepped};
 ghost use Rattle.album_writer.specs.Rounds.WriteStep.{Waits};
 ghost use Rattle.album_writer.specs.Steps.{step_of_prepares};
 ghost use Rattle.album_writer.specs.Counting.{IsStrayToPrepares};
-ghost use Rattle.album_writer.specs.Told.{tells_prepared};
+ghost use Rattle.album_writer.specs.WriteReplies.{is_prepared_reply};
 ghost use Rattle.album_writer.specs.Writing.{places_in};
 
 use crate::committing::Committing;
 use crate::outcomes::Outcome;
-use crate::told::Told;
+use crate::write_replies::WriteReply;
 use crate::writing::Writing;
 use album_calls::Message;
 use album_permits::Permit;
 use album_stamps::Stamp;
 use std::marker::Model;
 
-/// A write whose Prepares are sent. It can't be copied; to let it go leaves the write where it stands. Contracts see
-/// the permit that was spent on it, its stamp, its client and tag, how many partitions there are, and those whose
-/// answers are awaited. Its Commits are made, so that no message to it takes memory.
+/// A write whose Prepares are sent. It can't be copied; dropping it leaves the write as it is. Contracts see the permit
+/// that was spent on it, its stamp, its client and tag, how many partitions there are, and the participants whose
+/// replies are outstanding. Its Commits are made already, so that no message to it takes memory.
 #[derive(Debug, Drop)]
 pub struct Preparing {
     writing: Writing,
@@ -41,20 +41,20 @@ impl Model for Preparing {
     ghost invariant = { λ p. IsReady p.writing p.commits.items p.later.items };
 }
 
-/// What comes of a message.
+/// The step that a message makes.
 #[derive(Debug, Drop)]
 pub enum PrepareStep {
-    /// The write waits for more answers.
+    /// The write waits for more replies.
     Same(Preparing),
-    /// Each partition concerned has prepared, and these messages are the Commits.
+    /// Each participant has prepared, and these messages are the Commits.
     Commit(Committing, Vec<Message>),
     /// The write is over.
     Ended(Outcome),
 }
 
 impl Preparing {
-    /// The round of Prepares of this write, of which the Commits are made, and the partitions listed whose answers will
-    /// be awaited then.
+    /// The round of Prepares of this write, with its Commits and a second list of the participants, whose replies to
+    /// the Commits will be outstanding.
     pub(crate) fn of(writing: Writing, commits: Vec<Message>, later: Vec<u16>) -> Preparing
         requires { IsReady writing commits.items later.items }
         ensures { result ≡ writing }
@@ -66,15 +66,15 @@ impl Preparing {
         }
     }
 
-    /// Takes a message. The Commits come with the reply by which each partition concerned has prepared, one for each,
-    /// under the tag one above. A Discarded or a Full of the stamp from one of them ends the write, also from one that
-    /// has prepared. It takes no memory.
+    /// Takes a message. The last participant's Prepared gives the Commits, one for each, under the tag one above. A
+    /// Discarded or a Full of the stamp from a participant ends the write, even from one that has prepared. It takes no
+    /// memory.
     pub fn on_reply(self, message: &Message) -> PrepareStep
         ensures step { step_of_prepares result ≡ prepare_stepped self message.now }
 
-        // Where the round is what a list of messages tells, the step is what these and this one tell: the Commits come
-        // once each partition concerned has told Prepared in one of them.
-        ensures all_given { (given : List Message) → self ≡ told_round tells_prepared self given
+        // Where the round is that after a list of messages, the step is that after these and this one: the Commits come
+        // once each participant has replied Prepared in one of them.
+        ensures all_given { (given : List Message) → self ≡ replied_round is_prepared_reply self given
             → step_of_prepares result ≡ prepare_step_after self given message.now }
 
         // Nothing else changes anything.
@@ -109,7 +109,7 @@ impl Preparing {
         self.writing.tag()
     }
 
-    /// How many partitions are concerned, and so how many Commits it may send.
+    /// How many participants there are, and so how many Commits it may send.
     #[tactic(auto, using(crate::proofs::Placing::few_places))]
     pub fn count(&self) -> usize
         ensures count { result ≡ length (places_in self.now) }
@@ -118,7 +118,7 @@ impl Preparing {
         self.writing.places().len()
     }
 
-    /// What comes of a message in a round that is not over.
+    /// The step that a message makes in a round that is not over.
     fn take(
         mut writing: Writing,
         commits: Vec<Message>,
@@ -128,8 +128,8 @@ impl Preparing {
         requires { IsReady writing commits.items later.items }
         ensures { step_of_prepares result ≡ prepare_stepped writing message.now }
     {
-        match writing.told(message) {
-            Told::Prepared => {
+        match writing.reply_in(message) {
+            WriteReply::Prepared => {
                 writing.answered_by(message.from());
                 if writing.is_over() {
                     PrepareStep::Commit(Committing::of(writing.next(later)), commits)
@@ -137,9 +137,9 @@ impl Preparing {
                     PrepareStep::Same(Preparing::of(writing, commits, later))
                 }
             }
-            Told::Discarded => PrepareStep::Ended(Outcome::Aborted(writing.stamp())),
-            Told::Full => PrepareStep::Ended(Outcome::Full(writing.stamp())),
-            Told::Committed | Told::Nothing => {
+            WriteReply::Discarded => PrepareStep::Ended(Outcome::Aborted(writing.stamp())),
+            WriteReply::Full => PrepareStep::Ended(Outcome::Full(writing.stamp())),
+            WriteReply::Committed | WriteReply::Nothing => {
                 PrepareStep::Same(Preparing::of(writing, commits, later))
             }
         }

@@ -10,7 +10,7 @@ use album_stamps::{MAX_PARTS, Refusal};
 use std::alloc::{AllocError, Global};
 
 impl Writing {
-    /// The Prepares: one for each partition concerned.
+    /// The Prepares: one for each participant.
     pub fn prepares(&self, alloc: Global) -> Result<Vec<Message>, Refusal>
         ensures messages { IfOk result (λ messages. messages.items ≡ prepares_of self.now) }
         ensures memory { IsOkUnless result Refusal.OutOfMemory }
@@ -22,7 +22,7 @@ impl Writing {
         Ok(messages)
     }
 
-    /// The Prepare to a partition: just the writes that are placed there, with the items of all.
+    /// The Prepare to a partition: exactly the writes that are placed there, with the items of the whole write.
     fn prepare(&self, alloc: Global, place: u16) -> Result<Message, Refusal>
         requires low { 1 ≤ self.now.parts }
         requires high { self.now.parts ≤ MAX_PARTS }
@@ -40,7 +40,7 @@ impl Writing {
         ))
     }
 
-    /// The Commits: one for each partition concerned, under the tag one above.
+    /// The Commits: one for each participant, under the tag one above.
     pub fn commits(&self, alloc: Global) -> Result<Vec<Message>, AllocError>
         requires { self.now.tag + 1 < 2 ^ 64 }
         ensures { IfOk result (λ messages. messages.items ≡ commits_of (commit_round self.now)) }

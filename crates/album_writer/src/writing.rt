@@ -6,11 +6,11 @@ ghost use Rattle.album_items.specs.Transactions.{items_written};
 ghost use Rattle.album_calls.specs.Nodes.{is_part};
 ghost use Rattle.album_permits.specs.Effects.{effect_of};
 ghost use Rattle.album_writer.specs.Rounds.{answered_by};
-ghost use Rattle.album_writer.specs.Told.{concerns, told_of};
+ghost use Rattle.album_writer.specs.WriteReplies.{is_from_participant, reply_in};
 ghost use Rattle.album_writer.specs.Writing.{writes_in, places_in, prepare_round, commit_round};
 
 use crate::sending::items_written;
-use crate::told::Told;
+use crate::write_replies::WriteReply;
 use album_calls::{Message, Node};
 use album_items::{ItemId, Value, places_of};
 use album_permits::{Permit, Writes};
@@ -19,7 +19,7 @@ use std::alloc::{AllocError, Global};
 use std::marker::Model;
 
 /// One round of a write. Contracts see its permit and its stamp, its client and its tag, how many partitions there are,
-/// and those whose answers are awaited.
+/// and the participants whose replies are outstanding.
 #[derive(Debug)]
 pub struct Writing {
     writes: Writes,
@@ -27,7 +27,7 @@ pub struct Writing {
     tag: u64,
     parts: u16,
     places: Vec<u16>,
-    awaited: Vec<u16>,
+    outstanding: Vec<u16>,
 }
 
 impl Model for Writing {
@@ -42,7 +42,7 @@ impl Model for Writing {
       client = w.client;
       tag = w.tag;
       parts = w.parts;
-      awaited = w.awaited.items;
+      outstanding = w.outstanding.items;
     } };
 
     ghost invariant = { λ w. HasPlaces (record {
@@ -51,11 +51,11 @@ impl Model for Writing {
       client = w.client;
       tag = w.tag;
       parts = w.parts;
-      awaited = w.awaited.items;
+      outstanding = w.outstanding.items;
     }) w.places.items };
 }
 
-// By hand, since a permit has to be spent: what is let go stands where it is.
+// By hand, since a permit has to be spent: a dropped write is neither committed nor discarded by that.
 impl Drop for Writing {
     fn drop(self) {
         drop(self.give_up().give_back());
@@ -78,13 +78,13 @@ impl Writing {
         ensures given { IfErr result (λ e. e.given ≡ writes.permit) }
     {
         match places(alloc, &writes, parts) {
-            Ok((places, awaited)) => Ok(Writing {
+            Ok((places, outstanding)) => Ok(Writing {
                 writes,
                 client,
                 tag,
                 parts,
                 places,
-                awaited,
+                outstanding,
             }),
             Err(_) => Err(Refused {
                 refusal: Refusal::OutOfMemory,
@@ -93,9 +93,9 @@ impl Writing {
         }
     }
 
-    /// The round of the Commits of the same write, in which the answers of these are awaited.
-    pub fn next(self, awaited: Vec<u16>) -> Writing
-        requires all { awaited.items ≡ places_in self }
+    /// The round of the Commits of the same write, in which the replies of these are outstanding.
+    pub fn next(self, outstanding: Vec<u16>) -> Writing
+        requires all { outstanding.items ≡ places_in self }
         requires tag { self.tag + 1 < 2 ^ 64 }
         ensures { result ≡ commit_round self }
     {
@@ -105,7 +105,7 @@ impl Writing {
             tag,
             parts,
             places,
-            awaited: answered,
+            outstanding: answered,
         } = self;
         drop(answered);
         Writing {
@@ -114,24 +114,24 @@ impl Writing {
             tag: tag + 1,
             parts,
             places,
-            awaited,
+            outstanding,
         }
     }
 
-    /// What the message tells of the write.
-    pub fn told(&self, message: &Message) -> Told
-        ensures { result ≡ told_of self.now message.now }
+    /// What the message replies to the write.
+    pub fn reply_in(&self, message: &Message) -> WriteReply
+        ensures { result ≡ reply_in self.now message.now }
     {
-        if self.concerns(message) {
-            Told::by_body(self.stamp(), message.body())
+        if self.is_from_participant(message) {
+            WriteReply::from_body(self.stamp(), message.body())
         } else {
-            Told::Nothing
+            WriteReply::Nothing
         }
     }
 
-    /// Whether one of the partitions concerned sends the message to the write's client, under the tag of the round.
-    fn concerns(&self, message: &Message) -> bool
-        ensures { result ≡ concerns self.now message.now }
+    /// Whether a participant sends the message to the write's client, under the tag of the round.
+    fn is_from_participant(&self, message: &Message) -> bool
+        ensures { result ≡ is_from_participant self.now message.now }
     {
         message.tag() == self.tag
             && message.to().is_client(self.client)
@@ -144,18 +144,18 @@ impl Writing {
         self.places.iter().any(|place| node.is_part(*place))
     }
 
-    /// The node has answered: its answer is awaited no longer.
+    /// The node has replied: its reply is no longer outstanding.
     pub fn answered_by(&mut self, node: Node)
         ensures { self.new ≡ answered_by self.old node }
     {
-        self.awaited.retain(|place| !node.is_part(*place));
+        self.outstanding.retain(|place| !node.is_part(*place));
     }
 
-    /// Whether no answer is awaited.
+    /// Whether no reply is outstanding.
     pub fn is_over(&self) -> bool
-        ensures { result ≡ (length self.now.awaited == 0) }
+        ensures { result ≡ (length self.now.outstanding == 0) }
     {
-        self.awaited.is_empty()
+        self.outstanding.is_empty()
     }
 
     /// What is written, in order.
@@ -165,7 +165,7 @@ impl Writing {
         self.writes.list()
     }
 
-    /// The partitions concerned, rising. There are neither too few partitions nor too many.
+    /// The participants, rising. There are neither too few partitions nor too many.
     pub fn places(&self) -> &[u16]
         ensures places { result.now ≡ places_in self.now }
         ensures low { 1 ≤ self.now.parts }
@@ -188,7 +188,7 @@ impl Writing {
         self.writes.stamp()
     }
 
-    /// Who writes.
+    /// The client that writes.
     pub fn client(&self) -> ClientNo
         ensures { result ≡ self.now.client }
     {
@@ -219,10 +219,10 @@ impl Writing {
             tag: _,
             parts: _,
             places,
-            awaited,
+            outstanding,
         } = self;
         drop(places);
-        drop(awaited);
+        drop(outstanding);
         writes.back()
     }
 }

@@ -17,7 +17,7 @@ use std::collections::{BTreeMap, VecDeque};
 use std::sync::{Arc, Wait};
 use std::time;
 
-/// Where what is told goes.
+/// The mailboxes to which a partition's thread sends.
 #[derive(Drop)]
 pub(crate) struct Outbox<J: ServiceNames> {
     alloc: Global,
@@ -37,7 +37,7 @@ impl<J: ServiceNames> Outbox<J> {
         }
     }
 
-    /// A session that can't be kept is never told anything.
+    /// A session for which there is no memory never gets a mail.
     fn register(&mut self, client: u16, end: Sender<SessionMail<J>>) {
         let _ = self.sessions.insert(client, end);
     }
@@ -46,14 +46,14 @@ impl<J: ServiceNames> Outbox<J> {
         let _ = self.sessions.remove(&client);
     }
 
-    /// A word that the mailbox doesn't take is lost.
+    /// A mail that the mailbox doesn't take is lost.
     fn tell<R: Wait>(&self, rt: &R, client: ClientNo, word: SessionMail<J>) {
         if let Some(end) = self.sessions.get(&client.number()) {
             let _ = end.send(rt, word);
         }
     }
 
-    /// The same of a envelope. It goes to a partition, or nowhere.
+    /// Sends an envelope to its partition. One that the mailbox doesn't take is lost.
     fn post<R: Wait>(&self, rt: &R, envelope: RequestEnvelope<J>) {
         let Node::Part(part) = envelope.message().to() else {
             return;
@@ -89,8 +89,8 @@ impl<J: ServiceNames> Outbox<J> {
     }
 }
 
-/// A partition at work: it, with the owner of its history, where what it tells goes, and how many
-/// messages it took.
+/// A partition's loop: the partition with the owner of its history, the mailboxes to which it sends, and the number of
+/// messages that it took.
 #[derive(Drop)]
 pub(crate) struct PartitionLoop<J: ServiceNames> {
     part: u16,
@@ -100,7 +100,7 @@ pub(crate) struct PartitionLoop<J: ServiceNames> {
 }
 
 impl<J: ServiceNames> PartitionLoop<J> {
-    /// The partition of this number, with its keeper, and where what it tells goes.
+    /// The loop of the partition of this number.
     pub(crate) fn new(
         part: u16,
         keeper: PartitionKeeper<J>,
@@ -114,7 +114,7 @@ impl<J: ServiceNames> PartitionLoop<J> {
         }
     }
 
-    /// Takes one mail after another, until it is told to leave or all who could send one are gone.
+    /// Takes one mail after another, until it is to leave or all senders are gone.
     pub(crate) fn run<R: Wait + time::Clock, G: Gate>(
         &mut self,
         rt: &R,
@@ -134,10 +134,11 @@ impl<J: ServiceNames> PartitionLoop<J> {
                 return;
             }
         }
+        // `forever` has no end.
         unreachable!()
     }
 
-    /// Takes a mail, and tells whether to go on.
+    /// Takes a mail. Returns whether the loop goes on.
     fn take<R: Wait, G: Gate>(
         &mut self,
         rt: &R,
@@ -163,7 +164,7 @@ impl<J: ServiceNames> PartitionLoop<J> {
         true
     }
 
-    /// Takes the envelopes of a mail, one after another, and sends the replies to them as one word.
+    /// Takes the envelopes of a mail, one after another, and sends the replies to them as one mail.
     fn receive_all<R: Wait, G: Gate>(
         &mut self,
         rt: &R,
@@ -188,8 +189,8 @@ impl<J: ServiceNames> PartitionLoop<J> {
         }
     }
 
-    /// Takes a envelope, and adds the reply to the replies, if there is one. A envelope or a reply for which there is no
-    /// memory is lost.
+    /// Takes an envelope, and adds its reply, if there is one. An envelope or a reply for which there is no memory is
+    /// lost.
     fn receive<G: Gate>(
         &mut self,
         desk: &Desk,
@@ -207,7 +208,7 @@ impl<J: ServiceNames> PartitionLoop<J> {
         }
     }
 
-    /// Takes a request, and tells who asks, once what goes to other partitions is sent.
+    /// Carries out a control request: sends the envelopes to other partitions, and then the reply.
     fn inquire<R: Wait>(&mut self, rt: &R, alloc: Global, desk: &Desk, request: ControlRequest<J>)
         requires table { desk.now.table ≡ J.table }
         requires terms { desk.now.terms ≡ J.terms }

@@ -18,9 +18,9 @@ use crate::session::turn::{Turned, cut_off};
 use album_calls::Message;
 use album_client::{Client, ClientStep, Phase, Terms, Transition};
 use album_eval::Principal;
+use album_permits::Answer;
 use album_stamps::Refusal;
 use album_views::Ask;
-use album_writer::Answer;
 use std::sync::Wait;
 use std::time;
 
@@ -29,7 +29,7 @@ use std::time;
 pub(crate) enum Way {
     /// It is answered.
     Answered(Answer),
-    /// Replies to these messages are awaited, and the client does this.
+    /// Replies to these messages are outstanding, and the client is in this phase.
     Awaits(Asked, Phase),
 }
 
@@ -65,6 +65,7 @@ impl<J: ServiceNames> Session<J> {
                 }
             }
         }
+        // `forever` has no end.
         unreachable!()
     }
 
@@ -88,8 +89,8 @@ impl<J: ServiceNames> Session<J> {
     {
         self.channel.is_open()?;
         self.channel.is_sound();
-        let transition = self.client_step().asks(self.tag, principal.copy()?, ask)?;
-        let _reads = transition.client.phase.reads();
+        let transition = self.client_step().ask(self.tag, principal.copy()?, ask)?;
+        let _reads = transition.client.phase.is_reading();
         let (phase, sent) = work_of(transition);
         self.tag = phase.tag();
         let asked = self.channel.send_round(rt, sent)?;

@@ -1,4 +1,4 @@
-// Who asks the partitions: what a session has of what travels.
+// A session's channel to the partitions: its mailbox, theirs, and the pass that goes with each message.
 ghost use Rattle.std.specs.Prelude.{◌≡◌, ◌≢◌, ◌+◌, ◌<◌, ◌≤◌, ◌^◌, IfOk, IfErr, OnOk, OnErr, IfSome, IfNone, Some, None, IsOkUnless};
 ghost use Rattle.album_stamps.specs.Stamps.{client_number};
 ghost use Rattle.album_passes.specs.Changes.{merged, announced_cut};
@@ -22,7 +22,7 @@ use std::marker::Model;
 use std::sync::{Arc, Wait};
 use std::time;
 
-/// Who asks the partitions. Contracts see the client, and the cut of its pass.
+/// A session's channel to the partitions. Contracts see the client, and the cut of its pass.
 #[derive(Drop)]
 pub(crate) struct PartitionChannel<J: ServiceNames> {
     pub(crate) alloc: Global,
@@ -102,7 +102,7 @@ impl<J: ServiceNames> PartitionChannel<J> {
         self.parts
     }
 
-    /// Says what is so of each channel: what it has seen is sound.
+    /// For contracts alone: a channel's cut is sound, by the invariant of its pass. Nothing is computed.
     pub(crate) fn is_sound(&self)
         ensures { IsSound self.now.cut }
     {
@@ -123,7 +123,7 @@ impl<J: ServiceNames> PartitionChannel<J> {
         Ok(())
     }
 
-    /// Answers each partition where the session takes what it is told.
+    /// Registers the session's mailbox with each partition.
     pub(crate) fn register<R: Wait>(
         &self,
         rt: &R,
@@ -138,7 +138,7 @@ impl<J: ServiceNames> PartitionChannel<J> {
         Ok(())
     }
 
-    /// Answers each partition that the session is over.
+    /// Has each partition forget the session.
     pub(crate) fn leave<R: Wait>(self, rt: &R) {
         for mailbox in &self.to {
             let _ = mailbox.send(rt, PartitionMail::Forget(self.client.number()));
@@ -303,6 +303,7 @@ impl<J: ServiceNames> PartitionChannel<J> {
                 return Ok(answer);
             }
         }
+        // `forever` has no end.
         unreachable!()
     }
 

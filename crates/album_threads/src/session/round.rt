@@ -17,7 +17,7 @@ use std::sync::Wait;
 use std::time;
 
 impl<J: ServiceNames> PartitionChannel<J> {
-    /// Sends the messages, all of them before an answer is awaited.
+    /// Sends the messages of a round, all of them before the first reply is taken.
     ///
     /// # Errors
     ///
@@ -44,7 +44,8 @@ impl<J: ServiceNames> PartitionChannel<J> {
         })
     }
 
-    /// Sends the messages, if there are any. Then the replies to them are awaited, and no more those to what was asked.
+    /// Sends the messages, if there are any. Then the replies to these are outstanding, and no longer those to the round
+    /// before.
     ///
     /// # Errors
     ///
@@ -135,6 +136,7 @@ impl<J: ServiceNames> PartitionChannel<J> {
                 return Ok(reply);
             }
         }
+        // `forever` has no end.
         unreachable!()
     }
 

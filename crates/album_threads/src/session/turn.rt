@@ -2,7 +2,7 @@
 ghost use Rattle.std.specs.Prelude.{◌≡◌, ◌≢◌, ◌≤◌, [], true, Some, None, Ok, Err, All, IfOk, IfErr, IfSome, IfNone, OnOk, OnErr, IsOkAnd, IsOkUnless};
 ghost use Rattle.album_client.specs.Clients.{stamp_at_work, IsProper};
 ghost use Rattle.album_client.specs.Transitions.{client_of, IsMoved};
-ghost use Rattle.album_client.specs.Turns.{is_waiting, turn_of, IsTakenBy};
+ghost use Rattle.album_client.specs.Steps.{is_waiting, transition_of, IsTakenBy};
 ghost use Rattle.album_stamps.specs.Clocks.{next_of};
 ghost use Rattle.album_stamps.specs.declared.limits.TheConstants.{MAX_COUNTER};
 ghost use Rattle.album_threads.specs.Asks.{IsHeard, IsOn, AreShared};
@@ -19,8 +19,8 @@ use crate::session::ask::Way;
 use crate::session::asked::Asked;
 use album_calls::Message;
 use album_client::{Client, ClientStep, Phase, Transition};
+use album_permits::Answer;
 use album_stamps::{Clock, Refusal, Stamp};
-use album_writer::Answer;
 use std::sync::Wait;
 use std::time;
 
@@ -58,6 +58,7 @@ impl<J: ServiceNames> Session<J> {
                 return heard;
             }
         }
+        // `forever` has no end.
         unreachable!()
     }
 
@@ -121,7 +122,7 @@ impl<J: ServiceNames> Session<J> {
         // What was asked is for the contract alone.
         let _asked = asked;
         let transition = taken(self.client_step(), phase, heard)?;
-        let _reads = transition.client.phase.reads();
+        let _reads = transition.client.phase.is_reading();
         Ok(transition)
     }
 
@@ -223,7 +224,7 @@ fn waited(phase: &mut Phase, heard: Result<Message, Refusal>) -> Option<Result<M
         Ok(reply) => reply,
         Err(why) => return Some(Err(why)),
     };
-    match phase.waits(&reply) {
+    match phase.take_in_place(&reply) {
         Ok(true) => None,
         Ok(false) => Some(Ok(reply)),
         Err(why) => Some(Err(why)),
@@ -238,10 +239,10 @@ fn taken(
 ) -> Result<Transition, Refusal>
     requires { IfErr heard IsClosedOrOutOfMemory }
     ensures transition { IfOk result (λ transition. IsOkAnd heard (λ reply.
-        IsMoved (turn_of client_step.terms (client_of client_step) reply phase) transition)) }
+        IsMoved (transition_of client_step.terms (client_of client_step) reply phase) transition)) }
     ensures refused { IfErr result IsClosedOrOutOfMemory }
 {
-    client_step.takes(phase, &heard?)
+    client_step.take(phase, &heard?)
 }
 
 /// The client is let go.

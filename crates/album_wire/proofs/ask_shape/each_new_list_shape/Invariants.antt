@@ -1,8 +1,8 @@
 use Rattle.std.proofs.Common.{◌≡◌, drop, map}
 use Rattle.album_wire.specs.AskShape.{spelled_new_list, new_list_shape_of}
-use Rattle.album_wire.specs.Fields.{each}
-use Rattle.album_wire.specs.Trees.{items_data}
-use Rattle.album_wire.proofs.Lists.{with_front}
+use Rattle.album_lines.specs.Fields.{each}
+use Rattle.album_lines.specs.Trees.{items_data}
+use Rattle.album_lines.proofs.Lists.{with_front}
 use Rattle.album_wire.proofs.ask_shape.each_new_list_shape.Given as goal
 
 abbrev pub invariant-loop-value : goal.invariant-loop-value

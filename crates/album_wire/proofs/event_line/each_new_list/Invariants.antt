@@ -1,8 +1,8 @@
 use Rattle.std.proofs.Common.{◌≡◌, drop, map}
 use Rattle.album_wire.specs.AskShape.{spelled_new_list}
 use Rattle.album_wire.specs.EventLine.{new_list_read}
-use Rattle.album_wire.specs.Values.{each_of}
-use Rattle.album_wire.proofs.Lists.{with_front}
+use Rattle.album_lines.specs.Values.{each_of}
+use Rattle.album_lines.proofs.Lists.{with_front}
 use Rattle.album_wire.proofs.event_line.each_new_list.Given as goal
 
 abbrev pub invariant-loop-shape : goal.invariant-loop-shape

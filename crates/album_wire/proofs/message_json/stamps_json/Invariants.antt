@@ -1,6 +1,6 @@
 use Rattle.std.proofs.Common.{◌≡◌, ◌++◌, drop, map}
 use Rattle.serde_json.specs.View.{view}
-use Rattle.album_wire.specs.Spelling.{whole_data}
+use Rattle.album_lines.specs.Spelling.{whole_data}
 use Rattle.album_wire.proofs.message_json.stamps_json.Given as goal
 
 abbrev pub invariant-loop-stamp : goal.invariant-loop-stamp

@@ -1,4 +1,4 @@
-use Rattle.album_threads.proofs.LetterLemmas.{answer_shows}
+use Rattle.album_threads.proofs.EnvelopeLemmas.{answer_shows}
 use Rattle.album_threads.proofs.envelopes.ReplyEnvelope.into_envelope.Goals as goal
 
 pub new-requires-clause-shown : goal.new-requires-clause-shown

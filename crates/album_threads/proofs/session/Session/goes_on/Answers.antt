@@ -8,7 +8,7 @@ use Rattle.album_threads.specs.Sessions.{AnnouncesNothing}
 use Rattle.album_threads.specs.Turns.{client_step_in, terms_in, IsTurned}
 use Rattle.album_threads.proofs.ClockLemmas.{moved_clock}
 use Rattle.album_threads.proofs.LookLemmas.{on_trans}
-use Rattle.album_threads.proofs.MovedLemmas.{told_rests, free_of, shown_of, goes_of}
+use Rattle.album_threads.proofs.TransitionLemmas.{told_rests, free_of, shown_of, goes_of}
 use Rattle.album_threads.proofs.TurnLemmas.{on_moved, led_on, on_announced, on_refusal, cut_led, all_led, unbegun_cut, unbegun_noted, unbegun_sent}
 use Rattle.album_threads.proofs.session.Session.goes_on.Goals as goal
 

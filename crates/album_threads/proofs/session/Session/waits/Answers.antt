@@ -1,7 +1,7 @@
 use Rattle.std.proofs.Common.{subst, sym}
 use Rattle.album_client.specs.declared.clients.Phase.{Phase}
 use Rattle.album_threads.specs.Phases.{IsUnderWay}
-use Rattle.album_threads.proofs.MovedLemmas.{on_heard}
+use Rattle.album_threads.proofs.TransitionLemmas.{on_heard}
 use Rattle.album_threads.proofs.session.Session.waits.Goals as goal
 
 pub loop-preserved : goal.loop-preserved

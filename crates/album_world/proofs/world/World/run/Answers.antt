@@ -2,7 +2,7 @@ use Rattle.std.proofs.Common.{◌≡◌, ◌<◌, length, get_or, rules}
 use Rattle.std.proofs.lemmas.List.{take_all}
 use Rattle.album_world.proofs.AnsweredLemmas.{answers_are_to_requests}
 use Rattle.album_world.proofs.PromiseLemmas.{rulings_hold, writes_are_granted, views_are_read_atomic, views_are_fresh, outcomes_are_true, busy_has_its_cause}
-use Rattle.album_world.proofs.StoryLemmas.{next_stepped, run_goes_on}
+use Rattle.album_world.proofs.StoryLemmas.{next_stepped, run_extended}
 use Rattle.album_world.proofs.world.World.run.Goals as goal
 
 -- one event more
@@ -17,11 +17,11 @@ loop-event-preserved c =
     search (rules, steps)
 
 -- all events
-pub returns-clause-goes_on : goal.returns-clause-goes_on
-returns-clause-goes_on c =
+pub returns-clause-extended : goal.returns-clause-extended
+returns-clause-extended c =
     let i = c.loop-event.invariant in
     let all = take_all c.loop-event.event-index c.args.events.now c.loop-event-test.false in
-    run_goes_on (λ outs. outs.items) c.args.self.now c.loop-event.self c.args.events.now c.loop-event.results.items
+    run_extended (λ outs. outs.items) c.args.self.now c.loop-event.self c.args.events.now c.loop-event.results.items
     i.terms (rw all at i.steps)
 
 pub returns-in_err-results-clause-rulings_hold : goal.returns-in_err-results-clause-rulings_hold

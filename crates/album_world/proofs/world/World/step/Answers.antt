@@ -4,7 +4,7 @@ use Rattle.std.proofs.Common.{◌≡◌, ◌≢◌, Err, IfOk, IfErr, subst, rul
 use Rattle.album_stamps.specs.declared.refusals.Refusal.TheVariants.{OutOfMemory}
 use Rattle.album_world.specs.Seen.{IsDone, WorldState}
 use Rattle.album_world.specs.Changes.{change_of}
-use Rattle.album_world.proofs.StoryLemmas.{reached_if, goes_on_if}
+use Rattle.album_world.proofs.StoryLemmas.{reached_if, extended_if}
 use Rattle.album_world.proofs.world.World.step.Goals as goal
 
 -- the past goes on with the event, or stays
@@ -28,10 +28,10 @@ returns-clause-refused c =
     subst (λ (w : WorldState). IfErr c.step.result (λ e. e ≢ OutOfMemory → change_of w.terms w.kept c.args.event.now ≡ Err e)) same
     c.step.ensures.refused
 
-pub returns-clause-goes_on : goal.returns-clause-goes_on
-returns-clause-goes_on c =
+pub returns-clause-extended : goal.returns-clause-extended
+returns-clause-extended c =
     let old : WorldState = record { terms = c.self.inside.terms; kept = c.self.inside.state } in
-    let on = goes_on_if (λ outs. outs.items) old c.args.event.now c.step.new.self c.step.result c.step.ensures.done in
+    let on = extended_if (λ outs. outs.items) old c.args.event.now c.step.new.self c.step.result c.step.ensures.done in
     search (rules, on)
 
 pub returns-clause-rulings_hold : goal.returns-clause-rulings_hold

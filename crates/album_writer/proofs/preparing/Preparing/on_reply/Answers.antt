@@ -10,4 +10,4 @@ returns-clause-all_given c =
 pub returns-clause-stray : goal.returns-clause-stray
 returns-clause-stray c =
     rw (← c.self.view_is)
-    (λ stray. c.take.ensures ∙ prepares-stray c.self.inside.writing c.args.message.now c.self.invariant.awaited stray)
+    (λ stray. c.take.ensures ∙ prepares-stray c.self.inside.writing c.args.message.now c.self.invariant.outstanding stray)

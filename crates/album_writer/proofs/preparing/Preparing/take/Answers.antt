@@ -3,7 +3,7 @@ use Rattle.album_writer.proofs.Readiness.{some_ready, some_prepared}
 use Rattle.album_writer.specs.Rounds.WriteStep.{Waits}
 use Rattle.album_writer.proofs.preparing.Preparing.take.Goals as goal
 
--- another answer is awaited still
+-- another reply is outstanding still
 pub of-requires-else-is_over : goal.of-requires-else-is_over
 of-requires-else-is_over c =
     let answered = rw c.from.ensures at c.answered_by.ensures in
@@ -14,5 +14,5 @@ pub returns-else-is_over : goal.returns-else-is_over
 returns-else-is_over c =
     let answered = rw c.from.ensures at c.answered_by.ensures in
     ap Waits c.of-else-is_over.ensures
-    ∙ some_prepared c.args.writing c.answered_by.new.self c.args.message.now c.told.result c.told.ensures answered
+    ∙ some_prepared c.args.writing c.answered_by.new.self c.args.message.now c.reply_in.result c.reply_in.ensures answered
     c.in-Prepared.is (sym c.is_over.ensures ∙ c.if-is_over.false)

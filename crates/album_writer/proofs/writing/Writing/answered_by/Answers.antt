@@ -4,16 +4,16 @@ use Rattle.album_calls.specs.Nodes.{is_part}
 use Rattle.album_writer.specs.Writing.{WritingState}
 use Rattle.album_writer.proofs.writing.Writing.answered_by.Goals as goal
 
--- the round is as it was, but for who is awaited
+-- the round is as it was, but for the outstanding participants
 pub returns : goal.returns
 returns c =
-    let round : List ℕ → WritingState = λ awaited. record {
+    let round : List ℕ → WritingState = λ outstanding. record {
       permit = c.self.inside.writes.permit;
       stamp = c.self.inside.writes.stamp;
       client = c.self.inside.client;
       tag = c.self.inside.tag;
       parts = c.self.inside.parts;
-      awaited = awaited;
+      outstanding = outstanding;
     }
     in
     rw (← c.self.view_is)

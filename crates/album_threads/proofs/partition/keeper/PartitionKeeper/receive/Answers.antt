@@ -4,7 +4,7 @@ use Rattle.album_passes.specs.Owner.{OwnerState}
 use Rattle.album_passes.specs.Pass.{PassState}
 use Rattle.album_passes.proofs.CutLemmas.{extends_trans}
 use Rattle.album_threads.specs.Keepers.{KeeperState}
-use Rattle.album_threads.proofs.LetterLemmas.{shows_more}
+use Rattle.album_threads.proofs.EnvelopeLemmas.{shows_more}
 use Rattle.album_threads.proofs.partition.keeper.PartitionKeeper.receive.Goals as goal
 
 -- what the envelope's pass shows the owner's cut shows, once it has taken it in

@@ -1,0 +1,12 @@
+pub mod Cuts
+pub mod Newlines
+pub mod Reading
+pub mod LineValues
+pub mod Lists
+pub mod Distinct
+pub mod Wide
+pub mod Steps
+pub mod Json
+pub mod Entries
+pub mod Questions
+pub mod AnswerTexts

@@ -1,0 +1,10 @@
+use Rattle.std.proofs.Common.{◌≡◌, drop, map}
+use Rattle.album_lines.specs.Fields.{each}
+use Rattle.album_lines.specs.Shapes.{spelled_entry, entry_shape_of}
+use Rattle.album_lines.specs.Trees.{items_data}
+use Rattle.album_lines.proofs.Lists.{with_front}
+use Rattle.album_lines.proofs.shapes.each_entry_shape.Given as goal
+
+abbrev pub invariant-loop-value : goal.invariant-loop-value
+invariant-loop-value l =
+    with_front (map spelled_entry l.shapes.items) (each entry_shape_of (items_data (drop l.value-index l.values))) ≡ each entry_shape_of (items_data l.values)

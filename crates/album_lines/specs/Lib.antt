@@ -1,0 +1,9 @@
+pub mod Lines
+pub mod Spelling
+pub mod Fields
+pub mod Trees
+pub mod Shapes
+pub mod Values
+pub mod JudgeShape
+pub mod JudgeLine
+pub mod Output

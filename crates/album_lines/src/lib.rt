@@ -1,0 +1,39 @@
+//! Lines: cut out of a text that comes in pieces, read by their JSON, and judge lines with their answers.
+//!
+//! What comes in: bytes, in pieces of any size. What goes out: the lines that end in them, and of a line its JSON value,
+//! the parts of that, or the question of a judge line; or else the first test that it fails. A verdict or a refusal comes
+//! in too, and its line goes out.
+//!
+//! Read `lines` first, then `judge_line`: a line's JSON value (`trees`), its shape (`judge_shape`, by `shapes` and
+//! `fields`), and the values of that (`values`). The law `questions_by_line` says that a line is read as what it spells.
+//! The lines of a store are read by the same parts, in `album_wire`.
+#![tactic(auto)]
+
+// A text in pieces, and its lines.
+mod lines;
+
+// The JSON value of a line, and what stands where in it.
+mod fields;
+mod numbers;
+mod trees;
+
+// Access lists and members, as a line has them.
+mod shapes;
+mod values;
+
+// A judge line.
+mod judge_line;
+mod judge_shape;
+
+// The lines that are written.
+mod output;
+
+pub use fields::{
+    field, has, is_list, is_nothing, item, list, member, only, sized_list, text, truth, whole,
+};
+pub use judge_line::{Group, JudgeLine, questions_by_line, read_judge};
+pub use lines::{LineIn, Lines, any_pieces, joined_lines};
+pub use output::{refusal_texts, verdict_texts, write_refusal, write_verdict};
+pub use shapes::{EntryShape, entry_shapes, texts};
+pub use trees::data;
+pub use values::{access_list, members};

@@ -1,0 +1,15 @@
+use Rattle.std.proofs.Common.{map, take}
+use Rattle.album_threads.specs.Asks.{IsOn}
+use Rattle.album_lines.specs.Lines.{said}
+use Rattle.album_server.specs.Talk.{Talks}
+use Rattle.album_judge.specs.Writes.{Writes}
+use Rattle.album_server.proofs.engines.converse.answer_lines.Given as goal
+
+abbrev pub invariant-loop-line : goal.invariant-loop-line
+invariant-loop-line g l = record {
+  told : Writes (Talks g.J.ServiceNames.terms.limit g.J.ServiceNames.policy
+      (record { who = l.initial.who; session = l.initial.session }) (map said (take l.line-index l.lines))
+      (record { who = l.who; session = l.session }))
+      (g.W.Write.contents l.initial.writer) (g.W.Write.contents l.writer);
+  on : IsOn l.initial.session l.session;
+}

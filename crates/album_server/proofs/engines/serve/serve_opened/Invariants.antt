@@ -1,0 +1,17 @@
+use Rattle.album_server.proofs.engines.serve.serve_opened.Given as goal
+
+-- the desk, the policy and the ledgers that were opened here
+abbrev pub ghosts-serve_at-J-ServiceNames : goal.ghosts-serve_at-J-ServiceNames
+ghosts-serve_at-J-ServiceNames g a = record {
+  table = a.opened.desk.table;
+  terms = a.opened.desk.terms;
+  policy = a.opened.policy;
+}
+
+abbrev pub ghosts-serve_at-J-Books : goal.ghosts-serve_at-J-Books
+ghosts-serve_at-J-Books g a = record {
+  audit_ok = a.opened.books.audit_ok;
+  audit_failed = a.opened.books.audit_failed;
+  alarm_ok = a.opened.books.alarm_ok;
+  alarm_failed = a.opened.books.alarm_failed;
+}

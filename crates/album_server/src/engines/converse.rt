@@ -1,0 +1,129 @@
+// The engine of a connection: read a piece, answer the lines that end in it, each at once, and at the end the last
+// line.
+ghost use Rattle.std.specs.Prelude.{◌≡◌, map, Err, OnOk, OnErr, IfErr, IfSome};
+ghost use Rattle.std.specs.Io.KnownBytes.{IsAtEnd};
+ghost use Rattle.album_threads.specs.Asks.{IsOn};
+ghost use Rattle.album_lines.specs.Lines.{lines_of, last, said};
+ghost use Rattle.album_server.specs.Talk.{IsTalk, MayTalk, Talks, stranger};
+ghost use Rattle.album_judge.specs.Writes.{HasRead, Writes, Exchanges, IsPrefixOf, IsLeftBy, IsEndedBy};
+
+mod answers;
+
+use crate::engines::converse::answers::answer;
+use album_eval::Principal;
+use album_judge::{Fault, PIECE, write_text};
+use album_lines::{LineIn, Lines};
+use album_threads::{ServiceNames, Session};
+use json::Scratch;
+use std::alloc::Global;
+use std::io::{Read, Write};
+use std::sync::Wait;
+use std::time;
+
+/// Answers each line that is read by one line, in order, by what the session is told, before the next line is looked
+/// into; a line of spaces, tabs and carriage returns alone is skipped. The first line has to say who talks.
+///
+/// # Errors
+///
+/// `Reading`, where a read fails, or `turns` reads did not come to the end; `Memory`, where there is none for a line, or
+/// for the text of its answer; `Writing`, where a write fails or takes no byte. The first that comes ends it.
+pub fn converse<J: ServiceNames, T: Wait + time::Clock, R: Read, W: Write>(
+    rt: &T,
+    alloc: Global,
+    reader: &mut R,
+    writer: &mut W,
+    session: &mut Session<J>,
+    turns: u64,
+) -> Result<(), Fault>
+    // Without a fault all was read, and just the talk of its lines is written, in which the session went on.
+    ensures ok { OnOk result (IfSome (R.remaining reader.old) (λ input.
+        Writes (IsTalk J.terms.limit J.policy session.old session.new (lines_of input))
+        (W.contents writer.old) (W.contents writer.new))) }
+    ensures whole { OnOk result (IsAtEnd (R.remaining reader.new)) }
+
+    // On a fault, a prefix of such a talk is.
+    ensures err { OnErr result (IfSome (R.remaining reader.old) (λ input.
+        Writes (IsPrefixOf (MayTalk J.terms.limit J.policy (stranger session.old) (lines_of input)))
+        (W.contents writer.old) (W.contents writer.new))) }
+
+    // What is written then answers what was read. Reading: each line that has ended, and nothing else.
+    // Writing: an answer is cut short. Memory: each answer is whole, and one is not there.
+    ensures fault { IfErr result (λ fault.
+        Exchanges (IsEndedBy fault (MayTalk J.terms.limit J.policy (stranger session.old)))
+        (R.remaining reader.old) (R.remaining reader.new) (W.contents writer.old) (W.contents writer.new)) }
+
+    // The session has only seen more.
+    ensures on { IsOn session.old session.new }
+
+    // A turn reads one piece at most.
+    ensures few { HasRead turns (R.remaining reader.old) (R.remaining reader.new) }
+
+    // No turn, no read.
+    ensures none { turns ≡ 0 → result ≡ Err Fault.Reading }
+    ensures unread { turns ≡ 0 → R.remaining reader.new ≡ R.remaining reader.old }
+{
+    let mut lines = Lines::new(alloc);
+    let mut scratch = Scratch::new(alloc);
+    let mut who = None;
+    let mut piece = [0u8; PIECE];
+    for _turn in 0..turns {
+        let Ok(len) = reader.read(&mut piece) else {
+            return Err(Fault::Reading);
+        };
+        if len == 0 {
+            return finish(rt, alloc, &mut scratch, session, &mut who, lines, writer);
+        }
+        let ended = lines.feed(&piece[..len])?;
+        answer_lines(rt, alloc, &mut scratch, session, &mut who, &ended, writer)?;
+    }
+    Err(Fault::Reading)
+}
+
+/// Answers the last line, where the input does not end in a newline.
+fn finish<J: ServiceNames, T: Wait + time::Clock, W: Write>(
+    rt: &T,
+    alloc: Global,
+    scratch: &mut Scratch,
+    session: &mut Session<J>,
+    who: &mut Option<Principal>,
+    lines: Lines,
+    writer: &mut W,
+) -> Result<(), Fault>
+    ensures ok { OnOk result (Writes (Talks J.terms.limit J.policy (record { who = who.old; session = session.old })
+        (last lines) (record { who = who.new; session = session.new }))
+        (W.contents writer.old) (W.contents writer.new)) }
+    ensures fault { IfErr result (λ fault. Writes
+        (IsLeftBy fault (MayTalk J.terms.limit J.policy (record { who = who.old; session = session.old })) (last lines))
+        (W.contents writer.old) (W.contents writer.new)) }
+    ensures on { IsOn session.old session.new }
+{
+    match lines.end() {
+        None => Ok(()),
+        Some(line) => answer_lines(rt, alloc, scratch, session, who, &[line], writer),
+    }
+}
+
+/// Answers the lines, one after another.
+fn answer_lines<J: ServiceNames, T: Wait + time::Clock, W: Write>(
+    rt: &T,
+    alloc: Global,
+    scratch: &mut Scratch,
+    session: &mut Session<J>,
+    who: &mut Option<Principal>,
+    lines: &[LineIn],
+    writer: &mut W,
+) -> Result<(), Fault>
+    ensures ok { OnOk result (Writes (Talks J.terms.limit J.policy (record { who = who.old; session = session.old })
+        (map said lines.now) (record { who = who.new; session = session.new }))
+        (W.contents writer.old) (W.contents writer.new)) }
+    ensures fault { IfErr result (λ fault. Writes
+        (IsLeftBy fault (MayTalk J.terms.limit J.policy (record { who = who.old; session = session.old }))
+        (map said lines.now)) (W.contents writer.old) (W.contents writer.new)) }
+    ensures on { IsOn session.old session.new }
+{
+    for line in lines {
+        let text = answer(rt, alloc, scratch, session, who, line)?;
+        write_text(writer, &text)?;
+    }
+    Ok(())
+}

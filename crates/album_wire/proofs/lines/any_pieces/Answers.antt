@@ -1,5 +1,0 @@
-use Rattle.album_wire.proofs.Cuts.{cut_append}
-use Rattle.album_wire.proofs.lines.any_pieces.Goals as goal
-
-pub returns : goal.returns
-returns c = cut_append

@@ -1,5 +1,0 @@
-use Rattle.album_wire.proofs.Cuts.{lines_of_joined}
-use Rattle.album_wire.proofs.lines.joined_lines.Goals as goal
-
-pub returns : goal.returns
-returns c = lines_of_joined

@@ -1,9 +1,0 @@
-use Rattle.std.proofs.Common.{◌≡◌, drop, map}
-use Rattle.album_wire.specs.Shapes.{spelled_entry}
-use Rattle.album_wire.specs.Values.{each_of, entry_read}
-use Rattle.album_wire.proofs.Lists.{with_front}
-use Rattle.album_wire.proofs.values.each_entry.Given as goal
-
-abbrev pub invariant-loop-shape : goal.invariant-loop-shape
-invariant-loop-shape l =
-    with_front l.entries.items (each_of entry_read (map spelled_entry (drop l.shape-index l.shapes))) ≡ each_of entry_read (map spelled_entry l.shapes)

@@ -1,0 +1,17 @@
+use Rattle.std.proofs.Common.{◌≡◌, length, ap, rules, ◌∙◌}
+use Rattle.album_client.specs.Clients.{Client}
+use Rattle.album_world.proofs.MoveLemmas.{told_is}
+use Rattle.album_world.proofs.client_events.install.Goals as goal
+
+-- what it has become, what it sends, and what is told
+pub returns-clause-installed : goal.returns-clause-installed
+returns-clause-installed c = λ turn is.
+    let count : c.len.result ≡ length c.args.transition.sent.items = search rules in
+    let outs = rw (c.deref.ensures.value, count) at c.in_ok-outs.ensures in
+    record {
+      client = c.replace_client.ensures ∙ is.client;
+      sent_is = is.sent;
+      outputs =
+          told_is c.args.before _ c.args.client.now.number turn c.args.transition _
+          (ap (λ (x : Client). x.number) c.client.view_is) is outs;
+    }

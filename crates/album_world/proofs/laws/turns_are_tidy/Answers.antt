@@ -1,5 +1,0 @@
-use Rattle.album_world.proofs.TidyLemmas.{turn_tidy}
-use Rattle.album_world.proofs.laws.turns_are_tidy.Goals as goal
-
-pub returns : goal.returns
-returns c = turn_tidy
