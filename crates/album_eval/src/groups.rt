@@ -14,6 +14,10 @@ use std::collections::{BTreeMap, BTreeSet};
 
 /// The groups that the principal is in, by name or through groups in groups. A group that is
 /// missing lists nobody.
+///
+/// # Errors
+///
+/// `OutOfMemory`.
 pub fn members(
     alloc: Global,
     groups: &BTreeMap<u64, Vec<Member>>,

@@ -50,6 +50,10 @@ impl Items {
     }
 
     /// Lets the copies that are made from now on share the items.
+    ///
+    /// # Errors
+    ///
+    /// `OutOfMemory`. The items stay what they are.
     pub fn make_shared(&mut self) -> Result<(), Refusal>
         ensures same { self.new ≡ self.old }
         ensures memory { IsOkUnless result Refusal.OutOfMemory }
@@ -101,6 +105,10 @@ impl Members {
     }
 
     /// Lets the copies that are made from now on share the members.
+    ///
+    /// # Errors
+    ///
+    /// `OutOfMemory`. The members stay what they are.
     pub fn make_shared(&mut self) -> Result<(), Refusal>
         ensures same { self.new ≡ self.old }
         ensures memory { IsOkUnless result Refusal.OutOfMemory }
@@ -147,6 +155,10 @@ impl ItemValues {
     }
 
     /// Lets the copies that are made from now on share what each value holds, as `Value::make_shared` does.
+    ///
+    /// # Errors
+    ///
+    /// `OutOfMemory`. The rows stay what they are.
     pub fn make_shared(&mut self) -> Result<(), Refusal>
         ensures same { self.new ≡ self.old }
         ensures memory { IsOkUnless result Refusal.OutOfMemory }

@@ -123,6 +123,10 @@ impl ItemId {
     }
 
     /// The item's one text, as `picture/5`.
+    ///
+    /// # Errors
+    ///
+    /// `OutOfMemory`.
     pub fn text(self, alloc: Global) -> Result<String, Refusal>
         ensures spelled { IfOk result (λ text. IsItemText self (string_bytes text)) }
         ensures memory { IsOkUnless result Refusal.OutOfMemory }

@@ -86,7 +86,7 @@ fn fits_plain(value: &Value) -> bool
     }
 }
 
-/// Marks the number, and tells whether it was marked.
+/// Marks the number. The result is whether it was marked before.
 fn mark(marks: &mut [bool], number: usize) -> bool
     requires { number < length marks.old }
     ensures before { result ≡ get_or marks.old number false }

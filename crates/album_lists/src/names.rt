@@ -53,6 +53,10 @@ impl Name {
     }
 
     /// The same name once more.
+    ///
+    /// # Errors
+    ///
+    /// `OutOfMemory`.
     pub fn copy(&self) -> Result<Name, Refusal>
         ensures copy { IfOk result (λ name. name ≡ self.now) }
         ensures memory { IsOkUnless result Refusal.OutOfMemory }

@@ -220,7 +220,7 @@ fn take_in(desk: &Desk, seat: &mut Seat<u8, SeatView>, other: Seat<u8, SeatView>
     ensures merged { IsMerged (beside seat.old.me.0 other.me.0)
         (known seat.old.me.0) (known other.me.0) (known seat.new.me.0) }
 {
-    // The join tells nothing of the rule, so the cuts lie side by side until the load, which does.
+    // The join gives no fact of the rule, so the cuts lie side by side until the load, which does.
     desk.table.shared.join_seat::<Beside>(seat, other);
     desk.table.shared.load::<Merge>(seat, 0);
 }
@@ -253,6 +253,7 @@ fn draw_on<R: Wait>(rt: &R, desk: &Desk, seat: &mut Seat<u8, SeatView>) -> Optio
         }
         guess = found;
     }
+    // The loop is one without end, which is left only by a return.
     unreachable!()
 }
 
@@ -264,6 +265,7 @@ fn client_of(number: u64) -> ClientNo
 {
     match ClientNo::of(number as u16) {
         Some(client) => client,
+        // The number is 1 to 65,535, and so a client's.
         None => unreachable!(),
     }
 }

@@ -20,6 +20,7 @@ impl Model for SeatView {
 #[derive(Drop)]
 pub struct Plan {
     pub opening: Snapshot<Opening>,
+    /// How many numbers are given out.
     pub sessions: u16,
 }
 

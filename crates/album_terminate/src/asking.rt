@@ -6,8 +6,11 @@ use album_calls::{Body, Message, Node, Request};
 use album_stamps::{Refusal, Stamp};
 use std::alloc::Global;
 
-/// What this partition asks of the others, each of them once and in their order: how does the stamp
-/// stand at your side?
+/// What this partition asks of the others, each of them once and in their order: how the stamp stands there.
+///
+/// # Errors
+///
+/// `OutOfMemory`.
 pub fn checks(
     alloc: Global,
     part: u16,

@@ -158,7 +158,7 @@ impl Row {
     }
 }
 
-/// What `best` tells: the best, and where that is the zero stamp, nothing once the floor is above it.
+/// The result of `best`: the best, and where that is the zero stamp, nothing once the floor is above it.
 fn unless_gone(best: Stamp, floor: Stamp) -> Option<Stamp>
     ensures { result ≡ unless_gone best floor }
 {

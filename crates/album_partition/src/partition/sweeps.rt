@@ -10,7 +10,7 @@ use album_stamps::{Refusal, Stamp};
 use album_terminate::{StampState, checks};
 
 impl Partition {
-    /// Asks the other partitions of the items, or tells itself where there is none.
+    /// Asks the other partitions of the items, or votes to itself where there is none.
     pub(super) fn ask_others(&self, stamp: Stamp) -> Result<Vec<Message>, Refusal>
         requires { state_of self.now.marks stamp ≡ StampState.Pending }
         ensures messages { IfOk result (λ messages. messages.items ≡ sent_by self.now.number stamp
@@ -24,7 +24,7 @@ impl Partition {
         checks(self.alloc, self.seat.number, &others, stamp)
     }
 
-    /// The partition tells itself that the stamp is prepared here.
+    /// The partition's vote to itself: the stamp is prepared here.
     fn own_vote(&self, stamp: Stamp) -> Result<Vec<Message>, Refusal>
         ensures messages { IfOk result (λ messages. messages.items ≡ own_vote self.now.number stamp ∷ []) }
         ensures memory { IsOkUnless result Refusal.OutOfMemory }
