@@ -1,4 +1,4 @@
-// The four totals of an audit book.
+//! The four totals of an audit book.
 ghost use Rattle.std.specs.Prelude.{◌≡◌, ◌∷◌, []};
 ghost use Rattle.album_audit.specs.Totals.{totals_of};
 

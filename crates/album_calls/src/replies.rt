@@ -1,4 +1,4 @@
-// What a partition answers.
+//! What a partition answers.
 use crate::nodes::Vote;
 use album_items::{ItemId, SharedValue};
 use album_stamps::Stamp;

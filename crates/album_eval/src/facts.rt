@@ -1,4 +1,4 @@
-// Who asks, of whose object.
+//! Who asks, of whose object.
 ghost use Rattle.std.specs.Prelude.{◌≡◌, ◌↔◌, ℕ, List, Some, IfOk, IsOkUnless};
 ghost use Rattle.std.specs.Option.{ok_or};
 ghost use Rattle.album_stamps.specs.declared.refusals.Refusal.TheVariants.{BadWho};

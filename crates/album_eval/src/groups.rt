@@ -1,4 +1,4 @@
-// The groups that a principal is in.
+//! The groups that a principal is in.
 ghost use Rattle.std.specs.Prelude.{◌≡◌, ◌↔◌, ◌==◌, ◌++◌, [], ◌∷◌, ℕ, IsTrue, IfOk, IsOkUnless, Contains, if◌then◌else◌};
 ghost use Rattle.std.specs.List.{list_any};
 ghost use Rattle.std.specs.Ordering.{nat_cmp};

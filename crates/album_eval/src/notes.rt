@@ -1,4 +1,4 @@
-// Which entries take note of a request.
+//! Which entries take note of a request.
 ghost use Rattle.std.specs.Prelude.{◌≡◌, IfOk, IsOkUnless};
 ghost use Rattle.album_eval.specs.Matching.{case_of};
 ghost use Rattle.album_eval.specs.Audit.{is_noted, audited};

@@ -1,4 +1,4 @@
-// What an access list says of a request.
+//! What an access list says of a request.
 ghost use Rattle.std.specs.Prelude.{◌≡◌, ◌&&◌, ◌⊎◌, ℕ, List, [], true, false, not};
 ghost use Rattle.album_access.specs.Bits.{has_bit};
 ghost use Rattle.album_access.specs.declared.masks.Mask.{Mask};

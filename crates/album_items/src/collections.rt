@@ -1,4 +1,4 @@
-// Lists inside values: items, members of groups, and items with their values.
+//! Lists inside values: items, members of groups, and items with their values.
 ghost use Rattle.std.specs.Prelude.{◌≡◌, IsOkUnless};
 
 use crate::item_ids::ItemId;

@@ -1,4 +1,4 @@
-// Items: a kind, and a number among the items of that kind.
+//! Items: a kind, and a number among the items of that kind.
 ghost use Rattle.std.specs.Prelude.{◌≡◌, ◌↔◌, ◌==◌, ◌++◌, ◌≤◌, ◌<◌, ◌^◌, ℕ, List, Some, IfOk, IsOkUnless, string_bytes, option_map};
 ghost use Rattle.std.specs.Cmp.Rules.{comparing, hashing};
 ghost use Rattle.std.specs.Cmp.{partial_order_from_own_ties};

@@ -1,4 +1,4 @@
-// The values of items.
+//! The values of items.
 ghost use Rattle.std.specs.Prelude.{◌≡◌, IfOk, IsOkUnless, option_to_list};
 ghost use Rattle.std.specs.Option.{option_copied};
 ghost use Rattle.album_items.specs.ItemIds.{code_of};

@@ -1,4 +1,4 @@
-// What a new object inherits.
+//! What a new object inherits.
 ghost use Rattle.std.specs.Prelude.{◌≡◌, IfOk};
 ghost use Rattle.std.specs.List.{filter_map};
 ghost use Rattle.album_lists.specs.Inheritance.{inherited_flags, inherited};

@@ -1,4 +1,4 @@
-// Entries, and the lists of them.
+//! Entries, and the lists of them.
 ghost use Rattle.std.specs.Prelude.{◌≡◌, ◌≤◌, ◌&&◌, IsTrue, length, Ok, Err, IfOk, IfErr, IsOkUnless};
 ghost use Rattle.std.specs.List.{list_all};
 ghost use Rattle.album_access.specs.Bits.{mask_bits, flag_bits, is_mask, is_within, all_flag_bits};

@@ -1,4 +1,4 @@
-// Whos and members, by their texts.
+//! Whos and members, by their texts.
 ghost use Rattle.std.specs.Prelude.{◌≡◌, ◌↔◌, List, ℕ, Some, option_map, IfOk, IsOkUnless};
 ghost use Rattle.std.specs.Option.{ok_or};
 ghost use Rattle.album_stamps.specs.declared.refusals.Refusal.TheVariants.{BadWho};

@@ -1,4 +1,4 @@
-// What follows of every history, and of every answer that the table gives.
+//! What follows of every history, and of every answer that the table gives.
 ghost use Rattle.std.specs.Prelude.{◌≡◌, ◌≢◌, ◌↔◌, ◌≤◌, ◌⊎◌, ◌++◌, [], ◌∷◌, ℕ, List, true, false, IsTrue, is_some, None, Some, Ok, Contains, length, filter, option_to_list};
 ghost use Rattle.std.specs.List.{list_any};
 ghost use Rattle.std.specs.List.Sorted.{IsPermutation};

@@ -1,4 +1,4 @@
-// What follows of cuts: of closed ones, of ones that grow and are merged, and of reads over them.
+//! What follows of cuts: of closed ones, of ones that grow and are merged, and of reads over them.
 ghost use Rattle.std.specs.Prelude.{◌≡◌, ◌<◌, ℕ, List, true, false, Some, IsSome, All, Contains};
 ghost use Rattle.std.specs.List.{list_any};
 ghost use Rattle.album_items.specs.ItemIds.{place_of};

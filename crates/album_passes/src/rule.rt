@@ -1,5 +1,5 @@
-// The rule of the desk's table, and the kinds of step. Nothing of it is there when the program
-// runs.
+//! The rule of the desk's table, and the kinds of step. Nothing of it is there when the program
+//! runs.
 use album_items::Opening;
 use atomic_table::{Join, Play, Split, TableRule};
 use std::marker::{Brand, Model, PhantomData};

@@ -1,4 +1,4 @@
-// The limits of the service: each stands here alone, and docs/FORMATS.md lists them.
+//! The limits of the service: each stands here alone, and docs/FORMATS.md lists them.
 
 /// How many partitions a service may have.
 pub const MAX_PARTS: u16 = 16;

@@ -1,4 +1,4 @@
-// What a partition asks of the others.
+//! What a partition asks of the others.
 ghost use Rattle.std.specs.Prelude.{◌≡◌, IfOk, IsOkUnless, map};
 ghost use Rattle.album_terminate.specs.Asking.{check_to};
 

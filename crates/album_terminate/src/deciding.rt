@@ -1,4 +1,4 @@
-// A partition's vote on a stamp, and its decision by the votes of the others.
+//! A partition's vote on a stamp, and its decision by the votes of the others.
 ghost use Rattle.std.specs.Prelude.{◌≡◌, ◌↔◌, ◌⊎◌, All, Contains};
 ghost use Rattle.album_terminate.specs.Deciding.{vote_of, have_told, decision_of};
 

@@ -1,4 +1,4 @@
-// The versions of items, and of each item the latest committed stamp and the floor.
+//! The versions of items, and of each item the latest committed stamp and the floor.
 ghost use Rattle.std.specs.Prelude.{◌≡◌, ◌≢◌, ◌<◌, ◌≤◌, ◌↔◌, ◌⊎◌, ℕ, Bool, List, is_some, IsTrue, IsSome, IsNone, IfSome, IfErr, OnOk, OnErr, All, Contains};
 ghost use Rattle.std.specs.Option.{option_copied};
 ghost use Rattle.album_items.specs.declared.values.Value.{Value as ItemValue};

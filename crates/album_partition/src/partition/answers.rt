@@ -1,4 +1,4 @@
-// The table of answers: what a partition does with each message, decided before anything is kept.
+//! The table of answers: what a partition does with each message, decided before anything is kept.
 ghost use Rattle.std.specs.Prelude.{◌≡◌, ◌≤◌, true, Bool, IfOk, if◌then◌else◌};
 ghost use Rattle.std.specs.Option.{option_copied, unwrap_or};
 ghost use Rattle.album_items.specs.declared.values.Value.TheVariants.{Missing};

@@ -1,4 +1,4 @@
-// What a partition sends for a stamp that is pending there.
+//! What a partition sends for a stamp that is pending there.
 ghost use Rattle.std.specs.Prelude.{◌≡◌, ◌∷◌, [], IfOk, IsOkUnless};
 ghost use Rattle.album_partition.specs.Marks.{state_of, items_at};
 ghost use Rattle.album_items.specs.Places.{others_of};
