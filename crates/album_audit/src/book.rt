@@ -1,4 +1,4 @@
-// The audit book.
+//! The audit book.
 ghost use Rattle.std.specs.Prelude.{◌≡◌, ◌≤◌, ◌+◌, ◌∷◌, [], true, false, IfOk, IfErr, OnOk, OnErr, IsOkUnless, MatchResult};
 ghost use Rattle.album_stamps.specs.declared.limits.TheConstants.{CLIENTS};
 ghost use Rattle.album_audit.specs.Totals.{totals_of, none, plus};

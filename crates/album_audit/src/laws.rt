@@ -1,4 +1,4 @@
-// Laws of totals.
+//! Laws of totals.
 ghost use Rattle.std.specs.Prelude.{◌≡◌, ◌+◌, ◌++◌, ◌∷◌, [], List, true, false, length};
 ghost use Rattle.album_audit.specs.Totals.{totals_of, plus};
 ghost use Rattle.album_audit.specs.declared.totals.Record.{Record};

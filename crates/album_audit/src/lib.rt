@@ -3,7 +3,7 @@
 //! What comes in: the notes of a ruling, with the client that asked. What goes out: four totals. A session has a
 //! share of the book, in which its own notes count too; once every share is gathered, the totals are their sums.
 //!
-//! Read `totals` first, then `share` and `book`. `names` tells which book a share is of, and `tally` keeps one
+//! Read `totals` first, then `share` and `book`. `names` says which book a share is of, and `tally` keeps one
 //! total with its part of the shares.
 #![tactic(auto)]
 

@@ -1,5 +1,6 @@
-// Which book a share is of: one name for the four ledgers of a book.
+//! Which book a share is of: one name for the four ledgers of a book.
 ghost use Rattle.std.specs.Prelude.{◌≡◌};
+ghost use Rattle.album_stamps.specs.declared.limits.TheConstants.{CLIENTS};
 
 use album_stamps::CLIENTS;
 use std::marker::{Brand, Model, PhantomData};
@@ -36,7 +37,7 @@ pub struct AuditOk<J: Books> {
 impl<J: Books> Ledger for AuditOk<J> {
     ghost name = { J.audit_ok };
 
-    ghost parts = { 65536 };
+    ghost parts = { CLIENTS };
 }
 
 /// The ledger of audits that were refused.
@@ -47,7 +48,7 @@ pub struct AuditFailed<J: Books> {
 impl<J: Books> Ledger for AuditFailed<J> {
     ghost name = { J.audit_failed };
 
-    ghost parts = { 65536 };
+    ghost parts = { CLIENTS };
 }
 
 /// The ledger of alarms that were granted.
@@ -58,7 +59,7 @@ pub struct AlarmOk<J: Books> {
 impl<J: Books> Ledger for AlarmOk<J> {
     ghost name = { J.alarm_ok };
 
-    ghost parts = { 65536 };
+    ghost parts = { CLIENTS };
 }
 
 /// The ledger of alarms that were refused.
@@ -69,7 +70,7 @@ pub struct AlarmFailed<J: Books> {
 impl<J: Books> Ledger for AlarmFailed<J> {
     ghost name = { J.alarm_failed };
 
-    ghost parts = { 65536 };
+    ghost parts = { CLIENTS };
 }
 
 /// Four ledgers that no book has yet.
@@ -79,10 +80,10 @@ pub struct Blanks {
     pub(crate) audit_failed: Blank,
     pub(crate) alarm_ok: Blank,
     pub(crate) alarm_failed: Blank,
-    ghost audit_ok_parts: { audit_ok.parts ≡ 65536 },
-    ghost audit_failed_parts: { audit_failed.parts ≡ 65536 },
-    ghost alarm_ok_parts: { alarm_ok.parts ≡ 65536 },
-    ghost alarm_failed_parts: { alarm_failed.parts ≡ 65536 },
+    ghost audit_ok_parts: { audit_ok.parts ≡ CLIENTS },
+    ghost audit_failed_parts: { audit_failed.parts ≡ CLIENTS },
+    ghost alarm_ok_parts: { alarm_ok.parts ≡ CLIENTS },
+    ghost alarm_failed_parts: { alarm_failed.parts ≡ CLIENTS },
 }
 
 impl Model for Blanks {

@@ -1,4 +1,4 @@
-// What one session put into an audit book.
+//! What one session put into an audit book.
 ghost use Rattle.std.specs.Prelude.{◌≡◌};
 
 use crate::names::{AlarmFailed, AlarmOk, AuditFailed, AuditOk, Books};

@@ -1,4 +1,4 @@
-// One total, and the part of each share that counts in it.
+//! One total, and the part of each share that counts in it.
 ghost use Rattle.std.specs.Prelude.{◌≡◌, ◌<◌, ◌≤◌, ◌+◌, ◌^◌};
 
 use std::sync::ledger::{Blank, Book, Ledger, Share};

@@ -1,4 +1,4 @@
-// The four totals of an audit book.
+//! The four totals of an audit book.
 ghost use Rattle.std.specs.Prelude.{◌≡◌, ◌∷◌, []};
 ghost use Rattle.album_audit.specs.Totals.{totals_of};
 
@@ -8,6 +8,7 @@ use album_stamps::ClientNo;
 /// A note, and the client whose ask it was taken of.
 #[derive(Clone, Copy, Debug)]
 pub struct Record {
+    /// Whose ask it was.
     pub client: ClientNo,
     pub note: Note,
 }
@@ -16,9 +17,13 @@ pub struct Record {
 /// granted or refused.
 #[derive(Clone, Copy, Debug, PartialEq, Eq)]
 pub struct Totals {
+    /// Of AUDIT entries, where the bits were granted.
     pub audit_ok: u64,
+    /// Of AUDIT entries, where they were denied.
     pub audit_failed: u64,
+    /// Of ALARM entries, where the bits were granted.
     pub alarm_ok: u64,
+    /// Of ALARM entries, where they were denied.
     pub alarm_failed: u64,
 }
 

@@ -1,9 +1,7 @@
-// What a partition answers.
-ghost use Rattle.std.specs.Prelude.{◌≡◌, IfOk, IsOkUnless};
-
+//! What a partition answers.
 use crate::nodes::Vote;
 use album_items::{ItemId, SharedValue};
-use album_stamps::{Refusal, Stamp};
+use album_stamps::Stamp;
 
 /// What a partition answers.
 #[derive(Clone, Debug, Drop)]
@@ -26,14 +24,4 @@ pub enum Reply {
     Full(Stamp),
     /// What was asked of the item is no longer kept: it was trimmed.
     Gone(ItemId),
-}
-
-impl Reply {
-    /// The same reply once more.
-    pub fn copy(&self) -> Result<Reply, Refusal>
-        ensures copy { IfOk result (λ reply. reply ≡ self.now) }
-        ensures memory { IsOkUnless result Refusal.OutOfMemory }
-    {
-        Ok(self.clone()?)
-    }
 }

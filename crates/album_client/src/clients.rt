@@ -23,7 +23,9 @@ pub enum Phase {
 #[derive(Drop)]
 pub struct Client {
     pub number: ClientNo,
+    /// Its stamps are this client's.
     pub clock: Clock,
+    /// What it does for its last request.
     pub phase: Phase,
 }
 

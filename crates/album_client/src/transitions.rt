@@ -12,9 +12,13 @@ use std::alloc::Global;
 /// A client's next state, with its outputs: notes, messages to send, and at most one answer.
 #[derive(Drop)]
 pub struct Transition {
+    /// The next state.
     pub client: Client,
+    /// Of a ruling, in their order.
     pub notes: Vec<Note>,
+    /// The messages, in the order in which they are sent.
     pub sent: Vec<Message>,
+    /// The answer to the request, if it is over.
     pub answer: Option<Answer>,
     ghost few: { length sent.items ≤ MAX_READ_ITEMS },
 }

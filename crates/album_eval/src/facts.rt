@@ -1,4 +1,4 @@
-// Who asks, of whose object.
+//! Who asks, of whose object.
 ghost use Rattle.std.specs.Prelude.{◌≡◌, ◌↔◌, ℕ, List, Some, IfOk, IsOkUnless};
 ghost use Rattle.std.specs.Option.{ok_or};
 ghost use Rattle.album_stamps.specs.declared.refusals.Refusal.TheVariants.{BadWho};
@@ -27,9 +27,13 @@ pub enum Principal {
 #[derive(Clone, Copy, Debug)]
 pub struct Facts<'a> {
     pub policy: Policy,
+    /// Who asks.
     pub principal: &'a Principal,
+    /// Whose the object is.
     pub owner: &'a Name,
+    /// The number of the object's group.
     pub head_group: u64,
+    /// The numbers of the groups that the principal is in.
     pub groups: &'a BTreeSet<u64>,
 }
 
@@ -56,6 +60,10 @@ impl Principal {
     }
 
     /// The same principal once more.
+    ///
+    /// # Errors
+    ///
+    /// `OutOfMemory`.
     pub fn copy(&self) -> Result<Principal, Refusal>
         ensures copy { IfOk result (λ principal. principal ≡ self.now) }
         ensures memory { IsOkUnless result Refusal.OutOfMemory }
@@ -75,7 +83,7 @@ impl Principal {
 }
 
 impl Facts<'_> {
-    /// Whether the who means who asks.
+    /// Whether the who means the principal (RFC 7530, section 6.2.1.5).
     fn is_for(&self, who: &Who) -> bool
         ensures { result ≡ is_for (case_of self.now) who.now }
     {
@@ -90,7 +98,8 @@ impl Facts<'_> {
         }
     }
 
-    /// Whether the entry takes part.
+    /// Whether the entry takes part: it means the principal, and isn't there to be inherited only (RFC 7530, section
+    /// 6.2.1.4).
     #[tactic(auto, unfolding(crate::specs::Matching::is_match))]
     pub(crate) fn is_match(&self, entry: &Ace) -> bool
         ensures { result ≡ is_match (case_of self.now) entry.now }

@@ -1,4 +1,4 @@
-// The groups that a principal is in.
+//! The groups that a principal is in.
 ghost use Rattle.std.specs.Prelude.{◌≡◌, ◌↔◌, ◌==◌, ◌++◌, [], ◌∷◌, ℕ, IsTrue, IfOk, IsOkUnless, Contains, if◌then◌else◌};
 ghost use Rattle.std.specs.List.{list_any};
 ghost use Rattle.std.specs.Ordering.{nat_cmp};
@@ -14,6 +14,10 @@ use std::collections::{BTreeMap, BTreeSet};
 
 /// The groups that the principal is in, by name or through groups in groups. A group that is
 /// missing lists nobody.
+///
+/// # Errors
+///
+/// `OutOfMemory`.
 pub fn members(
     alloc: Global,
     groups: &BTreeMap<u64, Vec<Member>>,

@@ -1,4 +1,4 @@
-// Which entries take note of a request.
+//! Which entries take note of a request.
 ghost use Rattle.std.specs.Prelude.{◌≡◌, IfOk, IsOkUnless};
 ghost use Rattle.album_eval.specs.Matching.{case_of};
 ghost use Rattle.album_eval.specs.Audit.{is_noted, audited};
@@ -11,7 +11,11 @@ use bitflags::Flags;
 use std::alloc::{AllocError, Global};
 
 /// The indexes, rising from 0, of the AUDIT and ALARM entries that take note of a request for these
-/// bits that was granted (`success`) or denied.
+/// bits that was granted (`success`) or denied (RFC 7530, section 6.2.1.1).
+///
+/// # Errors
+///
+/// `OutOfMemory`.
 pub fn audits(
     alloc: Global,
     list: &AccessList,

@@ -1,4 +1,4 @@
-// By which rules a request is judged.
+//! By which rules a request is judged.
 ghost use Rattle.std.specs.Prelude.{◌≡◌, ℕ};
 ghost use Rattle.album_access.specs.Bits.{has_bit};
 ghost use Rattle.album_eval.specs.Policies.{policy_of, gives_owner};

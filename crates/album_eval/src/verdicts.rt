@@ -1,4 +1,4 @@
-// What an access list says of a request.
+//! What an access list says of a request.
 ghost use Rattle.std.specs.Prelude.{◌≡◌, ◌&&◌, ◌⊎◌, ℕ, List, [], true, false, not};
 ghost use Rattle.album_access.specs.Bits.{has_bit};
 ghost use Rattle.album_access.specs.declared.masks.Mask.{Mask};
@@ -18,6 +18,7 @@ use bitflags::Flags;
 /// The answer to a request.
 #[derive(Clone, Copy, Debug, PartialEq, Eq)]
 pub enum Verdict {
+    /// Each bit that was asked is allowed before it is denied.
     Granted,
     /// Denied, first by the entry at this index, from 0.
     DeniedBy(usize),
@@ -48,7 +49,9 @@ pub fn given_to_owners()
         → IsVerdict (under One case) [] mask DeniedAtEnd }
 {}
 
-/// What the list says of a request for the bits of the mask (RFC 7530, section 6.2.1), under the policy.
+/// What the list says of a request for the bits of the mask (RFC 7530, section 6.2.1), under the policy. The entries
+/// are gone through in order until each bit is allowed, or one that is left is denied. A bit that no entry mentions
+/// is denied.
 pub fn evaluate(list: &AccessList, facts: &Facts, mask: Mask) -> Verdict
     ensures is { IsVerdict (case_of facts.now) list.now mask result }
     ensures computed { result ≡ verdict (case_of facts.now) list.now mask }
@@ -77,7 +80,7 @@ pub fn evaluate(list: &AccessList, facts: &Facts, mask: Mask) -> Verdict
     }
 }
 
-/// The bits that are given before the list is looked at.
+/// The bits that are given before the list is looked at: none by RFC 7530, so this is policy Two's own rule.
 fn given(facts: &Facts) -> Mask
     ensures { (bit : ℕ) → has_bit result bit ≡ is_given (case_of facts.now) bit }
 {

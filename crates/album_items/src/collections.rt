@@ -1,5 +1,5 @@
-// Lists inside values: items, members of groups, and items with their values.
-ghost use Rattle.std.specs.Prelude.{◌≡◌, IfOk, IsOkUnless};
+//! Lists inside values: items, members of groups, and items with their values.
+ghost use Rattle.std.specs.Prelude.{◌≡◌, IsOkUnless};
 
 use crate::item_ids::ItemId;
 use crate::values::Value;
@@ -50,19 +50,15 @@ impl Items {
     }
 
     /// Lets the copies that are made from now on share the items.
+    ///
+    /// # Errors
+    ///
+    /// `OutOfMemory`. The items stay what they are.
     pub fn make_shared(&mut self) -> Result<(), Refusal>
         ensures same { self.new ≡ self.old }
         ensures memory { IsOkUnless result Refusal.OutOfMemory }
     {
         Ok(self.items.make_shared()?)
-    }
-
-    /// The same items once more.
-    pub fn copy(&self) -> Result<Items, Refusal>
-        ensures copy { IfOk result (λ items. items ≡ self.now) }
-        ensures memory { IsOkUnless result Refusal.OutOfMemory }
-    {
-        Ok(self.clone()?)
     }
 }
 
@@ -109,19 +105,15 @@ impl Members {
     }
 
     /// Lets the copies that are made from now on share the members.
+    ///
+    /// # Errors
+    ///
+    /// `OutOfMemory`. The members stay what they are.
     pub fn make_shared(&mut self) -> Result<(), Refusal>
         ensures same { self.new ≡ self.old }
         ensures memory { IsOkUnless result Refusal.OutOfMemory }
     {
         Ok(self.members.make_shared()?)
-    }
-
-    /// The same members once more.
-    pub fn copy(&self) -> Result<Members, Refusal>
-        ensures copy { IfOk result (λ members. members ≡ self.now) }
-        ensures memory { IsOkUnless result Refusal.OutOfMemory }
-    {
-        Ok(self.clone()?)
     }
 }
 
@@ -163,19 +155,15 @@ impl ItemValues {
     }
 
     /// Lets the copies that are made from now on share what each value holds, as `Value::make_shared` does.
+    ///
+    /// # Errors
+    ///
+    /// `OutOfMemory`. The rows stay what they are.
     pub fn make_shared(&mut self) -> Result<(), Refusal>
         ensures same { self.new ≡ self.old }
         ensures memory { IsOkUnless result Refusal.OutOfMemory }
     {
         share_each(self.rows.as_mut_slice())
-    }
-
-    /// The same items with the same values once more.
-    pub fn copy(&self) -> Result<ItemValues, Refusal>
-        ensures copy { IfOk result (λ rows. rows ≡ self.now) }
-        ensures memory { IsOkUnless result Refusal.OutOfMemory }
-    {
-        Ok(self.clone()?)
     }
 }
 

@@ -1,4 +1,4 @@
-// Items: a kind, and a number among the items of that kind.
+//! Items: a kind, and a number among the items of that kind.
 ghost use Rattle.std.specs.Prelude.{◌≡◌, ◌↔◌, ◌==◌, ◌++◌, ◌≤◌, ◌<◌, ◌^◌, ℕ, List, Some, IfOk, IsOkUnless, string_bytes, option_map};
 ghost use Rattle.std.specs.Cmp.Rules.{comparing, hashing};
 ghost use Rattle.std.specs.Cmp.{partial_order_from_own_ties};
@@ -123,6 +123,10 @@ impl ItemId {
     }
 
     /// The item's one text, as `picture/5`.
+    ///
+    /// # Errors
+    ///
+    /// `OutOfMemory`.
     pub fn text(self, alloc: Global) -> Result<String, Refusal>
         ensures spelled { IfOk result (λ text. IsItemText self (string_bytes text)) }
         ensures memory { IsOkUnless result Refusal.OutOfMemory }

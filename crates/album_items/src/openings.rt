@@ -1,4 +1,4 @@
-// The state that the service opens with.
+//! The state that the service opens with.
 ghost use Rattle.std.specs.Prelude.{◌≡◌, ◌==◌, ◌&&◌, true, false, MatchResult};
 ghost use Rattle.std.specs.List.{list_all, list_any};
 ghost use Rattle.album_stamps.specs.declared.refusals.Refusal.TheVariants.{BadOpening};
@@ -19,14 +19,22 @@ use album_stamps::{
 /// values of items.
 #[derive(Debug, Drop)]
 pub struct Opening {
+    /// How many partitions there are: 1 to `MAX_PARTS`.
     pub parts: u64,
+    /// How many marks the history of each partition may have: `MIN_MARKS` to `MAX_MARKS`.
     pub limit: u64,
+    /// The number of the policy by which lists are judged: 1 or 2.
     pub policy: u64,
+    /// At most `MAX_OPENING_ITEMS` items with their first values. An item that isn't among them is missing at first.
     pub items: ItemValues,
 }
 
 impl Opening {
-    /// Whether the service may open with it, or `BadOpening`.
+    /// Whether the service may open with it: its counts, then each item by itself, then the items together.
+    ///
+    /// # Errors
+    ///
+    /// `BadOpening` exactly where it may not.
     pub fn check(&self) -> Result<(), Refusal>
         ensures { MatchResult result
             (λ _. is_opening self.now ≡ true)
@@ -149,7 +157,7 @@ fn holds(items: &[ItemId], item: ItemId) -> bool
     items.iter().any(|other| item.is(*other))
 }
 
-/// Whether no item has two values, of any rows. (`pairs` tells the same of an opening's rows in one pass.)
+/// Whether no item has two values, of any rows. (`pairs` finds the same of an opening's rows in one pass.)
 pub fn has_single_rows(rows: &[(ItemId, Value)]) -> bool
     ensures { result ≡ has_single_rows rows.now }
 {
@@ -161,7 +169,7 @@ pub fn has_single_rows(rows: &[(ItemId, Value)]) -> bool
     true
 }
 
-/// Whether one of the rows tells of the row's item.
+/// Whether one of the rows has the row's item.
 fn tells_of(rows: &[(ItemId, Value)], row: &(ItemId, Value)) -> bool
     ensures { result ≡ list_any (same_item row.now) rows.now }
 {

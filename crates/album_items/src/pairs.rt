@@ -1,5 +1,5 @@
-// What is tested of every two rows of an opening, in time that grows as the rows do: the numbers, which are low, are
-// marked as they are met.
+//! What is tested of every two rows of an opening, in time that grows as the rows do: the numbers, which are low, are
+//! marked as they are met.
 ghost use Rattle.std.specs.Prelude.{◌≡◌, ◌<◌, true, false, length, get_or, set};
 ghost use Rattle.std.specs.List.{list_all};
 ghost use Rattle.album_lists.specs.declared.lists.Holder.TheVariants.{Plain};
@@ -86,7 +86,7 @@ fn fits_plain(value: &Value) -> bool
     }
 }
 
-/// Marks the number, and tells whether it was marked.
+/// Marks the number. The result is whether it was marked before.
 fn mark(marks: &mut [bool], number: usize) -> bool
     requires { number < length marks.old }
     ensures before { result ≡ get_or marks.old number false }

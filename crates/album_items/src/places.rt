@@ -1,4 +1,4 @@
-// Where the items of a transaction are placed.
+//! Where the items of a transaction are placed.
 ghost use Rattle.std.specs.Prelude.{◌≡◌, ◌≤◌, IfOk, IsOkUnless};
 ghost use Rattle.album_items.specs.Places.{lies_at, is_other, others_of, places_of, rows_placed_at};
 

@@ -1,4 +1,4 @@
-// A value whose copies share its memory.
+//! A value whose copies share its memory.
 ghost use Rattle.std.specs.Prelude.{◌≡◌, IfOk};
 
 use crate::values::Value;

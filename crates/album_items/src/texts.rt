@@ -1,4 +1,4 @@
-// Titles and contents.
+//! Titles and contents.
 ghost use Rattle.std.specs.Prelude.{◌≡◌, ◌≤◌, ◌↔◌, IsTrue, IsOk, IfOk, IfErr, IsOkUnless, length};
 ghost use Rattle.std.specs.Option.{ok_or};
 ghost use Rattle.std.specs.List.{list_all};
@@ -32,7 +32,11 @@ impl Model for Title {
 }
 
 impl Title {
-    /// The title that the text is, or `BadText`.
+    /// The title that the text is.
+    ///
+    /// # Errors
+    ///
+    /// `BadText` where the text is no title, and else `OutOfMemory`.
     pub fn of(alloc: Global, text: &str) -> Result<Title, Refusal>
         ensures { Makes (λ title. title) result (ok_or (title_of text.now) BadText) }
     {
@@ -52,6 +56,10 @@ impl Title {
     }
 
     /// The same title once more.
+    ///
+    /// # Errors
+    ///
+    /// `OutOfMemory`.
     pub fn copy(&self) -> Result<Title, Refusal>
         ensures copy { IfOk result (λ title. title ≡ self.now) }
         ensures memory { IsOkUnless result Refusal.OutOfMemory }
@@ -96,8 +104,11 @@ impl Model for Content {
 }
 
 impl Content {
-    /// The content of these bytes, or `BadText` where they are more than `MAX_CONTENT`. Refused bytes are
-    /// handed back.
+    /// The content of these bytes.
+    ///
+    /// # Errors
+    ///
+    /// `BadText` where they are more than `MAX_CONTENT`. The bytes are handed back.
     pub fn of(bytes: Bytes) -> Result<Content, Refused<Bytes>>
         ensures taken { IfOk result (λ content. content ≡ bytes) }
         ensures short { IsOk result ↔ (length bytes ≤ MAX_CONTENT) }
@@ -129,6 +140,10 @@ impl Content {
     }
 
     /// The same content once more.
+    ///
+    /// # Errors
+    ///
+    /// `OutOfMemory`.
     pub fn copy(&self) -> Result<Content, Refusal>
         ensures copy { IfOk result (λ content. content ≡ self.now) }
         ensures memory { IsOkUnless result Refusal.OutOfMemory }

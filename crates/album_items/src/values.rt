@@ -1,4 +1,4 @@
-// The values of items.
+//! The values of items.
 ghost use Rattle.std.specs.Prelude.{◌≡◌, IfOk, IsOkUnless, option_to_list};
 ghost use Rattle.std.specs.Option.{option_copied};
 ghost use Rattle.album_items.specs.ItemIds.{code_of};
@@ -13,8 +13,11 @@ use album_stamps::Refusal;
 /// Whose an object is, the number of its group, and the number of its list.
 #[derive(Clone, Debug, Drop)]
 pub struct Head {
+    /// Whose the object is.
     pub owner: Name,
+    /// The number of its group, which `GROUP@` means.
     pub group: u64,
+    /// The number of its access list.
     pub list: u64,
 }
 
@@ -24,6 +27,7 @@ pub struct Picture {
     pub title: Title,
     pub content: Content,
     pub head: Head,
+    /// The number of the album.
     pub home: u64,
 }
 
@@ -32,7 +36,9 @@ pub struct Picture {
 pub struct Album {
     pub title: Title,
     pub head: Head,
+    /// The number of the album.
     pub home: Option<u64>,
+    /// The items in it, in order: at most `MAX_CHILDREN`.
     pub children: Items,
 }
 
@@ -40,6 +46,7 @@ pub struct Album {
 #[derive(Clone, Debug, Drop)]
 pub struct Group {
     pub head: Head,
+    /// At most `MAX_MEMBERS` users and groups.
     pub members: Members,
 }
 
@@ -55,38 +62,12 @@ pub enum Value {
 
 impl Head {
     /// The same head once more.
+    ///
+    /// # Errors
+    ///
+    /// `OutOfMemory`.
     pub fn copy(&self) -> Result<Head, Refusal>
         ensures copy { IfOk result (λ head. head ≡ self.now) }
-        ensures memory { IsOkUnless result Refusal.OutOfMemory }
-    {
-        Ok(self.clone()?)
-    }
-}
-
-impl Picture {
-    /// The same picture once more.
-    pub fn copy(&self) -> Result<Picture, Refusal>
-        ensures copy { IfOk result (λ picture. picture ≡ self.now) }
-        ensures memory { IsOkUnless result Refusal.OutOfMemory }
-    {
-        Ok(self.clone()?)
-    }
-}
-
-impl Album {
-    /// The same album once more.
-    pub fn copy(&self) -> Result<Album, Refusal>
-        ensures copy { IfOk result (λ album. album ≡ self.now) }
-        ensures memory { IsOkUnless result Refusal.OutOfMemory }
-    {
-        Ok(self.clone()?)
-    }
-}
-
-impl Group {
-    /// The same group once more.
-    pub fn copy(&self) -> Result<Group, Refusal>
-        ensures copy { IfOk result (λ group. group ≡ self.now) }
         ensures memory { IsOkUnless result Refusal.OutOfMemory }
     {
         Ok(self.clone()?)
@@ -186,6 +167,10 @@ impl Value {
     }
 
     /// The same value once more.
+    ///
+    /// # Errors
+    ///
+    /// `OutOfMemory`.
     pub fn copy(&self) -> Result<Value, Refusal>
         ensures copy { IfOk result (λ value. value ≡ self.now) }
         ensures memory { IsOkUnless result Refusal.OutOfMemory }

@@ -7,7 +7,7 @@ ghost use Rattle.album_listing.specs.Basis.{IsBasis};
 ghost use Rattle.album_listing.specs.GroupsFound.{basis_on};
 
 /// A law: a ruling by a policy, for a principal, on what was read has a basis, which can be computed. Its groups are
-/// just those that the principal is in.
+/// exactly those that the principal is in.
 pub fn a_ruling_has_a_basis()
     ensures { (policy : Policy) (principal : Principal) (rows : List ReadVersion)
         → IsBasis policy principal rows (basis_on policy principal rows) }

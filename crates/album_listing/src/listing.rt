@@ -32,6 +32,7 @@ pub fn list(alloc: Global, view: &View, principal: &Principal) -> Result<Rows, R
 {
     let context = RulingContext::of(alloc, view, principal, Policy::One)?;
     let Ask::List { album } = view.ask() else {
+        // The ask is a List: the caller has to see to that.
         unreachable!();
     };
     let rows = listed(alloc, &context, *album)?;

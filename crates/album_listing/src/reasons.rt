@@ -10,6 +10,7 @@ use album_items::ItemId;
 #[derive(Clone, Copy, Debug)]
 pub struct Alternative {
     pub object: ItemId,
+    /// The bits that are needed of it, all of them.
     pub mask: Mask,
 }
 
@@ -17,7 +18,9 @@ pub struct Alternative {
 #[derive(Clone, Copy, Debug)]
 pub struct Reason {
     pub object: ItemId,
+    /// The bits that were asked of it.
     pub mask: Mask,
+    /// What its list says of them.
     pub verdict: Verdict,
 }
 

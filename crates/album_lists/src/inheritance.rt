@@ -1,4 +1,4 @@
-// What a new object inherits.
+//! What a new object inherits.
 ghost use Rattle.std.specs.Prelude.{◌≡◌, IfOk};
 ghost use Rattle.std.specs.List.{filter_map};
 ghost use Rattle.album_lists.specs.Inheritance.{inherited_flags, inherited};
@@ -8,7 +8,7 @@ use album_access::AceFlags;
 use bitflags::Flags;
 use std::alloc::{AllocError, Global};
 
-/// The entries that an object of this kind inherits, in order.
+/// The entries that an object of this kind inherits, in order (RFC 7530, section 6.2.1.4.1).
 pub(crate) fn inherited(
     alloc: Global,
     entries: &[Ace],

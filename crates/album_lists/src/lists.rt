@@ -1,4 +1,4 @@
-// Entries, and the lists of them.
+//! Entries, and the lists of them.
 ghost use Rattle.std.specs.Prelude.{◌≡◌, ◌≤◌, ◌&&◌, IsTrue, length, Ok, Err, IfOk, IfErr, IsOkUnless};
 ghost use Rattle.std.specs.List.{list_all};
 ghost use Rattle.album_access.specs.Bits.{mask_bits, flag_bits, is_mask, is_within, all_flag_bits};
@@ -17,14 +17,22 @@ use std::marker::Model;
 /// An entry of an access list (RFC 7530, section 6.2.1).
 #[derive(Clone, Debug, Drop)]
 pub struct Ace {
+    /// What it does with the bits of its mask.
     pub sort: AceType,
+    /// Whom it speaks of.
     pub who: Who,
+    /// The bits that it speaks of: one at least, in a list.
     pub mask: Mask,
+    /// How it is inherited, which outcome it notes, and whether its who is a group.
     pub flags: AceFlags,
 }
 
 impl Ace {
     /// The same entry once more.
+    ///
+    /// # Errors
+    ///
+    /// `OutOfMemory`.
     pub fn copy(&self) -> Result<Ace, Refusal>
         ensures copy { IfOk result (λ entry. entry ≡ self.now) }
         ensures memory { IsOkUnless result Refusal.OutOfMemory }
@@ -121,7 +129,11 @@ impl AccessList {
         }
     }
 
-    /// The list of a new object of this kind, made in an album with this list.
+    /// The list of a new object of this kind, made in an album with this list (RFC 7530, section 6.2.1.4.1).
+    ///
+    /// # Errors
+    ///
+    /// `OutOfMemory`.
     pub fn inherit(&self, alloc: Global, holder: Holder) -> Result<AccessList, Refusal>
         ensures inherited { IfOk result (λ list. list ≡ inherited holder self.now) }
         ensures memory { IsOkUnless result Refusal.OutOfMemory }
@@ -133,6 +145,10 @@ impl AccessList {
     }
 
     /// Lets the copies that are made from now on share the entries.
+    ///
+    /// # Errors
+    ///
+    /// `OutOfMemory`. The list stays what it is.
     pub fn make_shared(&mut self) -> Result<(), Refusal>
         ensures same { self.new ≡ self.old }
         ensures memory { IsOkUnless result Refusal.OutOfMemory }
@@ -141,6 +157,10 @@ impl AccessList {
     }
 
     /// The same list once more.
+    ///
+    /// # Errors
+    ///
+    /// `OutOfMemory`.
     pub fn copy(&self) -> Result<AccessList, Refusal>
         ensures copy { IfOk result (λ list. list ≡ self.now) }
         ensures memory { IsOkUnless result Refusal.OutOfMemory }
@@ -212,7 +232,7 @@ fn is_never_inherited(entry: &Ace) -> bool
     !entry.flags.intersects(inheritance())
 }
 
-/// The flags that speak of inheritance.
+/// The flags that speak of inheritance (RFC 7530, section 6.2.1.4): the low four bits.
 pub(crate) fn inheritance() -> AceFlags
     ensures { flag_bits result ≡ 15 }
 {

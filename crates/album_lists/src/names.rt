@@ -1,4 +1,4 @@
-// The name of a user.
+//! The name of a user.
 ghost use Rattle.std.specs.Prelude.{◌≡◌, IsTrue, IfOk, IsOkUnless};
 ghost use Rattle.std.specs.Option.{ok_or};
 ghost use Rattle.std.specs.List.{list_all};
@@ -53,6 +53,10 @@ impl Name {
     }
 
     /// The same name once more.
+    ///
+    /// # Errors
+    ///
+    /// `OutOfMemory`.
     pub fn copy(&self) -> Result<Name, Refusal>
         ensures copy { IfOk result (λ name. name ≡ self.now) }
         ensures memory { IsOkUnless result Refusal.OutOfMemory }

@@ -1,4 +1,4 @@
-// Lists whose copies may share their memory.
+//! Lists whose copies may share their memory.
 ghost use Rattle.std.specs.Prelude.{◌≡◌, ◌⊎◌, List};
 ghost use Rattle.std.specs.List.{AllZip};
 

@@ -1,4 +1,4 @@
-// Whos and members, by their texts.
+//! Whos and members, by their texts.
 ghost use Rattle.std.specs.Prelude.{◌≡◌, ◌↔◌, List, ℕ, Some, option_map, IfOk, IsOkUnless};
 ghost use Rattle.std.specs.Option.{ok_or};
 ghost use Rattle.album_stamps.specs.declared.refusals.Refusal.TheVariants.{BadWho};
@@ -108,6 +108,10 @@ impl Member {
     }
 
     /// The same member once more.
+    ///
+    /// # Errors
+    ///
+    /// `OutOfMemory`.
     pub fn copy(&self) -> Result<Member, Refusal>
         ensures copy { IfOk result (λ member. member ≡ self.now) }
         ensures memory { IsOkUnless result Refusal.OutOfMemory }
@@ -152,6 +156,10 @@ impl Who {
     }
 
     /// The same who once more.
+    ///
+    /// # Errors
+    ///
+    /// `OutOfMemory`.
     pub fn copy(&self) -> Result<Who, Refusal>
         ensures copy { IfOk result (λ who. who ≡ self.now) }
         ensures memory { IsOkUnless result Refusal.OutOfMemory }

@@ -1,4 +1,4 @@
-// The first values of items, found by look-up.
+//! The first values of items, found by look-up.
 ghost use Rattle.std.specs.Prelude.{◌≡◌, true, IfOk};
 ghost use Rattle.std.specs.Option.{option_copied};
 ghost use Rattle.album_items.specs.Openings.{has_single_rows};

@@ -1,4 +1,4 @@
-// What follows of every history, and of every answer that the table gives.
+//! What follows of every history, and of every answer that the table gives.
 ghost use Rattle.std.specs.Prelude.{◌≡◌, ◌≢◌, ◌↔◌, ◌≤◌, ◌⊎◌, ◌++◌, [], ◌∷◌, ℕ, List, true, false, IsTrue, is_some, None, Some, Ok, Contains, length, filter, option_to_list};
 ghost use Rattle.std.specs.List.{list_any};
 ghost use Rattle.std.specs.List.Sorted.{IsPermutation};
@@ -66,7 +66,7 @@ pub fn histories_only_grow()
 {}
 
 /// A law: where a stamp was discarded that had not been prepared, it never is, and it stays
-/// discarded. That it was so is told by a Status Never of a stamp that was unknown.
+/// discarded. A reply Status Never of a stamp that was unknown says that it is so.
 pub fn promises_against_are_kept()
     ensures unprepared { (marks : List Mark) (stamp : ℕ) → is_legal marks ≡ true
         → IsPromisedAgainst marks stamp → list_any (prepares stamp) marks ≡ false }
@@ -101,13 +101,13 @@ pub fn marks_have_their_causes()
         → (action_of partition message).mark ≡ Some mark → IsCause partition message mark }
 {}
 
-/// A law: what a reply tells of a stamp is so, once the message was received.
+/// A law: what a reply says of a stamp is so, once the message was received.
 pub fn replies_tell_the_state()
     ensures { (partition : PartitionState) (message told : Message) → answer partition message ≡ Some told
         → (reply : AnyReply) × (told.body ≡ Body.Reply reply) × IsTrueOf (after partition message).marks reply }
 {}
 
-/// A law: each request to the partition is answered, and a Clash is told only where something is
+/// A law: each request to the partition is answered, and the reply is a Clash only where something is
 /// wrong with it.
 pub fn requests_are_answered()
     ensures answered { (partition : PartitionState) (message : Message) (request : AnyRequest)
@@ -143,9 +143,9 @@ pub fn trims_raise_the_floor()
     ensures low { (marks : List Mark) (item : ℕ) → is_legal marks ≡ true → floor marks item ≤ latest marks item }
 {}
 
-/// A law: what is read. Each version that is told answers a Get of just that item, is the one that
+/// A law: what is read. Each reply Version answers a Get of exactly that item, is the version that
 /// was asked for, and has the value that was written. Each Get of an item that is placed here is
-/// answered so, or told that the item is gone.
+/// answered so, or by Gone.
 pub fn gets_read_what_is_written()
     ensures version { (partition : PartitionState) (message : Message) (item stamp : ℕ) (value : Value)
         → (action_of partition message).reply ≡ Some (Reply.Version item stamp value)
@@ -173,7 +173,7 @@ pub fn gets_read_what_is_kept()
         ≡ unless_gone (best_of (has_kept_version marks item) (stamp ∷ stamps)) (floor marks item) }
 {}
 
-/// A law: which writes a Prepare that can be followed has. It gives a value to just those of its
+/// A law: which writes a Prepare that can be followed has. It gives a value to exactly those of its
 /// items that are placed at the partition, in any order.
 pub fn proper_writes_are_those_placed_here()
     ensures placed { (number parts stamp : ℕ) (writes : List Row) (items : List ℕ) (item : ℕ)
@@ -184,8 +184,8 @@ pub fn proper_writes_are_those_placed_here()
         → is_proper number parts stamp writes items ≡ is_proper number parts stamp others items }
 {}
 
-/// A law: that a partition is full it tells only where it is, and only of a stamp that is unknown
-/// there. It tells so to each Check, and to each Prepare that it could follow otherwise.
+/// A law: a partition replies Full only where it is full, and only of a stamp that is unknown
+/// there. It replies so to each Check, and to each Prepare that it could follow otherwise.
 pub fn full_has_its_cause()
     ensures only { (partition : PartitionState) (message : Message) (stamp : ℕ)
         → (action_of partition message).reply ≡ Some (Reply.Full stamp)

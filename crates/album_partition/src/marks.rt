@@ -1,4 +1,4 @@
-// The entries of a partition's history.
+//! The entries of a partition's history.
 ghost use Rattle.std.specs.Prelude.{◌≡◌, Some, IfOk};
 ghost use Rattle.album_partition.specs.Marks.{mark_stamp, mark_writes, mark_items};
 

@@ -1,4 +1,4 @@
-// A partition, and what it does with a message.
+//! A partition, and what it does with a message.
 ghost use Rattle.std.specs.Prelude.{◌≡◌, ◌≤◌, true, IfOk, IfErr, OnOk, OnErr, IfSome, is_some, ◌||◌, ◌≢◌, IsOk, Some, IsOkUnless, Ok, Err};
 ghost use Rattle.album_stamps.specs.Outcome.{Makes};
 ghost use Rattle.album_partition.specs.Answers.{with_action, action_of, after, answer, reply_to, wants_memory};

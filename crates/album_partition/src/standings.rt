@@ -1,4 +1,4 @@
-// How each stamp stands.
+//! How each stamp stands.
 ghost use Rattle.std.specs.Prelude.{◌≡◌, false, Some, None, IfOk, OnOk, OnErr};
 ghost use Rattle.album_partition.specs.Standings.{ArePendingIn, IsSetTo, standing_in, stands_pending};
 

@@ -1,4 +1,4 @@
-// The marks of a partition, and the versions that they make.
+//! The marks of a partition, and the versions that they make.
 ghost use Rattle.std.specs.Prelude.{◌≡◌, ◌<◌, ◌≤◌, ◌⊎◌, ◌++◌, ◌∷◌, [], ℕ, true, is_some, option_to_list, length, None, Some, IsSome, IfSome, IfOk, OnOk, OnErr, All};
 ghost use Rattle.std.specs.Option.{option_copied};
 ghost use Rattle.album_stamps.specs.declared.limits.TheConstants.{MAX_MARKS};

@@ -1,4 +1,4 @@
-// The desk: the words that all threads share, and where passes begin.
+//! The desk: the words that all threads share, and where passes begin.
 ghost use Rattle.std.specs.Prelude.{◌≡◌, ◌+◌, ◌<◌, ◌≤◌, true, [], IfOk, IfErr, OnErr, IsOkUnless, Some, None};
 ghost use Rattle.album_items.specs.Openings.{is_opening};
 ghost use Rattle.album_passes.specs.Changes.{IsUnheard};
@@ -6,6 +6,7 @@ ghost use Rattle.album_passes.specs.Knowledge.{first_seat, dealt};
 ghost use Rattle.album_passes.specs.Desk.{terms_of, AreOwners, AreWords, first_pass};
 
 use crate::holding::Holding;
+use crate::lengths::PARTS;
 use crate::owner::Owner;
 use crate::pass::Pass;
 use crate::rule::{OneRun, Plan, SeatView};
@@ -16,6 +17,9 @@ use std::alloc::{AllocError, Global};
 use std::marker::Model;
 use std::snapshot::Snapshot;
 use std::sync::Wait;
+
+/// How many words a desk may have: one for the numbers drawn, and one for each partition.
+const WORDS: usize = PARTS + 1;
 
 /// A word for each partition, which counts the marks of its history, and one that counts the
 /// numbers drawn. Contracts see its table, and what it was opened with.
@@ -63,7 +67,7 @@ impl Desk {
             opening: Snapshot::of(opening),
             sessions,
         };
-        let words = [0; 17];
+        let words = [0; WORDS];
         let (table, seat) = Table::of_words(alloc, &words[..parts + 1], &plan)?;
         let desk = Desk {
             table,

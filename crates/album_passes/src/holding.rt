@@ -1,4 +1,4 @@
-// A seat of the desk's table that knows one cut, with the lengths of its prefixes as numbers.
+//! A seat of the desk's table that knows one cut, with the lengths of its prefixes as numbers.
 ghost use Rattle.std.specs.Prelude.{◌≡◌, ◌<◌, ◌≤◌, true, [], ◌∷◌, length, replicate, Some, None, IfSome, IfNone};
 ghost use Rattle.album_partition.specs.Marks.{may_follow};
 ghost use Rattle.album_stamps.specs.Stamps.{client_number};
@@ -9,14 +9,14 @@ ghost use Rattle.album_passes.specs.Holding.{IsHeld};
 ghost use Rattle.album_passes.specs.Steps.{IsMerged, beside, merged_seat, cut_alone, less_first, first_alone, less_guest, guest_alone, with_cut, with_number, with_drawn};
 
 use crate::desk::Desk;
-use crate::lengths::greater_each;
+use crate::lengths::{PARTS, greater_each};
 use crate::rule::{
     Announce, Append, Beside, CutAlone, Draw, FirstAlone, GuestAlone, Merge, NamesItems, NamesMark,
     SeatView,
 };
 use album_items::ItemId;
 use album_partition::Mark;
-use album_stamps::{ClientNo, Stamp};
+use album_stamps::{CLIENTS, ClientNo, MAX_PARTS, Stamp};
 use atomic_table::Seat;
 use std::marker::{Brand, Model};
 use std::sync::Wait;
@@ -26,7 +26,7 @@ use std::sync::Wait;
 pub struct Holding {
     seat: Seat<u8, SeatView>,
     /// Of each partition that there may be.
-    lengths: [u64; 16],
+    lengths: [u64; PARTS],
 }
 
 impl Model for Holding {
@@ -44,19 +44,19 @@ impl Holding {
     /// The first seat of a desk, which knows the empty cut.
     pub fn first(seat: Seat<u8, SeatView>) -> Holding
         requires bare { seat.me.1 ≡ [] }
-        requires held { IsHeld seat.me.0 (replicate 16 0) }
+        requires held { IsHeld seat.me.0 (replicate MAX_PARTS 0) }
         ensures table { result.table ≡ seat.table_id }
         ensures seat { result.seat ≡ seat.me.0 }
     {
         Holding {
             seat,
-            lengths: [0; 16],
+            lengths: [0; PARTS],
         }
     }
 
     /// How long the prefix of a partition is.
     pub fn length(&self, part: usize) -> u64
-        requires { part < 16 }
+        requires { part < MAX_PARTS }
         ensures length { result ≡ length (prefix_at (known self.now.seat) part) }
         ensures sound { IsSound (known self.now.seat) }
     {
@@ -220,7 +220,7 @@ fn take_in(desk: &Desk, seat: &mut Seat<u8, SeatView>, other: Seat<u8, SeatView>
     ensures merged { IsMerged (beside seat.old.me.0 other.me.0)
         (known seat.old.me.0) (known other.me.0) (known seat.new.me.0) }
 {
-    // The join tells nothing of the rule, so the cuts lie side by side until the load, which does.
+    // The join gives no fact of the rule, so the cuts lie side by side until the load, which does.
     desk.table.shared.join_seat::<Beside>(seat, other);
     desk.table.shared.load::<Merge>(seat, 0);
 }
@@ -253,17 +253,19 @@ fn draw_on<R: Wait>(rt: &R, desk: &Desk, seat: &mut Seat<u8, SeatView>) -> Optio
         }
         guess = found;
     }
+    // The loop is one without end, which is left only by a return.
     unreachable!()
 }
 
 /// The client of a number that was drawn.
 fn client_of(number: u64) -> ClientNo
     requires positive { 0 < number }
-    requires few { number ≤ 65535 }
+    requires few { number < CLIENTS }
     ensures { result ≡ number }
 {
     match ClientNo::of(number as u16) {
         Some(client) => client,
+        // The number is above 0 and below `CLIENTS`, and so a client's.
         None => unreachable!(),
     }
 }

@@ -1,4 +1,4 @@
-// What follows of cuts: of closed ones, of ones that grow and are merged, and of reads over them.
+//! What follows of cuts: of closed ones, of ones that grow and are merged, and of reads over them.
 ghost use Rattle.std.specs.Prelude.{◌≡◌, ◌<◌, ℕ, List, true, false, Some, IsSome, All, Contains};
 ghost use Rattle.std.specs.List.{list_any};
 ghost use Rattle.album_items.specs.ItemIds.{place_of};
@@ -14,7 +14,7 @@ ghost use Rattle.album_passes.specs.Cuts.{Cut, prefix_at, announced_for, IsNamed
 ghost use Rattle.album_passes.specs.Changes.{marked_cut, merged};
 ghost use Rattle.album_passes.specs.Reads.{IsCommitted, written_value, IsReadAtomic, IsFreshFrom, IsReadInTwoRounds};
 
-/// A law: what a closed cut tells of each stamp that has a mark in it. Its items are announced; a
+/// A law: what a closed cut has of each stamp that has a mark in it. Its items are announced; a
 /// mark that prepares it names these, and writes only them; where it is committed, each item's
 /// partition has prepared it; where it is discarded, one of them will never prepare it. So no stamp
 /// is committed at one partition and discarded at another.

@@ -1,4 +1,4 @@
-// The owner of a partition's history: whoever has it makes the partition's marks.
+//! The owner of a partition's history: whoever has it makes the partition's marks.
 ghost use Rattle.std.specs.Prelude.{◌≡◌, ◌<◌, ◌≤◌, true, [], ◌∷◌, ◌++◌, max, length, OnOk, OnErr, IsOkUnless, None};
 ghost use Rattle.album_partition.specs.Marks.{may_follow};
 ghost use Rattle.album_passes.specs.Cuts.{IsBacked, IsSound, Extends, prefix_at};

@@ -1,4 +1,4 @@
-// A pass: a cut that travels with messages.
+//! A pass: a cut that travels with messages.
 ghost use Rattle.std.specs.Prelude.{◌≡◌, ◌<◌, ◌≤◌, max, length, Some, None, IfSome, IfNone};
 ghost use Rattle.album_stamps.specs.Stamps.{client_number};
 ghost use Rattle.album_stamps.specs.declared.limits.TheConstants.{MAX_PARTS};

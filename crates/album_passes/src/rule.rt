@@ -1,5 +1,5 @@
-// The rule of the desk's table, and the kinds of step. Nothing of it is there when the program
-// runs.
+//! The rule of the desk's table, and the kinds of step. Nothing of it is there when the program
+//! runs.
 use album_items::Opening;
 use atomic_table::{Join, Play, Split, TableRule};
 use std::marker::{Brand, Model, PhantomData};
@@ -20,6 +20,7 @@ impl Model for SeatView {
 #[derive(Drop)]
 pub struct Plan {
     pub opening: Snapshot<Opening>,
+    /// How many numbers are given out.
     pub sessions: u16,
 }
 

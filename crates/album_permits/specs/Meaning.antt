@@ -1,5 +1,5 @@
--- What a grant means, and what it lets be written.
-use Rattle.std.specs.Prelude.{ℕ, List, [], ◌∷◌, Bool, not, ◌&&◌, ◌==◌, IsTrue, Contains, map, filter}
+-- What a ruling and its notes mean, what a grant means, and what it lets be written.
+use Rattle.std.specs.Prelude.{◌≡◌, ℕ, List, [], ◌∷◌, Bool, not, ◌&&◌, ◌==◌, IsTrue, Contains, map, filter}
 use Rattle.std.specs.List.{list_all, list_any, flat_map}
 use Rattle.album_access.specs.declared.masks.Mask.{Mask}
 use Rattle.album_items.specs.ItemIds.{picture, album, list}
@@ -7,12 +7,32 @@ use Rattle.album_items.specs.Values.{list_of}
 use Rattle.album_items.specs.declared.values.Value.{Value}
 use Rattle.album_views.specs.Asks.{is_adding}
 use Rattle.album_views.specs.declared.asks.Ask.{Ask}
-use Rattle.album_listing.specs.Basis.{Basis}
+use Rattle.album_listing.specs.Basis.{Basis, IsBasis}
 use Rattle.album_listing.specs.Masks.{READ_DATA, READ_ATTRIBUTES, READ_ACL}
 use Rattle.album_listing.specs.Reasons.{is_granted_on}
 use Rattle.album_listing.specs.declared.reasons.Alternative.{Alternative}
-use Rattle.album_permits.specs.Findings.{is_missing}
+use Rattle.album_permits.specs.Findings.{is_missing, ruling_of}
 use Rattle.album_permits.specs.Needs.{needs_of}
+use Rattle.album_permits.specs.Notes.{notes_of}
+use Rattle.album_permits.specs.Permits.{PermitState}
+use Rattle.album_permits.specs.declared.findings.Finding.{Finding}
+use Rattle.album_permits.specs.declared.notes.Note.{Note}
+
+-- ---- what is ruled
+
+-- of a view, who asks, and the policy, as they would stand in a permit: the written policy finds this
+pub record Finds (case : PermitState) (finding : Finding) : Type 0 where
+  pub basis : Basis
+  pub based : IsBasis case.policy case.principal case.view.rows basis
+  pub is : ruling_of basis case.view.ask ≡ finding
+
+-- and these are its notes
+pub record Notes (case : PermitState) (notes : List Note) : Type 0 where
+  pub basis : Basis
+  pub based : IsBasis case.policy case.principal case.view.rows basis
+  pub is : notes_of basis case.view.ask ≡ notes
+
+-- ---- what a grant means
 
 -- a need is met: each of its objects is there, and one of its alternatives is granted
 abbrev pub is_need_met : Basis → List Alternative → Bool
@@ -23,6 +43,8 @@ is_need_met basis need =
 -- each need of an ask is met
 abbrev pub has_needs_met : Basis → Ask → Bool
 has_needs_met basis ask = list_all (is_need_met basis) (needs_of basis.seen ask)
+
+-- ---- what may be written
 
 -- who has the mask may do more than read
 abbrev pub is_of_change : Mask → Bool

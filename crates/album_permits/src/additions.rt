@@ -147,6 +147,7 @@ fn new_head(
             group: head_group_seen(lookup, into),
             list: stamp.value(),
         }),
+        // The check of an ask that adds an object refuses a principal without a name.
         Principal::Anonymous => unreachable!(),
     }
 }

@@ -14,12 +14,12 @@ pub(crate) fn with_title(value: &Value, title: &Title) -> Result<Value, Refusal>
 {
     match value {
         Value::Picture(picture) => {
-            let mut picture = picture.copy()?;
+            let mut picture = picture.clone()?;
             picture.title = title.copy()?;
             Ok(Value::Picture(picture))
         }
         Value::Album(album) => {
-            let mut album = album.copy()?;
+            let mut album = album.clone()?;
             album.title = title.copy()?;
             Ok(Value::Album(album))
         }
@@ -34,7 +34,7 @@ pub(crate) fn with_content(value: &Value, content: &Content) -> Result<Value, Re
 {
     match value {
         Value::Picture(picture) => {
-            let mut picture = picture.copy()?;
+            let mut picture = picture.clone()?;
             picture.content = content.copy()?;
             Ok(Value::Picture(picture))
         }
@@ -49,7 +49,7 @@ pub(crate) fn with_home(value: &Value, home: u64) -> Result<Value, Refusal>
 {
     match value {
         Value::Picture(picture) => {
-            let mut picture = picture.copy()?;
+            let mut picture = picture.clone()?;
             picture.home = home;
             Ok(Value::Picture(picture))
         }
@@ -64,17 +64,17 @@ pub(crate) fn with_owner(value: &Value, owner: &Name, group: u64) -> Result<Valu
 {
     match value {
         Value::Picture(picture) => {
-            let mut picture = picture.copy()?;
+            let mut picture = picture.clone()?;
             picture.head = owned(&picture.head, owner, group)?;
             Ok(Value::Picture(picture))
         }
         Value::Album(album) => {
-            let mut album = album.copy()?;
+            let mut album = album.clone()?;
             album.head = owned(&album.head, owner, group)?;
             Ok(Value::Album(album))
         }
         Value::Group(other) => {
-            let mut other = other.copy()?;
+            let mut other = other.clone()?;
             other.head = owned(&other.head, owner, group)?;
             Ok(Value::Group(other))
         }
@@ -101,8 +101,8 @@ pub(crate) fn with_members(value: &Value, members: &Members) -> Result<Value, Re
 {
     match value {
         Value::Group(group) => {
-            let mut group = group.copy()?;
-            group.members = members.copy()?;
+            let mut group = group.clone()?;
+            group.members = members.clone()?;
             Ok(Value::Group(group))
         }
         Value::Missing | Value::Picture(_) | Value::Album(_) | Value::List(_) => value.copy(),
@@ -135,7 +135,7 @@ fn with_children(value: &Value, children: Vec<ItemId>) -> Result<Value, Refusal>
 {
     match value {
         Value::Album(album) => {
-            let mut album = album.copy()?;
+            let mut album = album.clone()?;
             album.children = Items::of(children);
             Ok(Value::Album(album))
         }

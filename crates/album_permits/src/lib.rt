@@ -4,8 +4,8 @@
 //! what it writes; or why it is denied; or which object is missing.
 //!
 //! Read `needs` and `findings` first, then `permits` with what they are spent on. Tables of what is needed, found,
-//! noted, served and written stand in specs/, a definition for each. `Event`, `Answer` and `Out` are what a store is
-//! given and what it tells: they stand here, below the crates that carry them out and the crate that writes their
+//! noted, served and written stand in specs/, a definition for each. `Event`, `Answer` and `Out` are a
+//! store's inputs and outputs: they stand here, below the crates that carry them out and the crate that writes their
 //! lines.
 #![tactic(auto)]
 
@@ -26,7 +26,7 @@ mod effects;
 mod merging;
 mod writes;
 
-// What happens to a store, what comes of an ask, and what an event tells.
+// The events of a store, the answers to asks, and the outputs of events.
 mod answers;
 mod events;
 mod outs;

@@ -9,7 +9,7 @@ ghost use Rattle.album_permits.specs.Meaning.{has_needs_met, MayWrite};
 ghost use Rattle.album_permits.specs.Permits.{PermitState};
 ghost use Rattle.album_permits.specs.declared.findings.Finding.TheVariants.{Granted};
 
-/// A law: an ask is granted just where each of its needs is met: its objects are there, and the list of one of them
+/// A law: an ask is granted exactly where each of its needs is met: its objects are there, and the list of one of them
 /// grants what is needed of it.
 pub fn granted_where_each_need_is_met()
     ensures { (basis : Basis) (ask : Ask) → (ruling_of basis ask ≡ Granted) ↔ IsTrue (has_needs_met basis ask) }

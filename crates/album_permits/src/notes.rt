@@ -18,9 +18,13 @@ use std::alloc::{AllocError, Global};
 #[derive(Clone, Copy, Debug)]
 pub struct Note {
     pub object: ItemId,
+    /// The bits that were asked of the object.
     pub mask: Mask,
+    /// The index of the entry in the object's list, from 0.
     pub index: usize,
+    /// Whether the entry is an ALARM one; else it is an AUDIT one.
     pub alarm: bool,
+    /// Whether the bits were granted.
     pub success: bool,
 }
 

@@ -1,4 +1,4 @@
-// Laws of notes: what they tell, and how they go with the ruling.
+// Laws of notes: what they say, and how they go with the ruling.
 ghost use Rattle.std.specs.Prelude.{◌≡◌, ◌∷◌, ℕ, List, Bool, Contains, Some, false};
 ghost use Rattle.album_eval.specs.Audit.{audited};
 ghost use Rattle.album_items.specs.Values.{head_of};
@@ -15,7 +15,7 @@ ghost use Rattle.album_permits.specs.Noting.{IsNeeded, IsSpared};
 ghost use Rattle.album_permits.specs.declared.findings.Finding.TheVariants.{Granted, Denied};
 ghost use Rattle.album_permits.specs.declared.notes.Note.{Note};
 
-/// A law: each note is of something that the ask needs, and says success just where that is granted.
+/// A law: each note is of something that the ask needs, and says success exactly where that is granted.
 pub fn notes_tell_the_verdict()
     ensures verdict { (basis : Basis) (ask : Ask) (note : Note) → Contains (notes_of basis ask) note
         → note.success ≡ is_granted_on basis note.object note.mask }
@@ -23,7 +23,7 @@ pub fn notes_tell_the_verdict()
         → IsNeeded (needs_of basis.seen ask) (on note.object note.mask) }
 {}
 
-/// A law: notes go with the ruling. A note of what a denial tells says no success, and where a note of a granted ask
+/// A law: notes go with the ruling. A note of a denial's reason says no success, and where a note of a granted ask
 /// says none, something else is granted that is needed in the place of what it is of.
 pub fn notes_go_with_the_ruling()
     ensures denied { (basis : Basis) (ask : Ask) (reasons : List Reason) (reason : Reason) (note : Note)
@@ -34,7 +34,7 @@ pub fn notes_go_with_the_ruling()
         → IsSpared basis (needs_of basis.seen ask) (on note.object note.mask) }
 {}
 
-/// A law: no note is left out. Each entry that takes note of what a denial tells has its note, and each that takes
+/// A law: no note is left out. Each entry that takes note of a denial's reason has its note, and each that takes
 /// note of the first alternative of a need of a granted ask.
 pub fn what_takes_note_is_noted()
     ensures denied { (basis : Basis) (ask : Ask) (reasons : List Reason) (reason : Reason) (head : Head) (index : ℕ)

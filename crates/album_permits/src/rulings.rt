@@ -27,11 +27,12 @@ pub enum Ruling {
 #[derive(Debug)]
 pub struct Ruled {
     pub ruling: Ruling,
+    /// In the order in which the lists were looked at.
     pub notes: Vec<Note>,
 }
 
 /// Rules on the ask of the view for the principal, by the policy. The first need of the ask that fails
-/// decides: where one of its objects is missing, that is told; else each of its alternatives with what the
+/// decides: where one of its objects is missing, that is the ruling; else each of its alternatives with what the
 /// list of its object says.
 ///
 /// # Errors

@@ -84,6 +84,7 @@ fn serve_ask(alloc: Global, permit: &Permit) -> Result<Served, Refusal>
             stamp: lookup.stamp_of_list(*object),
             list: lookup.list_of(*object).copy()?,
         }),
+        // The ask of a permit that is served writes nothing, and these write.
         Ask::AddPicture { .. } | Ask::AddAlbum { .. } | Ask::Retitle { .. } => unreachable!(),
         Ask::Replace { .. } | Ask::Delete { .. } | Ask::Move { .. } => unreachable!(),
         Ask::SetLists { .. } | Ask::SetOwner { .. } | Ask::SetMembers { .. } => unreachable!(),
@@ -105,7 +106,7 @@ fn read(alloc: Global, object: ItemId, stamp: Stamp, value: &Value) -> Result<Se
         Value::Group(group) => Ok(Served::Group {
             object,
             stamp,
-            members: group.members.copy()?,
+            members: group.members.clone()?,
         }),
         Value::Missing | Value::Album(_) | Value::List(_) => Ok(Served::Group {
             object,

@@ -9,7 +9,7 @@ use album_stamps::Stamp;
 use std::marker::Model;
 
 /// A permit that is spent on a write, the stamp of this, and what is written. It must be spent too. Contracts
-/// see the permit and the stamp, since these tell what is written.
+/// see the permit and the stamp, since these determine what is written.
 #[derive(Debug)]
 pub struct Writes {
     permit: Permit,

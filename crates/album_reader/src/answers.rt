@@ -15,6 +15,7 @@ use std::marker::Model;
 #[derive(Debug, Drop)]
 pub struct ReadVersion {
     pub item: ItemId,
+    /// The stamp of the version that was read; the zero stamp is the opening's.
     pub stamp: Stamp,
     pub value: SharedValue,
 }

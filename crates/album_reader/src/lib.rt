@@ -6,7 +6,7 @@
 //! the last answer to those what was read.
 //!
 //! Read `reading` first, then `round`, which does its work on what `asker`, `versions` and `answers` say.
-//! What a message does is told by specs/Rounds.antt, over specs/Answers.antt.
+//! What a message does is defined in specs/Rounds.antt, over specs/Answers.antt.
 #![tactic(auto)]
 
 // What a round is made of.

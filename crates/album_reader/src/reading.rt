@@ -31,7 +31,7 @@ impl Model for Reading {
     ghost invariant = { λ a. IsOpen a.round };
 }
 
-/// What comes of a message.
+/// The read after a message.
 #[derive(Debug, Drop)]
 pub enum Step {
     /// The read waits for more answers.
@@ -52,9 +52,15 @@ impl Reading {
 
     /// Asks each item's partition for its latest version.
     ///
+    /// This begins GET_ALL of RAMP-Small (Bailis et al., SIGMOD 2014, Algorithm 2). In the first round a Get without
+    /// stamps gives each item's latest committed stamp. In the second a Get with all these stamps gives the version at
+    /// the greatest of them that the item has. Both rounds are always made, as there, and of the first only the stamps
+    /// count. It differs where versions were trimmed: an item whose version is gone ends the read, and it has to be
+    /// made again.
+    ///
     /// # Errors
     ///
-    /// `TooManyItems` exactly where there are more than 512, and else `OutOfMemory`, with the items
+    /// `TooManyItems` exactly where there are more than `MAX_READ_ITEMS`, and else `OutOfMemory`, with the items
     /// handed back.
     pub fn start(
         alloc: Global,
@@ -96,7 +102,7 @@ impl Reading {
     }
 
     /// Takes a message. Of the answers to what the round asks, the first one of each item counts,
-    /// and nothing else does. An item that the second round is told to be gone ends the read.
+    /// and nothing else does. A Gone in the second round ends the read.
     ///
     /// # Errors
     ///
@@ -104,9 +110,9 @@ impl Reading {
     pub fn on_reply(self, message: &Message) -> Result<Step, Refused<Reading>>
         ensures step { IfOk result (λ step. step_of step ≡ stepped self message.now) }
 
-        // Where the reading is what a list of replies tells, the step is what these and the message
-        // tell: the round is over once each item has an answer among them, and the read where in the
-        // second round the message tells that an item without one is gone.
+        // The reading is the first step of its round by a list of replies: then this step is the one by these and the
+        // message. The round is over once each item has an answer among them, and the read where in the second round
+        // the message says that an item without one is gone.
         ensures all_given { IfOk result (λ step. (replies : List Message)
             → self ≡ after_replies self replies
             → step_of step ≡ open_step_after self replies message.now) }
@@ -133,7 +139,8 @@ impl Reading {
         }
     }
 
-    /// Takes a message that doesn't end the round, in place. Tells whether it is one: any other is left to `on_reply`.
+    /// Takes a message that doesn't end the round, in place. The result is whether it is one: any other is left to
+    /// `on_reply`.
     ///
     /// # Errors
     ///
@@ -148,7 +155,7 @@ impl Reading {
         if self.is_ended_by(message) {
             return Ok(false);
         }
-        // The round has no end by it, as is told above.
+        // The round has no end by it, as the test above says.
         let _end = self.round.take(message)?;
         Ok(true)
     }

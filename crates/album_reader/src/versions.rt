@@ -1,4 +1,4 @@
-// What a message tells of an item: a version of it, or that it is gone.
+// What a message brings of an item: a version of it, or that it is gone.
 ghost use Rattle.std.specs.Prelude.{◌≡◌, Option, option_map, IfOk};
 ghost use Rattle.album_reader.specs.Answers.{reply_version, body_version, body_gone};
 ghost use Rattle.album_reader.specs.Ends.{answer_of};
@@ -30,7 +30,7 @@ impl VersionIn<'_> {
     }
 }
 
-/// The version that the body tells, if it tells one.
+/// The version in the body, if there is one.
 pub fn body_version(body: &Body) -> Option<VersionIn>
     ensures { option_map answer_of result ≡ body_version body.now }
 {
@@ -55,7 +55,7 @@ fn reply_version(reply: &Reply) -> Option<VersionIn>
     }
 }
 
-/// The item that the body tells to be gone, if it tells that of one.
+/// The item that is gone by the body, if one is.
 pub fn body_gone(body: &Body) -> Option<ItemId>
     ensures { result ≡ body_gone body.now }
 {

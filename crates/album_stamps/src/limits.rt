@@ -1,4 +1,4 @@
-// The limits of the service: each stands here alone, and docs/FORMATS.md lists them.
+//! The limits of the service: each stands here alone, and docs/FORMATS.md lists them.
 
 /// How many partitions a service may have.
 pub const MAX_PARTS: u16 = 16;
@@ -12,9 +12,10 @@ pub const MAX_READ_ITEMS: usize = 512;
 /// How many reads may be made for one view.
 pub const MAX_READS: u8 = 8;
 
-/// How few, and how many marks the history of a partition may have room for.
+/// How few marks the history of a partition may have room for.
 pub const MIN_MARKS: u64 = 2;
 
+/// How many marks it may have room for.
 pub const MAX_MARKS: u64 = 1_000_000;
 
 /// How many entries an access list may have.
@@ -26,16 +27,19 @@ pub const MAX_MEMBERS: usize = 128;
 /// How many children an album may have.
 pub const MAX_CHILDREN: usize = 128;
 
-/// How many bytes a user's name, a title and a content may have.
+/// How many bytes a user's name may have.
 pub const MAX_NAME: usize = 64;
 
+/// How many bytes a title may have.
 pub const MAX_TITLE: usize = 200;
 
+/// How many bytes a content may have.
 pub const MAX_CONTENT: usize = 4096;
 
-/// How many items an opening may have, and the greatest number that it may use.
+/// How many items an opening may have.
 pub const MAX_OPENING_ITEMS: usize = 4096;
 
+/// The greatest number of an item, a list or a home that an opening may use.
 pub const MAX_OPENING_NUMBER: u64 = 65_535;
 
 /// How many bytes a line may have, without its newline.

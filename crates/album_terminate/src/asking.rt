@@ -1,4 +1,4 @@
-// What a partition asks of the others.
+//! What a partition asks of the others.
 ghost use Rattle.std.specs.Prelude.{◌≡◌, IfOk, IsOkUnless, map};
 ghost use Rattle.album_terminate.specs.Asking.{check_to};
 
@@ -6,8 +6,11 @@ use album_calls::{Body, Message, Node, Request};
 use album_stamps::{Refusal, Stamp};
 use std::alloc::Global;
 
-/// What this partition asks of the others, each of them once and in their order: how does the stamp
-/// stand at your side?
+/// What this partition asks of the others, each of them once and in their order: how the stamp stands there.
+///
+/// # Errors
+///
+/// `OutOfMemory`.
 pub fn checks(
     alloc: Global,
     part: u16,

@@ -231,9 +231,9 @@ fn make_shared(rows: &mut ItemValues) -> Result<(), Refusal> {
 
 /// A copy of the rows; made once more, where that was refused.
 fn copied(rows: &ItemValues) -> Result<ItemValues, Refusal> {
-    match rows.copy() {
+    match rows.clone() {
         Ok(copy) => Ok(copy),
-        Err(_) => rows.copy(),
+        Err(_) => rows.clone(),
     }
 }
 

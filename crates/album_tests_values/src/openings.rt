@@ -21,7 +21,7 @@ fn two_pictures(alloc: Global, lists: [u64; 2]) -> Result<ItemValues, Refusal> {
 /// What the check of an opening of copies of two pictures under lists of these numbers says.
 fn two_checked(alloc: Global, lists: [u64; 2]) -> Result<(), Refusal> {
     let items = two_pictures(alloc, lists)?;
-    checked(items.copy()?)
+    checked(items.clone()?)
 }
 
 fn checked(items: ItemValues) -> Result<(), Refusal> {

@@ -160,7 +160,7 @@ fn started(alloc: Global, items: &Items) -> Result<Reading, Refusal> {
         return Err(Refusal::BadRequest);
     }
     let client = ClientNo::of(1).ok_or(Refusal::BadRequest)?;
-    let (reading, messages) = Reading::start(alloc, items.copy()?, client, 1, 1)?;
+    let (reading, messages) = Reading::start(alloc, items.clone()?, client, 1, 1)?;
     drop(messages);
     Ok(reading)
 }

@@ -3,13 +3,13 @@ use Rattle.std.proofs.Common.{◌≡◌, ℕ, zero, suc, ◌+◌, ◌<◌, List,
 use Rattle.std.proofs.lemmas.List.{get_or_push, get_or_append_left}
 use Rattle.std.proofs.lemmas.List.Elements.{All-nil}
 use Rattle.atomic_table.specs.Seated.{TableId}
-use Rattle.album_partition.specs.Partition.{PartitionState}
+use Rattle.album_partition.specs.Partition.{PartitionState, first_partition}
 use Rattle.album_partition.specs.declared.marks.Mark.{Mark}
 use Rattle.album_passes.specs.Desk.{DeskState, first_owner, AreOwners}
 use Rattle.album_passes.specs.Knowledge.{Terms}
 use Rattle.album_passes.specs.Owner.{OwnerState}
 use Rattle.album_threads.specs.Keepers.{IsKeeper}
-use Rattle.album_threads.specs.Opened.{first_partition, AreFirst, AreFirstOwners}
+use Rattle.album_threads.specs.Opened.{AreFirst, AreFirstOwners}
 
 nothing_at : (n p : ℕ) → get_or {A = List Mark} (replicate n []) p [] ≡ []
 nothing_at zero p = refl
@@ -17,7 +17,8 @@ nothing_at (suc n) zero = refl
 nothing_at (suc n) (suc p) = nothing_at n p
 
 -- the cut of a first owner shows its partition, which has no marks
-pub first_keeper : (table : TableId) (terms : Terms) (p : ℕ) (q : PartitionState) (o : OwnerState) → q ≡ first_partition terms p
+pub first_keeper : (table : TableId) (terms : Terms) (p : ℕ) (q : PartitionState) (o : OwnerState)
+    → q ≡ first_partition terms.parts terms.limit terms.opening p
     → o ≡ first_owner (record { table = table; terms = terms }) p → IsKeeper table terms.limit (record { partition = q; owner = o })
 first_keeper table terms p q o partition owner =
     subst (λ (y : PartitionState × OwnerState). IsKeeper table terms.limit (record { partition = y.0; owner = y.1 })) (λ i. (sym partition i, sym owner i))

@@ -16,13 +16,8 @@ use Rattle.album_views.specs.Asks.{objects_of}
 use Rattle.album_views.specs.ReadSets.{names_of}
 use Rattle.album_views.specs.Views.{IsClosed, IsView}
 use Rattle.album_views.specs.declared.asks.Ask.{Ask}
-use Rattle.album_listing.specs.Basis.{Basis, IsBasis}
 use Rattle.album_permits.specs.Effects.{effect_of}
-use Rattle.album_permits.specs.Findings.{ruling_of}
-use Rattle.album_permits.specs.Notes.{notes_of}
 use Rattle.album_permits.specs.Permits.{PermitState, permit_on}
-use Rattle.album_permits.specs.declared.findings.Finding.{Finding}
-use Rattle.album_permits.specs.declared.notes.Note.{Note}
 use Rattle.album_passes.specs.Cuts.{Cut, prefix_at, IsPrefix}
 use Rattle.album_passes.specs.Reads.{IsReadAtomic, IsFreshFrom}
 
@@ -42,18 +37,6 @@ pub record IsOnView
   pub seen : IsSeen begun now rows
   pub view : IsView (record { ask = ask; rows = rows })
   pub holds : Holds (permit_on policy principal ask rows)
-
--- the written policy finds this
-pub record Finds (case : PermitState) (finding : Finding) : Type 0 where
-  pub basis : Basis
-  pub based : IsBasis case.policy case.principal case.view.rows basis
-  pub is : ruling_of basis case.view.ask ≡ finding
-
--- and this is noted of it
-pub record Notes (case : PermitState) (notes : List Note) : Type 0 where
-  pub basis : Basis
-  pub based : IsBasis case.policy case.principal case.view.rows basis
-  pub is : notes_of basis case.view.ask ≡ notes
 
 -- ---- a write
 

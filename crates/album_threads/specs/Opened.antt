@@ -2,25 +2,19 @@
 use Rattle.std.specs.Prelude.{◌≡◌, ℕ, ◌<◌, ◌≤◌, List, length, slice_index_or}
 use Rattle.atomic_table.specs.Seated.{TableId}
 use Rattle.album_stamps.specs.declared.limits.TheConstants.{MAX_PARTS}
-use Rattle.album_items.specs.Places.{rows_placed_at}
 use Rattle.album_eval.specs.declared.policies.Policy.{Policy}
-use Rattle.album_partition.specs.Partition.{PartitionState, opening_state}
+use Rattle.album_partition.specs.Partition.{PartitionState, first_partition}
 use Rattle.album_passes.specs.Desk.{DeskState, first_owner, AreOwners, first_pass}
 use Rattle.album_passes.specs.Knowledge.{Terms}
 use Rattle.album_passes.specs.Owner.{OwnerState}
 use Rattle.album_passes.specs.Pass.{PassState}
 use Rattle.album_audit.specs.Books.{LedgerNames}
 
--- the partition of this number as it opens, with the first values that are placed at it
-abbrev pub first_partition : Terms → ℕ → PartitionState
-first_partition terms number =
-    opening_state number terms.parts (rows_placed_at number terms.parts terms.opening) terms.limit
-
 -- the first partitions as they open, so many of them, in order
 pub record AreFirst (terms : Terms) (count : ℕ) (partitions : List PartitionState) : Type 0 where
   pub count_is : length partitions ≡ count
   pub each : (part : ℕ) (other : PartitionState) → part < count
-      → slice_index_or partitions part other ≡ first_partition terms part
+      → slice_index_or partitions part other ≡ first_partition terms.parts terms.limit terms.opening part
 
 -- a desk, the policy of rulings, and the names of the ledgers of an audit book
 pub record OpenedState : Type 0 where

@@ -15,7 +15,8 @@ use Rattle.album_permits.specs.Serving.{IsServed}
 use Rattle.album_permits.specs.declared.findings.Finding.{Finding}
 use Rattle.album_permits.specs.declared.findings.Finding.TheVariants as finding
 use Rattle.album_permits.specs.declared.notes.Note.{Note}
-use Rattle.album_threads.specs.Grounds.{IsOnView, Finds, Notes, items_of, IsKept, IsWithoutRoom, IsWide, IsOutOfReads}
+use Rattle.album_permits.specs.Meaning.{Finds, Notes}
+use Rattle.album_threads.specs.Grounds.{IsOnView, items_of, IsKept, IsWithoutRoom, IsWide, IsOutOfReads}
 use Rattle.album_threads.specs.Sessions.{SessionState, AnnouncesNothing}
 use Rattle.album_permits.specs.declared.answers.Answer.{Answer}
 use Rattle.album_permits.specs.declared.answers.Answer.TheVariants as answer

@@ -1,13 +1,12 @@
 // What a service starts with, before any type stands for it.
-ghost use Rattle.std.specs.Prelude.{◌≡◌, ◌≢◌, ℕ, ◌<◌, ◌≤◌, true, false, Some, IfOk, IfErr, OnOk, IsOkUnless};
+ghost use Rattle.std.specs.Prelude.{◌≡◌, ◌≢◌, ◌<◌, true, false, Some, IfOk, IfErr, OnOk};
 ghost use Rattle.album_eval.specs.Policies.{policy_of};
 ghost use Rattle.album_items.specs.Openings.{is_opening};
-ghost use Rattle.album_passes.specs.Desk.{terms_of, AreOwners, first_pass};
-ghost use Rattle.album_threads.specs.Opened.{first_partition, AreFirst};
+ghost use Rattle.album_passes.specs.Desk.{terms_of};
 
 use album_audit::Blanks;
 use album_eval::Policy;
-use album_items::{Opening, rows_placed_at};
+use album_items::Opening;
 use album_partition::Partition;
 use album_passes::{Desk, Owner, Pass};
 use album_stamps::Refusal;
@@ -53,7 +52,7 @@ impl Opened {
     {
         opening.check()?;
         let policy = Policy::of(opening.policy).unwrap();
-        let partitions = partitions_of(alloc, opening)?;
+        let partitions = Partition::all_of(alloc, opening)?;
         let (desk, owners, pass) = Desk::open(alloc, opening, sessions)?;
         Ok(Opened {
             desk,
@@ -64,36 +63,5 @@ impl Opened {
             policy,
             blanks: Blanks::new(),
         })
-    }
-}
-
-/// The partitions of an opening, in order.
-fn partitions_of(alloc: Global, opening: &Opening) -> Result<Vec<Partition>, Refusal>
-    requires { is_opening opening.now ≡ true }
-    ensures partitions { IfOk result (λ partitions. (sessions : ℕ)
-        → AreFirst (terms_of opening.now sessions) opening.now.parts partitions.items) }
-    ensures memory { IsOkUnless result Refusal.OutOfMemory }
-{
-    let mut partitions = Vec::new(alloc);
-    for number in 0..opening.parts as u16 {
-        partitions.push(partition_of(alloc, opening, number)?)?;
-    }
-    Ok(partitions)
-}
-
-/// One of them.
-fn partition_of(alloc: Global, opening: &Opening, number: u16) -> Result<Partition, Refusal>
-    requires opening { is_opening opening.now ≡ true }
-    requires here { number < opening.now.parts }
-    ensures partition { IfOk result (λ partition. (sessions : ℕ)
-        → partition ≡ first_partition (terms_of opening.now sessions) number) }
-    ensures memory { IsOkUnless result Refusal.OutOfMemory }
-{
-    let parts = opening.parts as u16;
-    let items = rows_placed_at(alloc, number, parts, opening.items.as_slice())?;
-    match Partition::new(alloc, number, parts, items, opening.limit) {
-        Ok(partition) => Ok(partition),
-        // Of an opening that passes its check, memory alone can refuse a partition.
-        Err(_) => Err(Refusal::OutOfMemory),
     }
 }

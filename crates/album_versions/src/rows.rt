@@ -1,4 +1,4 @@
-// What is kept of one item: its versions, its latest committed stamp and its floor.
+//! What is kept of one item: its versions, its latest committed stamp and its floor.
 ghost use Rattle.std.specs.Prelude.{◌≡◌, ◌≤◌, ◌<◌, ◌↔◌, ◌==◌, ◌&&◌, ℕ, nat_le, not, max, filter, length, is_some, Some, None, IsNone, IfOk, IfErr, OnOk, OnErr, All, if◌then◌else◌};
 ghost use Rattle.std.specs.List.{remove};
 ghost use Rattle.std.specs.Option.{option_copied};
@@ -158,7 +158,7 @@ impl Row {
     }
 }
 
-/// What `best` tells: the best, and where that is the zero stamp, nothing once the floor is above it.
+/// The result of `best`: the best, and where that is the zero stamp, nothing once the floor is above it.
 fn unless_gone(best: Stamp, floor: Stamp) -> Option<Stamp>
     ensures { result ≡ unless_gone best floor }
 {

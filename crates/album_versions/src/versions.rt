@@ -1,4 +1,4 @@
-// The versions of items, and of each item the latest committed stamp and the floor.
+//! The versions of items, and of each item the latest committed stamp and the floor.
 ghost use Rattle.std.specs.Prelude.{◌≡◌, ◌≢◌, ◌<◌, ◌≤◌, ◌↔◌, ◌⊎◌, ℕ, Bool, List, is_some, IsTrue, IsSome, IsNone, IfSome, IfErr, OnOk, OnErr, All, Contains};
 ghost use Rattle.std.specs.Option.{option_copied};
 ghost use Rattle.album_items.specs.declared.values.Value.{Value as ItemValue};
@@ -178,7 +178,7 @@ fn add_in(
     }
 }
 
-/// A law: what `best` finds is told by three facts. Unless it is 0 it is one of the given stamps
+/// A law: three facts determine what `best` finds. Unless it is 0 it is one of the given stamps
 /// and has a version, and no given stamp that has a version is greater. So neither the order of
 /// the stamps nor repeats among them matter.
 pub fn best_is_the_greatest()

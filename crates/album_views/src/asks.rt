@@ -12,6 +12,7 @@ use std::marker::Model;
 #[derive(Clone, Debug, Drop)]
 pub struct NewList {
     pub object: ItemId,
+    /// The whole list that takes the place of the object's.
     pub list: AccessList,
 }
 

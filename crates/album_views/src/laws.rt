@@ -26,8 +26,8 @@ pub fn asks_without_flaw()
     ensures taken { (ask : Ask) (principal : Principal) → refusal_of ask principal ≡ None → flaw_of ask ≡ None }
 {}
 
-/// A law: the names are, as a set, just what is named, and none stands twice. They are in the order of
-/// the rules: the first names, and behind them the groups among the members of each name in turn, also of
+/// A law: the read set has exactly the items that are named, each once. They are in the order of
+/// the rules: the first names, and after them the groups among the members of each name in turn, also of
 /// one that stands there for that reason; and no other list is.
 pub fn names_are_what_is_named()
     ensures named { (rows : List ReadVersion) (ask : Ask) (item : ℕ)
@@ -41,9 +41,9 @@ pub fn names_are_what_is_named()
     ensures closed { (rows : List ReadVersion) (ask : Ask) → (is_closed ask rows ≡ true) ↔ IsClosed ask rows }
 {}
 
-/// A law: a view comes of a snapshot just where it is closed, and has the ask and that snapshot. No view
-/// comes of an ask just where a snapshot is not closed, and its names are too many, or it is that of the last read.
-/// Else just the names are read next.
+/// A law: a snapshot makes a view exactly where it is closed, and the view has the ask and that snapshot. The ask is
+/// given up exactly where a snapshot is not closed, and its read set is too large, or it is that of the last read.
+/// Else exactly the read set is read next.
 pub fn a_view_is_the_first_closed_read()
     ensures closed { (viewing : ViewingState) (rows : List ReadVersion) (view : ViewState)
         → (stepped viewing rows ≡ Closed view)

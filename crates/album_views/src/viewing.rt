@@ -44,14 +44,14 @@ pub enum Why {
     Wide,
 }
 
-/// What comes of a read.
+/// The viewing after a read.
 #[derive(Debug, Drop)]
 pub enum ViewStep {
     /// These items are to be read, all of them afresh.
     Again(Viewing, Items),
     /// The snapshot has all that the ruling looks at.
     Closed(View),
-    /// No view comes of the ask.
+    /// The ask is given up without a view.
     Busy(Why),
 }
 
@@ -102,7 +102,7 @@ impl Viewing {
         }
     }
 
-    /// What comes of the snapshot, whose names these are.
+    /// The step by the snapshot, whose read set these are.
     fn on_names(self, snapshot: Snapshot, names: Vec<ItemId>) -> ViewStep
         requires { names.items ≡ names_of snapshot self.ask }
         ensures step { result ≡ stepped self snapshot }
@@ -114,7 +114,7 @@ impl Viewing {
         self.unclosed(names)
     }
 
-    /// What comes of a snapshot that lacks one of its names.
+    /// The step by a snapshot that lacks one of its read set.
     fn unclosed(self, names: Vec<ItemId>) -> ViewStep
         ensures { result ≡ unclosed self names.items }
     {

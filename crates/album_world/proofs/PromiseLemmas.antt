@@ -39,7 +39,8 @@ use Rattle.album_world.specs.Changes.{Change, asks_unless, asks_by, part_takes, 
 use Rattle.album_world.specs.Changes.Change.{AtPart, Stops}
 use Rattle.album_world.specs.Runs.{changed, changed_by, happens, new_request, requested, start, run, run_of}
 use Rattle.album_world.specs.Committing.{history, IsCommittedEverywhere, IsPromisedSomewhere}
-use Rattle.album_world.specs.Viewed.{IsAnsweredOnView, Finds}
+use Rattle.album_permits.specs.Meaning.{Finds}
+use Rattle.album_world.specs.Viewed.{IsAnsweredOnView}
 use Rattle.album_world.specs.Rulings.{IsBegunBy, IsRuledBy, RulingsHold}
 use Rattle.album_world.specs.Granted.{IsOfOne, WritesAreGranted}
 use Rattle.album_world.specs.Atomic.{ViewsAreReadAtomic}

@@ -13,7 +13,7 @@ use Rattle.album_calls.specs.declared.messages.Message.{Message}
 use Rattle.album_calls.specs.declared.nodes.Node.{Node}
 use Rattle.album_calls.specs.declared.nodes.Node.TheVariants.{Part, Client as ToClient}
 use Rattle.album_eval.specs.declared.facts.Principal.{Principal}
-use Rattle.album_partition.specs.Partition.{PartitionState}
+use Rattle.album_partition.specs.Partition.{PartitionState, first_partition}
 use Rattle.album_partition.specs.Marks.{value_in}
 use Rattle.album_views.specs.Asks.{objects_of}
 use Rattle.album_views.specs.Checks.{refusal_of}
@@ -28,7 +28,7 @@ use Rattle.album_world.specs.State.{client_at, marks_of, message_of, is_stopped}
 use Rattle.album_world.specs.Past.{World}
 use Rattle.album_world.specs.Changes.{Change, asks_unless, asks_by, part_takes, arrives, delivers, sweeps, trims}
 use Rattle.album_world.specs.Changes.Change.{Stops}
-use Rattle.album_world.specs.Runs.{changed, changed_by, happens, new_request, opens, requested, start, run, run_of}
+use Rattle.album_world.specs.Runs.{changed, changed_by, happens, new_request, requested, start, run, run_of}
 use Rattle.album_world.specs.Committing.{history}
 use Rattle.album_world.proofs.ListLemmas.{In, and_left, and_right, in_nil, got_in, range_got, none_some}
 use Rattle.album_world.proofs.PlaceLemmas.{value_placed}
@@ -63,8 +63,8 @@ opening_is o is =
 module _ (o : Opening) (is : IsOpening o) where
   placed_start : (p : ℕ) (h : PartitionState) → slice_get (start o).now.partitions p ≡ Some h → IsPlaced o p h
   placed_start p h e =
-      let r = range_got (opens o) 0 o.parts p h e in
-      let same : h ≡ opens o p = r.0 ∙ ap (opens o) (omega arith) in
+      let r = range_got (first_partition o.parts o.limit o.items) 0 o.parts p h e in
+      let same : h ≡ first_partition o.parts o.limit o.items p = r.0 ∙ ap (first_partition o.parts o.limit o.items) (omega arith) in
       subst (λ (z : PartitionState). IsPlaced o p z) (sym same)
       (record {
         number = refl;
@@ -89,7 +89,7 @@ module _ (o : Opening) (is : IsOpening o) where
     where
       go : (f : Option PartitionState) → slice_get (start o).now.partitions p ≡ f → marks_of f ≡ []
       go None e = refl
-      go (Some h) e = ap (λ (z : PartitionState). z.marks) (range_got (opens o) 0 o.parts p h e).0
+      go (Some h) e = ap (λ (z : PartitionState). z.marks) (range_got (first_partition o.parts o.limit o.items) 0 o.parts p h e).0
 
   pub start_kept : IsKept o (start o)
   start_kept = record {
@@ -102,7 +102,7 @@ module _ (o : Opening) (is : IsOpening o) where
           discarded = λ t h. absurd (true≢false (sym h));
         });
     noted = λ p h e n l. in_nil
-        (subst (λ (z : PartitionState). In n z.votes) (range_got (opens o) 0 o.parts p h e).0 l);
+        (subst (λ (z : PartitionState). In n z.votes) (range_got (first_partition o.parts o.limit o.items) 0 o.parts p h e).0 l);
     fine = λ m h. in_nil h;
     from = λ m h. in_nil h;
     to = λ m h. in_nil h;

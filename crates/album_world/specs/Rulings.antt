@@ -7,7 +7,8 @@ use Rattle.album_permits.specs.declared.serving.Served.{Served}
 use Rattle.album_client.specs.Terms.{Terms}
 use Rattle.album_client.specs.Steps.{Transaction}
 use Rattle.album_world.specs.Past.{PastAnswer, Noted, World}
-use Rattle.album_world.specs.Viewed.{IsOnView, IsAnsweredOnView, Finds, Notes}
+use Rattle.album_permits.specs.Meaning.{Finds, Notes}
+use Rattle.album_world.specs.Viewed.{IsOnView, IsAnsweredOnView}
 use Rattle.album_permits.specs.declared.answers.Answer.{Answer}
 use Rattle.album_permits.specs.declared.answers.Answer.TheVariants as answer
 
@@ -41,7 +42,7 @@ IsRuledBy terms world given (answer.Unsettled stamp why) =
     IsAnsweredOnView terms world given (IsBegunBy world given.client stamp)
 IsRuledBy terms world given (answer.Refused why) = IsAnsweredOnView terms world given IsPermit
 
--- the view of the answer has notes too
+-- the past has the notes for the view of the answer
 pub record HasNotes (world : World) (given : PastAnswer) : Type 0 where
   pub noted : Noted
   pub kept : Contains world.past.noted noted

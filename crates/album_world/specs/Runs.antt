@@ -5,8 +5,7 @@ use Rattle.std.specs.Option.{unwrap_or}
 use Rattle.album_stamps.specs.declared.refusals.Refusal.{Refusal}
 use Rattle.album_items.specs.declared.openings.Opening.{Opening}
 use Rattle.album_calls.specs.declared.messages.Message.{Message}
-use Rattle.album_partition.specs.Partition.{PartitionState, opening_state}
-use Rattle.album_items.specs.Places.{is_placed}
+use Rattle.album_partition.specs.Partition.{PartitionState, first_partitions}
 use Rattle.album_eval.specs.declared.facts.Principal.{Principal}
 use Rattle.album_permits.specs.declared.notes.Note.{Note}
 use Rattle.album_views.specs.declared.asks.Ask.{Ask}
@@ -58,10 +57,11 @@ begun_after now past number transition =
     record { client = number; nth = nth_after past number transition.over; partitions = now.partitions } ∷ past.begun
     else past.begun
 
--- an answer, and notes, with the read that the client had made last
+-- an answer, with the read that the client had made last
 abbrev pub past_answer : List Read → ℕ → Answer → PastAnswer
 past_answer reads number answer = record { client = number; last = last_read reads number; answer = answer }
 
+-- notes, with the read that the client had made last
 abbrev pub noted_of : List Read → ℕ → List Note → Noted
 noted_of reads number notes = record { client = number; last = last_read reads number; notes = notes }
 
@@ -178,17 +178,12 @@ event_outputs terms world event = outs_by world.now (change_of terms world.now e
 
 -- ---- a run
 
--- the partition of a number, with the first values of the items that are placed at it
-abbrev pub opens : Opening → ℕ → PartitionState
-opens opening part =
-    opening_state part opening.parts (filter (λ row. is_placed part opening.parts row.0) opening.items) opening.limit
-
 -- the world as it opens
 abbrev pub start : Opening → World
 start opening =
     record {
       now = record {
-        partitions = map (opens opening) (range_with_len 0 opening.parts);
+        partitions = first_partitions opening.parts opening.limit opening.items;
         messages = [];
         clients = [];
         stopped = [];

@@ -27,14 +27,14 @@ ghost use Rattle.album_world.specs.Rulings.{RulingsHold};
 ghost use Rattle.album_world.specs.Runs.{changed, happens, run, run_of, event_outputs, past_answer};
 ghost use Rattle.album_world.specs.State.{Now, client_at, is_stopped};
 ghost use Rattle.album_world.specs.OutputsOnce.{AreGivenOnce, run_outputs};
-ghost use Rattle.album_world.specs.Viewed.{Finds};
+ghost use Rattle.album_permits.specs.Meaning.{Finds};
 ghost use Rattle.album_permits.specs.declared.events.Event.{Event as Happening};
 ghost use Rattle.album_permits.specs.declared.events.Event.TheVariants as Event;
 ghost use Rattle.album_permits.specs.declared.answers.Answer.{Answer as Answered};
 ghost use Rattle.album_permits.specs.declared.outs.Out.TheVariants as Out;
 
 /// A law: rulings hold. Each note, and each answer Served, Denied, Missing, Committed, Aborted, Unsettled or Refused,
-/// is what the written policy says of the closed view that its client had read last. The policy is the opening's, and it
+/// is what the written policy says of the closed view that its client had read last. The policy is the opening's. It
 /// looks at that view's lists, owners and groups.
 pub fn rulings_hold()
     ensures { (opening : Opening) (events : List Happening) → is_opening opening ≡ true

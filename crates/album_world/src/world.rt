@@ -14,7 +14,7 @@ ghost use Rattle.album_world.specs.Seen.{AreStepped, IsExtendedBy, IsDone, IsRea
 ghost use Rattle.album_world.specs.State.{message_of};
 
 use crate::clients::Clients;
-use crate::opening::{partitions_of, terms_of};
+use crate::opening::terms_of;
 use crate::state::State;
 use crate::stopped::Stopped;
 use album_calls::Message;
@@ -56,7 +56,7 @@ impl World {
     {
         opening.check()?;
         let terms = terms_of(opening);
-        let partitions = partitions_of(alloc, opening, terms.parts())?;
+        let partitions = Partition::all_of(alloc, opening)?;
         let state = State {
             partitions,
             messages: Vec::new(alloc),

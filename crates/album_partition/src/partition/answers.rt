@@ -1,4 +1,4 @@
-// The table of answers: what a partition does with each message, decided before anything is kept.
+//! The table of answers: what a partition does with each message, decided before anything is kept.
 ghost use Rattle.std.specs.Prelude.{◌≡◌, ◌≤◌, true, Bool, IfOk, if◌then◌else◌};
 ghost use Rattle.std.specs.Option.{option_copied, unwrap_or};
 ghost use Rattle.album_items.specs.declared.values.Value.TheVariants.{Missing};
@@ -257,7 +257,7 @@ impl Partition {
         }
     }
 
-    /// A vote Prepared counts where one of the partitions of the items tells it.
+    /// A vote Prepared counts where it comes from one of the partitions of the items.
     fn on_prepared(&self, from: Node, stamp: Stamp) -> Result<Action, AllocError>
         requires { state_of self.now.marks stamp ≡ StampState.Pending }
         ensures { Does result (on_prepared self.now from stamp) }
@@ -315,7 +315,7 @@ fn commit_by(state: StampState, stamp: Stamp) -> Action
 }
 
 /// A Check of a stamp that stands so. A stamp that is unknown is discarded, so that it never is
-/// prepared here once this was told.
+/// prepared here after this vote.
 fn check_by(full: bool, state: StampState, stamp: Stamp) -> Action
     ensures { result ≡ check_by full state stamp }
 {

@@ -1,4 +1,4 @@
-// All partitions of an opening.
+//! All partitions of an opening.
 ghost use Rattle.std.specs.Prelude.{◌≡◌, ◌<◌, true, IfOk, IsOkUnless};
 ghost use Rattle.album_items.specs.Openings.{is_opening};
 ghost use Rattle.album_partition.specs.Partition.{first_partition, first_partitions};

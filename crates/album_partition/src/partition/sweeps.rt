@@ -1,4 +1,4 @@
-// What a partition sends for a stamp that is pending there.
+//! What a partition sends for a stamp that is pending there.
 ghost use Rattle.std.specs.Prelude.{◌≡◌, ◌∷◌, [], IfOk, IsOkUnless};
 ghost use Rattle.album_partition.specs.Marks.{state_of, items_at};
 ghost use Rattle.album_items.specs.Places.{others_of};
@@ -10,7 +10,7 @@ use album_stamps::{Refusal, Stamp};
 use album_terminate::{StampState, checks};
 
 impl Partition {
-    /// Asks the other partitions of the items, or tells itself where there is none.
+    /// Asks the other partitions of the items, or votes to itself where there is none.
     pub(super) fn ask_others(&self, stamp: Stamp) -> Result<Vec<Message>, Refusal>
         requires { state_of self.now.marks stamp ≡ StampState.Pending }
         ensures messages { IfOk result (λ messages. messages.items ≡ sent_by self.now.number stamp
@@ -24,7 +24,7 @@ impl Partition {
         checks(self.alloc, self.seat.number, &others, stamp)
     }
 
-    /// The partition tells itself that the stamp is prepared here.
+    /// The partition's vote to itself: the stamp is prepared here.
     fn own_vote(&self, stamp: Stamp) -> Result<Vec<Message>, Refusal>
         ensures messages { IfOk result (λ messages. messages.items ≡ own_vote self.now.number stamp ∷ []) }
         ensures memory { IsOkUnless result Refusal.OutOfMemory }

@@ -1,4 +1,4 @@
-// What a trim does at a partition, decided before anything is kept.
+//! What a trim does at a partition, decided before anything is kept.
 ghost use Rattle.std.specs.Prelude.{◌≡◌};
 ghost use Rattle.album_partition.specs.Partition.{IsPartition};
 ghost use Rattle.album_partition.specs.Trims.{on_trim};

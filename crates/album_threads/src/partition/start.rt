@@ -3,7 +3,8 @@ ghost use Rattle.std.specs.Prelude.{◌≡◌, ◌<◌, ◌≤◌};
 ghost use Rattle.std.specs.Arc.{arc_value};
 ghost use Rattle.album_stamps.specs.declared.limits.TheConstants.{MAX_PARTS};
 ghost use Rattle.album_passes.specs.Desk.{first_owner};
-ghost use Rattle.album_threads.specs.Opened.{first_partition, AreFirst, AreFirstOwners};
+ghost use Rattle.album_partition.specs.Partition.{first_partition};
+ghost use Rattle.album_threads.specs.Opened.{AreFirst, AreFirstOwners};
 
 use crate::gate::Gate;
 use crate::mailbox::{Inbox, PartitionMail};
@@ -71,7 +72,7 @@ pub(crate) fn loop_of<J: ServiceNames>(
     owner: Owner,
     mailboxes: &[Sender<PartitionMail<J>>],
 ) -> Result<PartitionLoop<J>, AllocError>
-    requires partition { partition ≡ first_partition J.terms part }
+    requires partition { partition ≡ first_partition J.terms.parts J.terms.limit J.terms.opening part }
     requires owner { owner ≡ first_owner (record { table = J.table; terms = J.terms }) part }
 {
     let mut parts = Vec::new(alloc);

@@ -1,9 +1,10 @@
 use Rattle.std.proofs.Common.{rules, ◌≤◌, ap, sym, subst}
 use Rattle.album_stamps.specs.declared.limits.TheConstants.{MAX_PARTS}
+use Rattle.album_passes.specs.Desk.{terms_of}
 use Rattle.album_passes.specs.Knowledge.{Terms}
 use Rattle.album_passes.proofs.DeskLemmas.{few_parts}
 use Rattle.album_threads.specs.Opened.{AreFirst}
-use Rattle.album_threads.proofs.OpenedLemmas.{some_parts}
+use Rattle.album_threads.proofs.OpenedLemmas.{some_parts, all_first}
 use Rattle.album_threads.proofs.opened.Opened.new.Goals as goal
 
 pub invariant_of-result : goal.invariant_of-result
@@ -12,6 +13,6 @@ invariant_of-result c = record {
   some = subst (λ (t : Terms). 1 ≤ t.parts) (sym c.in_ok-desk.ensures.terms) (some_parts c.args.opening.now (search rules));
   few = subst (λ (t : Terms). t.parts ≤ MAX_PARTS) (sym c.in_ok-desk.ensures.terms) (few_parts c.args.opening.now (search rules));
   owned = c.in_ok-desk.ensures.owners;
-  opened = subst (λ (t : Terms). AreFirst t t.parts c.in_ok-partitions.partitions.items) (sym c.in_ok-desk.ensures.terms) (c.in_ok-partitions.ensures.partitions c.args.sessions);
+  opened = subst (λ (t : Terms). AreFirst t t.parts c.in_ok-partitions.partitions.items) (sym c.in_ok-desk.ensures.terms) (all_first (terms_of c.args.opening.now c.args.sessions) c.in_ok-partitions.partitions.items c.in_ok-partitions.ensures.partitions);
   first = c.in_ok-desk.ensures.pass;
 }

@@ -1,16 +1,16 @@
 use Rattle.std.proofs.Common.{◌≡◌, ◌-◌, length, ap, ◌∙◌, arith}
 use Rattle.album_passes.specs.Desk.{first_owner}
-use Rattle.album_threads.specs.Opened.{first_partition}
+use Rattle.album_partition.specs.Partition.{first_partition}
 use Rattle.album_threads.proofs.StartLemmas.{last_of}
 use Rattle.album_threads.proofs.partition.start.start_all.Goals as goal
 
 pub loop_of-requires-clause-partition : goal.loop_of-requires-clause-partition
 loop_of-requires-clause-partition g c =
     let inv = c.loop-done.invariant.partitions in
-    let t = last_of (first_partition g.J.ServiceNames.terms) (c.len-count.result - c.loop-done.done) c.loop-done.partitions.items c.pop-in-loop-done.new.self.items c.pop-in-loop-done.result c.in-Some-pop.partition
+    let t = last_of (first_partition g.J.ServiceNames.terms.parts g.J.ServiceNames.terms.limit g.J.ServiceNames.terms.opening) (c.len-count.result - c.loop-done.done) c.loop-done.partitions.items c.pop-in-loop-done.new.self.items c.pop-in-loop-done.result c.in-Some-pop.partition
     inv.count_is inv.each c.pop-in-loop-done.ensures.items c.in-Some-pop.is in
     let at : length c.pop-in-loop-done.new.self.items ≡ c.len-count.result - 1 - c.loop-done.done = (let one = t.0 in omega arith) in
-    t.1 ∙ ap (first_partition g.J.ServiceNames.terms) at
+    t.1 ∙ ap (first_partition g.J.ServiceNames.terms.parts g.J.ServiceNames.terms.limit g.J.ServiceNames.terms.opening) at
 
 pub loop_of-requires-clause-owner : goal.loop_of-requires-clause-owner
 loop_of-requires-clause-owner g c =
@@ -23,7 +23,7 @@ loop_of-requires-clause-owner g c =
 pub loop-done-preserved : goal.loop-done-preserved
 loop-done-preserved g c =
     let i = c.loop-done.invariant in
-    let p = last_of (first_partition g.J.ServiceNames.terms) (c.len-count.result - c.loop-done.done) c.loop-done.partitions.items c.pop-in-loop-done.new.self.items c.pop-in-loop-done.result c.in-Some-pop.partition
+    let p = last_of (first_partition g.J.ServiceNames.terms.parts g.J.ServiceNames.terms.limit g.J.ServiceNames.terms.opening) (c.len-count.result - c.loop-done.done) c.loop-done.partitions.items c.pop-in-loop-done.new.self.items c.pop-in-loop-done.result c.in-Some-pop.partition
     i.partitions.count_is i.partitions.each c.pop-in-loop-done.ensures.items c.in-Some-pop.is in
     let o = last_of (first_owner (record { table = g.J.ServiceNames.table; terms = g.J.ServiceNames.terms })) (c.len-count.result - c.loop-done.done) c.loop-done.owners.items c.pop.new.self.items c.pop.result c.in-Some.owner
     i.owners.count_is i.owners.each c.pop.ensures.items c.in-Some.is in

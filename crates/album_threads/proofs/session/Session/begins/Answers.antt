@@ -13,8 +13,8 @@ use Rattle.album_threads.proofs.ReadingLemmas.{reads_begin, shown_first}
 use Rattle.album_threads.proofs.session.Session.begins.Goals as goal
 use Rattle.album_views.specs.Checks.{refusal_of}
 
-pub ask-requires : goal.ask-requires
-ask-requires g c =
+pub send_round-requires : goal.send_round-requires
+send_round-requires g c =
     let transition = c.in_ok-transition.transition in
     let proper : IsProper c.in_ok-transition.transition.client.phase = search rules in
     record {
@@ -48,7 +48,7 @@ returns-clause-way g c =
       cut = channel.cut;
       share = c.self.inside.share;
     } in
-    let same = ap with c.ask-2.ensures.same ∙ c.self.view_is in
+    let same = ap with c.send_round.ensures.same ∙ c.self.view_is in
     subst
     (λ (y : SessionState × Cut × List Message × Phase). IsUnderWay g.J.ServiceNames.policy
     (record { principal = c.args.principal.now; ask = c.args.ask; session = now }) y.0 y.1 y.2 y.3)
