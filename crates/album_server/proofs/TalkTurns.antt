@@ -3,6 +3,7 @@
 use Rattle.std.proofs.Common.{◌≡◌, ◌≢◌, ◌≤◌, ◌<◌, ◌+◌, ℕ, List, [], length, Option, Some, IfSome, refl}
 use Rattle.std.specs.Io.KnownBytes.{Consumes, IsAtEnd, Keeps}
 use Rattle.album_eval.specs.declared.policies.Policy.{Policy}
+use Rattle.album_threads.specs.Asks.{IsOn}
 use Rattle.album_threads.specs.Sessions.{SessionState}
 use Rattle.album_lines.specs.Lines.{Line, cut, last, lines_of}
 use Rattle.album_judge.specs.declared.engines.judge.TheConstants.{PIECE}
@@ -23,17 +24,19 @@ module _ (limit : ℕ) (policy : Policy) where
       → Joins (Talked limit policy old between) (Talked limit policy between new) (Talked limit policy old new)
   joins old between new lines more x y g h = talks_append limit policy old between new lines more x y g h
 
-  may_join : (old between : Talker)
-      → Joins (Talked limit policy old between) (MayTalk limit policy between) (MayTalk limit policy old)
-  may_join old between lines more x y g h = (h.0, talks_append limit policy old between h.0 lines more x y g h.1)
+  may_join : (bound : SessionState) (old between : Talker)
+      → Joins (Talked limit policy old between) (MayTalk limit policy bound between) (MayTalk limit policy bound old)
+  may_join bound old between lines more x y g h =
+      (h.0, talks_append limit policy old between h.0 lines more x y g h.1, h.2)
 
-  may : (old new : Talker) → Are (Talked limit policy old new) (MayTalk limit policy old)
-  may old new lines x h = (new, h)
+  may : (bound : SessionState) (old new : Talker) → IsOn new.session bound
+      → Are (Talked limit policy old new) (MayTalk limit policy bound old)
+  may bound old new on lines x h = (new, h, on)
 
-  may_go_on : (old : Talker) → GoesOn (MayTalk limit policy old)
-  may_go_on old lines later x h =
+  may_go_on : (bound : SessionState) (old : Talker) → GoesOn (MayTalk limit policy bound old)
+  may_go_on bound old lines later x h =
       let more = some_talk limit policy h.0 later in
-      (more.0, (h.0, talks_append limit policy old h.0 h.0 lines later x more.0 h.1 more.1))
+      (more.0, (h.0, talks_append limit policy old h.0 h.0 lines later x more.0 h.1 more.1, h.2))
 
   -- ---- the engine so far
 
@@ -51,21 +54,23 @@ module _ (limit : ℕ) (policy : Policy) where
     pub has_read : (k : ℕ) → count ≤ k → HasRead k a b
     has_read k within = turns.has_read (Talked limit policy (stranger begun) now) count k line a b c d h within
 
-    pub reading_ends : Exchanges (IsEndedBy Reading (MayTalk limit policy (stranger begun))) a b c d
-    reading_ends =
-        turns.reading_ends (Talked limit policy (stranger begun) now) (MayTalk limit policy (stranger begun))
-        (may (stranger begun) now) count line a b c d h
+    pub reading_ends : (bound : SessionState) → IsOn now.session bound
+        → Exchanges (IsEndedBy Reading (MayTalk limit policy bound (stranger begun))) a b c d
+    reading_ends bound on =
+        turns.reading_ends (Talked limit policy (stranger begun) now) (MayTalk limit policy bound (stranger begun))
+        (may bound (stranger begun) now on) count line a b c d h
 
-    pub reading_fails : (e : Option (List ℕ)) → Keeps b e
-        → Exchanges (IsEndedBy Reading (MayTalk limit policy (stranger begun))) a e c d
-    reading_fails e k =
-        turns.reading_fails (Talked limit policy (stranger begun) now) (MayTalk limit policy (stranger begun))
-        (may (stranger begun) now) count line a b e c d h k
+    pub reading_fails : (bound : SessionState) → IsOn now.session bound → (e : Option (List ℕ)) → Keeps b e
+        → Exchanges (IsEndedBy Reading (MayTalk limit policy bound (stranger begun))) a e c d
+    reading_fails bound on e k =
+        turns.reading_fails (Talked limit policy (stranger begun) now) (MayTalk limit policy bound (stranger begun))
+        (may bound (stranger begun) now on) count line a b e c d h k
 
-    pub prefix_so_far : IfSome a (λ input. Writes (IsPrefixOf (MayTalk limit policy (stranger begun) (lines_of input))) c d)
-    prefix_so_far =
-        turns.prefix_so_far (Talked limit policy (stranger begun) now) (MayTalk limit policy (stranger begun))
-        (may (stranger begun) now) (may_go_on (stranger begun)) count line a b c d h
+    pub prefix_so_far : (bound : SessionState) → IsOn now.session bound
+        → IfSome a (λ input. Writes (IsPrefixOf (MayTalk limit policy bound (stranger begun) (lines_of input))) c d)
+    prefix_so_far bound on =
+        turns.prefix_so_far (Talked limit policy (stranger begun) now) (MayTalk limit policy bound (stranger begun))
+        (may bound (stranger begun) now on) (may_go_on bound (stranger begun)) count line a b c d h
 
     -- a piece more is read
     module _ (piece : List ℕ) (e : Option (List ℕ)) (more : Consumes b e piece) where
@@ -82,24 +87,25 @@ module _ (limit : ℕ) (policy : Policy) where
             turns.turn_done (Talked limit policy (stranger begun) now) (Talked limit policy now new) count line piece ends next cuts
             (Talked limit policy (stranger begun) new) (joins (stranger begun) now new) a b e c d f short h more w
 
-        pub turn_left : (fault : Fault) (f : Option (List ℕ)) → Writes (IsLeftBy fault (MayTalk limit policy now) ends) d f
-            → Exchanges (IsEndedBy fault (MayTalk limit policy (stranger begun))) a e c f
-        turn_left fault f w =
-            turns.turn_left (Talked limit policy (stranger begun) now) (MayTalk limit policy now) count line piece ends next cuts
-            (MayTalk limit policy (stranger begun)) (may_join (stranger begun) now) (may_go_on (stranger begun))
+        pub turn_left : (bound : SessionState) (fault : Fault) (f : Option (List ℕ)) → Writes (IsLeftBy fault (MayTalk limit policy bound now) ends) d f
+            → Exchanges (IsEndedBy fault (MayTalk limit policy bound (stranger begun))) a e c f
+        turn_left bound fault f w =
+            turns.turn_left (Talked limit policy (stranger begun) now) (MayTalk limit policy bound now) count line piece ends next cuts
+            (MayTalk limit policy bound (stranger begun)) (may_join bound (stranger begun) now) (may_go_on bound (stranger begun))
             fault a b e c d f h more w
 
-        pub turn_uncut : piece ≢ [] → Exchanges (IsEndedBy Memory (MayTalk limit policy (stranger begun))) a e c d
-        turn_uncut some =
-            turns.turn_uncut (Talked limit policy (stranger begun) now) (MayTalk limit policy now) count line piece ends next cuts
-            (MayTalk limit policy (stranger begun)) (may (stranger begun) now) a b e c d some h more
+        pub turn_uncut : (bound : SessionState) → IsOn now.session bound → piece ≢ []
+            → Exchanges (IsEndedBy Memory (MayTalk limit policy bound (stranger begun))) a e c d
+        turn_uncut bound on some =
+            turns.turn_uncut (Talked limit policy (stranger begun) now) (MayTalk limit policy bound now) count line piece ends next cuts
+            (MayTalk limit policy bound (stranger begun)) (may bound (stranger begun) now on) a b e c d some h more
 
-        pub prefix_of_turn : (fault : Fault) (f : Option (List ℕ)) → Writes (IsLeftBy fault (MayTalk limit policy now) ends) d f
-            → IfSome a (λ input. Writes (IsPrefixOf (MayTalk limit policy (stranger begun) (lines_of input))) c f)
-        prefix_of_turn fault f w =
-            turns.prefix_of_turn (Talked limit policy (stranger begun) now) (MayTalk limit policy now) count line piece ends next
-            cuts (MayTalk limit policy (stranger begun)) (may_join (stranger begun) now) (may_go_on now)
-            (may_go_on (stranger begun)) fault a b e c d f h more w
+        pub prefix_of_turn : (bound : SessionState) (fault : Fault) (f : Option (List ℕ)) → Writes (IsLeftBy fault (MayTalk limit policy bound now) ends) d f
+            → IfSome a (λ input. Writes (IsPrefixOf (MayTalk limit policy bound (stranger begun) (lines_of input))) c f)
+        prefix_of_turn bound fault f w =
+            turns.prefix_of_turn (Talked limit policy (stranger begun) now) (MayTalk limit policy bound now) count line piece ends next
+            cuts (MayTalk limit policy bound (stranger begun)) (may_join bound (stranger begun) now) (may_go_on bound now)
+            (may_go_on bound (stranger begun)) fault a b e c d f h more w
 
       -- or there is no more
       module _ (nothing : piece ≡ []) where
@@ -111,17 +117,17 @@ module _ (limit : ℕ) (policy : Policy) where
             a b e c d f h more (IsTalk limit policy begun new.session)
             (λ lines later x y g k. (new.who, talks_append limit policy (stranger begun) now new lines later x y g k)) end w
 
-        pub last_left : (fault : Fault) (f : Option (List ℕ))
-            → Writes (IsLeftBy fault (MayTalk limit policy now) (last line)) d f
-            → Exchanges (IsEndedBy fault (MayTalk limit policy (stranger begun))) a e c f
-        last_left fault f w =
-            turns.last_left (Talked limit policy (stranger begun) now) (MayTalk limit policy now) count line piece nothing
-            a b e c d f h more (MayTalk limit policy (stranger begun)) (may_join (stranger begun) now)
-            (may_go_on (stranger begun)) fault w
+        pub last_left : (bound : SessionState) (fault : Fault) (f : Option (List ℕ))
+            → Writes (IsLeftBy fault (MayTalk limit policy bound now) (last line)) d f
+            → Exchanges (IsEndedBy fault (MayTalk limit policy bound (stranger begun))) a e c f
+        last_left bound fault f w =
+            turns.last_left (Talked limit policy (stranger begun) now) (MayTalk limit policy bound now) count line piece nothing
+            a b e c d f h more (MayTalk limit policy bound (stranger begun)) (may_join bound (stranger begun) now)
+            (may_go_on bound (stranger begun)) fault w
 
-        pub prefix_of_last : (fault : Fault) (f : Option (List ℕ)) → IsAtEnd e
-            → Writes (IsLeftBy fault (MayTalk limit policy now) (last line)) d f
-            → IfSome a (λ input. Writes (IsPrefixOf (MayTalk limit policy (stranger begun) (lines_of input))) c f)
-        prefix_of_last fault f end w =
-            turns.prefix_of_last (Talked limit policy (stranger begun) now) (MayTalk limit policy now) count line piece nothing
-            a b e c d f h more (MayTalk limit policy (stranger begun)) (may_join (stranger begun) now) (may_go_on now) fault end w
+        pub prefix_of_last : (bound : SessionState) (fault : Fault) (f : Option (List ℕ)) → IsAtEnd e
+            → Writes (IsLeftBy fault (MayTalk limit policy bound now) (last line)) d f
+            → IfSome a (λ input. Writes (IsPrefixOf (MayTalk limit policy bound (stranger begun) (lines_of input))) c f)
+        prefix_of_last bound fault f end w =
+            turns.prefix_of_last (Talked limit policy (stranger begun) now) (MayTalk limit policy bound now) count line piece nothing
+            a b e c d f h more (MayTalk limit policy bound (stranger begun)) (may_join bound (stranger begun) now) (may_go_on bound now) fault end w

@@ -6,6 +6,8 @@ use Rattle.std.proofs.KnownBytes.{Appends-nil}
 use Rattle.std.specs.Io.KnownBytes.{Appends}
 use Rattle.album_stamps.specs.declared.refusals.Refusal.TheVariants.{OutOfMemory}
 use Rattle.album_eval.specs.declared.policies.Policy.{Policy}
+use Rattle.album_threads.specs.Asks.{IsOn}
+use Rattle.album_threads.specs.Sessions.{SessionState}
 use Rattle.album_lines.specs.Lines.{Line, is_blank}
 use Rattle.album_lines.specs.Output.{refusal_line}
 use Rattle.album_judge.specs.declared.fault.Fault.TheVariants.{Writing, Memory}
@@ -71,12 +73,12 @@ module _ (limit : ℕ) (policy : Policy) where
         writes_both _ (λ z. z ≡ text) _ both a b c so_far (text, refl, written)
 
     -- its answer is cut short
-    pub lines_cut : Writes (IsCutShort (λ whole. whole ≡ text)) b c
-        → Writes (IsLeftBy Writing (MayTalk limit policy old) (map f xs)) a c
-    lines_cut cut =
+    pub lines_cut : (bound : SessionState) → IsOn new.session bound → Writes (IsCutShort (λ whole. whole ≡ text)) b c
+        → Writes (IsLeftBy Writing (MayTalk limit policy bound old) (map f xs)) a c
+    lines_cut bound on cut =
         let both : (y z : List ℕ) → Talks limit policy old (map f (take i xs)) between y
         → IsCutShort (λ whole. whole ≡ text) z
-        → IsCutShort (MayTalk limit policy old (map f xs)) (y ++ z) =
+        → IsCutShort (MayTalk limit policy bound old (map f xs)) (y ++ z) =
         λ y z g s.
         let one = subst (Talks limit policy between (f x ∷ []) new) (sym s.2) (one_talk between new (f x) text told) in
         let first = talks_append old between new _ _ y (z ++ s.0) g one in
@@ -87,7 +89,7 @@ module _ (limit : ℕ) (policy : Policy) where
         let whole : (y ++ (z ++ s.0)) ++ later.0 ≡ (y ++ z) ++ (s.0 ++ later.0) = simp append_assoc in (
           s.0 ++ later.0,
           goes_on s.0 later.0 s.1,
-          (new, subst (λ ls. Talks limit policy old ls new ((y ++ z) ++ (s.0 ++ later.0))) lines (subst (Talks limit policy old _ new) whole all)),
+          (new, subst (λ ls. Talks limit policy old ls new ((y ++ z) ++ (s.0 ++ later.0))) lines (subst (Talks limit policy old _ new) whole all), on),
         ) in
         writes_both _ _ _ both a b c so_far cut
 
@@ -95,10 +97,11 @@ module _ (limit : ℕ) (policy : Policy) where
   pub lines_unanswered : {X : Type 0} (f : X → Line) (xs : List X) (i : ℕ) → i < length xs
       → (old between : Talker) (a b : Option (List ℕ))
       → Writes (Talks limit policy old (map f (take i xs)) between) a b
-      → Writes (IsLeftBy Memory (MayTalk limit policy old) (map f xs)) a b
-  lines_unanswered f xs i inside old between a b so_far =
+      → (bound : SessionState) → IsOn between.session bound
+      → Writes (IsLeftBy Memory (MayTalk limit policy bound old) (map f xs)) a b
+  lines_unanswered f xs i inside old between a b so_far bound on =
       let later : map f (drop i xs) ≢ [] =
       λ none. absurd (omega (arith, ap length none, length-map (drop i xs) f, length-drop i xs, inside)) in
       writes_weaker _ _
-      (λ text h. (map f (take i xs), map f (drop i xs), later, with_others f xs i, (between, h)))
+      (λ text h. (map f (take i xs), map f (drop i xs), later, with_others f xs i, (between, h, on)))
       a b so_far

@@ -172,9 +172,10 @@ Talks limit policy old (line ∷ lines) new text =
     × Talks limit policy between lines new others
     × (text ≡ first ++ others)
 
--- what may be written of the lines, and of them from the start of a session
-abbrev pub MayTalk : ℕ → Policy → Talker → List Line → List ℕ → Type 0
-MayTalk limit policy old lines text = (new : Talker) × Talks limit policy old lines new text
+-- what may be written of the lines, by talks in which the session saw no more than this one has seen
+abbrev pub MayTalk : ℕ → Policy → SessionState → Talker → List Line → List ℕ → Type 0
+MayTalk limit policy bound old lines text =
+    (new : Talker) × Talks limit policy old lines new text × IsOn new.session bound
 
 -- the talk of these lines, in a session that is so before it and so after it
 abbrev pub IsTalk : ℕ → Policy → SessionState → SessionState → List Line → List ℕ → Type 0

@@ -41,15 +41,15 @@ pub fn converse<J: ServiceNames, T: Wait + time::Clock, R: Read, W: Write>(
         (W.contents writer.old) (W.contents writer.new))) }
     ensures whole { OnOk result (IsAtEnd (R.remaining reader.new)) }
 
-    // On a fault, a prefix of such a talk is.
+    // On a fault, a prefix of such a talk is, by what the session has seen at the end.
     ensures err { OnErr result (IfSome (R.remaining reader.old) (λ input.
-        Writes (IsPrefixOf (MayTalk J.terms.limit J.policy (stranger session.old) (lines_of input)))
+        Writes (IsPrefixOf (MayTalk J.terms.limit J.policy session.new (stranger session.old) (lines_of input)))
         (W.contents writer.old) (W.contents writer.new))) }
 
     // What is written then answers what was read. Reading: each line that has ended, and nothing else.
     // Writing: an answer is cut short. Memory: each answer is whole, and one is not there.
     ensures fault { IfErr result (λ fault.
-        Exchanges (IsEndedBy fault (MayTalk J.terms.limit J.policy (stranger session.old)))
+        Exchanges (IsEndedBy fault (MayTalk J.terms.limit J.policy session.new (stranger session.old)))
         (R.remaining reader.old) (R.remaining reader.new) (W.contents writer.old) (W.contents writer.new)) }
 
     // The session has only seen more.
@@ -93,7 +93,7 @@ fn finish<J: ServiceNames, T: Wait + time::Clock, W: Write>(
         (last lines) (record { who = who.new; session = session.new }))
         (W.contents writer.old) (W.contents writer.new)) }
     ensures fault { IfErr result (λ fault. Writes
-        (IsLeftBy fault (MayTalk J.terms.limit J.policy (record { who = who.old; session = session.old })) (last lines))
+        (IsLeftBy fault (MayTalk J.terms.limit J.policy session.new (record { who = who.old; session = session.old })) (last lines))
         (W.contents writer.old) (W.contents writer.new)) }
     ensures on { IsOn session.old session.new }
 {
@@ -117,7 +117,7 @@ fn answer_lines<J: ServiceNames, T: Wait + time::Clock, W: Write>(
         (map said lines.now) (record { who = who.new; session = session.new }))
         (W.contents writer.old) (W.contents writer.new)) }
     ensures fault { IfErr result (λ fault. Writes
-        (IsLeftBy fault (MayTalk J.terms.limit J.policy (record { who = who.old; session = session.old }))
+        (IsLeftBy fault (MayTalk J.terms.limit J.policy session.new (record { who = who.old; session = session.old }))
         (map said lines.now)) (W.contents writer.old) (W.contents writer.new)) }
     ensures on { IsOn session.old session.new }
 {

@@ -25,7 +25,7 @@ returns-in_err-text-clause-fault g c =
     let p = err_from_is_err_and c.from_residual.result c.from_residual.ensures.1 in
     rw (p.1, p.2)
     (lines_unanswered g.J.ServiceNames.terms.limit g.J.ServiceNames.policy said c.args.lines.now c.loop-line.line-index
-    c.loop-line-test.true _ _ _ _ c.loop-line.invariant.told)
+    c.loop-line-test.true _ _ _ _ c.loop-line.invariant.told _ c.answer.ensures.on)
 
 pub returns-in_err-text-clause-on : goal.returns-in_err-text-clause-on
 returns-in_err-text-clause-on g c = on_trans _ _ _ c.loop-line.invariant.on c.answer.ensures.on
@@ -37,8 +37,8 @@ returns-in_err-write_text-clause-fault g c =
     err_from_is_err_and c.from_residual-in_err-write_text.result c.from_residual-in_err-write_text.ensures.1 in
     rw (p.1, p.2, c.in_err-write_text.ensures.fault)
     (lines_cut g.J.ServiceNames.terms.limit g.J.ServiceNames.policy said c.args.lines.now c.loop-line.line-index c.line-item.result
-    c.loop-line-test.true c.line-item.is _ _ _ _ _ _ _ c.loop-line.invariant.told c.in_ok-text.ensures.told
-    (rw c.deref.ensures.value at c.in_err-write_text.ensures.err))
+    c.loop-line-test.true c.line-item.is _ _ _ _ _ _ _ c.loop-line.invariant.told c.in_ok-text.ensures.told _
+    (on_self _) (rw c.deref.ensures.value at c.in_err-write_text.ensures.err))
 
 pub returns-in_err-write_text-clause-on : goal.returns-in_err-write_text-clause-on
 returns-in_err-write_text-clause-on g c = on_trans _ _ _ c.loop-line.invariant.on c.in_ok-text.ensures.on

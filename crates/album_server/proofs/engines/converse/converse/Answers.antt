@@ -1,14 +1,14 @@
 use Rattle.std.proofs.Common.{◌≡◌, ◌≢◌, ◌≤◌, [], length, take, refl, ap, arith}
 use Rattle.std.proofs.lemmas.List.{length-take}
 use Rattle.std.proofs.lemmas.Result.{IfErr-weaker, on_ok_weaker, err_from_is_err_and}
-use Rattle.album_threads.proofs.LookLemmas.{on_trans}
+use Rattle.album_threads.proofs.LookLemmas.{on_self, on_trans}
 use Rattle.album_judge.specs.declared.engines.judge.TheConstants.{PIECE}
 use Rattle.album_server.proofs.TalkTurns.{has_read_more, prefix_so_far, turn_done, turn_left, turn_uncut, prefix_of_turn, last_done, last_left, prefix_of_last}
 use Rattle.album_server.proofs.engines.converse.converse.Goals as goal
 
 -- a read failed
 pub returns-in_default-clause-err : goal.returns-in_default-clause-err
-returns-in_default-clause-err g c = prefix_so_far _ _ _ _ _ _ _ _ _ _ c.loop-turn.invariant.talked
+returns-in_default-clause-err g c = prefix_so_far _ _ _ _ _ _ _ _ _ _ c.loop-turn.invariant.talked _ (on_self _)
 
 -- the reader is at its end
 pub returns-then-len-eq0-clause-ok : goal.returns-then-len-eq0-clause-ok
@@ -25,14 +25,14 @@ returns-then-len-eq0-clause-err g c =
     let none : take c.in-Ok.len c.read.new.buf ≡ [] = ap (λ n. take n c.read.new.buf) c.if-len-eq0.true in
     let end = c.in-Ok.ensures.bytes.1 c.if-len-eq0.true (omega arith) in
     IfErr-weaker c.finish.result _ _
-    (λ fault w. prefix_of_last _ _ _ _ _ _ _ _ _ _ c.loop-turn.invariant.talked _ _ c.in-Ok.ensures.bytes.0 none fault _ end w)
+    (λ fault w. prefix_of_last _ _ _ _ _ _ _ _ _ _ c.loop-turn.invariant.talked _ _ c.in-Ok.ensures.bytes.0 none _ fault _ end w)
     c.finish.ensures.fault
 
 pub returns-then-len-eq0-clause-fault : goal.returns-then-len-eq0-clause-fault
 returns-then-len-eq0-clause-fault g c =
     let none : take c.in-Ok.len c.read.new.buf ≡ [] = ap (λ n. take n c.read.new.buf) c.if-len-eq0.true in
     IfErr-weaker c.finish.result _ _
-    (λ fault w. last_left _ _ _ _ _ _ _ _ _ _ c.loop-turn.invariant.talked _ _ c.in-Ok.ensures.bytes.0 none fault _ w)
+    (λ fault w. last_left _ _ _ _ _ _ _ _ _ _ c.loop-turn.invariant.talked _ _ c.in-Ok.ensures.bytes.0 none _ fault _ w)
     c.finish.ensures.fault
 
 pub returns-then-len-eq0-clause-on : goal.returns-then-len-eq0-clause-on
@@ -42,7 +42,7 @@ returns-then-len-eq0-clause-on g c = on_trans _ _ _ c.loop-turn.invariant.on c.f
 pub returns-in_err-ended-clause-err : goal.returns-in_err-ended-clause-err
 returns-in_err-ended-clause-err g c =
     let p = err_from_is_err_and c.from_residual.result c.from_residual.ensures.1 in
-    rw p.1 (prefix_so_far _ _ _ _ _ _ _ _ _ _ c.loop-turn.invariant.talked)
+    rw p.1 (prefix_so_far _ _ _ _ _ _ _ _ _ _ c.loop-turn.invariant.talked _ (on_self _))
 
 pub returns-in_err-ended-clause-fault : goal.returns-in_err-ended-clause-fault
 returns-in_err-ended-clause-fault g c =
@@ -50,7 +50,7 @@ returns-in_err-ended-clause-fault g c =
     let some : take c.in-Ok.len c.read.new.buf ≢ [] =
     λ none. absurd (omega (arith, ap length none, length-take c.in-Ok.len c.read.new.buf, c.in-Ok.ensures.bound)) in
     rw (p.1, p.2)
-    (turn_uncut _ _ _ _ _ _ _ _ _ _ c.loop-turn.invariant.talked _ _ c.in-Ok.ensures.bytes.0 _ _ refl some)
+    (turn_uncut _ _ _ _ _ _ _ _ _ _ c.loop-turn.invariant.talked _ _ c.in-Ok.ensures.bytes.0 _ _ refl _ (on_self _) some)
 
 pub returns-in_err-ended-clause-few : goal.returns-in_err-ended-clause-few
 returns-in_err-ended-clause-few g c =
@@ -66,7 +66,7 @@ returns-in_err-answer_lines-clause-err g c =
     let left = rw c.deref.ensures.value at c.in_err-answer_lines.ensures.fault in
     rw p.1
     (prefix_of_turn _ _ _ _ _ _ _ _ _ _ c.loop-turn.invariant.talked _ _ c.in-Ok.ensures.bytes.0 _ _
-    c.in_ok-ended.ensures.lines c.in_err-answer_lines.field-0.0 _ left)
+    c.in_ok-ended.ensures.lines _ c.in_err-answer_lines.field-0.0 _ left)
 
 pub returns-in_err-answer_lines-clause-fault : goal.returns-in_err-answer_lines-clause-fault
 returns-in_err-answer_lines-clause-fault g c =
@@ -75,7 +75,7 @@ returns-in_err-answer_lines-clause-fault g c =
     let left = rw c.deref.ensures.value at c.in_err-answer_lines.ensures.fault in
     rw (p.1, p.2)
     (turn_left _ _ _ _ _ _ _ _ _ _ c.loop-turn.invariant.talked _ _ c.in-Ok.ensures.bytes.0 _ _
-    c.in_ok-ended.ensures.lines c.in_err-answer_lines.field-0.0 _ left)
+    c.in_ok-ended.ensures.lines _ c.in_err-answer_lines.field-0.0 _ left)
 
 pub returns-in_err-answer_lines-clause-few : goal.returns-in_err-answer_lines-clause-few
 returns-in_err-answer_lines-clause-few g c =
@@ -102,4 +102,4 @@ loop-turn-preserved g c =
 
 -- the turns ran out
 pub returns-clause-err : goal.returns-clause-err
-returns-clause-err g c = prefix_so_far _ _ _ _ _ _ _ _ _ _ c.loop-turn.invariant.talked
+returns-clause-err g c = prefix_so_far _ _ _ _ _ _ _ _ _ _ c.loop-turn.invariant.talked _ (on_self _)

@@ -27,7 +27,7 @@ returns-in-Some-clause-ok g c =
 pub returns-in-Some-clause-fault : goal.returns-in-Some-clause-fault
 returns-in-Some-clause-fault g c =
     subst (λ (ls : List Line). IfErr c.answer_lines.result (λ fault. Writes
-    (IsLeftBy fault (MayTalk g.J.ServiceNames.terms.limit g.J.ServiceNames.policy
+    (IsLeftBy fault (MayTalk g.J.ServiceNames.terms.limit g.J.ServiceNames.policy c.answer_lines.new.session
     (record { who = c.args.who.now; session = c.args.session.now })) ls)
     (g.W.Write.contents c.args.writer.now) (g.W.Write.contents c.answer_lines.new.writer)))
     c.in-Some.ensures c.answer_lines.ensures.fault
