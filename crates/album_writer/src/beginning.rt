@@ -1,4 +1,4 @@
-// How a write begins.
+//! How a write begins.
 ghost use Rattle.std.specs.Prelude.{◌≡◌, ◌+◌, ◌<◌, ◌≤◌, ◌^◌, Some, IfOk, IfErr, IsTrue, IsOkUnless, false, if◌then◌else◌};
 ghost use Rattle.album_stamps.specs.Stamps.{client_of};
 ghost use Rattle.album_stamps.specs.declared.refusals.Refusal.TheVariants.{OutOfMemory, AlbumFull};
