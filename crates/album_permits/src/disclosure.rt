@@ -23,8 +23,8 @@ pub fn secrets_decide_nothing()
         → notes_of b ask ≡ notes_of c ask }
 {}
 
-/// A law: an answer discloses nothing that the principal may not read. On two snapshots that are alike for a principal it
-/// is granted the same, and is served the same.
+/// A law: an answer discloses nothing that the principal may not read. On two snapshots that are alike for a principal
+/// it is granted the same, and is served the same.
 pub fn answers_disclose_nothing()
     ensures granted { (policy : Policy) (principal : Principal) (ask : Ask) (one other : List ReadVersion)
         → AreAlikeFor policy principal ask one other
