@@ -1,5 +1,5 @@
-//! What stands in a JSON value: object = {name: value, ..}, list = [value, ..], a text, a number. What isn't there, or is
-//! of another form, is a bad request.
+//! What stands in a JSON value: object = {name: value, ..}, list = [value, ..], a text, a number. What isn't there, or
+//! is of another form, is a bad request.
 ghost use Rattle.std.specs.Prelude.{◌≡◌, map, option_map, true, bytes_eq};
 ghost use Rattle.std.specs.List.{list_any, list_all};
 ghost use Rattle.json.specs.Value.{members_view};

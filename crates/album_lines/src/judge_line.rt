@@ -43,8 +43,8 @@ pub struct JudgeLine {
 ///
 /// # Errors
 ///
-/// `BadLine`, where the bytes are no JSON; `BadRequest`, where it hasn't the shape of a judge line; then of the list, the
-/// groups, the owner, the who and the mask the first that fails: `ListFull`, `BadMask`, `BadFlags` or `BadWho`.
+/// `BadLine`, where the bytes are no JSON; `BadRequest`, where it hasn't the shape of a judge line; then of the list,
+/// the groups, the owner, the who and the mask the first that fails: `ListFull`, `BadMask`, `BadFlags` or `BadWho`.
 /// `OutOfMemory`.
 #[tactic(auto, unfolding(crate::specs::JudgeLine::judge_of))]
 pub fn read_judge(alloc: Global, scratch: &mut Scratch, bytes: &[u8]) -> Result<JudgeLine, Refusal>

@@ -1,12 +1,12 @@
 //! Lines: cut out of a text that comes in pieces, read by their JSON, and judge lines with their answers.
 //!
-//! What comes in: bytes, in pieces of any size. What goes out: the lines that end in them, and of a line its JSON value,
-//! the parts of that, or the question of a judge line; or else the first test that it fails. A verdict or a refusal comes
-//! in too, and its line goes out.
+//! What comes in: bytes, in pieces of any size. What goes out: the lines that end in them, and of a line its JSON
+//! value, the parts of that, or the question of a judge line; or else the first test that it fails. A verdict or a
+//! refusal comes in too, and its line goes out.
 //!
 //! Read `lines` first, then `judge_line`: a line's JSON value (`trees`), its shape (`judge_shape`, by `shapes` and
-//! `fields`), and the values of that (`values`). The law `questions_by_line` says that a line is read as what it spells.
-//! The lines of a store are read by the same parts, in `album_wire`.
+//! `fields`), and the values of that (`values`). The law `questions_by_line` says that a line is read as what it
+//! spells. The lines of a store are read by the same parts, in `album_wire`.
 #![tactic(auto)]
 
 // A text in pieces, and its lines.

@@ -83,6 +83,10 @@ impl Lines {
     }
 
     /// Takes the next piece, and gives the lines that end in it.
+    ///
+    /// # Errors
+    ///
+    /// `OutOfMemory`; then nothing is taken.
     pub fn feed(&mut self, piece: &[u8]) -> Result<Vec<LineIn>, Refusal>
         ensures lines { IfOk result (λ lines.
             cut self.old piece.now ≡ (map said lines.items, self.new)) }

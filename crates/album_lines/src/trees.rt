@@ -19,8 +19,8 @@ const DEEPEST: usize = 127;
 ///
 /// # Errors
 ///
-/// `BadLine`, where the bytes aren't UTF-8, or aren't one JSON text nested at most `DEEPEST` deep, or have a number that is
-/// out of range. `OutOfMemory`.
+/// `BadLine`, where the bytes aren't UTF-8, or aren't one JSON text nested at most 127 deep, or have a number
+/// that is out of range. `OutOfMemory`.
 pub fn data<'a>(
     alloc: Global,
     scratch: &'a mut Scratch,

@@ -15,8 +15,8 @@ use std::alloc::Global;
 ///
 /// # Errors
 ///
-/// `ListFull`, where there are more than `MAX_ENTRIES`; of the first entry that fails `BadMask`, `BadFlags` or `BadWho`, in
-/// this order; `BadFlags`, where an entry isn't whole. `OutOfMemory`.
+/// `ListFull`, where there are more than `MAX_ENTRIES`; of the first entry that fails `BadMask`, `BadFlags` or
+/// `BadWho`, in this order; `BadFlags`, where an entry isn't whole. `OutOfMemory`.
 #[tactic(auto, unfolding(crate::specs::Values::entries_read))]
 pub fn access_list(alloc: Global, shapes: &[EntryShape]) -> Result<AccessList, Refusal>
     ensures { Gives (λ list. list) result (entries_read (map spelled_entry shapes.now)) }

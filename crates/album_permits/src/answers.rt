@@ -19,7 +19,7 @@ pub enum Answer {
     Busy(Why),
     /// It is written at this stamp, at each participant.
     Committed(Stamp),
-    /// It is never written: a participant has promised to discard this stamp.
+    /// It is never written: a participant has discarded this stamp for good.
     Aborted(Stamp),
     /// Its write began at this stamp and isn't settled: a participant had no room for it. In a running service the
     /// memory may also have run out, or the service may be closed. Then nobody knows yet how the write ends.

@@ -1,12 +1,13 @@
 //! The engines of a store: each from a reader of lines to a writer of what comes of them.
 //!
 //! What comes in: a reader and a writer, whatever they are; for a connection a session too, and for a service the port.
-//! What goes out: the text that the lines read bring about; or a fault, before which a prefix of such a text was written.
+//! What goes out: the text that the lines read bring about; or a fault, before which a prefix of such a text was
+//! written.
 //!
 //! Read `engines/replay` first: `Stage` takes a line (`replay/stages`), and a line's events run (`replay/events`).
-//! specs/Replay.antt has the text of a replay, specs/Promise.antt what is promised of it, and `laws` what holds of both.
-//! Then `engines/converse`, the engine of a connection, with specs/Talk.antt; and `engines/serve`, which opens a service
-//! and gives each connection a thread (`serve/accepting`, `serve/connections`). The engine of judge lines is
+//! specs/Replay.antt has the text of a replay, specs/Promise.antt what is promised of it, and `laws` what holds of
+//! both. Then `engines/converse`, the engine of a connection, with specs/Talk.antt; and `engines/serve`, which opens a
+//! service and gives each connection a thread (`serve/accepting`, `serve/connections`). The engine of judge lines is
 //! `album_judge`'s, and is passed on here.
 #![tactic(auto)]
 

@@ -1,4 +1,4 @@
--- Each event keeps what is true of each request, and an answer that it tells is the one to its client's last request.
+-- Each event keeps what is true of each request, and its answer is the only one to its client's last request.
 use Rattle.std.proofs.Common.{◌≡◌, ℕ, ◌<◌, ◌+◌, arith, Bool, true, false, cond, not, nat_lt, nat_le, eqb, length, List, [], ◌∷◌, ◌++◌, Option, Some, None, option_to_list, option_map, Contains, Result, Ok, Err, ⊎_elim, sym, ap, ◌∙◌, subst, refl, append-nil, append_assoc, if◌then◌else◌}
 use Rattle.std.specs.List.{slice_get}
 use Rattle.album_stamps.specs.Clocks.{clock_after_next, next_of}
@@ -90,7 +90,7 @@ module _ (o : Opening) (w : World) (k : IsKept o w) (c : ℕ) (q : IsRequestedBu
   own : x.clock.client ≡ c
   own = (k.clients c).clock
 
-  -- ---- nothing is told
+  -- ---- nothing is answered
 
   abbrev begun_here : Begun
   begun_here = last_begun w.past.begun c
@@ -542,7 +542,7 @@ module _ (w : World) (q : IsRequested w) (c : ℕ) (who : Principal) (ask : Ask)
 
 -- ---- at each event
 
--- what the change tells answers the last request of who is told
+-- the answer of the change is to the last request of its client
 abbrev pub AnswersLast : World → Change → Type 0
 AnswersLast next Nothing = Unit {0}
 AnswersLast next (AtPart p h sent) = Unit {0}
@@ -644,7 +644,7 @@ module _ (o : Opening) (some : 0 < o.parts) (w : World) (k : IsKept o w) (q : Is
   last_of_change next (AtClient d ts) c a h s = subst (λ (z : ℕ). IsAnsweredLast next z a) (sym s.0) (h a s.1)
   last_of_change next (Stops d) c a h s = absurd s
 
-  -- an answer that the event tells is to the last request of its client
+  -- an answer that the event outputs is to the last request of its client
   pub answers_last : (e : Event) (c : ℕ) (a : Answer) → Contains (event_outputs ts w e) (out.Answered c a)
       → IsAnsweredLast (happens ts w e) c a
   answers_last e c a h = go (change_of ts w.now e) (event_had e) (within _ h)

@@ -39,7 +39,7 @@ use Rattle.album_world.proofs.TurnLemmas.{IsNew, client_cases, begun_other}
 
 -- ---- the invariant
 
--- the write was begun by this permit, and one of its partitions told that it is full
+-- the write was begun by this permit, and a participant replied that it is full
 pub record IsBegunFull (t : Terms) (w : World) (c s : ℕ) (permit : PermitState) : Type 0 where
   pub begun : IsBegunBy w c s permit
   pub full : IsRepliedFull t w begun.by
@@ -258,7 +258,7 @@ module _ (t : Terms) (w1 w2 : World) (g : Adds w1 w2) where
   at_adds c (phase.Prepares z) n same h = write_adds c z (λ by. by.tag ≡ z.tag) same h
   at_adds c (phase.Commits z) n same h = write_adds c z (λ by. Unit {0}) same h
 
--- where notes were told, whatever the answer is
+-- where notes were made, whatever the answer is
 pub noting_by : (w : World) (told : PastAnswer) (a : Answer) → HasNotes w told → IsNotedFor w told a
 noting_by w told (answer.Served served) h = h
 noting_by w told (answer.Denied reasons) h = h

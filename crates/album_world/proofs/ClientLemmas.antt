@@ -1,4 +1,4 @@
--- The clients, their clocks, and what a message tells them.
+-- The clients, their clocks, and what a message replies to them.
 use Rattle.std.proofs.Common.{◌≡◌, ℕ, ◌≤◌, ◌+◌, ◌*◌, Bool, true, false, cond, eqb, ◌==◌, ◌&&◌, not, nat_lt, List, [], ◌∷◌, Option, Some, None, Result, Ok, Err, ◌⊎◌, inl, inr, ⊎_elim, sym, ap, ◌∙◌, subst, refl, arith, true≢false, eqb-true, eq-eqb, le_refl, le_trans, if◌then◌else◌}
 use Rattle.std.specs.List.{list_any}
 use Rattle.std.specs.Option.{option_and_then}
@@ -250,9 +250,9 @@ found_is r m f h = version (body_version m.body) refl h
     version None e k = none_some k
     version (Some g) e k = answers g e (is_answer r.asker m g.item) refl k
 
--- ---- what is told to a write
+-- ---- replies to a write
 
--- the body by which this is told
+-- the body with this reply
 abbrev pub IsReplyFrom : ℕ → WriteReply → Body → Type 0
 IsReplyFrom t write_reply.Prepared b = b ≡ body.Reply (reply.Prepared t)
 IsReplyFrom t write_reply.Committed b = b ≡ body.Reply (reply.Committed t)
@@ -301,7 +301,7 @@ IsSomething write_reply.Discarded = Unit {0}
 IsSomething write_reply.Full = Unit {0}
 IsSomething write_reply.Nothing = ⊥
 
--- one of the round's partitions tells its client this under its tag
+-- a participant gives the round's client this reply under its tag
 pub record IsToldTo (x : WritingState) (m : Message) (what : WriteReply) : Type 0 where
   pub tag : m.tag ≡ x.tag
   pub to : m.to ≡ ToClient x.client

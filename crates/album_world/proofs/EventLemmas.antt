@@ -1,4 +1,4 @@
--- What one event tells is in the past after it, what was told stays there, and each turn of a client is tidy.
+-- The outputs of an event are in the past after it, and stay there, and each transition of a client is tidy.
 use Rattle.std.proofs.Common.{◌≡◌, ℕ, zero, suc, ◌+◌, Bool, true, List, [], ◌∷◌, ◌++◌, map, length, Option, Some, None, option_to_list, option_map, unwrap_or, Result, Ok, Err, ⊎_elim, sym, ap, ◌∙◌, subst, refl, Contains, if◌then◌else◌}
 use Rattle.album_stamps.specs.declared.refusals.Refusal.{Refusal}
 use Rattle.album_permits.specs.declared.notes.Note.{Note}
@@ -15,7 +15,7 @@ use Rattle.album_world.specs.Changes.Change.{Nothing, AtPart, AtClient, Stops}
 use Rattle.album_world.specs.Runs.{changed, changed_by, happens, requested, numbers_after, sent_after, outs_of, outs_by, event_outputs, run, reads_after, read_over, nth_after, past_answer, noted_of}
 use Rattle.album_world.proofs.ListLemmas.{In, contains, within, in_left, in_right, in_cases, in_map, in_mapped, mapped_in, in_one, in_nil, self_eqb}
 
--- ---- what is told
+-- ---- outputs
 
 sent_answer : {c n : ℕ} {a : Answer} {R : Type 0} → out.Answered c a ≡ out.Sent n → R
 sent_answer e = absurd (cc)
@@ -129,7 +129,7 @@ notes_are_kept t w e c n h = go (change_of t w.now e) (within _ h)
     go (Ok ch) h = note_in (requested w e) ch c n h
     go (Err r) h = in_nil h
 
--- ---- what was told stays
+-- ---- the past stays
 
 remembered_at : (w : World) (ch : Change) → IsRemembered w (changed w ch)
 remembered_at w Nothing = record { transactions = λ r l. l; reads = λ r l. l; answers = λ r l. l; noted = λ r l. l }

@@ -218,7 +218,7 @@ pub record HasFresh (o : Opening) (w : World) (began : List PartitionState) (ts 
   pub fresh : IsFreshAt o began i stamp
   pub here : (stamp ≡ 0) ⊎ ((v : Value) × (wrote (history w (place_of o.parts i)) stamp i ≡ Some v))
 
--- each answer that is there is what was told
+-- each version that is there has the property, and is a value of its item
 abbrev pub AreFound : Opening → World → (ℕ → ℕ → Type 0) → List (Option ReadVersion) → Type 0
 AreFound o w P founds = (f : ReadVersion) → In (Some f) founds → P f.item f.stamp × IsValue o w f.item f.stamp f.value
 

@@ -1,4 +1,4 @@
--- Each turn of a client is booked: what it tells and what it begins comes of the view that the client had read last.
+-- Each transition of a client is booked: its answer, notes and write rest on the view that the client had read last.
 use Rattle.std.proofs.Common.{◌≡◌, ℕ, ◌<◌, ◌≤◌, ◌+◌, ◌*◌, Bool, true, false, cond, nat_lt, nat_le, length, List, [], ◌∷◌, ◌++◌, Option, Some, None, Result, Ok, Err, IfOk, ◌⊎◌, inl, inr, ⊎_elim, sym, ap, ◌∙◌, subst, refl, arith, ltb-true, ltb-false, lt-ltb, le_refl, le_of_eq, le_trans, if◌then◌else◌}
 use Rattle.std.proofs.lemmas.Bool.{leb-true, leb-false}
 use Rattle.album_stamps.specs.Clocks.{ClockState, clock_after_next, next_of}
@@ -84,7 +84,7 @@ module _ (o : Opening) (w : World) (k : IsKept o w) (b : IsBooked (terms_of o) w
   own : x.clock.client ≡ c
   own = (k.clients c).clock
 
-  -- nothing is told
+  -- there are no outputs
   pub quiet_booked : (y : Client) → y.number ≡ x.number → y.clock ≡ x.clock → IsAt t w c y.phase
       → (sent : List Message) → IsBooked t (changed w (AtClient c (sends y sent)))
   quiet_booked y same clock does sent =
@@ -230,7 +230,7 @@ module _ (o : Opening) (w : World) (k : IsKept o w) (b : IsBooked (terms_of o) w
       seen_up : x.clock.counter ≤ seen.clock.counter
       seen_up = rows_raise x.clock rows
 
-      -- what is told and noted at this event
+      -- the answer and the notes of this event
       abbrev over_with : TransitionState → TransitionState
       over_with turn = with_past turn (Some (ended (Some rows))) (Some notes)
 

@@ -1,4 +1,4 @@
--- What a list of marks tells, and what lasts as it grows.
+-- What a list of marks says, and what lasts as it grows.
 use Rattle.std.proofs.Common.{◌≡◌, ℕ, ◌<◌, ◌≤◌, max, Bool, true, false, eqb, List, [], ◌∷◌, ◌++◌, Option, Some, None, is_some, ◌⊎◌, inl, inr, ⊎_elim, sym, ap, ◌∙◌, subst, refl, arith, true≢false, eqb-true, eq-eqb, ltb-true, ltb-false, nat_lt, if◌then◌else◌}
 use Rattle.std.specs.List.{list_any, find}
 use Rattle.album_items.specs.Openings.{Row}

@@ -195,9 +195,9 @@ number_turn terms x message (phase.Prepares writing) =
     number_prepare x writing.tag (prepare_stepped writing message)
 number_turn terms x message (phase.Commits writing) = number_commit x writing.tag (commit_stepped writing message)
 
--- ---- what is told
+-- ---- outputs
 
--- all that is told of what it has transition to
+-- all outputs of a transition
 pub told_is : (before one number : ℕ) (turn : TransitionState) (transition : Transition) (outs : List Out) → one ≡ number
     → IsMoved turn transition
     → outs

@@ -1,4 +1,4 @@
--- Each thing is told once: by a change, by an event, by a run.
+-- Each output is given once: by a change, by an event, by a run.
 use Rattle.std.proofs.Common.{◌≡◌, ℕ, zero, suc, ◌+◌, List, [], ◌∷◌, ◌++◌, map, length, Option, Some, None, option_to_list, option_map, unwrap_or, Result, Ok, Err, sym, ap, ◌∙◌, refl, arith}
 use Rattle.std.specs.List.{range_with_len, filter_map, flat_map}
 use Rattle.std.proofs.lemmas.Grind.{flat_map-append}
@@ -39,7 +39,7 @@ no_notes before (suc count) =
     filter_map-append output_note (numbers_after before count) (out.Sent (before + count + 1) ∷ [])
     ∙ ap (λ (xs : List (ℕ × Note)). xs ++ []) (no_notes before count)
 
--- and they are told by their numbers
+-- and their outputs are their numbers
 numbers_told : (before count : ℕ)
     → range_with_len 1 (before + count)
     ≡ range_with_len 1 before ++ filter_map output_number (numbers_after before count)
@@ -76,7 +76,7 @@ noted_notes client (note ∷ notes) = ap (λ (xs : List (ℕ × Note)). (client,
 
 -- ---- a turn
 
--- what is found in what a turn tells is found in its notes, then in its messages, then in its answer
+-- what is found in the outputs of a transition is found in its notes, then in its messages, then in its answer
 in_parts : {X : Type 0} (h : Out → Option X) (before client : ℕ) (turn : TransitionState)
     → filter_map h (outs_of_transition before client turn)
     ≡ filter_map h (map (out.Noted client) (unwrap_or turn.noted []))
@@ -157,7 +157,7 @@ numbers_of_turn before client turn =
 
 -- ---- a change
 
--- nothing is told, and nothing is more
+-- there are no outputs, and nothing is more
 nothing_told : (w : World) → AreGivenOnce w w []
 nothing_told w = record {
   answers = sym (append-nil (all_answers w));
@@ -205,7 +205,7 @@ told_by_event t w e = go (change_of t w.now e)
         record { answers = q.answers; notes = q.notes; numbers = q.numbers }
     go (Err r) = nothing_told w
 
--- what is told from one world to the next, and from that on, is told from the first on
+-- the outputs from one world to the next, and from that on, are those from the first on
 told_on : (a b c : World) (xs ys : List Out) → AreGivenOnce a b xs → AreGivenOnce b c ys → AreGivenOnce a c (xs ++ ys)
 told_on a b c xs ys h k = record {
   answers = more output_answer (all_answers a) (all_answers b) (all_answers c) h.answers k.answers;

@@ -83,7 +83,7 @@ pending_not : (ms : List Mark) (s t : ℕ) → state_of ms s ≡ state.Pending �
     → eqb s t ≡ false
 pending_not ms s t e f = ⊎_elim (λ (q : s ≡ t). pending_unknown ms s t e f q) (λ n. n) (same_or_not s t)
 
--- ---- what a partition tells a reader
+-- ---- the replies of a partition to a reader
 
 -- in round one
 first_now : (o : Opening) (w : World) → IsKept o w → (began : List PartitionState) → ((p : ℕ) → HasBegun w began p)
@@ -159,7 +159,7 @@ second_now o w k c began r ts f i l =
         (f.stamps s d))
         h
 
--- a message that partition p sends; what it tells a reader is what p reads for it
+-- a message that partition p sends; its reply to a reader is what p reads for it
 pub record IsSaid (o : Opening) (w next : World) (p : ℕ) (n : Message) : Type 1 where
   pub to : Node
   pub tag : ℕ

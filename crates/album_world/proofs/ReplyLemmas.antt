@@ -110,7 +110,7 @@ module _ (o : Opening) (some : 0 < o.parts) (w : World) (k : IsKept o w) (c : �
   tag_next : (g : ℕ) → tag_of x.phase ≡ g → tag_of x.phase ≤ g + 1
   tag_next g tag = omega arith
 
-  -- ---- nothing is sent and nothing is told
+  -- ---- nothing is sent and nothing is answered
 
   pub stays_kept : (y : Client) → y.number ≡ x.number → y.clock ≡ x.clock → tag_of x.phase ≡ tag_of y.phase
       → IsDoing o w c began y.phase → IsKept o (changed w (AtClient c (still y)))

@@ -212,7 +212,7 @@ all_answered (a ∷ xs) c h last b i e = go (eqb a.client c) refl last (in_uncon
 
 -- ---- what lasts
 
--- what was told, read and begun is there still
+-- what was answered, read and begun is there still
 pub record Lasts (w1 w2 : World) : Type 0 where
   pub transactions : (r : Transaction) → In r w1.past.transactions → In r w2.past.transactions
   pub reads : (f : Read) → In f w1.past.reads → In f w2.past.reads
@@ -362,7 +362,7 @@ module _ (o : Opening) (w : World) (k : IsKept o w) (c : ℕ) (q : IsRequestedBu
             };
       }
 
-  -- an answer that was told before is to the same request as before
+  -- an answer that was given before is to the same request as before
   told_lasts : (x : PastAnswer) → IsToOne w x → IsToOne next x
   told_lasts x d = record {
     asked = d.asked;

@@ -30,7 +30,7 @@ leads t w old new e outs same d =
     d.kept ∙ ap (λ (n : Now). now_after n d.change) (sym same)
     ∙ sym (ap (λ (r : Result Change Refusal). (changed_by w e r).now) (ap (λ (n : Now). change_of t n e) same ∙ d.is))
 
--- and what it tells is what is told
+-- and its outputs are those of the event
 told : (t : Terms) (w : World) (old new : Now) (e : Event) (outs : List Out) → w.now ≡ old → IsDone t old e new outs
     → outs ≡ event_outputs t w e
 told t w old new e outs same d =
@@ -61,7 +61,7 @@ in_past_of o es is e outs same =
           answers_last o (opening_is o is).some w (always_kept o es is) (always_requested o es is) e c a i;
     })
 
--- of the run with the event, what the event tells
+-- the past of the run with the event has the outputs of the event
 pub in_past_told : (o : Opening) (es : List Event) → is_opening o ≡ true → (e : Event)
     → IsInPast (run_of o (es ++ e ∷ [])) (event_outputs (terms_of o) (run_of o es) e)
 in_past_told o es is e =
@@ -129,7 +129,7 @@ module _ {Outs : Type 0} (view : Outs → List Out) (t : Terms) where
       ∙ ap (λ (n : ℕ). take n es) (sym (add-one i)))
       more
 
-  -- what the events told is in the past up to each
+  -- the outputs of the events are in the past up to each
   all_in_past : (o : Opening) (before : List Event) (old new : Now) (es : List Event) (rs : List (Result Outs Refusal))
       → AreStepped view t old es new rs → LeadsTo o before (record { terms = t; kept = old })
       → AreInPast view o before es rs

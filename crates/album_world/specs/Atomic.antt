@@ -32,7 +32,7 @@ pub record IsWrittenBy (world : World) (row : ReadVersion) : Type 0 where
   pub at : by.stamp ≡ row.stamp
   pub wrote : value_in by.writes row.item ≡ Some row.value
 
--- it is the item's first value at 0, or what a committed transaction wrote
+-- the row is its item's first value at 0, or what a committed transaction wrote
 abbrev pub IsWritten : Opening → World → ReadVersion → Type 0
 IsWritten opening world row =
     ((row.stamp ≡ 0) × (row.value ≡ first_value opening row.item)) ⊎ IsWrittenBy world row

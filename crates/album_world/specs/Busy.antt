@@ -15,13 +15,13 @@ pub record IsOpen (read : Read) (rows : List ReadVersion) : Type 0 where
   pub shown : read.rows ≡ Some rows
   pub lacking : IsClosed read.ask rows → ⊥
 
--- and its read set has more items than can be read
+-- the snapshot is not closed, and its read set has more items than can be read
 pub record IsWide (read : Read) : Type 0 where
   pub rows : List ReadVersion
   pub lacking : IsOpen read rows
   pub wide : MAX_READ_ITEMS < length (names_of rows read.ask)
 
--- or it has no more items than can be read
+-- the snapshot is not closed, and its read set has no more items than can be read
 pub record IsNarrow (read : Read) : Type 0 where
   pub rows : List ReadVersion
   pub lacking : IsOpen read rows
@@ -32,6 +32,7 @@ pub record IsLastRead (read : Read) : Type 0 where
   pub nth : read.begun.nth ≡ MAX_READS
   pub in_vain : (read.rows ≡ None) ⊎ IsNarrow read
 
+-- the read is a cause of this answer Busy
 abbrev pub IsCause : Why → Read → Type 0
 IsCause Wide read = IsWide read
 IsCause Rounds read = IsLastRead read
@@ -44,6 +45,7 @@ pub record HasCause (world : World) (given : PastAnswer) (why : Why) : Type 0 wh
   pub own : read.begun.client ≡ given.client
   pub cause : IsCause why read
 
+-- an answer Busy has its cause; any other answer needs none
 abbrev pub IsCaused : World → PastAnswer → Answer → Type 0
 IsCaused world given (answer.Busy why) = HasCause world given why
 IsCaused world given (answer.Served served) = Unit {0}

@@ -77,7 +77,7 @@ client_takes_by terms number client message (Prepares writing) =
 client_takes_by terms number client message (Commits writing) =
     AtClient number (commit_transition client writing.tag (commit_stepped writing message))
 
--- and nothing at a stopped one
+-- a message changes nothing at a stopped client
 abbrev pub client_takes : Terms → Now → ℕ → Client → Message → Change
 client_takes terms now number client message =
     if is_stopped now number then Nothing else client_takes_by terms number client message client.phase

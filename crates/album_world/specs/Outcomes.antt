@@ -78,7 +78,7 @@ IsTrueOutcome terms world given (answer.Unsettled stamp why) =
 IsTrueOutcome terms world given (answer.Refused why) =
     IsAnsweredOnView terms world given (IsRefusedFor world given.client why)
 
--- each answer that was ever given does, whatever has happened since
+-- each answer that was ever given says how its write stands, whatever has happened since
 abbrev pub OutcomesAreTrue : Terms → World → Type 0
 OutcomesAreTrue terms world =
     (given : PastAnswer) → Contains world.past.answers given → IsTrueOutcome terms world given given.answer

@@ -46,13 +46,15 @@ answer_of given = (given.client, given.answer)
 abbrev pub notes_of : Noted → List (ℕ × Note)
 notes_of noted = map (λ note. (noted.client, note)) noted.notes
 
--- the answers, the notes, and the numbers of the messages, which count from 1
+-- all answers so far, each with the client
 abbrev pub all_answers : World → List (ℕ × Answer)
 all_answers world = map answer_of world.past.answers
 
+-- all notes so far, each with the client
 abbrev pub all_notes : World → List (ℕ × Note)
 all_notes world = flat_map notes_of world.past.noted
 
+-- the numbers of all messages so far, which count from 1
 abbrev pub all_numbers : World → List ℕ
 all_numbers world = range_with_len 1 (length world.now.messages)
 

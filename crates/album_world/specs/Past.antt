@@ -48,7 +48,7 @@ pub record Asked : Type 0 where
   pub notes : List (List Note)
   pub answers : List Answer
 
--- all of these; of requests and of reads the last ones come first
+-- all that has happened: requests, writes, reads, answers and notes; of requests and of reads the last ones come first
 pub record Past : Type 0 where
   pub asked : List Asked
   pub transactions : List Transaction
@@ -69,12 +69,12 @@ abbrev pub last_begun : List Begun → ℕ → Begun
 last_begun [] client = record { client = client; nth = 0; partitions = [] }
 last_begun (begun ∷ more) client = if begun.client == client then begun else last_begun more client
 
--- the last of its reads that are over
+-- the last of a client's reads that are over
 abbrev pub last_read : List Read → ℕ → Option Read
 last_read [] client = None
 last_read (read ∷ more) client = if read.begun.client == client then Some read else last_read more client
 
--- its last request
+-- a client's last request
 abbrev pub last_asked : List Asked → ℕ → Option Asked
 last_asked [] client = None
 last_asked (asked ∷ more) client = if asked.client == client then Some asked else last_asked more client

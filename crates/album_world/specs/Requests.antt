@@ -14,7 +14,7 @@ use Rattle.album_permits.specs.declared.answers.Answer.TheVariants as answer
 
 -- ---- reads and writes for a request
 
--- each partition has all the marks that it had
+-- each partition has all marks that it had earlier
 abbrev pub AreAtOrAfter : List PartitionState → List PartitionState → Type 0
 AreAtOrAfter later earlier = (part : ℕ) → (more : List Mark) × (history_in later part ≡ history_in earlier part ++ more)
 

@@ -42,7 +42,7 @@ IsRuledBy terms world given (answer.Unsettled stamp why) =
     IsAnsweredOnView terms world given (IsBegunBy world given.client stamp)
 IsRuledBy terms world given (answer.Refused why) = IsAnsweredOnView terms world given IsPermit
 
--- the view of the answer has notes too
+-- the past has the notes for the view of the answer
 pub record HasNotes (world : World) (given : PastAnswer) : Type 0 where
   pub noted : Noted
   pub kept : Contains world.past.noted noted

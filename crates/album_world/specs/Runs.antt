@@ -57,10 +57,11 @@ begun_after now past number transition =
     record { client = number; nth = nth_after past number transition.over; partitions = now.partitions } ∷ past.begun
     else past.begun
 
--- an answer, and notes, with the read that the client had made last
+-- an answer, with the read that the client had made last
 abbrev pub past_answer : List Read → ℕ → Answer → PastAnswer
 past_answer reads number answer = record { client = number; last = last_read reads number; answer = answer }
 
+-- notes, with the read that the client had made last
 abbrev pub noted_of : List Read → ℕ → List Note → Noted
 noted_of reads number notes = record { client = number; last = last_read reads number; notes = notes }
 

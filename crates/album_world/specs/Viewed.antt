@@ -19,6 +19,6 @@ pub record IsOnView
   pub view : IsView (record { ask = read.ask; rows = rows })
   pub holds : Holds (permit_on terms.policy read.principal read.ask rows)
 
--- the same for the view that an answer rests on
+-- the answer rests on a view that has the property
 abbrev pub IsAnsweredOnView : Terms → World → PastAnswer → (PermitState → Type 0) → Type 0
 IsAnsweredOnView terms world given Holds = IsOnView terms world given.client given.last Holds

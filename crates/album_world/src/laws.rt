@@ -34,7 +34,7 @@ ghost use Rattle.album_permits.specs.declared.answers.Answer.{Answer as Answered
 ghost use Rattle.album_permits.specs.declared.outs.Out.TheVariants as Out;
 
 /// A law: rulings hold. Each note, and each answer Served, Denied, Missing, Committed, Aborted, Unsettled or Refused,
-/// is what the written policy says of the closed view that its client had read last. The policy is the opening's, and it
+/// is what the written policy says of the closed view that its client had read last. The policy is the opening's. It
 /// looks at that view's lists, owners and groups.
 pub fn rulings_hold()
     ensures { (opening : Opening) (events : List Happening) → is_opening opening ≡ true

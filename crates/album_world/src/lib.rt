@@ -8,9 +8,9 @@
 //! denying entry, or the list's end. The view is read atomic. Each of its items is no older than what the item's
 //! partition had committed before the view's read. `World::step` promises this, clause by clause.
 //!
-//! Read `Event` and `Out` of `album_permits` first, and `world`. Then read specs/ in the order of specs/Lib.antt: what a world keeps, what
-//! has happened to it, what an event changes and outputs, and the promises. `laws` states the promises once more, as
-//! facts of the definitions alone.
+//! Read `Event` and `Out` of `album_permits` first, and then `world`. Then read specs/ in the order of specs/Lib.antt:
+//! what a world keeps, what has happened to it, what an event changes and outputs, and the promises. `laws` states the
+//! promises once more, as facts of the definitions alone.
 #![tactic(auto)]
 
 // What a client does at one event, and the outputs of that.

@@ -17,11 +17,11 @@ pub record IsReplyFrom (writing : WritingState) (message : Message) (reply : Rep
   pub sender : message.from ≡ Part place
   pub participant : Contains (places_in writing) place
 
--- it is, from some participant
+-- the message is this reply, from some participant
 abbrev pub IsReplyTo : WritingState → Message → Reply → Type 0
 IsReplyTo writing message reply = (place : ℕ) × IsReplyFrom writing message reply place
 
--- one of the messages is, from the participant at this place
+-- one of the messages is this reply, from the participant at this place
 abbrev pub IsReplyAmong : WritingState → List Message → Reply → ℕ → Type 0
 IsReplyAmong writing messages reply place =
     (message : Message) × Contains messages message × IsReplyFrom writing message reply place
@@ -34,10 +34,11 @@ pub record IsLastOf (reply : Reply) (writing : WritingState) (given : List Messa
 
 -- ---- what doesn't
 
--- the replies for the stamp that count in a round of Prepares, and those that count in a round of Commits
+-- the replies for the stamp that count in a round of Prepares
 abbrev pub prepare_replies : ℕ → List Reply
 prepare_replies stamp = Prepared stamp ∷ Discarded stamp ∷ Full stamp ∷ []
 
+-- the reply for the stamp that counts in a round of Commits
 abbrev pub commit_replies : ℕ → List Reply
 commit_replies stamp = Committed stamp ∷ []
 
@@ -61,12 +62,12 @@ pub data IsStray (replies : List Reply) (once : Reply) (writing : WritingState) 
       → message.body ≡ body.Reply once
       → (Contains writing.outstanding place → ⊥) → IsStray replies once writing message
 
--- it does not count in a round of Prepares
+-- the message does not count in a round of Prepares
 abbrev pub IsStrayToPrepares : WritingState → Message → Type 0
 IsStrayToPrepares writing message =
     IsStray (prepare_replies writing.stamp) (Prepared writing.stamp) writing message
 
--- it does not count in a round of Commits
+-- the message does not count in a round of Commits
 abbrev pub IsStrayToCommits : WritingState → Message → Type 0
 IsStrayToCommits writing message =
     IsStray (commit_replies writing.stamp) (Committed writing.stamp) writing message

@@ -24,7 +24,7 @@ replied_round counts writing given =
 
 -- ---- the Prepares
 
--- the step of the round whose last message is this reply
+-- the step of a round of Prepares whose last message is this reply
 abbrev pub prepares_then : WritingState → WriteReply → WriteStep
 prepares_then writing write_reply.Prepared = prepares_left writing writing.outstanding
 prepares_then writing write_reply.Committed = Waits writing
@@ -32,14 +32,14 @@ prepares_then writing write_reply.Discarded = Ends (outcome.Aborted writing.stam
 prepares_then writing write_reply.Full = Ends (outcome.Full writing.stamp)
 prepares_then writing write_reply.Nothing = Waits writing
 
--- the step of a message that is given after these
+-- the step of a message that is given after these in the round of the Prepares
 abbrev pub prepare_step_after : WritingState → List Message → Message → WriteStep
 prepare_step_after writing given message =
     prepares_then (replied_round is_prepared_reply writing (given ++ message ∷ [])) (reply_in writing message)
 
 -- ---- the Commits
 
--- the step of the round whose last message is this reply
+-- the step of a round of Commits whose last message is this reply
 abbrev pub commits_then : WritingState → WriteReply → WriteStep
 commits_then writing write_reply.Prepared = Waits writing
 commits_then writing write_reply.Committed = commits_left writing writing.outstanding
@@ -47,7 +47,7 @@ commits_then writing write_reply.Discarded = Waits writing
 commits_then writing write_reply.Full = Waits writing
 commits_then writing write_reply.Nothing = Waits writing
 
--- the step of a message that is given after these
+-- the step of a message that is given after these in the round of the Commits
 abbrev pub commit_step_after : WritingState → List Message → Message → WriteStep
 commit_step_after writing given message =
     commits_then (replied_round is_committed_reply writing (given ++ message ∷ [])) (reply_in writing message)

@@ -28,7 +28,7 @@ abbrev pub prepares_left : WritingState → List ℕ → WriteStep
 prepares_left writing [] = Commits (commit_round writing) (commits_of (commit_round writing))
 prepares_left writing (place ∷ places) = Waits writing
 
--- the step of a reply of a node
+-- the step of a node's reply in the round of the Prepares
 abbrev pub prepares_by : WritingState → Node → WriteReply → WriteStep
 prepares_by writing node write_reply.Prepared =
     prepares_left (answered_by writing node) (answered_by writing node).outstanding
@@ -48,7 +48,7 @@ abbrev pub commits_left : WritingState → List ℕ → WriteStep
 commits_left writing [] = Ends (outcome.Committed writing.stamp)
 commits_left writing (place ∷ places) = Waits writing
 
--- the step of a reply of a node
+-- the step of a node's reply in the round of the Commits
 abbrev pub commits_by : WritingState → Node → WriteReply → WriteStep
 commits_by writing node write_reply.Prepared = Waits writing
 commits_by writing node write_reply.Committed =

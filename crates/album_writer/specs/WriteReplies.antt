@@ -23,7 +23,7 @@ write_reply_of stamp reply.Clash = write_reply.Nothing
 write_reply_of stamp (reply.Full of) = if of == stamp then write_reply.Full else write_reply.Nothing
 write_reply_of stamp (reply.Gone item) = write_reply.Nothing
 
--- a body: a request is no reply
+-- the reply in a body; a request is none
 abbrev pub body_reply : ℕ → Body → WriteReply
 body_reply stamp (body.Request request) = write_reply.Nothing
 body_reply stamp (body.Reply reply) = write_reply_of stamp reply
@@ -40,7 +40,7 @@ abbrev pub reply_in : WritingState → Message → WriteReply
 reply_in writing message =
     if is_from_participant writing message then body_reply writing.stamp message.body else write_reply.Nothing
 
--- it says that the stamp is prepared
+-- the reply says that the stamp is prepared
 abbrev pub is_prepared_reply : WriteReply → Bool
 is_prepared_reply write_reply.Prepared = true
 is_prepared_reply write_reply.Committed = false
@@ -48,7 +48,7 @@ is_prepared_reply write_reply.Discarded = false
 is_prepared_reply write_reply.Full = false
 is_prepared_reply write_reply.Nothing = false
 
--- it says that the stamp is committed
+-- the reply says that the stamp is committed
 abbrev pub is_committed_reply : WriteReply → Bool
 is_committed_reply write_reply.Prepared = false
 is_committed_reply write_reply.Committed = true

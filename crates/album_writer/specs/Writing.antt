@@ -22,7 +22,7 @@ pub record WritingState : Type 0 where
 
 -- ---- what is written
 
--- the effect of its permit at its stamp
+-- what is written: the effect of the permit at the stamp
 abbrev pub writes_in : WritingState → List Row
 writes_in writing = effect_of writing.permit writing.stamp
 
@@ -36,7 +36,7 @@ places_in writing = places_of writing.parts (items_in writing)
 
 -- ---- what is sent
 
--- a Prepare: exactly the writes that are placed at the partition, with the items of the whole write
+-- the Prepare to a partition: exactly the writes that are placed there, with the items of the whole write
 abbrev pub prepare_to : WritingState → ℕ → Message
 prepare_to writing place = record {
   from = Client writing.client;
@@ -45,11 +45,11 @@ prepare_to writing place = record {
   body = Request (Prepare writing.stamp (rows_placed_at place writing.parts (writes_in writing)) (items_in writing));
 }
 
--- one for each participant
+-- the Prepares, one for each participant
 abbrev pub prepares_of : WritingState → List Message
 prepares_of writing = map (prepare_to writing) (places_in writing)
 
--- a Commit
+-- the Commit to a partition
 abbrev pub commit_to : WritingState → ℕ → Message
 commit_to writing place = record {
   from = Client writing.client;
@@ -58,7 +58,7 @@ commit_to writing place = record {
   body = Request (Commit writing.stamp);
 }
 
--- one for each participant
+-- the Commits, one for each participant
 abbrev pub commits_of : WritingState → List Message
 commits_of writing = map (commit_to writing) (places_in writing)
 

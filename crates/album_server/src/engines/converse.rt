@@ -25,8 +25,8 @@ use std::time;
 ///
 /// # Errors
 ///
-/// `Reading`, where a read fails, or `turns` reads did not come to the end; `Memory`, where there is none for a line, or
-/// for the text of its answer; `Writing`, where a write fails or takes no byte. The first that comes ends it.
+/// `Reading`, where a read fails, or `turns` reads did not come to the end; `Memory`, where there is none for a line,
+/// or for the text of its answer; `Writing`, where a write fails or takes no byte. The first that comes ends it.
 pub fn converse<J: ServiceNames, T: Wait + time::Clock, R: Read, W: Write>(
     rt: &T,
     alloc: Global,

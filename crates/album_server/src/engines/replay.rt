@@ -23,8 +23,9 @@ use std::io::{Read, Write};
 ///
 /// # Errors
 ///
-/// `Reading`, where a read fails, or `turns` reads did not come to the end; `Memory`, where there is none for a line, or
-/// for the text of what a line brings about; `Writing`, where a write fails or takes no byte. The first that comes ends it.
+/// `Reading`, where a read fails, or `turns` reads did not come to the end; `Memory`, where there is none for a line,
+/// or for the text of what a line brings about; `Writing`, where a write fails or takes no byte. The first that comes
+/// ends it.
 pub fn replay<R: Read, W: Write>(
     alloc: Global,
     reader: &mut R,

@@ -6,7 +6,7 @@ use Rattle.album_client.specs.Steps.{transition_of}
 use Rattle.album_world.proofs.MoveLemmas.{moved_so, number_turn, taken_done, unnoted, untold_is, writes_none}
 use Rattle.album_world.proofs.client_events.continue_write.Goals as goal
 
--- what the write's turn has made of it, and all that is told
+-- the client's next state, and all outputs
 pub returns-clause-done : goal.returns-clause-done
 returns-clause-done c =
     let x = c.args.client.now in

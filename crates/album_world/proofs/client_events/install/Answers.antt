@@ -3,7 +3,7 @@ use Rattle.album_client.specs.Clients.{Client}
 use Rattle.album_world.proofs.MoveLemmas.{told_is}
 use Rattle.album_world.proofs.client_events.install.Goals as goal
 
--- what it has become, what it sends, and what is told
+-- the client's next state, its messages, and the outputs
 pub returns-clause-installed : goal.returns-clause-installed
 returns-clause-installed c = λ turn is.
     let count : c.len.result ≡ length c.args.transition.sent.items = search rules in

@@ -2,7 +2,7 @@ use Rattle.std.proofs.Common.{refl}
 use Rattle.std.proofs.lemmas.List.{take_all}
 use Rattle.album_world.proofs.outputs.outs_of.Goals as goal
 
--- all notes are told, then the messages and the answer
+-- the outputs are all notes, then the messages and the answer
 pub returns : goal.returns
 returns c =
     let all = take_all c.loop-note.note-index c.args.notes.now c.loop-note-test.false in
