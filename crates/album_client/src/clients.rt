@@ -1,4 +1,4 @@
-// What a client does between two events.
+//! What a client does between two events.
 ghost use Rattle.std.specs.Prelude.{◌≡◌, false, true, IfOk, IsOkUnless, OnErr};
 ghost use Rattle.album_client.specs.Steps.{is_waiting, IsTakenBy};
 

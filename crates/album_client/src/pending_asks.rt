@@ -1,4 +1,4 @@
-// An ask that has no view yet.
+//! An ask that has no view yet.
 ghost use Rattle.std.specs.Prelude.{◌≡◌, None, IfOk, IsOkUnless};
 ghost use Rattle.album_views.specs.Checks.{refusal_of};
 

@@ -1,4 +1,4 @@
-// What a client does in a read.
+//! What a client does in a read.
 ghost use Rattle.std.specs.Prelude.{◌≡◌, ◌+◌, ◌<◌, ◌^◌, None, IfOk, IsOkUnless};
 ghost use Rattle.album_reader.specs.Rounds.{stepped};
 ghost use Rattle.album_views.specs.Asks.{objects_of};

@@ -1,4 +1,4 @@
-// What a client does with a closed view.
+//! What a client does with a closed view.
 ghost use Rattle.std.specs.Prelude.{◌≡◌, ◌+◌, ◌<◌, ◌^◌, None, Some, IfOk, IsOkUnless};
 ghost use Rattle.album_permits.specs.Permits.{PermitState};
 ghost use Rattle.album_permits.specs.Rulings.{told_by, Keeps};

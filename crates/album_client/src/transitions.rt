@@ -1,4 +1,4 @@
-// A client's step: its number, clock and terms before, and the transition after.
+//! A client's step: its number, clock and terms before, and the transition after.
 ghost use Rattle.std.specs.Prelude.{◌≡◌, ◌≤◌, [], length};
 ghost use Rattle.album_stamps.specs.declared.limits.TheConstants.{MAX_READ_ITEMS};
 

@@ -1,4 +1,4 @@
-// What a client does in a write.
+//! What a client does in a write.
 ghost use Rattle.std.specs.Prelude.{◌≡◌, ◌+◌, ◌<◌, ◌^◌, IfOk, IsOkUnless, IsTrue, Some};
 ghost use Rattle.album_permits.specs.Effects.{is_full_for};
 ghost use Rattle.album_stamps.specs.Stamps.{client_of as drawer_of};

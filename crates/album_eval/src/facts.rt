@@ -1,4 +1,4 @@
-//! Who asks, of whose object.
+//! The principal of a request, and whose object it is about.
 ghost use Rattle.std.specs.Prelude.{◌≡◌, ◌↔◌, ℕ, List, Some, IfOk, IsOkUnless};
 ghost use Rattle.std.specs.Option.{ok_or};
 ghost use Rattle.album_stamps.specs.declared.refusals.Refusal.TheVariants.{BadWho};
@@ -14,7 +14,7 @@ use album_stamps::Refusal;
 use bitflags::Flags;
 use std::collections::BTreeSet;
 
-/// Who asks.
+/// The principal: the user or nobody named, for whom is asked.
 #[derive(Clone, Debug, Drop)]
 pub enum Principal {
     /// `ANONYMOUS@`
@@ -23,11 +23,11 @@ pub enum Principal {
     User(Name),
 }
 
-/// What a list is judged on: by which policy, who asks, whose the object is, and the groups that who asks is in.
+/// What a list is judged on: the policy, the principal, whose the object is, and the principal's groups.
 #[derive(Clone, Copy, Debug)]
 pub struct Facts<'a> {
     pub policy: Policy,
-    /// Who asks.
+    /// For whom is asked.
     pub principal: &'a Principal,
     /// Whose the object is.
     pub owner: &'a Name,

@@ -1,6 +1,6 @@
 //! Who is in which group, what an access list says of a request, and which entries take note of it.
 //!
-//! Who asks, the groups and the policy come in, and a verdict goes out. Read `facts`, `groups` and
+//! The principal, the groups and the policy come in, and a verdict goes out. Read `facts`, `groups` and
 //! `policies` first, then `verdicts`.
 #![tactic(auto)]
 

@@ -11,7 +11,7 @@ use bitflags::Flags;
 pub enum Policy {
     /// Those of RFC 7530.
     One,
-    /// The same, but an owner who asks is given READ_ACL and WRITE_ACL before the list is looked at.
+    /// The same, but the owner is given READ_ACL and WRITE_ACL before the list is looked at.
     Two,
 }
 
@@ -27,7 +27,7 @@ impl Policy {
         }
     }
 
-    /// The bits that an owner who asks is given.
+    /// The bits that the owner is given.
     pub(crate) fn owner_bits(self) -> Mask
         ensures { (bit : ℕ) → has_bit result bit ≡ gives_owner self bit }
     {

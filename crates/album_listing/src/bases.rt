@@ -1,4 +1,4 @@
-// The basis of a ruling can be computed.
+//! The basis of a ruling can be computed.
 ghost use Rattle.std.specs.Prelude.{List};
 ghost use Rattle.album_eval.specs.declared.facts.Principal.{Principal};
 ghost use Rattle.album_eval.specs.declared.policies.Policy.{Policy};

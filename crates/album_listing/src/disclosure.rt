@@ -1,4 +1,4 @@
-// A law of what listings do not disclose.
+//! A law of what listings do not disclose.
 ghost use Rattle.std.specs.Prelude.{◌≡◌, ℕ, List, IsTrue};
 ghost use Rattle.album_eval.specs.declared.facts.Principal.{Principal};
 ghost use Rattle.album_eval.specs.declared.policies.Policy.{Policy};
@@ -11,8 +11,8 @@ ghost use Rattle.album_listing.specs.Masks.{LIST_DIRECTORY};
 ghost use Rattle.album_listing.specs.Reasons.{is_granted_on};
 ghost use Rattle.album_listing.specs.declared.rows.Row.{Row};
 
-/// A law: a listing discloses nothing that who asks may not read. Of an album that it may list, a principal is listed
-/// the same rows on two snapshots that are alike for it.
+/// A law: a listing discloses nothing that the principal may not read. Of an album that it may list, a principal is
+/// listed the same rows on two snapshots that are alike for it.
 pub fn listings_disclose_nothing()
     ensures { (policy : Policy) (principal : Principal) (album : ℕ) (one other : List ReadVersion) (rows more : List Row)
         → AreAlikeFor policy principal (ask.List album) one other

@@ -1,4 +1,4 @@
-// The groups that a principal is in, by the groups that a view shows.
+//! The groups that a principal is in, by the groups that a view shows.
 ghost use Rattle.std.specs.Prelude.{◌≡◌, ◌==◌, ℕ, IfOk, OnOk, IsOkUnless, if◌then◌else◌};
 ghost use Rattle.std.specs.Ordering.{nat_cmp};
 ghost use Rattle.std.specs.BTreeSet as set;

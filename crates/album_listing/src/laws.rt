@@ -1,4 +1,4 @@
-// Laws of listings.
+//! Laws of listings.
 ghost use Rattle.std.specs.Prelude.{◌≡◌, ℕ, List};
 ghost use Rattle.album_eval.specs.declared.facts.Principal.{Principal};
 ghost use Rattle.album_eval.specs.declared.policies.Policy.TheVariants.{One, Two};

@@ -1,7 +1,8 @@
 //! What the policy shows of an album, and what every ruling is based on.
 //!
-//! What comes in: a view, and who asks. What goes out: the rows of the album's children that who asks may see.
-//! Read `sights`, `reasons` and `hearings` first, which rulings on other asks use too, then `listing`.
+//! What comes in: a view, and the principal. What goes out: the rows of the album's children that the principal may
+//! see.
+//! Read `view_lookups`, `reasons` and `ruling_contexts` first, which rulings on other asks use too, then `listing`.
 #![tactic(auto)]
 
 // What a ruling is based on.

@@ -1,4 +1,4 @@
-// What may be asked of an object, and what its list says of it.
+//! What may be asked of an object, and what its list says of it.
 ghost use Rattle.std.specs.Prelude.{◌≡◌};
 ghost use Rattle.album_listing.specs.Reasons.{is_grant};
 

@@ -1,4 +1,4 @@
-// The rows of a listing.
+//! The rows of a listing.
 ghost use Rattle.std.specs.Prelude.{◌≡◌};
 
 use album_items::{ItemId, Title};

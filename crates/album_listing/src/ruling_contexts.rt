@@ -1,4 +1,4 @@
-// What is heard before a ruling: what the view shows, who asks, and the groups that this is in.
+//! What a ruling looks at: what the view shows, the principal, and the principal's groups.
 ghost use Rattle.std.specs.Prelude.{◌≡◌, IfOk, IsOkUnless};
 ghost use Rattle.album_eval.specs.Matching.{case_of};
 ghost use Rattle.album_listing.specs.Basis.{IsBasis};

@@ -1,4 +1,4 @@
-// A law of the titles in a listing.
+//! A law of the titles in a listing.
 ghost use Rattle.std.specs.Prelude.{ℕ, Contains};
 ghost use Rattle.album_listing.specs.Basis.{Basis};
 ghost use Rattle.album_listing.specs.Listing.{listed};

@@ -1,4 +1,4 @@
-// What a view shows of its items.
+//! What a view shows of its items.
 ghost use Rattle.std.specs.Prelude.{◌≡◌, []};
 ghost use Rattle.album_items.specs.declared.values.Value.TheVariants.{Missing};
 

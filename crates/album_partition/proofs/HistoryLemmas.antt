@@ -1,14 +1,14 @@
 -- What is kept of each stamp stays so as one mark more is made, and the pending stamps are listed from it.
 -- `History::add` needs `made`, `History::after` the lemmas that begin with `after_` and `count_`, and
 -- `History::pending` `pending_listed`.
-use Rattle.std.proofs.Common.{◌≡◌, ◌≢◌, ◌↔◌, ℕ, zero, suc, ◌<◌, ◌≤◌, ◌+◌, ◌-◌, ◌^◌, ◌⊎◌, ⊎_elim, Bool, true, false, ◌==◌, ◌||◌, cond, List, [], ◌∷◌, ◌++◌, length, Option, Some, None, refl, sym, ap, ◌∙◌, subst, arith, Equal, Contains, is_some, filter}
+use Rattle.std.proofs.Common.{◌≡◌, ◌≢◌, ◌↔◌, ℕ, zero, suc, ◌<◌, ◌≤◌, ◌+◌, ◌-◌, ◌^◌, ◌⊎◌, ⊎_elim, Bool, true, false, ◌==◌, ◌||◌, cond, List, [], ◌∷◌, ◌++◌, length, Option, Some, None, refl, sym, ap, ◌∙◌, subst, arith, Equal}
 use Rattle.std.specs.BTreeMap.{is_at}
 use Rattle.std.specs.List.{list_any, find, slice_get}
 use Rattle.std.specs.Ordering.{nat_cmp, is_eq}
 use Rattle.std.specs.Cmp.{nat_cmp_is, Equal-is}
 use Rattle.std.proofs.lemmas.Map.Lookups.{exact_unsigned}
 use Rattle.std.proofs.lemmas.Bool.Decides.{Decides-eqb, same_from_decides}
-use Rattle.std.proofs.lemmas.List.{length-append, append_assoc, append-nil}
+use Rattle.std.proofs.lemmas.List.{length-append}
 use Rattle.album_stamps.specs.declared.limits.TheConstants.{MAX_MARKS}
 use Rattle.album_items.specs.Openings.{Row}
 use Rattle.album_terminate.specs.declared.deciding.StampState.{StampState}
@@ -18,17 +18,12 @@ use Rattle.album_partition.specs.declared.standings.Standing.TheVariants as stan
 use Rattle.album_partition.specs.declared.marks.Mark.{Mark}
 use Rattle.album_partition.specs.declared.marks.Mark.TheVariants.{Prepared, Committed, Discarded, Trimmed}
 use Rattle.album_partition.specs.Marks.{mark_stamp, is_mark_of, prepares, commits, state_of, is_unknown, is_pending, may_follow, pending_stamps, ArePending}
-use Rattle.album_partition.specs.Standings.{standing_in, stands_pending, AreInSet, ArePendingIn}
+use Rattle.album_partition.specs.Standings.{standing_in, stands_pending, ArePendingIn}
 use Rattle.album_partition.specs.History.{IsAt, Stands, WillStand, IsHistory, kept_by, kept_mark}
 use Rattle.album_partition.specs.declared.history.Change.{Change}
 use Rattle.album_partition.proofs.LegalLemmas.{is_legal-push}
-use Rattle.album_partition.proofs.ListLemmas.{kept_in, kept_out}
 use Rattle.album_partition.proofs.StateLemmas.{find_push_no, find_push_first, prepares_no, own_mark, no_mark, state_push_other, prepared_is_pending, committed_is_committed, discarded_is_discarded, unknown_tells, pending_tells, is_unknown_tells, is_pending_tells, same_stamp}
 use Rattle.album_partition.proofs.LoadLemmas.{prepared_counts, committed_counts, discarded_counts, refused_counts, trimmed_counts, pending_few}
-use Rattle.std.specs.List.Sorted.{IsStrictlySortedBy}
-use Rattle.std.proofs.lemmas.List.Kept.{IsStrictlySortedBy-filter}
-use Rattle.std.proofs.lemmas.Cmp.{nat_cmp_total}
-use Rattle.std.proofs.lemmas.Map.Views.{btree_map_contains_key_iff}
 
 -- the mark at the index is the one that is kept
 pub kept_pending : (marks : List Mark) (t n : ℕ) (found : Option Standing) (mark : Option Mark) → Stands marks t found → found ≡ Some (standing.Pending n) → mark ≡ slice_get marks n → mark ≡ kept_mark marks t

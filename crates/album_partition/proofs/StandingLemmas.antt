@@ -1,16 +1,14 @@
 -- The set of pending stamps goes with how each stamp stands.
-use Rattle.std.proofs.Common.{◌≡◌, ℕ, Bool, true, false, not, ◌==◌, cond, List, Option, Some, None, refl, sym, ap, ◌∙◌, subst, Contains}
+use Rattle.std.proofs.Common.{◌≡◌, ℕ, Bool, true, false, not, cond, List, Some, refl, sym, ap, ◌∙◌, subst, Contains}
 use Rattle.std.specs.BTreeMap.{is_at}
 use Rattle.std.specs.BTreeSet.{BTreeSet, contains}
-use Rattle.std.specs.Ordering.{nat_cmp, is_eq}
-use Rattle.std.specs.Cmp.{nat_cmp_is, Equal-is}
-use Rattle.std.proofs.Common.{Equal}
+use Rattle.std.specs.Ordering.{nat_cmp}
+use Rattle.std.specs.Cmp.{Equal-is}
 use Rattle.std.specs.List.Sorted.{IsStrictlySortedBy}
 use Rattle.std.proofs.lemmas.Cmp.{nat_cmp_total}
 use Rattle.std.proofs.lemmas.Map.Lookups.{exact_unsigned}
 use Rattle.std.proofs.lemmas.Map.Views.{btree_set_contains_iff}
 use Rattle.album_partition.specs.declared.standings.Standing.{Standing}
-use Rattle.album_partition.specs.declared.standings.Standing.TheVariants as standing
 use Rattle.album_partition.specs.Standings.{standing_in, stands_pending, AreInSet, ArePendingIn, IsSetTo}
 
 -- the set has a stamp from then on, or has it no more, and each other as before

@@ -1,4 +1,4 @@
-// New objects in an album.
+//! New objects in an album.
 ghost use Rattle.std.specs.Prelude.{◌≡◌, ◌∷◌, [], Some, IfOk, IsOkUnless, IsTrue};
 ghost use Rattle.album_lists.specs.declared.lists.Holder.TheVariants.{Plain, Folder};
 ghost use Rattle.album_eval.specs.Matching.{is_known};

@@ -1,4 +1,4 @@
-// The answer to an ask.
+//! The answer to an ask.
 
 use crate::findings::Denial;
 use crate::serving::Served;

@@ -1,4 +1,4 @@
-// Values with one thing changed.
+//! Values with one thing changed.
 ghost use Rattle.std.specs.Prelude.{◌≡◌, ◌++◌, ◌∷◌, [], IfOk, IsOkUnless};
 ghost use Rattle.album_permits.specs.Changes.{with_title, with_content, with_home, owned, with_owner, with_members, with_children, others, without_child, with_child};
 

@@ -1,4 +1,4 @@
-// Laws of what rulings and answers do not disclose.
+//! Laws of what rulings and answers do not disclose.
 ghost use Rattle.std.specs.Prelude.{◌≡◌, List};
 ghost use Rattle.album_eval.specs.declared.facts.Principal.{Principal};
 ghost use Rattle.album_eval.specs.declared.policies.Policy.{Policy};
@@ -23,8 +23,8 @@ pub fn secrets_decide_nothing()
         → notes_of b ask ≡ notes_of c ask }
 {}
 
-/// A law: an answer discloses nothing that who asks may not read. On two snapshots that are alike for a principal it
-/// is granted the same, and is served the same.
+/// A law: an answer discloses nothing that the principal may not read. On two snapshots that are alike for a principal
+/// it is granted the same, and is served the same.
 pub fn answers_disclose_nothing()
     ensures granted { (policy : Policy) (principal : Principal) (ask : Ask) (one other : List ReadVersion)
         → AreAlikeFor policy principal ask one other

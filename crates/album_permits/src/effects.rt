@@ -1,4 +1,4 @@
-// What a permit is spent on when its ask writes.
+//! What a permit is spent on when its ask writes.
 ghost use Rattle.std.specs.Prelude.{◌≡◌, ◌++◌, ◌∷◌, [], None, IfOk, IfErr, OnOk, IsTrue, IsOkUnless, false, not, ◌==◌, count_by, if◌then◌else◌};
 ghost use Rattle.std.specs.List.{flat_map};
 ghost use Rattle.album_stamps.specs.declared.refusals.Refusal.TheVariants.{OutOfMemory, AlbumFull};

@@ -1,4 +1,4 @@
-// What can happen to a world.
+//! What can happen to a world.
 use album_eval::Principal;
 use album_items::ItemId;
 use album_stamps::{ClientNo, Stamp};

@@ -1,4 +1,4 @@
-// What is found of the needs of an ask.
+//! What is found of the needs of an ask.
 ghost use Rattle.std.specs.Prelude.{◌≡◌, IfOk, IsOkUnless, is_none};
 ghost use Rattle.album_listing.specs.RulingContexts.{basis_of};
 ghost use Rattle.album_permits.specs.Findings.{is_missing, missing_in, reasons_of, is_met, need_found, needs_found, ruling_of};

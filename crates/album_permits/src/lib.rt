@@ -1,6 +1,6 @@
 //! Rulings on asks, and the permits that they grant: what a granted ask is served, and what it writes.
 //!
-//! What comes in: a view, and who asks. What goes out: a permit, which is spent on what the ask is served or on
+//! What comes in: a view, and the principal. What goes out: a permit, which is spent on what the ask is served or on
 //! what it writes; or why it is denied; or which object is missing.
 //!
 //! Read `needs` and `findings` first, then `permits` with what they are spent on. Tables of what is needed, found,

@@ -1,4 +1,4 @@
-// Laws of what a grant means, and of what it lets be written.
+//! Laws of what a grant means, and of what it lets be written.
 ghost use Rattle.std.specs.Prelude.{◌≡◌, ◌↔◌, ℕ, IsTrue, Contains};
 ghost use Rattle.album_listing.specs.Basis.{Basis};
 ghost use Rattle.album_views.specs.Seen.{seen};

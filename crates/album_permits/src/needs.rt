@@ -1,4 +1,4 @@
-// What an ask needs.
+//! What an ask needs.
 ghost use Rattle.std.specs.Prelude.{◌≡◌, [], ◌∷◌, map, IfOk};
 ghost use Rattle.album_listing.specs.Masks.{WRITE_ACL};
 ghost use Rattle.album_views.specs.Seen.{seen};
@@ -35,7 +35,8 @@ impl Need {
     }
 }
 
-/// What the ask needs, in order.
+/// What the ask needs, in order: each need a bit of an object's mask (RFC 7530, section 6.2.1.3.1). Where the bit has
+/// another name for an album, that stands above it.
 pub(crate) fn needs(alloc: Global, lookup: &ViewLookup, ask: &Ask) -> Result<Vec<Need>, AllocError>
     ensures { IfOk result (λ needs. needs.items ≡ needs_of (seen lookup.now.view.now.rows) ask.now) }
 {

@@ -1,4 +1,4 @@
-// What is noted as an ask is ruled on.
+//! What is noted as an ask is ruled on.
 ghost use Rattle.std.specs.Prelude.{◌≡◌, ◌++◌, map, position, IfOk, OnOk, IsOkUnless};
 ghost use Rattle.std.specs.List.{flat_map};
 ghost use Rattle.album_listing.specs.RulingContexts.{basis_of};

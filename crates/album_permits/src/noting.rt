@@ -1,4 +1,4 @@
-// Laws of notes: what they say, and how they go with the ruling.
+//! Laws of notes: what they say, and how they go with the ruling.
 ghost use Rattle.std.specs.Prelude.{◌≡◌, ◌∷◌, ℕ, List, Bool, Contains, Some, false};
 ghost use Rattle.album_eval.specs.Audit.{audited};
 ghost use Rattle.album_items.specs.Values.{head_of};

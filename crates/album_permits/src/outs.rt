@@ -1,4 +1,4 @@
-// The outputs of an event.
+//! The outputs of an event.
 use crate::answers::Answer;
 use crate::notes::Note;
 use album_stamps::ClientNo;

@@ -1,4 +1,4 @@
-// Permits.
+//! Permits.
 ghost use Rattle.std.specs.Prelude.{◌≡◌};
 ghost use Rattle.album_permits.specs.Permits.{IsPermit};
 

@@ -1,4 +1,4 @@
-// Laws of what can't be had without a right.
+//! Laws of what can't be had without a right.
 ghost use Rattle.std.specs.Prelude.{◌≡◌, ℕ, List, Some, IsTrue};
 ghost use Rattle.album_lists.specs.declared.lists.Ace.{Ace};
 ghost use Rattle.album_lists.specs.declared.whos.Member.{Member};

@@ -1,4 +1,4 @@
-// Rulings.
+//! Rulings.
 ghost use Rattle.std.specs.Prelude.{◌≡◌, None, IfOk, IfErr, IsOkUnless};
 ghost use Rattle.album_views.specs.Checks.{refusal_of};
 ghost use Rattle.album_permits.specs.Rulings.{IsFound, IsRuled};

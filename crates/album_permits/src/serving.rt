@@ -1,4 +1,4 @@
-// What a granted ask is served that writes nothing.
+//! What a granted ask is served that writes nothing.
 ghost use Rattle.std.specs.Prelude.{◌≡◌, IfOk, IfErr, IsOkUnless, IsTrue, false};
 ghost use Rattle.album_items.specs.Values.{members_of};
 ghost use Rattle.album_views.specs.Asks.{is_write};

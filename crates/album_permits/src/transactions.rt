@@ -1,4 +1,4 @@
-// A law of what permits write.
+//! A law of what permits write.
 ghost use Rattle.std.specs.Prelude.{◌≡◌, ℕ, IsTrue};
 ghost use Rattle.std.specs.List.{list_all};
 ghost use Rattle.album_items.specs.Transactions.{items_written, are_items, has_right_kind};

@@ -1,4 +1,4 @@
-// What a granted ask writes, with its permit.
+//! What a granted ask writes, with its permit.
 ghost use Rattle.std.specs.Prelude.{◌≡◌, false};
 ghost use Rattle.album_permits.specs.Effects.{effect_of, is_full_for};
 ghost use Rattle.album_permits.specs.Writes.{AreWrites};

@@ -1,4 +1,4 @@
-// The answers of items, as far as they are there.
+//! The answers of items, as far as they are there.
 ghost use Rattle.std.specs.Prelude.{◌≡◌, ◌+◌, ◌<◌, ◌&&◌, drop, take, Some, None, IfOk, length, is_some, slice_index_or, slice_set};
 ghost use Rattle.album_reader.specs.Answers.{are_there, answers_there};
 ghost use Rattle.album_reader.specs.Rounds.{no_answers};

@@ -1,4 +1,4 @@
-// Who asks, and what is an answer to it.
+//! The client of a read, and which messages are answers to it.
 ghost use Rattle.std.specs.Prelude.{◌≡◌, ◌+◌, ◌<◌, ◌≤◌, ◌^◌};
 
 use album_calls::{Body, Message, Node, Request, Stamps};
@@ -6,7 +6,7 @@ use album_items::{ItemId, place};
 use album_stamps::{ClientNo, MAX_PARTS};
 use std::marker::Model;
 
-/// Who asks, under which tag, of how many partitions.
+/// The client of a read, its tag, and how many partitions there are.
 #[derive(Clone, Copy, Debug)]
 pub struct Asker {
     client: ClientNo,

@@ -1,4 +1,4 @@
-// A read of items under way.
+//! A read of items under way.
 ghost use Rattle.std.specs.Prelude.{◌≡◌, ◌≢◌, ℕ, ◌+◌, ◌<◌, ◌≤◌, ◌^◌, ◌++◌, nat_lt, not, true, false, IsTrue, OnErr, List, [], ◌∷◌, IsOkAnd, IfOk, IfErr, IsOkUnless, length, if◌then◌else◌};
 ghost use Rattle.album_stamps.specs.Distinct.{are_distinct};
 ghost use Rattle.album_reader.specs.Ends.{step_by};

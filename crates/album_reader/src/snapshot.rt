@@ -1,4 +1,4 @@
-// What was read.
+//! What was read.
 ghost use Rattle.std.specs.Prelude.{◌≡◌, option_map};
 ghost use Rattle.album_reader.specs.Snapshots.{items_read, version_read};
 

@@ -1,4 +1,4 @@
-// What a message brings of an item: a version of it, or that it is gone.
+//! What a message brings of an item: a version of it, or that it is gone.
 ghost use Rattle.std.specs.Prelude.{◌≡◌, Option, option_map, IfOk};
 ghost use Rattle.album_reader.specs.Answers.{reply_version, body_version, body_gone};
 ghost use Rattle.album_reader.specs.Ends.{answer_of};

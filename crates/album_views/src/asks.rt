@@ -1,4 +1,4 @@
-// What a client asks.
+//! What a client asks.
 ghost use Rattle.std.specs.Prelude.{◌≡◌, List, IfOk, IsOkUnless, map};
 ghost use Rattle.album_views.specs.Asks.{objects_of, is_list, is_write, is_adding};
 
@@ -54,7 +54,7 @@ pub enum Ask {
     Read {
         object: ItemId,
     },
-    /// The children of an album, those that who asks may see, with their titles.
+    /// The children of an album, those that the principal may see, with their titles.
     List {
         album: ItemId,
     },

@@ -1,4 +1,4 @@
-// Which asks are refused before anything is read.
+//! Which asks are refused before anything is read.
 ghost use Rattle.std.specs.Prelude.{◌≡◌, ◌==◌, ◌&&◌, None, Some, IfOk, MatchResult, length, map};
 ghost use Rattle.std.specs.List.{list_all, list_any};
 ghost use Rattle.album_stamps.specs.Distinct.{no_two};

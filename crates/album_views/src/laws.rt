@@ -1,4 +1,4 @@
-// Laws of asks and of views.
+//! Laws of asks and of views.
 ghost use Rattle.std.specs.Prelude.{◌≡◌, ◌≢◌, ◌↔◌, ◌+◌, ◌≤◌, ◌<◌, ℕ, List, None, true, false, IsTrue, length, Contains};
 ghost use Rattle.album_stamps.specs.Distinct.{are_distinct};
 ghost use Rattle.album_eval.specs.declared.facts.Principal.{Principal};

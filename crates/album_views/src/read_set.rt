@@ -1,4 +1,4 @@
-// The items that a ruling looks at.
+//! The items that a ruling looks at.
 ghost use Rattle.std.specs.Prelude.{◌≡◌, ◌==◌, ◌++◌, [], ◌∷◌, Some, None, option_to_list, IfOk, OnOk, IsOkUnless, MatchOption};
 ghost use Rattle.std.specs.List.{flat_map};
 ghost use Rattle.std.specs.Option.{option_copied};

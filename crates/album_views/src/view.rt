@@ -1,4 +1,4 @@
-// Views.
+//! Views.
 ghost use Rattle.std.specs.Prelude.{◌≡◌, option_map};
 ghost use Rattle.album_reader.specs.Snapshots.{items_read, version_read};
 ghost use Rattle.album_views.specs.Views.{IsView};

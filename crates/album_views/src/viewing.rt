@@ -1,4 +1,4 @@
-// Reads until one is a view.
+//! Reads until one is a view.
 ghost use Rattle.std.specs.Prelude.{◌≡◌, ◌≢◌, ◌≤◌, None, IfOk, IfErr, IsTrue, IsOkUnless, length, nat_lt, Contains};
 ghost use Rattle.std.specs.List.{list_all};
 ghost use Rattle.album_stamps.specs.Distinct.{are_distinct};

@@ -1,4 +1,4 @@
-// How a write begins.
+//! How a write begins.
 ghost use Rattle.std.specs.Prelude.{◌≡◌, ◌+◌, ◌<◌, ◌≤◌, ◌^◌, Some, IfOk, IfErr, IsTrue, IsOkUnless, false, if◌then◌else◌};
 ghost use Rattle.album_stamps.specs.Stamps.{client_of};
 ghost use Rattle.album_stamps.specs.declared.refusals.Refusal.TheVariants.{OutOfMemory, AlbumFull};
@@ -18,8 +18,8 @@ impl Preparing {
     /// Each has exactly the writes that are placed there, and the items of the whole write. Together they are what the
     /// permit's ask writes at the stamp. The Commits are made here too, with all room, so nothing later wants memory.
     ///
-    /// This begins PUT_ALL of RAMP-Small (Bailis et al., SIGMOD 2014, Algorithm 2): a Prepare to each participant, and a
-    /// Commit to each once all have prepared. It differs in three ways. A Prepare has the items of the whole write,
+    /// This begins PUT_ALL of RAMP-Small (Bailis et al., SIGMOD 2014, Algorithm 2): a Prepare to each participant, and
+    /// a Commit to each once all have prepared. It differs in three ways. A Prepare has the items of the whole write,
     /// by which a partition finds the others if the client stops. A participant may reply Full where it has no room.
     /// It may reply Discarded, where it has voted against the stamp meanwhile: then nothing is committed anywhere.
     ///

@@ -1,4 +1,4 @@
-// A write whose Commits are sent.
+//! A write whose Commits are sent.
 ghost use Rattle.std.specs.Prelude.{◌≡◌, ◌≢◌, List, [], ◌∷◌, ◌++◌};
 ghost use Rattle.album_calls.specs.declared.messages.Message.{Message};
 ghost use Rattle.album_writer.specs.Given.{replied_round, commit_step_after};

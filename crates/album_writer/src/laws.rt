@@ -1,4 +1,4 @@
-// Laws of a write.
+//! Laws of a write.
 ghost use Rattle.std.specs.Prelude.{◌≡◌, ◌≢◌, ◌<◌, ◌≤◌, ◌↔◌, ◌⊎◌, ◌++◌, ℕ, List, [], ◌∷◌, AllPairs, Contains};
 ghost use Rattle.album_items.specs.ItemIds.{place_of};
 ghost use Rattle.album_items.specs.Openings.{Row};

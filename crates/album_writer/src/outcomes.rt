@@ -1,4 +1,4 @@
-// How a write ends.
+//! How a write ends.
 
 use album_stamps::Stamp;
 

@@ -1,4 +1,4 @@
-// A write whose Prepares are sent.
+//! A write whose Prepares are sent.
 ghost use Rattle.std.specs.Prelude.{◌≡◌, ◌≤◌, List, [], ◌∷◌, ◌++◌, length};
 ghost use Rattle.album_stamps.specs.declared.limits.TheConstants.{MAX_PARTS};
 ghost use Rattle.album_calls.specs.declared.messages.Message.{Message};

@@ -1,4 +1,4 @@
-// What a write sends.
+//! What a write sends.
 ghost use Rattle.std.specs.Prelude.{◌≡◌, ◌≤◌, ◌+◌, ◌<◌, ◌^◌, IfOk, IsOkUnless};
 ghost use Rattle.album_items.specs.Transactions.{items_written};
 ghost use Rattle.album_writer.specs.Writing.{prepare_to, prepares_of, commit_to, commit_round, commits_of};

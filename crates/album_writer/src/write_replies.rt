@@ -1,4 +1,4 @@
-// What a message replies to a write.
+//! What a message replies to a write.
 ghost use Rattle.std.specs.Prelude.{◌≡◌};
 ghost use Rattle.album_writer.specs.WriteReplies.{write_reply_of, body_reply};
 

@@ -1,4 +1,4 @@
-// One round of a write.
+//! One round of a write.
 ghost use Rattle.std.specs.Prelude.{◌≡◌, ◌≤◌, ◌+◌, ◌<◌, ◌^◌, ◌==◌, IfOk, IfErr, length};
 ghost use Rattle.std.specs.List.{list_any};
 ghost use Rattle.album_items.specs.Places.{places_of};

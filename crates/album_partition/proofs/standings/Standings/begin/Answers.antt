@@ -1,5 +1,4 @@
-use Rattle.std.proofs.Common.{◌≡◌, ◌∙◌, sym, subst, ℕ, List}
-use Rattle.std.specs.BTreeSet.{BTreeSet}
+use Rattle.std.proofs.Common.{◌∙◌, sym, subst, ℕ, List}
 use Rattle.album_partition.specs.Standings.{AreInSet}
 use Rattle.album_partition.specs.declared.standings.Standing.{Standing}
 use Rattle.album_partition.proofs.StandingLemmas.{set_with, taken_back, was_new}

@@ -1,5 +1,4 @@
-use Rattle.std.proofs.Common.{◌≡◌, ◌∙◌, sym, subst, Bool, ℕ, Some}
-use Rattle.album_partition.specs.Standings.{stands_pending}
+use Rattle.std.proofs.Common.{sym, subst, Bool}
 use Rattle.album_partition.proofs.StandingLemmas.{IsSetIn, set_with}
 use Rattle.album_partition.proofs.standings.Standings.decide.Goals as goal
 

@@ -1,6 +1,4 @@
-use Rattle.std.proofs.Common.{◌≡◌, ◌∙◌, rules, sym, subst, ap, ℕ, List, Contains}
-use Rattle.std.specs.List.Sorted.{IsStrictlySortedBy}
-use Rattle.std.specs.Ordering.{nat_cmp}
+use Rattle.std.proofs.Common.{◌≡◌, rules}
 use Rattle.album_partition.proofs.StandingLemmas.{listed}
 use Rattle.album_partition.proofs.standings.Standings.pending.Goals as goal
 
