@@ -1,13 +1,14 @@
 //! An ask that has no view yet.
-ghost use Rattle.std.specs.Prelude.{◌≡◌, None};
+ghost use Rattle.std.specs.Prelude.{◌≡◌, None, IfOk, IsOkUnless};
 ghost use Rattle.album_views.specs.Checks.{refusal_of};
 
 use album_eval::Principal;
+use album_stamps::Refusal;
 use album_views::Viewing;
 use std::marker::Model;
 
 /// An ask that has no view yet, and for whom it is asked: by a principal who may ask it.
-#[derive(Clone, Drop)]
+#[derive(Drop)]
 pub struct PendingAsk {
     viewing: Viewing,
     principal: Principal,
@@ -42,5 +43,19 @@ impl PendingAsk {
     {
         let PendingAsk { viewing, principal } = self;
         (viewing, principal)
+    }
+
+    /// The same once more. By hand, since the search doesn't find a derived clone of it equal.
+    ///
+    /// # Errors
+    ///
+    /// `OutOfMemory`.
+    pub fn copy(&self) -> Result<PendingAsk, Refusal>
+        ensures copy { IfOk result (λ pending_ask. pending_ask ≡ self.now) }
+        ensures memory { IsOkUnless result Refusal.OutOfMemory }
+    {
+        let viewing = self.viewing.copy()?;
+        let principal = self.principal.copy()?;
+        Ok(PendingAsk { viewing, principal })
     }
 }

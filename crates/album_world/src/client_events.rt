@@ -102,7 +102,7 @@ pub(crate) fn take(
         Phase::Idle(_) => Ok((Vec::new(alloc), Vec::new(alloc))),
         Phase::Reads(pending_ask, reading) => {
             if reading.is_ended_by(message) {
-                let phase = Phase::Reads(pending_ask.clone()?, reading.copy()?);
+                let phase = Phase::Reads(pending_ask.copy()?, reading.copy()?);
                 let transition = client.client_step(alloc, terms).take(phase, message)?;
                 install(client, alloc, before, transition)
             } else {
