@@ -45,7 +45,11 @@ impl PendingAsk {
         (viewing, principal)
     }
 
-    /// The same pending_ask once more, or `OutOfMemory`.
+    /// The same once more. By hand, since the search doesn't find a derived clone of it equal.
+    ///
+    /// # Errors
+    ///
+    /// `OutOfMemory`.
     pub fn copy(&self) -> Result<PendingAsk, Refusal>
         ensures copy { IfOk result (λ pending_ask. pending_ask ≡ self.now) }
         ensures memory { IsOkUnless result Refusal.OutOfMemory }

@@ -233,7 +233,7 @@ fn make_shared(rows: &mut ItemValues) -> Result<(), Refusal> {
 fn copied(rows: &ItemValues) -> Result<ItemValues, Refusal> {
     match rows.clone() {
         Ok(copy) => Ok(copy),
-        Err(_) => rows.clone(),
+        Err(_) => Ok(rows.clone()?),
     }
 }
 

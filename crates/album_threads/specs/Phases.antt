@@ -93,12 +93,12 @@ IsPhase policy outset now at sent (Reads pending_ask round) =
 IsPhase policy outset now at sent (Prepares writing) = IsWriting policy outset now at sent (Prepares writing)
 IsPhase policy outset now at sent (Commits writing) = IsWriting policy outset now at sent (Commits writing)
 
--- The principal may ask it, the session extends what it was at the outset, and its client is in this phase: replies are
--- outstanding to these messages, which were sent with that cut.
+-- The principal may ask it, the session extends what it was at the outset, and its client is in the current phase: replies
+-- are outstanding to these messages, which were sent with that cut.
 pub record IsUnderWay
-    (policy : Policy) (outset : Outset) (now : SessionState) (at : Cut) (sent : List Message) (phase : Phase)
+    (policy : Policy) (outset : Outset) (now : SessionState) (at : Cut) (sent : List Message) (current : Phase)
     : Type 0 where
   pub taken : refusal_of outset.ask outset.principal ≡ None
   pub on : IsOn outset.session now
   pub sound : IsSound now.cut
-  pub phase : IsPhase policy outset now at sent phase
+  pub phase : IsPhase policy outset now at sent current

@@ -1,11 +1,10 @@
 -- How a world opens, what its events do, and their outputs.
-use Rattle.std.specs.Prelude.{ℕ, zero, suc, ◌+◌, List, [], ◌∷◌, ◌++◌, ◌==◌, map, filter, length, Option, Some, None, Result, Ok, Err, option_to_list, option_map, slice_set, if◌then◌else◌}
-use Rattle.std.specs.List.{range_with_len}
+use Rattle.std.specs.Prelude.{ℕ, zero, suc, ◌+◌, List, [], ◌∷◌, ◌++◌, ◌==◌, map, length, Option, Some, None, Result, Ok, Err, option_to_list, option_map, slice_set, if◌then◌else◌}
 use Rattle.std.specs.Option.{unwrap_or}
 use Rattle.album_stamps.specs.declared.refusals.Refusal.{Refusal}
 use Rattle.album_items.specs.declared.openings.Opening.{Opening}
 use Rattle.album_calls.specs.declared.messages.Message.{Message}
-use Rattle.album_partition.specs.Partition.{PartitionState, first_partitions}
+use Rattle.album_partition.specs.Partition.{first_partitions}
 use Rattle.album_eval.specs.declared.facts.Principal.{Principal}
 use Rattle.album_permits.specs.declared.notes.Note.{Note}
 use Rattle.album_views.specs.declared.asks.Ask.{Ask}

@@ -12,16 +12,16 @@ returns-clause-done c =
     let x = c.args.client.now in
     let does : c.replace-phase.result ≡ x.phase =
     c.replace-phase.ensures.value ∙ ap (λ (y : Client). y.phase) c.client.view_is in
-    let transition = rw c.client_step-client_step.ensures.terms at c.written-next.ensures.transition in
+    let transition = rw c.client_step-client_step.ensures.terms at c.write_transition-next.ensures.transition in
     let is =
     moved_so c.args.terms x (client_of c.client_step-client_step.result) (phase.Idle 0) c.replace-phase.result c.args.message.now
-    c.written-next.result c.client_step-client_step.ensures.client does transition in
-    let count : c.len.result ≡ length c.written-next.result.sent.items = search rules in
+    c.write_transition-next.result c.client_step-client_step.ensures.client does transition in
+    let count : c.len.result ≡ length c.write_transition-next.result.sent.items = search rules in
     let outs = rw (c.in_ok-outs.ensures.items, count) at c.push_outputs.ensures in
     taken_done c.args.before c.args.terms x c.replace_client.new.client c.args.message.now
-    c.written-next.result.sent.items c.push_outputs.new.outs.items (writes_none x.phase c.requires.writing)
+    c.write_transition-next.result.sent.items c.push_outputs.new.outs.items (writes_none x.phase c.requires.writing)
     (untold_is c.args.before _ x c.replace_client.new.client (transition_of c.args.terms x c.args.message.now x.phase)
-    c.written-next.result c.push_outputs.new.outs.items (ap (λ (y : Client). y.number) c.client.view_is)
+    c.write_transition-next.result c.push_outputs.new.outs.items (ap (λ (y : Client). y.number) c.client.view_is)
     (unnoted c.args.terms x c.args.message.now x.phase c.requires.writing) is c.replace_client.ensures outs)
 
 pub returns-clause-number : goal.returns-clause-number
@@ -29,9 +29,9 @@ returns-clause-number c =
     let x = c.args.client.now in
     let does : c.replace-phase.result ≡ x.phase =
     c.replace-phase.ensures.value ∙ ap (λ (y : Client). y.phase) c.client.view_is in
-    let transition = rw c.client_step-client_step.ensures.terms at c.written-next.ensures.transition in
+    let transition = rw c.client_step-client_step.ensures.terms at c.write_transition-next.ensures.transition in
     let is =
     moved_so c.args.terms x (client_of c.client_step-client_step.result) (phase.Idle 0) c.replace-phase.result c.args.message.now
-    c.written-next.result c.client_step-client_step.ensures.client does transition in
+    c.write_transition-next.result c.client_step-client_step.ensures.client does transition in
     ap (λ (y : Client). y.number) (c.replace_client.ensures ∙ is.client)
     ∙ number_turn c.args.terms x c.args.message.now x.phase
