@@ -1,4 +1,4 @@
-// What the program says of itself, and of its lines.
+//! What the program says of itself, and of its lines.
 
 pub(crate) const ABOUT: &str =
     "A photo album store that judges by NFSv4 access lists, with every promise proved";

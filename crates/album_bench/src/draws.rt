@@ -1,4 +1,4 @@
-// Pseudo-random draws, which a seed determines.
+//! Pseudo-random draws, which a seed determines.
 
 #[derive(Clone, Copy)]
 pub struct Draws {

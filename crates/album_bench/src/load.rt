@@ -1,4 +1,4 @@
-// The partition that is measured, and the messages that it is sent.
+//! The partition that is measured, and the messages that it is sent.
 use crate::draws::{Draws, spread};
 use crate::plans::{Plan, Sort, Step};
 use crate::tally::Tally;

@@ -1,4 +1,4 @@
-// What the program's words and lines ask for.
+//! What the program's words and lines ask for.
 use album_lists::whole_number;
 
 /// How the partition opens.

@@ -1,4 +1,4 @@
-// How often each reply came.
+//! How often each reply came.
 use album_calls::{Body, Message, Reply};
 use album_items::Value;
 use std::fmt;

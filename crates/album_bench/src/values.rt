@@ -1,4 +1,4 @@
-// The one value that is written: a picture, or a list.
+//! The one value that is written: a picture, or a list.
 use album_access::{AceFlags, AceType, Mask};
 use album_items::{Content, Head, Picture, Title, Value};
 use album_lists::{AccessList, Ace, Name, Who};

@@ -1,4 +1,4 @@
-// The engines of a store. Each reads lines and writes answers; `album_judge` has the one that needs no store.
+//! The engines of a store. Each reads lines and writes answers; `album_judge` has the one that needs no store.
 
 pub mod converse;
 pub mod replay;

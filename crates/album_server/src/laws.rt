@@ -1,4 +1,4 @@
-// The text of a replay: laws of it.
+//! The text of a replay: laws of it.
 ghost use Rattle.std.specs.Prelude.{◌≡◌, ◌++◌, Bool, List, [], ℕ, codes};
 ghost use Rattle.album_lines.specs.Lines.{Line, ended};
 ghost use Rattle.album_client.specs.Terms.{Terms};

@@ -1,4 +1,4 @@
-// An opening, line by line: the header comes first, behind it the items, and then that these are all.
+//! An opening, line by line: the header comes first, behind it the items, and then that these are all.
 ghost use Rattle.std.specs.Prelude.{◌≡◌};
 ghost use Rattle.album_stamps.specs.Outcome.{Gives};
 ghost use Rattle.album_lines.specs.Lines.{said};

@@ -1,4 +1,4 @@
-// `judge` and `replay` over readers and writers that give and take little, or fail.
+//! `judge` and `replay` over readers and writers that give and take little, or fail.
 use crate::runs::{Engine, Script, assert_kept, assert_read, stops_at_each_write};
 use crate::streams::{Pieces, Taking};
 use album_judge::{Fault, judge};

@@ -1,4 +1,4 @@
-// Lines as they are cut, read and written, each call once (docs/FORMATS.md, "Lines").
+//! Lines as they are cut, read and written, each call once (docs/FORMATS.md, "Lines").
 use album_eval::Verdict;
 use album_lines::{LineIn, Lines, read_judge, write_refusal, write_verdict};
 use album_stamps::Refusal;

@@ -1,5 +1,5 @@
-// Runs of an engine over a reader and a writer that give and take little, or fail: what is written at each read and at
-// each fault (docs/FORMATS.md, "Programs").
+//! Runs of an engine over a reader and a writer that give and take little, or fail: what is written at each read and at
+//! each fault (docs/FORMATS.md, "Programs").
 use crate::streams::{Pieces, Taking};
 use album_judge::Fault;
 use std::alloc::Global;

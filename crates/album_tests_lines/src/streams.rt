@@ -1,4 +1,4 @@
-// Readers and writers in memory: those that give and take little, or fail, and those of one who waits for each answer.
+//! Readers and writers in memory: those that give and take little, or fail, and those of one who waits for each answer.
 use std::alloc::Global;
 use std::io;
 use std::io::{Read, Write};

@@ -1,5 +1,5 @@
-// `converse` over readers and writers that give and take little, or fail, and with one who waits for each answer: one
-// session talks again and again.
+//! `converse` over readers and writers that give and take little, or fail, and with one who waits for each answer: one
+//! session talks again and again.
 ghost use Rattle.std.specs.Prelude.{◌≡◌};
 ghost use Rattle.album_threads.specs.Opened.{opened_as};
 

@@ -1,8 +1,8 @@
-// A world by calls that no line makes: several events at once, and what is looked up in it (docs/PROTOCOL.md, "The
-// world"). amy sets another list of her picture, the one item at the one partition. The ask sends message 1, and each
-// message that comes sends the next: the picture is read by 1 to 4; it, its list and its group by 5 to 16; then come
-// the Prepare 17 and its answer 18, the Commit 19 and its answer 20. An event that is refused for want of memory is
-// stepped once more: doubt/memory refuses each allocation of these tests in turn.
+//! A world by calls that no line makes: several events at once, and what is looked up in it (docs/PROTOCOL.md, "The
+//! world"). amy sets another list of her picture, the one item at the one partition. The ask sends message 1, and each
+//! message that comes sends the next: the picture is read by 1 to 4; it, its list and its group by 5 to 16; then come
+//! the Prepare 17 and its answer 18, the Commit 19 and its answer 20. An event that is refused for want of memory is
+//! stepped once more: doubt/memory refuses each allocation of these tests in turn.
 use album_eval::Principal;
 use album_items::{Content, Head, ItemId, ItemValues, Kind, Opening, Picture, Title, Value};
 use album_lists::{AccessList, Name};

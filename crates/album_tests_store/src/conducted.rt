@@ -1,5 +1,5 @@
-// A service in which what happens is conducted, move by move: two sessions ask on threads of their own, and each
-// partition is held at its gate until it is its turn.
+//! A service in which what happens is conducted, move by move: two sessions ask on threads of their own, and each
+//! partition is held at its gate until it is its turn.
 ghost use Rattle.std.specs.Prelude.{◌≡◌};
 ghost use Rattle.album_threads.specs.Opened.{opened_as};
 

@@ -1,4 +1,4 @@
-// A gate that holds each of four partitions at every message, until it is let take it.
+//! A gate that holds each of four partitions at every message, until it is let take it.
 use crate::scripts::Who;
 use album_threads::Gate;
 use std::alloc::Global;

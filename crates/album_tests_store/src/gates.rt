@@ -1,4 +1,4 @@
-// Gates for the tests of sessions: one that counts, and one that holds two partitions till both are in a message.
+//! Gates for the tests of sessions: one that counts, and one that holds two partitions till both are in a message.
 use album_threads::Gate;
 use std::alloc::Global;
 use std::sync::Arc;

@@ -1,4 +1,4 @@
-// Messages to partitions and from them, made of short tables and spelled as short texts.
+//! Messages to partitions and from them, made of short tables and spelled as short texts.
 use crate::values::{album, list, picture};
 use album_calls::{Body, Message, Node, Reply, Request, Stamps, Vote};
 use album_items::{ItemId, ItemValues, Items, Value, read_item};

@@ -1,5 +1,5 @@
-// A world and a service to which the same happens in the same order answer the same. In each order the asks are the
-// same, and the answers are others; they were worked out by hand from docs/PROTOCOL.md and docs/FORMATS.md.
+//! A world and a service to which the same happens in the same order answer the same. In each order the asks are the
+//! same, and the answers are others; they were worked out by hand from docs/PROTOCOL.md and docs/FORMATS.md.
 //
 // What can be followed is each order in which a partition takes its mails as they were sent. A gate can't let a mail
 // overtake another one, nor hold a session between the Prepares that it sends to two partitions; so no order that

@@ -1,5 +1,5 @@
-// What a partition answers, to messages too that no client sends, what it keeps, and how it opens (docs/PROTOCOL.md,
-// "What a partition answers").
+//! What a partition answers, to messages too that no client sends, what it keeps, and how it opens (docs/PROTOCOL.md,
+//! "What a partition answers").
 use crate::messages::{
     Is, Rows, Step, all_told, client, item_of, rows_of, same, sent, stamp_of, told,
 };

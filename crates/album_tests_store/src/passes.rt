@@ -1,4 +1,4 @@
-// What passes see of three histories that may have two marks each (docs/PROTOCOL.md, "Cuts and passes").
+//! What passes see of three histories that may have two marks each (docs/PROTOCOL.md, "Cuts and passes").
 use crate::messages::item_of;
 use album_items::{ItemValues, Opening};
 use album_partition::Mark;

@@ -1,5 +1,5 @@
-// Replies to a read that are no answers, words that an item is gone, and how many items a read may have
-// (docs/PROTOCOL.md, "A read").
+//! Replies to a read that are no answers, words that an item is gone, and how many items a read may have
+//! (docs/PROTOCOL.md, "A read").
 use crate::messages::{Is, item_of, items_of, value_of};
 use crate::refused::{is_as_before, whole_text};
 use album_calls::{Body, Message, Node, Reply};

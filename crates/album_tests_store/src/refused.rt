@@ -1,6 +1,6 @@
-// Calls on a partition that are refused for want of memory (docs/PROTOCOL.md, "What a partition answers"): it is then
-// as it was, and a call that is made once more does what one does that is not refused. doubt/memory refuses each
-// allocation of these tests in turn; where none is, they show the answers alone.
+//! Calls on a partition that are refused for want of memory (docs/PROTOCOL.md, "What a partition answers"): it is then
+//! as it was, and a call that is made once more does what one does that is not refused. doubt/memory refuses each
+//! allocation of these tests in turn; where none is, they show the answers alone.
 use crate::messages::{Is, Rows, Step, all_told, item_of, rows_of, same, sent, stamp_of, told};
 use album_calls::{Message, Node};
 use album_items::ItemValues;

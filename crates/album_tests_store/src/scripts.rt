@@ -1,5 +1,5 @@
-// What two clients ask of a store, and orders in which it happens: the same asks in each order, and other answers
-// (docs/PROTOCOL.md, "Asks", "A write" and "A service").
+//! What two clients ask of a store, and orders in which it happens: the same asks in each order, and other answers
+//! (docs/PROTOCOL.md, "Asks", "A write" and "A service").
 use crate::messages::item_of;
 use crate::values::{Entry, head, list_of, picture};
 use album_access::AceType;

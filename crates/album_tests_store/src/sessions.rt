@@ -1,5 +1,5 @@
-// Sessions of a running service: what they are told, how many messages a gate sees of it, and that sessions and
-// partitions go on side by side (docs/PROTOCOL.md, "A view" and "Cuts and passes").
+//! Sessions of a running service: what they are told, how many messages a gate sees of it, and that sessions and
+//! partitions go on side by side (docs/PROTOCOL.md, "A view" and "Cuts and passes").
 ghost use Rattle.std.specs.Prelude.{◌≡◌, ◌<◌};
 ghost use Rattle.album_threads.specs.Opened.{opened_as};
 

@@ -1,4 +1,4 @@
-// Votes, and what is decided by them (docs/PROTOCOL.md, "How a pending write is settled").
+//! Votes, and what is decided by them (docs/PROTOCOL.md, "How a pending write is settled").
 use crate::messages::{all_told, same, stamp_of};
 use album_calls::Vote;
 use album_stamps::Refusal;

@@ -1,4 +1,4 @@
-// What clients are told, as texts.
+//! What clients are told, as texts.
 use crate::refused::whole_text;
 use album_eval::Verdict;
 use album_listing::Reason;

@@ -1,4 +1,4 @@
-// Groups, verdicts under the second policy, and who takes note of a request (docs/FORMATS.md, "Whos" and "Flags").
+//! Groups, verdicts under the second policy, and who takes note of a request (docs/FORMATS.md, "Whos" and "Flags").
 use crate::lists::{Rows, list_of};
 use album_access::{AceType, Mask};
 use album_eval::{Facts, Policy, Principal, Verdict, audits, evaluate, members};

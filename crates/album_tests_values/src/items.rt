@@ -1,4 +1,4 @@
-// Items, their texts and their values (docs/FORMATS.md, "Limits", and docs/PROTOCOL.md, "Stamps and items").
+//! Items, their texts and their values (docs/FORMATS.md, "Limits", and docs/PROTOCOL.md, "Stamps and items").
 use crate::lists::list_of;
 use album_access::AceType;
 use album_items::{

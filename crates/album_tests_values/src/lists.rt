@@ -1,4 +1,4 @@
-// Names, whos, access lists and inheritance (docs/FORMATS.md, "Whos", "Entries" and "Flags").
+//! Names, whos, access lists and inheritance (docs/FORMATS.md, "Whos", "Entries" and "Flags").
 use album_access::{AceFlags, AceType, Mask};
 use album_lists::{AccessList, Ace, Holder, Member, Name, Who};
 use album_stamps::{MAX_ENTRIES, Refusal};

@@ -1,4 +1,4 @@
-// The state that the service opens with (docs/FORMATS.md, "Limits").
+//! The state that the service opens with (docs/FORMATS.md, "Limits").
 use crate::items::picture;
 use album_items::{ItemId, ItemValues, Kind, Opening, Value};
 use album_stamps::{MAX_OPENING_ITEMS, Refusal};

@@ -1,4 +1,4 @@
-// Refusals, stamps and clocks (docs/FORMATS.md, "Refusals" and "Limits").
+//! Refusals, stamps and clocks (docs/FORMATS.md, "Refusals" and "Limits").
 use album_stamps::{ClientNo, Clock, MAX_COUNTER, Refusal, Stamp};
 
 /// Counter 1 of client 1.

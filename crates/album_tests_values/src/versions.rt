@@ -1,4 +1,4 @@
-// What a partition keeps of its items (docs/PROTOCOL.md, "What a partition keeps").
+//! What a partition keeps of its items (docs/PROTOCOL.md, "What a partition keeps").
 use crate::items::picture;
 use album_items::{ItemId, Kind, SharedValue};
 use album_stamps::{ClientNo, Refusal, Stamp};

@@ -1,4 +1,4 @@
-// Asks that a table spells.
+//! Asks that a table spells.
 use crate::store::{ALLOW, groups, item_of, list_of};
 use album_items::{Content, ItemId, Kind, Title};
 use album_lists::Name;

@@ -1,4 +1,4 @@
-// The audit book: its totals, and how many shares it gives (docs/PROTOCOL.md, "The audit book").
+//! The audit book: its totals, and how many shares it gives (docs/PROTOCOL.md, "The audit book").
 ghost use Rattle.std.specs.Prelude.{◌≡◌};
 
 use crate::store::item_of;

@@ -1,4 +1,4 @@
-// Asks that no line spells, and their copies (docs/PROTOCOL.md, "Asks").
+//! Asks that no line spells, and their copies (docs/PROTOCOL.md, "Asks").
 use crate::asks::{Verb, ask_of, set_members};
 use album_eval::Principal;
 use album_items::{ItemId, Kind};

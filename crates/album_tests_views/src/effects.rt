@@ -1,4 +1,4 @@
-// What the writes of a granted ask keep (docs/PROTOCOL.md, "Rulings").
+//! What the writes of a granted ask keep (docs/PROTOCOL.md, "Rulings").
 ghost use Rattle.std.specs.Prelude.{IsTrue};
 ghost use Rattle.album_views.specs.Asks.{is_write};
 

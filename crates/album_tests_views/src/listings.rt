@@ -1,4 +1,4 @@
-// What no ask is answered: a listing of an album that is missing (docs/FORMATS.md, "Asks").
+//! What no ask is answered: a listing of an album that is missing (docs/FORMATS.md, "Asks").
 use crate::asks::Verb;
 use crate::ruling::{Asked, seen_by};
 use crate::store::AMY;

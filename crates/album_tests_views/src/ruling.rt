@@ -1,5 +1,5 @@
-// What is ruled on an ask over a store, and the permit that comes of it. Where a call is refused for want of memory it
-// is made once more, with what it handed back: so doubt/memory tells whether that is what went in.
+//! What is ruled on an ask over a store, and the permit that comes of it. Where a call is refused for want of memory it
+//! is made once more, with what it handed back: so doubt/memory tells whether that is what went in.
 ghost use Rattle.std.specs.Prelude.{◌≡◌, None};
 ghost use Rattle.album_views.specs.Checks.{refusal_of};
 

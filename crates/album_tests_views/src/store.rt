@@ -1,4 +1,4 @@
-// A store that a table spells, and what a read of its items finds.
+//! A store that a table spells, and what a read of its items finds.
 use album_access::{AceFlags, AceType, Mask};
 use album_calls::{Body, Message, Node, Reply};
 use album_items::{

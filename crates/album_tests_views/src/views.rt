@@ -1,4 +1,4 @@
-// The names of a snapshot that no ask has (docs/PROTOCOL.md, "A view").
+//! The names of a snapshot that no ask has (docs/PROTOCOL.md, "A view").
 use crate::asks::{Verb, ask_of};
 use crate::store::{Is, Store, item_of, snapshot};
 use album_items::Items;

@@ -1,5 +1,5 @@
-// Writes over three partitions (docs/PROTOCOL.md, "A write"): what comes of the replies, strays among them. amy sets
-// other lists of her two pictures, so list/0 and list/1 are written: at the partitions 2 and 0.
+//! Writes over three partitions (docs/PROTOCOL.md, "A write"): what comes of the replies, strays among them. amy sets
+//! other lists of her two pictures, so list/0 and list/1 are written: at the partitions 2 and 0.
 ghost use Rattle.std.specs.Prelude.{◌≡◌, Some, IfErr, IfOk, IsTrue};
 ghost use Rattle.album_stamps.specs.Stamps.{client_of};
 ghost use Rattle.album_views.specs.Asks.{is_write};

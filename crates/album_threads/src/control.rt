@@ -1,4 +1,4 @@
-// Control requests: what whoever runs the service asks of a partition through a session, and the partition's reply.
+//! Control requests: what whoever runs the service asks of a partition through a session, and the partition's reply.
 ghost use Rattle.std.specs.Prelude.{◌≡◌, ◌↔◌, IsTrue, None, Option};
 ghost use Rattle.album_threads.specs.Controls.{Answers};
 

@@ -1,4 +1,4 @@
-// Envelopes between threads: a message, and a pass that shows what the message rests on.
+//! Envelopes between threads: a message, and a pass that shows what the message rests on.
 ghost use Rattle.std.specs.Prelude.{◌≡◌, None};
 ghost use Rattle.album_threads.specs.Envelopes.{Shows, IsAnswered};
 

@@ -1,4 +1,4 @@
-// A gate: it sees each message that a partition takes, and may hold the partition up. Tests order messages by it.
+//! A gate: it sees each message that a partition takes, and may hold the partition up. Tests order messages by it.
 
 /// A partition's thread calls `enter` once it has taken its message of this number, from 0, and before
 /// it does what the message asks, and `leave` once its reply is sent: those that came in one mail enter one

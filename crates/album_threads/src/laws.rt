@@ -1,4 +1,4 @@
-// What follows of the grounds on which an answer rests.
+//! What follows of the grounds on which an answer rests.
 ghost use Rattle.std.specs.Prelude.{◌≡◌, ℕ, List};
 ghost use Rattle.album_reader.specs.Answers.{ReadVersion};
 ghost use Rattle.album_permits.specs.Permits.{PermitState};

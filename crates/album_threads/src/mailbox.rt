@@ -1,4 +1,4 @@
-// Mailboxes: their mails, and how a thread waits for the next.
+//! Mailboxes: their mails, and how a thread waits for the next.
 use crate::control::{ControlReply, ControlRequest};
 use crate::envelopes::{ReplyEnvelope, RequestEnvelope};
 use crate::service_names::ServiceNames;

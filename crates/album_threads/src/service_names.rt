@@ -1,4 +1,4 @@
-// The names of a service, as types: a thread's values are tied to their service by them.
+//! The names of a service, as types: a thread's values are tied to their service by them.
 use album_audit::Books;
 use std::marker::Brand;
 

@@ -1,4 +1,4 @@
-// A session: a client that asks the partitions.
+//! A session: a client that asks the partitions.
 ghost use Rattle.std.specs.Prelude.{◌≡◌, ◌≢◌, ◌<◌, ◌≤◌, Err, IfOk, IfErr, OnOk};
 ghost use Rattle.album_stamps.specs.declared.refusals.Refusal.TheVariants.{OutOfMemory, Closed, NoSuchPart, NotPrepared, Clash, Full};
 ghost use Rattle.album_partition.specs.Marks.{ArePending, state_of, latest, floor};

@@ -1,4 +1,4 @@
-// The shape of an ask in a line: {do = the ask's word, and its fields}.
+//! The shape of an ask in a line: {do = the ask's word, and its fields}.
 ghost use Rattle.std.specs.Prelude.{◌≡◌, map};
 ghost use Rattle.album_stamps.specs.Outcome.{Gives};
 ghost use Rattle.album_lines.specs.Fields.{each};

@@ -1,5 +1,5 @@
-// The shape of an event's line: {ask, client, who}, {deliver = number or [first, last]}, {sweep: {part, stamp}},
-// {stop = client} or {trim: {item, part}}.
+//! The shape of an event's line: {ask, client, who}, {deliver = number or [first, last]}, {sweep: {part, stamp}},
+//! {stop = client} or {trim: {item, part}}.
 ghost use Rattle.std.specs.Prelude.{◌≡◌, ◌-◌, suc, nat_le};
 ghost use Rattle.std.specs.Option.{ok_or};
 ghost use Rattle.album_stamps.specs.Outcome.{Gives};

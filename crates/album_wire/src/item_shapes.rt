@@ -1,5 +1,5 @@
-// The shapes of items and of their values: item = text, value = {title, content, owner, group, home, list} of a
-// picture, {title, owner, group, home, list, children} of an album, {entries} or {owner, group, list, members}.
+//! The shapes of items and of their values: item = text, value = {title, content, owner, group, home, list} of a
+//! picture, {title, owner, group, home, list, children} of an album, {entries} or {owner, group, list, members}.
 ghost use Rattle.std.specs.Prelude.{◌≡◌, map};
 ghost use Rattle.album_stamps.specs.Outcome.{Gives};
 ghost use Rattle.album_lines.specs.Fields.{each};

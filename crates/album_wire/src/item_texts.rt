@@ -1,4 +1,4 @@
-// Texts of items: an owner's name, a title, a content in hexadecimal.
+//! Texts of items: an owner's name, a title, a content in hexadecimal.
 ghost use Rattle.std.specs.Prelude.{◌≡◌};
 ghost use Rattle.album_stamps.specs.Outcome.{Gives};
 ghost use Rattle.album_wire.specs.ItemTexts.{owner_read, title_read, bytes_read, content_read};

@@ -1,5 +1,5 @@
-// Laws of lines: what is read of one is what its bytes spell, and of a line that spells nothing, nothing is. That of
-// judge lines stands beside them.
+//! Laws of lines: what is read of one is what its bytes spell, and of a line that spells nothing, nothing is. That of
+//! judge lines stands beside them.
 ghost use Rattle.std.specs.Prelude.{◌≡◌, ◌↔◌, List, ℕ, Ok};
 ghost use Rattle.album_eval.specs.declared.facts.Principal.{Principal};
 ghost use Rattle.album_wire.specs.EventLine.{event_line_of};

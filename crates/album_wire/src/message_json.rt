@@ -1,4 +1,4 @@
-// The line of a message in a trace: {from, k = its number, say = a word, tag, to, and what it says}.
+//! The line of a message in a trace: {from, k = its number, say = a word, tag, to, and what it says}.
 ghost use Rattle.std.specs.Prelude.{◌≡◌, ◌++◌, [], ◌∷◌, codes, string_bytes, map, IfOk};
 ghost use Rattle.serde_json.specs.View.{view};
 ghost use Rattle.album_items.specs.ItemIds.{picture, album};

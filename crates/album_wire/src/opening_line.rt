@@ -1,4 +1,4 @@
-// Lines of an opening: how the store is to be opened, the items with their first values, and that this is all.
+//! Lines of an opening: how the store is to be opened, the items with their first values, and that this is all.
 ghost use Rattle.std.specs.Prelude.{◌≡◌, ◌++◌, [], ◌∷◌, true, false, None, Ok, Err, codes};
 ghost use Rattle.album_stamps.specs.Outcome.{Gives};
 ghost use Rattle.album_items.specs.ItemIds.{picture, album, list};

@@ -1,4 +1,4 @@
-// The shape of a line of an opening: {open: {parts, and perhaps limit, policy, trace}}, {item, value} or {begin}.
+//! The shape of a line of an opening: {open: {parts, and perhaps limit, policy, trace}}, {item, value} or {begin}.
 ghost use Rattle.std.specs.Prelude.{◌≡◌, option_map};
 ghost use Rattle.album_stamps.specs.Outcome.{Gives};
 ghost use Rattle.album_lines.specs.Fields.{member_or, whole_of, truth_of};

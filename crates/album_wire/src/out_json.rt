@@ -1,4 +1,4 @@
-// The lines of what an event tells: its notes, its answers, and in a trace its messages.
+//! The lines of what an event tells: its notes, its answers, and in a trace its messages.
 ghost use Rattle.std.specs.Prelude.{◌≡◌, ◌++◌, [], ◌∷◌, true, Some, None, codes, option_map, false, map, IfOk, IsOkUnless};
 ghost use Rattle.serde_json.specs.View.{view};
 ghost use Rattle.serde_json.specs.Written.{has_float};

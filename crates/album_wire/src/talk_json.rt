@@ -1,4 +1,4 @@
-// The lines that a service writes beside the answers to asks.
+//! The lines that a service writes beside the answers to asks.
 ghost use Rattle.std.specs.Prelude.{◌≡◌, ◌++◌, ◌∷◌, [], codes, IfOk, IsOkUnless};
 ghost use Rattle.serde_json.specs.View.{view};
 ghost use Rattle.album_lines.specs.Output.{line_text};

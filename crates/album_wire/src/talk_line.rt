@@ -1,4 +1,4 @@
-// Lines of connections, the first and those behind it: what has its shape, with the values of its fields.
+//! Lines of connections, the first and those behind it: what has its shape, with the values of its fields.
 ghost use Rattle.std.specs.Prelude.{◌≡◌, Ok, Err, codes};
 ghost use Rattle.album_stamps.specs.Outcome.{Gives};
 ghost use Rattle.album_items.specs.ItemIds.{picture};

@@ -1,4 +1,4 @@
-// The JSON values of what items hold: whos, entries and members, and the values of items.
+//! The JSON values of what items hold: whos, entries and members, and the values of items.
 ghost use Rattle.std.specs.Prelude.{◌≡◌, string_bytes, IfOk};
 ghost use Rattle.hex.specs.Hex.{encode_lower};
 ghost use Rattle.serde_json.specs.View.{view};

@@ -1,4 +1,4 @@
-// What holds of every run of a world: of every list of events, from any opening.
+//! What holds of every run of a world: of every list of events, from any opening.
 ghost use Rattle.std.specs.Prelude.{◌≡◌, ◌≤◌, ℕ, List, true, false, Ok, Some, Contains};
 ghost use Rattle.std.specs.List.{list_any};
 ghost use Rattle.album_items.specs.Openings.{is_opening};

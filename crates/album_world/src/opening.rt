@@ -1,4 +1,4 @@
-// The terms of a world as it opens.
+//! The terms of a world as it opens.
 ghost use Rattle.std.specs.Prelude.{◌≡◌, true};
 ghost use Rattle.album_items.specs.Openings.{is_opening};
 ghost use Rattle.album_client.specs.Terms.{terms_of};

@@ -1,4 +1,4 @@
-// The outputs of a client's transition.
+//! The outputs of a client's transition.
 ghost use Rattle.std.specs.Prelude.{◌≡◌, ◌+◌, ◌<◌, ◌≤◌, ◌^◌, ◌++◌, map, option_map, option_to_list, vec_len, vec_capacity, IfOk};
 ghost use Rattle.album_stamps.specs.declared.limits.TheConstants.{MAX_READ_ITEMS};
 ghost use Rattle.album_world.specs.Runs.{numbers_after};

@@ -1,4 +1,4 @@
-// Messages that are sent, and the outputs with their numbers.
+//! Messages that are sent, and the outputs with their numbers.
 ghost use Rattle.std.specs.Prelude.{◌≡◌, ◌+◌, ◌<◌, ◌≤◌, ◌^◌, ◌++◌, length, option_to_list, vec_len, vec_capacity, []};
 ghost use Rattle.album_world.specs.Runs.{numbers_after, sent_after};
 

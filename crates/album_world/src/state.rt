@@ -1,4 +1,4 @@
-// What a world keeps, and what each event does to it.
+//! What a world keeps, and what each event does to it.
 ghost use Rattle.std.specs.Prelude.{◌≡◌, ◌≢◌, ◌<◌, ℕ, length, slice_get, option_copied, Some, None, Ok, Err, IsOk, IfOk, IfErr, IfSome, OnErr, IfNone, IsOkUnless};
 ghost use Rattle.album_calls.specs.declared.messages.Message.{Message as Sent};
 ghost use Rattle.album_world.specs.Changes.{asks, change_of, client_takes, delivers, part_takes, stops, sweeps, trims};

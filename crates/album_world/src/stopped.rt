@@ -1,4 +1,4 @@
-// Which clients were stopped.
+//! Which clients were stopped.
 ghost use Rattle.std.specs.Prelude.{◌≡◌, ◌==◌, true, false, [], IfOk};
 ghost use Rattle.std.specs.List.{list_any};
 ghost use Rattle.album_stamps.specs.Stamps.{is_client};

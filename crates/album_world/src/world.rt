@@ -1,4 +1,4 @@
-// A world: its events, and their outputs.
+//! A world: its events, and their outputs.
 ghost use Rattle.std.specs.Prelude.{◌≡◌, ◌≢◌, ℕ, length, slice_get, option_copied, Ok, Err, IsOk, IfOk, IfErr, OnErr, IsOkUnless};
 ghost use Rattle.album_stamps.specs.Outcome.{Makes};
 ghost use Rattle.album_client.specs.Terms.{terms_of};

@@ -1,5 +1,5 @@
-// The engine of a connection: read a piece, answer the lines that end in it, each at once, and at the end the last
-// line.
+//! The engine of a connection: read a piece, answer the lines that end in it, each at once, and at the end the last
+//! line.
 ghost use Rattle.std.specs.Prelude.{◌≡◌, map, Err, OnOk, OnErr, IfErr, IfSome};
 ghost use Rattle.std.specs.Io.KnownBytes.{IsAtEnd};
 ghost use Rattle.album_threads.specs.Asks.{IsOn};

@@ -1,4 +1,4 @@
-// The engine that replays a script: read a piece, take the lines that end in it, and at the end the last line.
+//! The engine that replays a script: read a piece, take the lines that end in it, and at the end the last line.
 ghost use Rattle.std.specs.Prelude.{◌≡◌, ◌⊎◌, map, Err, OnOk, OnErr, IfErr, IfSome};
 ghost use Rattle.std.specs.Io.KnownBytes.{IsAtEnd};
 ghost use Rattle.album_lines.specs.Lines.{said, last};

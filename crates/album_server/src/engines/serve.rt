@@ -1,4 +1,4 @@
-// The service of a port: it is opened by the lines that are read, and each connection has a thread and a session.
+//! The service of a port: it is opened by the lines that are read, and each connection has a thread and a session.
 ghost use Rattle.std.specs.Prelude.{◌≡◌};
 ghost use Rattle.album_threads.specs.Opened.{opened_as};
 

@@ -1,4 +1,4 @@
-// A partition, with the owner of its history.
+//! A partition, with the owner of its history.
 ghost use Rattle.std.specs.Prelude.{◌≡◌, ◌≢◌, ◌<◌, length, map, All, option_map, None, Ok, Err, IfOk, IfErr, IfSome, OnOk, OnErr, IsOkUnless};
 ghost use Rattle.album_partition.specs.Answers.{after, answer};
 ghost use Rattle.album_partition.specs.Sweeps.{swept};

@@ -1,4 +1,4 @@
-// The body of a partition's thread.
+//! The body of a partition's thread.
 ghost use Rattle.std.specs.Prelude.{◌≡◌};
 ghost use Rattle.std.specs.Arc.{arc_value};
 

@@ -1,4 +1,4 @@
-// Asks: a session's client, driven by what the partitions reply.
+//! Asks: a session's client, driven by what the partitions reply.
 ghost use Rattle.std.specs.Prelude.{◌≡◌, ◌≤◌, ◌⊎◌, None, Some, Err, IsTrue, IfOk, IfErr, IfSome, OnErr};
 ghost use Rattle.album_client.specs.Transitions.{client_of};
 ghost use Rattle.album_passes.specs.Cuts.{Extends};

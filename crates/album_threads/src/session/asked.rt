@@ -1,4 +1,4 @@
-// What was asked in one round.
+//! What was asked in one round.
 ghost use Rattle.std.specs.Prelude.{◌≡◌, ◌≤◌, IsTrue, IfSome, Contains, length};
 ghost use Rattle.album_threads.specs.Replies.{IsLate};
 

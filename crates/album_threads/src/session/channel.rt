@@ -1,4 +1,4 @@
-// A session's channel to the partitions: its mailbox, theirs, and the pass that goes with each message.
+//! A session's channel to the partitions: its mailbox, theirs, and the pass that goes with each message.
 ghost use Rattle.std.specs.Prelude.{◌≡◌, ◌≢◌, ◌+◌, ◌<◌, ◌≤◌, ◌^◌, IfOk, IfErr, OnOk, OnErr, IfSome, IfNone, Some, None, IsOkUnless};
 ghost use Rattle.album_stamps.specs.Stamps.{client_number};
 ghost use Rattle.album_passes.specs.Changes.{merged, announced_cut};

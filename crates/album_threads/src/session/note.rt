@@ -1,4 +1,4 @@
-// What a session notes in the audit book.
+//! What a session notes in the audit book.
 ghost use Rattle.std.specs.Prelude.{◌≡◌, ◌≢◌, [], ◌∷◌, OnOk, OnErr, IsOkUnless};
 ghost use Rattle.album_threads.specs.Asks.{AreShared};
 

@@ -1,4 +1,4 @@
-// Rounds: messages that a session sends, and the replies to them.
+//! Rounds: messages that a session sends, and the replies to them.
 ghost use Rattle.std.specs.Prelude.{◌≡◌, All, IfOk, IfErr, OnOk, IfSome, IfNone, IsOkUnless};
 ghost use Rattle.album_passes.specs.Cuts.{Extends, IsSound};
 ghost use Rattle.album_threads.specs.Envelopes.{Shows};

@@ -1,4 +1,4 @@
-// Turns: a session takes a reply, and does what its client has come to.
+//! Turns: a session takes a reply, and does what its client has come to.
 ghost use Rattle.std.specs.Prelude.{◌≡◌, ◌≢◌, ◌≤◌, [], true, Some, None, Ok, Err, All, IfOk, IfErr, IfSome, IfNone, OnOk, OnErr, IsOkAnd, IsOkUnless};
 ghost use Rattle.album_client.specs.Clients.{stamp_at_work, IsProper};
 ghost use Rattle.album_client.specs.Transitions.{client_of, IsMoved};

@@ -1,4 +1,4 @@
-// The answer to a line of a connection: what the session is told, or why it is refused.
+//! The answer to a line of a connection: what the session is told, or why it is refused.
 ghost use Rattle.std.specs.Prelude.{◌≡◌, ◌⊎◌, IfOk, Some};
 ghost use Rattle.album_stamps.specs.declared.refusals.Refusal.TheVariants.{OutOfMemory};
 ghost use Rattle.album_stamps.specs.Outcome.{Gives};

@@ -1,4 +1,4 @@
-// The events of a line: they happen one after another, and what each tells is written before the next.
+//! The events of a line: they happen one after another, and what each tells is written before the next.
 ghost use Rattle.std.specs.Prelude.{◌≡◌, ◌==◌, IfErr, OnOk};
 ghost use Rattle.std.specs.Option.{option_copied};
 ghost use Rattle.std.specs.Io.KnownBytes.{Appends};

@@ -1,4 +1,4 @@
-// Where a replay stands between two lines, and what a line makes of that.
+//! Where a replay stands between two lines, and what a line makes of that.
 ghost use Rattle.std.specs.Prelude.{◌≡◌, ◌≢◌, [], IfErr, OnErr, OnOk};
 ghost use Rattle.std.specs.Io.KnownBytes.{Appends};
 ghost use Rattle.album_lines.specs.Lines.{said};

@@ -1,4 +1,4 @@
-// The connections that come: each is given a session and a thread, or is told why not.
+//! The connections that come: each is given a session and a thread, or is told why not.
 use crate::engines::serve::connections::{Connections, OwnedSession, attend};
 use album_judge::write_refused;
 use album_stamps::Refusal;

@@ -1,4 +1,4 @@
-// The connections of a service that are open. Each has a session and a thread of its own.
+//! The connections of a service that are open. Each has a session and a thread of its own.
 use crate::engines::converse::converse;
 use album_judge::Fault;
 use album_stamps::{ClientNo, Refusal};

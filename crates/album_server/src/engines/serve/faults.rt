@@ -1,5 +1,5 @@
-// What is told on standard error while a service runs. A thread of its own tells it, so that no connection waits where
-// nobody reads there.
+//! What is told on standard error while a service runs. A thread of its own tells it, so that no connection waits where
+//! nobody reads there.
 use album_judge::Fault;
 use album_stamps::Refusal;
 use crossbeam_channel::{Receiver, Sender, unbounded};
