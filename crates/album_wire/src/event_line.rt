@@ -19,8 +19,13 @@ use album_views::{Ask, NewList, NewLists};
 use json::Scratch;
 use std::alloc::Global;
 
-/// Reads the line of an event: the events that it spells, or the first test that it fails. The scratch is room that is
-/// kept from line to line, whatever stood in it.
+/// Reads the line of an event, and gives the events that it spells. The scratch is room that is kept from line to line,
+/// whatever stood in it.
+///
+/// # Errors
+///
+/// `BadLine` where the bytes are no text or no JSON; `BadRequest` where the shape is wrong; then, field after field in
+/// the order of FORMATS, what the field's reader says (`BadWho`, `BadMask`, `BadFlags`, `ListFull`, `BadText`). `OutOfMemory` where memory ran out.
 #[tactic(auto, unfolding(crate::specs::EventLine::event_line_of))]
 pub fn read_event(alloc: Global, scratch: &mut Scratch, bytes: &[u8]) -> Result<Spelled, Refusal>
     ensures { Gives (λ events. events) result (event_line_of bytes.now) }

@@ -27,8 +27,12 @@ pub enum OpeningLine {
     Begin,
 }
 
-/// Reads a line of an opening: what it says, or the first test that it fails. The scratch is room that is kept
-/// from line to line, whatever stood in it.
+/// Reads a line of an opening. The scratch is room that is kept from line to line, whatever stood in it.
+///
+/// # Errors
+///
+/// `BadLine` where the bytes are no text or no JSON; `BadRequest` where the shape is wrong; then, field after field in
+/// the order of FORMATS, what the field's reader says (`BadWho`, `BadMask`, `BadFlags`, `ListFull`, `BadText`). `OutOfMemory` where memory ran out.
 #[tactic(auto, unfolding(crate::specs::OpeningLine::opening_line_of))]
 pub fn read_opening_line(
     alloc: Global,

@@ -27,7 +27,12 @@ pub enum TalkLine {
     Trim(u16, ItemId),
 }
 
-/// Reads the first line of a connection: who asks from now on, or the first test that it fails.
+/// Reads the first line of a connection, and gives the principal that asks from then on.
+///
+/// # Errors
+///
+/// `BadLine` where the bytes are no text or no JSON; `BadRequest` where the shape is wrong; then, field after field in
+/// the order of FORMATS, what the field's reader says (`BadWho`). `OutOfMemory` where memory ran out.
 #[tactic(auto, unfolding(crate::specs::TalkLine::hello_line_of))]
 pub fn read_hello(alloc: Global, scratch: &mut Scratch, bytes: &[u8]) -> Result<Principal, Refusal>
     ensures { Gives (λ who. who) result (hello_line_of bytes.now) }
@@ -37,8 +42,12 @@ pub fn read_hello(alloc: Global, scratch: &mut Scratch, bytes: &[u8]) -> Result<
     Principal::read(who)
 }
 
-/// Reads a later line of a connection: what it says, or the first test that it fails. The scratch is room that is
-/// kept from line to line, whatever stood in it.
+/// Reads a later line of a connection. The scratch is room that is kept from line to line, whatever stood in it.
+///
+/// # Errors
+///
+/// `BadLine` where the bytes are no text or no JSON; `BadRequest` where the shape is wrong; then, field after field in
+/// the order of FORMATS, what the field's reader says (`BadWho`, `BadMask`, `BadFlags`, `ListFull`, `BadText`). `OutOfMemory` where memory ran out.
 #[tactic(auto, unfolding(crate::specs::TalkLine::talk_line_of))]
 pub fn read_talk(alloc: Global, scratch: &mut Scratch, bytes: &[u8]) -> Result<TalkLine, Refusal>
     ensures { Gives (λ line. line) result (talk_line_of bytes.now) }
