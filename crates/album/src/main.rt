@@ -7,13 +7,16 @@ mod texts;
 use crate::texts::{
     ABOUT, JUDGE_ABOUT, JUDGE_HELP, NO_TEXT, REPLAY_ABOUT, REPLAY_HELP, SERVE_ABOUT, SERVE_HELP,
 };
-use album_server::{Fault, Host, Served, Serving, judge, replay, serve_for, serve_until};
+use album_server::{Fault, Served, Serving, judge, replay, serve_for, serve_until};
 use clap::error::ErrorKind;
 use clap::{Arg, ArgAction, ArgMatches, Command, Error, value_parser};
 use std::alloc::{AllocError, Global};
 use std::io::{Read, Write};
+use std::net::{Net, TcpListener, TcpStream};
 use std::process::ExitCode;
-use std::{env, io};
+use std::sync::Wait;
+use std::thread::Threads;
+use std::{env, io, time};
 
 /// How many reads a run may make.
 const TURNS: u64 = 4_294_967_296;
@@ -129,14 +132,26 @@ fn replay_lines<R: Read, W: Write>(
     writer.flush().map_err(|_| Fault::Writing)
 }
 
-/// Serves the port that the command line names.
-fn serve_port<T: Host, R: Read + Send + Drop, W: Write>(
+/// Serves the port that the command line names. The bound is that of `Host`, written out: the borrow checker wants the
+/// types that it names where `main` calls this.
+fn serve_port<T, R: Read + Send + Drop, W: Write>(
     rt: T,
     alloc: Global,
     mut reader: R,
     writer: &mut W,
     matches: &ArgMatches<'_>,
-) -> Result<Served, Fault> {
+) -> Result<Served, Fault>
+where
+    T: Net<Listener = TcpListener, Stream = TcpStream>
+        + Threads
+        + Wait
+        + time::Clock
+        + Eprint
+        + Copy
+        + Send
+        + Sync
+        + 'static,
+{
     let matches = matches.subcommand_matches("serve");
     let port = matches.and_then(|m| m.get_one::<u16>("PORT")).unwrap_or(0);
     let conns = matches
