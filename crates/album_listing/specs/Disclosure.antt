@@ -33,7 +33,9 @@ pub record AreRuledAlike (ask : Ask) (one other : List ReadVersion) : Type 0 whe
 
 -- The principal can tell the two apart by nothing that it may read. What is not named differs as it will. Of what is
 -- named the stamps differ, and titles, contents and children, wherever these are not granted.
-pub record AreAlikeFor (policy : Policy) (principal : Principal) (ask : Ask) (one other : List ReadVersion) : Type 0 where
+pub record AreAlikeFor
+    (policy : Policy) (principal : Principal) (ask : Ask) (one other : List ReadVersion)
+    : Type 0 where
   pub ruled : AreRuledAlike ask one other
   -- what it may read, or list, is the same with its stamp
   pub read :

@@ -14,7 +14,8 @@ ghost use Rattle.album_listing.specs.declared.rows.Row.{Row};
 /// A law: a listing discloses nothing that the principal may not read. Of an album that it may list, a principal is
 /// listed the same rows on two snapshots that are alike for it.
 pub fn listings_disclose_nothing()
-    ensures { (policy : Policy) (principal : Principal) (album : ℕ) (one other : List ReadVersion) (rows more : List Row)
+    ensures { (policy : Policy) (principal : Principal) (album : ℕ)
+        (one other : List ReadVersion) (rows more : List Row)
         → AreAlikeFor policy principal (ask.List album) one other
         → IsTrue (is_granted_on (basis_on policy principal one) album LIST_DIRECTORY)
         → IsListing (record { ask = ask.List album; rows = one }) principal rows

@@ -42,7 +42,8 @@ IsWritten cut answer =
 
 -- no two answers fracture the read, and each was written
 pub record IsReadAtomic (cut : Cut) (answers : List ReadVersion) : Type 0 where
-  pub whole : (one other : ReadVersion) → Contains answers one → Contains answers other → IsFracturedBy cut one other → ⊥
+  pub whole : (one other : ReadVersion) → Contains answers one → Contains answers other
+      → IsFracturedBy cut one other → ⊥
   pub written : All (IsWritten cut) answers
 
 -- no item is read at a smaller stamp than one that wrote it and that its partition had committed at the cut `begun`

@@ -75,9 +75,11 @@ pub fn what_is_committed_is_there()
 /// A law: a read of two rounds over sound cuts is read atomic, and fresh from the cut with which it
 /// began. It stays so as the cut grows.
 pub fn reads_are_atomic_and_fresh()
-    ensures atomic { (begun middle ended : Cut) (firsts : List ReadVersion) (stamps : List ℕ) (answers : List ReadVersion)
+    ensures atomic { (begun middle ended : Cut) (firsts : List ReadVersion) (stamps : List ℕ)
+        (answers : List ReadVersion)
         → IsReadInTwoRounds begun middle ended firsts stamps answers → IsReadAtomic ended answers }
-    ensures fresh { (begun middle ended : Cut) (firsts : List ReadVersion) (stamps : List ℕ) (answers : List ReadVersion)
+    ensures fresh { (begun middle ended : Cut) (firsts : List ReadVersion) (stamps : List ℕ)
+        (answers : List ReadVersion)
         → IsReadInTwoRounds begun middle ended firsts stamps answers → IsFreshFrom begun ended answers }
     ensures atomic_still { (old new : Cut) (answers : List ReadVersion) → IsSound old → IsSound new → Extends old new
         → IsReadAtomic old answers → IsReadAtomic new answers }

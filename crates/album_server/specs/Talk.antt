@@ -50,7 +50,8 @@ pub record IsUnprepared (session : SessionState) (part stamp : ℕ) (why : Refus
 -- of a sweep: the stamp is pending at the partition, and the others are asked how it stands
 abbrev pub TellsSwept : ℕ → ℕ → SessionState → SessionState → Result Unit Refusal → Type 0
 TellsSwept part stamp old new (Ok done) = state_of (prefix_at new.cut part) stamp ≡ state.Pending
-TellsSwept part stamp old new (Err why) = IsNowhere old part why ⊎ (IsUnprepared new part stamp why ⊎ IsClosedOrOutOfMemory why)
+TellsSwept part stamp old new (Err why) =
+    IsNowhere old part why ⊎ (IsUnprepared new part stamp why ⊎ IsClosedOrOutOfMemory why)
 
 -- no version of the item is kept at the partition that is below its latest stamp, nor below that which the session knew
 pub record IsTrimmed (part item : ℕ) (old new : SessionState) : Type 0 where

@@ -1,5 +1,5 @@
-//! A world in which each partition takes mails, as the threads of a service do (docs/PROTOCOL.md, "A service"): what one
-//! event sends to a partition is one mail, and a partition takes its mails in the order in which they were sent.
+//! A world in which each partition takes mails, as the threads of a service do (docs/PROTOCOL.md, "A service"): what
+//! one event sends to a partition is one mail, and a partition takes its mails in the order in which they were sent.
 use crate::scripts::{PARTS, Step, Who, Wish, ask_of, opening};
 use crate::told::Told;
 use album_calls::Node;

@@ -1,5 +1,5 @@
-//! Calls that are refused for want of memory (docs/PROTOCOL.md, "Rulings"): what they hand back is what they were given,
-//! and a call that is made with it once more does what one does that is not refused. doubt/memory refuses each
+//! Calls that are refused for want of memory (docs/PROTOCOL.md, "Rulings"): what they hand back is what they were
+//! given, and a call that is made with it once more does what one does that is not refused. doubt/memory refuses each
 //! allocation of these tests in turn; where none is, they show the answers alone.
 ghost use Rattle.std.specs.Prelude.{◌≡◌, false};
 ghost use Rattle.album_views.specs.Asks.{is_write};

@@ -1,5 +1,5 @@
-//! The reads that are made for an ask over a store, and the view that comes of them. A call that is refused is made once
-//! more with what it hands back.
+//! The reads that are made for an ask over a store, and the view that comes of them. A call that is refused is made
+//! once more with what it hands back.
 ghost use Rattle.std.specs.Prelude.{◌≡◌, None};
 ghost use Rattle.album_views.specs.Checks.{flaw_of};
 

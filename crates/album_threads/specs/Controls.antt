@@ -52,7 +52,8 @@ pub data IsUntrimmed (limit : ℕ) (cut : Cut) (part item : ℕ) : Refusal → T
 
 -- no version of the item is kept that is below its latest stamp; or why not
 abbrev pub AnswersTrimmed : ℕ → Cut → ℕ → ℕ → Result ControlAnswer Refusal → Type 0
-AnswersTrimmed limit cut part item (Ok answer.Trimmed) = floor (prefix_at cut part) item ≡ latest (prefix_at cut part) item
+AnswersTrimmed limit cut part item (Ok answer.Trimmed) =
+    floor (prefix_at cut part) item ≡ latest (prefix_at cut part) item
 AnswersTrimmed limit cut part item (Ok (answer.Pending stamps)) = ⊥
 AnswersTrimmed limit cut part item (Ok answer.Swept) = ⊥
 AnswersTrimmed limit cut part item (Err why) = why ≢ OutOfMemory → IsUntrimmed limit cut part item why

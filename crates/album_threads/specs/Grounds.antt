@@ -58,7 +58,8 @@ abbrev pub IsKept : Cut → PermitState → ℕ → Type 0
 IsKept now permit stamp =
     (place : ℕ) → Contains (places_in now permit stamp) place → IsKeptAt now permit stamp place
 
--- A participant had no room for the stamp when it was unknown there, at a point of its history that the cut has seen. (So it never prepares it: law `full_stays`.)
+-- A participant had no room for the stamp when it was unknown there, at a point of its history that the cut has seen.
+-- (So it never prepares it: law `full_stays`.)
 pub record IsWithoutRoom (limit : ℕ) (now : Cut) (permit : PermitState) (stamp : ℕ) : Type 0 where
   pub place : ℕ
   pub participant : Contains (places_in now permit stamp) place

@@ -33,7 +33,8 @@ pub data IsRound (start at : Cut) (begun : RoundState) : Type 0 where
 
 -- It reads for the ask: what was read before led to no view, and this round began at a cut, where it sent its messages.
 pub record IsReading
-    (principal : Principal) (ask : Ask) (old at now : Cut) (sent : List Message) (pending_ask : PendingAsk) (round : RoundState)
+    (principal : Principal) (ask : Ask) (old at now : Cut) (sent : List Message)
+    (pending_ask : PendingAsk) (round : RoundState)
     : Type 0 where
   pub of : pending_ask.viewing.ask ≡ ask
   pub whom : pending_ask.principal ≡ principal
@@ -93,8 +94,8 @@ IsPhase policy outset now at sent (Reads pending_ask round) =
 IsPhase policy outset now at sent (Prepares writing) = IsWriting policy outset now at sent (Prepares writing)
 IsPhase policy outset now at sent (Commits writing) = IsWriting policy outset now at sent (Commits writing)
 
--- The principal may ask it, the session extends what it was at the outset, and its client is in the current phase: replies
--- are outstanding to these messages, which were sent with that cut.
+-- The principal may ask it, the session extends what it was at the outset, and its client is in the current phase:
+-- replies are outstanding to these messages, which were sent with that cut.
 pub record IsUnderWay
     (policy : Policy) (outset : Outset) (now : SessionState) (at : Cut) (sent : List Message) (current : Phase)
     : Type 0 where

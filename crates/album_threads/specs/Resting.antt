@@ -76,7 +76,8 @@ IsRefusedBy new why permit =
 -- announced, and so nothing was written.
 abbrev pub RestsOn : ℕ → Policy → Principal → Ask → SessionState → SessionState → Answer → Type 0
 RestsOn limit policy principal ask old new (answer.Served served) =
-    IsFoundOnView policy principal ask old new finding.Granted (λ permit. IsServed permit served) × AnnouncesNothing old new
+    IsFoundOnView policy principal ask old new finding.Granted (λ permit. IsServed permit served)
+    × AnnouncesNothing old new
 RestsOn limit policy principal ask old new (answer.Denied denial) =
     IsFoundOnView policy principal ask old new (finding.Denied denial) (λ case. Unit {0}) × AnnouncesNothing old new
 RestsOn limit policy principal ask old new (answer.Missing object) =

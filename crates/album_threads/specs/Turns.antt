@@ -50,7 +50,8 @@ IsSomehowWaited policy new at sent phase = (outset : Outset) × IsWaited policy 
 
 -- a reply has come to one of the messages that were sent, and led to this
 pub record IsTaken
-    (limit : ℕ) (at now : Cut) (sent : List Message) (terms : Terms) (client : Client) (phase : Phase) (transition : Transition)
+    (limit : ℕ) (at now : Cut) (sent : List Message) (terms : Terms) (client : Client) (phase : Phase)
+    (transition : Transition)
     : Type 0 where
   pub reply : Message
   pub replied : IsReplied limit at now sent reply

@@ -7,7 +7,8 @@
 //! (`partition/thread`, `partition/keeper`). The session joins that pass, and gives the reply to its client, which is
 //! `album_client`'s (`session/turn`), until the client answers (`session/ask`).
 //!
-//! Read `service`, `session` and `session/ask` first, then `partition/keeper`, and specs/ in the order of specs/Lib.antt.
+//! Read `service`, `session` and `session/ask` first, then `partition/keeper`, and specs/ in the order of
+//! specs/Lib.antt.
 #![tactic(auto)]
 
 // What a service is opened with, and the service: its threads, its sessions, its totals.

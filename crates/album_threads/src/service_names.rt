@@ -3,7 +3,8 @@ use album_audit::Books;
 use std::marker::Brand;
 
 /// Names the desk of one service, its terms and its policy, and the ledgers of its audit book. Mails and what a
-/// thread keeps have a type parameter `J: ServiceNames`, since no clause names what a channel holds. Whoever opens a service picks the names by passing `Brand`.
+/// thread keeps have a type parameter `J: ServiceNames`, since no clause names what a channel holds. Whoever
+/// opens a service picks the names by passing `Brand`.
 pub trait ServiceNames: Books {
     ghost use Rattle.atomic_table.specs.Seated.{TableId};
     ghost use Rattle.album_eval.specs.declared.policies.Policy.{Policy};

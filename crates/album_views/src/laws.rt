@@ -33,7 +33,8 @@ pub fn names_are_what_is_named()
     ensures named { (rows : List ReadVersion) (ask : Ask) (item : ℕ)
         → Contains (names_of rows ask) item ↔ IsNamed (seen rows) ask item }
     ensures single { (rows : List ReadVersion) (ask : Ask) → IsTrue (are_distinct (names_of rows ask)) }
-    ensures order { (rows : List ReadVersion) (ask : Ask) → names_of rows ask ≡ grown (seen rows) ask (names_of rows ask) }
+    ensures order { (rows : List ReadVersion) (ask : Ask)
+        → names_of rows ask ≡ grown (seen rows) ask (names_of rows ask) }
     ensures one { (rows : List ReadVersion) (ask : Ask) (names : List ℕ)
         → names ≡ grown (seen rows) ask names
         → ((item : ℕ) → Contains names item → IsNamed (seen rows) ask item)

@@ -25,7 +25,8 @@ use std::alloc::Global;
 /// # Errors
 ///
 /// `BadLine` where the bytes are no text or no JSON; `BadRequest` where the shape is wrong; then, field after field in
-/// the order of FORMATS, what the field's reader says (`BadWho`, `BadMask`, `BadFlags`, `ListFull`, `BadText`). `OutOfMemory` where memory ran out.
+/// the order of FORMATS, what the field's reader says (`BadWho`, `BadMask`, `BadFlags`, `ListFull`,
+/// `BadText`). `OutOfMemory` where memory ran out.
 #[tactic(auto, unfolding(crate::specs::EventLine::event_line_of))]
 pub fn read_event(alloc: Global, scratch: &mut Scratch, bytes: &[u8]) -> Result<Spelled, Refusal>
     ensures { Gives (λ events. events) result (event_line_of bytes.now) }

@@ -32,7 +32,8 @@ pub enum OpeningLine {
 /// # Errors
 ///
 /// `BadLine` where the bytes are no text or no JSON; `BadRequest` where the shape is wrong; then, field after field in
-/// the order of FORMATS, what the field's reader says (`BadWho`, `BadMask`, `BadFlags`, `ListFull`, `BadText`). `OutOfMemory` where memory ran out.
+/// the order of FORMATS, what the field's reader says (`BadWho`, `BadMask`, `BadFlags`, `ListFull`,
+/// `BadText`). `OutOfMemory` where memory ran out.
 #[tactic(auto, unfolding(crate::specs::OpeningLine::opening_line_of))]
 pub fn read_opening_line(
     alloc: Global,

@@ -47,7 +47,8 @@ pub fn read_hello(alloc: Global, scratch: &mut Scratch, bytes: &[u8]) -> Result<
 /// # Errors
 ///
 /// `BadLine` where the bytes are no text or no JSON; `BadRequest` where the shape is wrong; then, field after field in
-/// the order of FORMATS, what the field's reader says (`BadWho`, `BadMask`, `BadFlags`, `ListFull`, `BadText`). `OutOfMemory` where memory ran out.
+/// the order of FORMATS, what the field's reader says (`BadWho`, `BadMask`, `BadFlags`, `ListFull`,
+/// `BadText`). `OutOfMemory` where memory ran out.
 #[tactic(auto, unfolding(crate::specs::TalkLine::talk_line_of))]
 pub fn read_talk(alloc: Global, scratch: &mut Scratch, bytes: &[u8]) -> Result<TalkLine, Refusal>
     ensures { Gives (λ line. line) result (talk_line_of bytes.now) }

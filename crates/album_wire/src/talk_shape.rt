@@ -1,5 +1,5 @@
-//! The shapes of the lines of a connection: {who} of the first; {ask: {..}}, {pending = part}, {sweep: {part, stamp}} or
-//! {trim: {item, part}} of those behind it.
+//! The shapes of the lines of a connection: {who} of the first; {ask: {..}}, {pending = part}, {sweep: {part, stamp}}
+//! or {trim: {item, part}} of those behind it.
 ghost use Rattle.album_stamps.specs.Outcome.{Gives};
 ghost use Rattle.album_wire.specs.TalkShape.{spelled_talk, hello_shape_of, talk_ask_shape_of, pending_shape_of, talk_sweep_shape_of, talk_trim_shape_of, talk_shape_of};
 ghost use Rattle.album_lines.specs.Trees.{value_data};

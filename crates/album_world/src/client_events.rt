@@ -1,5 +1,5 @@
-//! What a client does at one event: it asks, or it takes a message. Where memory runs out the client stays as it was. So
-//! a step that takes memory works on a copy of the phase.
+//! What a client does at one event: it asks, or it takes a message. Where memory runs out the client stays as it was.
+//! So a step that takes memory works on a copy of the phase.
 ghost use Rattle.std.specs.Prelude.{◌≡◌, ◌≢◌, ◌<◌, ◌≤◌, ◌^◌, [], length, Err, IsOk, IfOk, IfErr, IsOkAnd, IsOkUnless, MatchResult, OnErr, true, ℕ};
 ghost use Rattle.album_stamps.specs.declared.limits.TheConstants.{MAX_PARTS, MAX_READ_ITEMS};
 ghost use Rattle.album_client.specs.Transitions.{client_of, IsMoved};

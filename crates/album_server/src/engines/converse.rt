@@ -93,7 +93,8 @@ fn finish<J: ServiceNames, T: Wait + time::Clock, W: Write>(
         (last lines) (record { who = who.new; session = session.new }))
         (W.contents writer.old) (W.contents writer.new)) }
     ensures fault { IfErr result (λ fault. Writes
-        (IsLeftBy fault (MayTalk J.terms.limit J.policy session.new (record { who = who.old; session = session.old })) (last lines))
+        (IsLeftBy fault (MayTalk J.terms.limit J.policy session.new (record { who = who.old; session = session.old }))
+        (last lines))
         (W.contents writer.old) (W.contents writer.new)) }
     ensures on { IsOn session.old session.new }
 {

@@ -44,8 +44,8 @@ impl<J: ServiceNames> PartitionChannel<J> {
         })
     }
 
-    /// Sends the messages, if there are any. Then the replies to these are outstanding, and no longer those to the round
-    /// before.
+    /// Sends the messages, if there are any. Then the replies to these are outstanding, and no longer those to the
+    /// round before.
     ///
     /// # Errors
     ///
