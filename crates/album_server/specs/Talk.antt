@@ -13,7 +13,7 @@ use Rattle.album_passes.specs.Cuts.{prefix_at}
 use Rattle.album_threads.specs.Asks.{IsOn}
 use Rattle.album_threads.specs.Controls.{IsUntrimmed}
 use Rattle.album_threads.specs.Resting.{RestsOn}
-use Rattle.album_threads.specs.Sessions.{SessionState, IsClosedOrOutOfMemory}
+use Rattle.album_threads.specs.Sessions.{SessionState, IsClosedOrOutOfMemory, AddsNothing, DrawsNothing}
 use Rattle.album_permits.specs.declared.outs.Out.TheVariants as out
 use Rattle.album_lines.specs.Lines.{Line, is_blank}
 use Rattle.album_lines.specs.Output.{line_text, refusal_line}
@@ -27,10 +27,12 @@ use Rattle.album_wire.specs.declared.talk_line.TalkLine.TheVariants as line
 
 -- ---- what a session tells to a line
 
--- of an ask: the answer, on what it rests; or it is refused by its check, or no word comes
+-- of an ask: the answer, on what it rests; or it is refused by its check, or no reply comes, and then nothing was drawn
+-- or announced
 abbrev pub TellsAsk : ℕ → Policy → Principal → Ask → SessionState → SessionState → Result Answer Refusal → Type 0
 TellsAsk limit policy who ask old new (Ok answer) = RestsOn limit policy who ask old new answer
-TellsAsk limit policy who ask old new (Err why) = (refusal_of ask who ≡ Some why) ⊎ IsClosedOrOutOfMemory why
+TellsAsk limit policy who ask old new (Err why) =
+    ((refusal_of ask who ≡ Some why) ⊎ IsClosedOrOutOfMemory why) × DrawsNothing old new
 
 -- there is no partition of this number
 pub record IsNowhere (session : SessionState) (part : ℕ) (why : Refusal) : Type 0 where
@@ -85,27 +87,27 @@ IsAsked limit policy who ask old new text =
     × TellsAsk limit policy who ask old new told
     × (text ≡ asked_text old.client told)
 
--- of an ask alone something is noted
+-- for an ask alone something is noted, drawn or announced
 abbrev pub IsPendingTold : ℕ → SessionState → SessionState → List ℕ → Type 0
 IsPendingTold part old new text =
     (told : Result (List ℕ) Refusal)
     × TellsPending part old new told
     × (text ≡ pending_text told)
-    × (new.share ≡ old.share)
+    × AddsNothing old new
 
 abbrev pub IsSweptFor : ℕ → ℕ → SessionState → SessionState → List ℕ → Type 0
 IsSweptFor part stamp old new text =
     (told : Result Unit Refusal)
     × TellsSwept part stamp old new told
     × (text ≡ done_text says.Swept told)
-    × (new.share ≡ old.share)
+    × AddsNothing old new
 
 abbrev pub IsTrimmedFor : ℕ → ℕ → ℕ → SessionState → SessionState → List ℕ → Type 0
 IsTrimmedFor limit part item old new text =
     (told : Result Unit Refusal)
     × TellsTrimmed limit part item old new told
     × (text ≡ done_text says.Trimmed told)
-    × (new.share ≡ old.share)
+    × AddsNothing old new
 
 abbrev pub AnswersTalk : ℕ → Policy → Principal → TalkLine → SessionState → SessionState → List ℕ → Type 0
 AnswersTalk limit policy who (line.Ask ask) old new text = IsAsked limit policy who ask old new text

@@ -6,11 +6,10 @@ ghost use Rattle.album_threads.specs.Opened.{opened_as};
 use crate::doors::{Doors, Held};
 use crate::mails::Move;
 use crate::scripts::{Who, Wish, ask_of, opening};
-use crate::sessions::{OwnedSession, new_guest};
 use crate::told::{Answers, Told};
 use album_audit::Totals;
 use album_stamps::Refusal;
-use album_threads::{Opened, Service, ServiceNames};
+use album_threads::{Opened, OwnedSession, Service, ServiceNames};
 use std::alloc::{AllocError, Global};
 use std::marker::Brand;
 use std::sync::atomic::Ordering;
@@ -114,8 +113,8 @@ fn new_ask<J: ServiceNames + Send, R: Threads + Wait + time::Clock + Copy + Send
     doors: &Doors,
     moves: &[Move],
 ) -> Result<Both, Refusal> {
-    let amy = new_guest(rt, service)?;
-    let bo = new_guest(rt, service)?;
+    let amy = OwnedSession::begin(rt, service)?;
+    let bo = OwnedSession::begin(rt, service)?;
     Ok(both_ask(rt, alloc, doors, moves, amy, bo)?)
 }
 

@@ -35,6 +35,30 @@ fn a_new_desk_closes_with_zeros(rt: HostRuntime) {
     assert_eq!(rt; are_zeros(rt.alloc()), Ok(true));
 }
 
+/// The words of a desk whose partition 0 has made two marks.
+fn words_of_two_marks(alloc: Global) -> Result<Vec<u64>, Refusal> {
+    let opening = opening(alloc);
+    opening.check()?;
+    let (desk, mut owners, _pass) = Desk::open(alloc, &opening, 2)?;
+    let mark = Mark::Trimmed(item_of("picture/0")?);
+    let Some(owner) = owners.get_mut(0) else {
+        return Err(Refusal::NoSuchPart);
+    };
+    owner.append(&desk, &mark)?;
+    owner.append(&desk, &mark)?;
+    Ok(desk.close(alloc)?)
+}
+
+fn are_two_zero_zero(alloc: Global) -> Result<bool, Refusal> {
+    Ok(words_of_two_marks(alloc)?.as_slice() == [2, 0, 0].as_slice())
+}
+
+/// A desk closes with the number of marks of each history.
+#[test]
+fn a_closed_desk_counts_marks(rt: HostRuntime) {
+    assert_eq!(rt; are_two_zero_zero(rt.alloc()), Ok(true));
+}
+
 /// The numbers that two passes draw, of two that there are, and why a third draws none.
 fn drawn<R: Wait>(rt: &R, alloc: Global) -> Result<(u16, u16, Option<Refusal>), Refusal> {
     let opening = opening(alloc);

@@ -12,7 +12,9 @@ use album_eval::Principal;
 use album_items::{ItemValues, Opening, Title, Value};
 use album_permits::{Answer, Served};
 use album_stamps::Refusal;
-use album_threads::{Gate, Open, Opened, Service, ServiceNames, Session};
+use album_threads::{
+    Open, Opened, OwnedSession, Service, ServiceNames, Session, Visit, with_opened,
+};
 use album_views::{Ask, NewList, NewLists};
 use std::alloc::{AllocError, Global};
 use std::marker::Brand;
@@ -56,76 +58,6 @@ fn opened(alloc: Global, entries: &[Entry], sessions: u16) -> Result<Opened, Ref
     requires { 0 < sessions }
 {
     Opened::new(alloc, &opening(alloc, entries)?, sessions)
-}
-
-/// What is done with a running service, on one thread.
-trait Visit: Drop {
-    type Told;
-
-    fn visit<J: ServiceNames, R: Wait + time::Clock + Abort + Copy>(
-        self,
-        rt: &R,
-        alloc: Global,
-        service: &Service<J>,
-    ) -> Self::Told;
-}
-
-/// What comes of the visit to a service of this opening.
-fn visited<R, G, V>(
-    rt: R,
-    alloc: Global,
-    opened: Opened,
-    gate: G,
-    visit: V,
-) -> Result<V::Told, Refusal>
-where
-    R: Threads + Wait + time::Clock + Abort + Copy + Send + Sync + 'static,
-    G: Gate + Drop + Send + Sync + 'static,
-    V: Visit,
-{
-    visited_by::<Brand, R, G, V>(rt, alloc, opened, gate, visit)
-}
-
-fn visited_by<J, R, G, V>(
-    rt: R,
-    alloc: Global,
-    opened: Opened,
-    gate: G,
-    visit: V,
-) -> Result<V::Told, Refusal>
-where
-    J: ServiceNames + Send + 'static,
-    R: Threads + Wait + time::Clock + Abort + Copy + Send + Sync + 'static,
-    G: Gate + Drop + Send + Sync + 'static,
-    V: Visit,
-    requires named { opened ≡ opened_as J.table J.terms J.policy J.audit_ok J.audit_failed J.alarm_ok J.alarm_failed }
-{
-    let service = Service::<J>::open(rt, alloc, opened, gate)?;
-    let told = visit.visit(&rt, alloc, &service);
-    service.close(&rt);
-    Ok(told)
-}
-
-/// A session, which ends where it is let go.
-pub(crate) struct OwnedSession<J: ServiceNames, R: Wait + Copy> {
-    pub(crate) rt: R,
-    pub(crate) session: Session<J>,
-}
-
-impl<J: ServiceNames, R: Wait + Copy> Drop for OwnedSession<J, R> {
-    fn drop(self) {
-        let OwnedSession { rt, session } = self;
-        session.end(&rt);
-    }
-}
-
-/// A new session.
-pub(crate) fn new_guest<J: ServiceNames, R: Wait + Copy>(
-    rt: &R,
-    service: &Service<J>,
-) -> Result<OwnedSession<J, R>, Refusal> {
-    let session = service.session(rt)?;
-    Ok(OwnedSession { rt: *rt, session })
 }
 
 fn read<J: ServiceNames, R: Wait + time::Clock>(
@@ -301,20 +233,23 @@ struct Two {
     counts: Arc<Counts, Global>,
 }
 
-impl Visit for Two {
-    type Told = Result<(), Fail>;
+impl<R: Wait + time::Clock + Abort + Copy> Visit<R> for Two {
+    type Answer = Result<(), Fail>;
 
-    fn visit<J: ServiceNames, R: Wait + time::Clock + Abort + Copy>(
+    fn visit<J: ServiceNames + Send + Sync>(
         self,
         rt: &R,
         alloc: Global,
         service: &Service<J>,
     ) -> Result<(), Fail> {
-        let mut one = new_guest(rt, service)?;
-        let mut two = new_guest(rt, service)?;
+        let mut one = OwnedSession::begin(rt, service)?;
+        let mut two = OwnedSession::begin(rt, service)?;
         let numbers = (one.session.client().number(), two.session.client().number());
         assert_eq!(rt; numbers, (1, 2));
-        assert_eq!(rt; new_guest(rt, service).err(), Some(Refusal::SessionsSpent));
+        assert_eq!(rt;
+            OwnedSession::begin(rt, service).err(),
+            Some(Refusal::SessionsSpent)
+        );
         both_told_so(rt, alloc, &self.counts, &mut one.session, &mut two.session)
     }
 }
@@ -327,7 +262,7 @@ fn two_sessions(rt: HostRuntime) -> Result<(), Fail> {
     let gate = Counting {
         counts: Arc::try_clone(&counts)?,
     };
-    visited(rt, rt.alloc(), opened, gate, Two { counts })?
+    with_opened(rt, rt.alloc(), opened, gate, Two { counts })?
 }
 
 /// Why two asks of the session are refused.
@@ -348,7 +283,7 @@ fn closed_on<
     requires named { opened ≡ opened_as J.table J.terms J.policy J.audit_ok J.audit_failed J.alarm_ok J.alarm_failed }
 {
     let service = Service::<J>::open(rt, alloc, opened, Open)?;
-    let guest = new_guest(&rt, &service);
+    let guest = OwnedSession::begin(&rt, &service);
     service.close(&rt);
     refused_twice(&rt, guest?)
 }
@@ -386,10 +321,10 @@ fn new_lists(alloc: Global) -> Result<NewLists, Refusal> {
 #[derive(Drop)]
 struct SetBoth;
 
-impl Visit for SetBoth {
-    type Told = Result<u64, Refusal>;
+impl<R: Wait + time::Clock + Abort + Copy> Visit<R> for SetBoth {
+    type Answer = Result<u64, Refusal>;
 
-    fn visit<J: ServiceNames, R: Wait + time::Clock + Abort + Copy>(
+    fn visit<J: ServiceNames + Send + Sync>(
         self,
         rt: &R,
         alloc: Global,
@@ -397,7 +332,7 @@ impl Visit for SetBoth {
     ) -> Result<u64, Refusal> {
         let principal = Principal::read("amy@users")?;
         let lists = new_lists(alloc)?;
-        let mut guest = new_guest(rt, service)?;
+        let mut guest = OwnedSession::begin(rt, service)?;
         committed(guest.session.ask(rt, &principal, Ask::SetLists { lists })?)
     }
 }
@@ -412,7 +347,7 @@ fn set_at_once<R: Threads + Wait + time::Clock + Abort + Copy + Send + Sync + 's
     let gate = Together {
         entered: Arc::try_clone(&entered)?,
     };
-    let stamp = visited(rt, alloc, opened, gate, SetBoth)?;
+    let stamp = with_opened(rt, alloc, opened, gate, SetBoth)?;
     Ok((stamp?, entered.at_once()))
 }
 
@@ -518,8 +453,14 @@ fn four_retitled<J: ServiceNames + Send, R: Threads + Wait + time::Clock + Copy 
     alloc: Global,
     service: &Service<J>,
 ) -> Result<(bool, Totals), Refusal> {
-    let (one, two) = (new_guest(rt, service)?, new_guest(rt, service)?);
-    let (three, four) = (new_guest(rt, service)?, new_guest(rt, service)?);
+    let (one, two) = (
+        OwnedSession::begin(rt, service)?,
+        OwnedSession::begin(rt, service)?,
+    );
+    let (three, four) = (
+        OwnedSession::begin(rt, service)?,
+        OwnedSession::begin(rt, service)?,
+    );
     let Retitled {
         mut guest,
         greatest,

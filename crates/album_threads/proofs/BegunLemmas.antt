@@ -73,11 +73,13 @@ module _ (policy : Policy) (o : Outset) where
       share before grown s r
       (λ case y. (
         record {
-          own = y.0.own;
+          drawn = record {
+            own = y.0.drawn.own;
+            next = y.0.drawn.next;
+            last = counter ∙ y.0.drawn.last;
+            unused = y.0.drawn.unused;
+          };
           above = y.0.above;
-          risen = y.0.risen;
-          last = y.0.last ∙ sym counter;
-          unused = y.0.unused;
           announced = grown.announced _ _ y.0.announced;
           alone = λ other own differs. silent other (own ∙ sym same) ∙ y.0.alone other own differs;
         },

@@ -28,7 +28,7 @@ use Rattle.album_stamps.specs.Clocks.{ClockState, clock_after_see, clock_after_n
 use Rattle.album_stamps.specs.Stamps.{is_client, client_number, counter_of, stamp_number}
 use Rattle.album_stamps.specs.declared.limits.TheConstants.{MAX_COUNTER}
 use Rattle.album_stamps.specs.declared.refusals.Refusal.{Refusal}
-use Rattle.album_threads.specs.Asks.{AreSeenBy}
+use Rattle.album_threads.specs.Asks.{AreSeenBy, counter_after}
 use Rattle.album_views.specs.Steps.{again}
 use Rattle.album_views.specs.Steps.{stepped as viewed}
 use Rattle.album_views.specs.Views.{ViewState}
@@ -48,6 +48,11 @@ rows_rise k [] = le_refl _
 rows_rise k (row ∷ rows) =
     let l : k.counter ≤ (clock_after_see k row.stamp).counter = omega arith in
     le_trans l (rows_rise (clock_after_see k row.stamp) rows)
+
+-- it stands at the greatest counter that it had or saw
+pub rows_counter : (k : ClockState) (rows : List ReadVersion) → (clock_after_rows k rows).counter ≡ counter_after k.counter rows
+rows_counter k [] = refl
+rows_counter k (row ∷ rows) = rows_counter (clock_after_see k row.stamp) rows
 
 pub rows_seen : (k : ClockState) (rows : List ReadVersion) → AreSeenBy (clock_after_rows k rows).counter rows
 rows_seen k [] = All-nil (λ (row : ReadVersion). counter_of row.stamp ≤ k.counter)

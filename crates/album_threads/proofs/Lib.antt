@@ -5,6 +5,7 @@ pub mod OpenedLemmas
 pub mod GroundLemmas
 pub mod StartLemmas
 pub mod SessionLemmas
+pub mod GrantedLemmas
 pub mod RoundLemmas
 pub mod TrimLemmas
 pub mod EndLemmas
@@ -18,4 +19,4 @@ pub mod RuledLemmas
 pub mod ReadingLemmas
 pub mod CarryLemmas
 pub mod WaitLemmas
-pub mod TurnLemmas
+pub mod StepLemmas

@@ -121,14 +121,15 @@ next_push ask items (first ∷ later) rows = next_push ask (names_of first ask) 
 
 -- ---- so far
 
-pub on_self : (a : SessionState) → IsOn a a
-on_self a = record { client = refl; grown = extends_self a.cut; risen = omega arith }
+pub on_self : (a : SessionState) → IsSound a.cut → IsOn a a
+on_self a s = record { client = refl; grown = extends_self a.cut; risen = omega arith; sound = s }
 
 pub on_trans : (a b c : SessionState) → IsOn a b → IsOn b c → IsOn a c
 on_trans a b c x y = record {
   client = y.client ∙ x.client;
   grown = extends_trans a.cut b.cut c.cut x.grown y.grown;
   risen = omega (arith, x.risen, y.risen);
+  sound = y.sound;
 }
 
 pub looking_first : (c : Cut) (viewing : ViewingState) (items : List ℕ) (ask : Ask) → viewing ≡ record { ask = ask; reads = 0 }

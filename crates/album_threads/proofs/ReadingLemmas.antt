@@ -28,11 +28,11 @@ use Rattle.album_threads.specs.Phases.IsRound.{First, Second}
 use Rattle.album_threads.specs.Replies.{IsReplied, IsFirstOver, IsReadOf, IsOvertaken, Leads}
 use Rattle.album_threads.specs.Resting.{RestsOn}
 use Rattle.album_threads.specs.Sending.{prepared_first}
-use Rattle.album_threads.specs.Sessions.{SessionState, AnnouncesNothing}
-use Rattle.album_threads.specs.Turns.{client_step_in, terms_in}
+use Rattle.album_threads.specs.Sessions.{SessionState, AddsNothing}
+use Rattle.album_threads.specs.Steps.{client_step_in, terms_in}
 use Rattle.album_threads.proofs.EndLemmas.{read_so, overtaken}
 use Rattle.album_threads.proofs.LookLemmas.{done_so, gone_so, looking_first, looking_next, looks_seen, looks_busy, on_self}
-use Rattle.album_threads.proofs.TransitionLemmas.{IsNoted, IsMovedOn, on_heard, heard_same, goes_plain, goes_sent}
+use Rattle.album_threads.proofs.TransitionLemmas.{IsNoted, IsMovedOn, on_heard, adds_heard, heard_same, goes_plain, goes_sent}
 use Rattle.album_threads.proofs.TransitionLemmas.IsMovedOn.{Told}
 use Rattle.album_threads.proofs.RoundLemmas.{leads, none_yet, under_first, gets_shown}
 use Rattle.album_threads.proofs.RuledLemmas.{ruled_on}
@@ -128,15 +128,14 @@ module _ (policy : Policy) (principal : Principal) (ask : Ask) (now : SessionSta
       (λ i. (sym is.sent i, ap (λ (z : Client). z.phase) (sym is.client) i))
       (record {
         taken = taken;
-        on = on_self now;
+        on = on_self now s;
         sound = s;
         phase = (
           reading_first principal ask now.cut now.cut terms x tag first_asking (objects_of ask) refl refl parts opens
               (looking_first now.cut first_asking.viewing (objects_of ask) ask refl refl (readable_open _ opens)
               (taken_flawless ask principal taken) s)
               (extends_self now.cut),
-          refl,
-          λ t own. refl,
+          record { share = refl; drawn = record { counter = refl; silent = λ t own. refl } },
         );
       })
 
@@ -148,8 +147,7 @@ module _ (policy : Policy) (principal : Principal) (ask : Ask) (now : SessionSta
 
 module _ (limit : ℕ) (policy : Policy) (o : Outset) (now next noted : SessionState) (at : Cut) (sent : List Message)
     (transition : Transition)
-    (N : IsNoted o now next noted transition) (same_share : now.share ≡ o.session.share)
-    (silent_before : AnnouncesNothing o.session now) where
+    (N : IsNoted o now next noted transition) (only_before : AddsNothing o.session now) where
   abbrev After : Type 0
   After = IsMovedOn limit policy o noted at sent transition
 
@@ -168,11 +166,8 @@ module _ (limit : ℕ) (policy : Policy) (o : Outset) (now next noted : SessionS
   abbrev terms : Terms
   terms = terms_in policy next
 
-  share : next.share ≡ o.session.share
-  share = N.heard.share ∙ same_share
-
-  silent : AnnouncesNothing o.session next
-  silent = λ t own. N.heard.silent t (own ∙ sym N.on.client) ∙ silent_before t own
+  only : AddsNothing o.session next
+  only = adds_heard o.session now next N.on only_before N.heard
 
   on_next : IsOn o.session next
   on_next = on_heard o.session now next N.on N.heard
@@ -189,7 +184,7 @@ module _ (limit : ℕ) (policy : Policy) (o : Outset) (now next noted : SessionS
     waits pending_ask round quiet is empty w =
         goes_plain limit policy o noted at sent transition quiet [] empty refl (λ k l e. absurd (omega arith))
         (subst (λ (z : SessionState × Phase). IsUnderWay policy o z.0 at sent z.1) (λ i. (sym same i, sym is i))
-        (record { taken = N.taken; on = on_next; sound = N.heard.sound; phase = (w, share, silent) }))
+        (record { taken = N.taken; on = on_next; sound = N.heard.sound; phase = (w, only) }))
 
     -- it sends these messages
     asks : (pending_ask : PendingAsk) (round : RoundState) (messages : List Message) → transition.answer ≡ None
@@ -203,7 +198,7 @@ module _ (limit : ℕ) (policy : Policy) (o : Outset) (now next noted : SessionS
         (gets_shown d w.begun.asker (asked_stamps w.begun) w.begun.items))
         (subst (λ (z : SessionState × Phase). IsUnderWay policy o z.0 z.0.cut messages z.1)
         (λ i. (sym same i, sym is i))
-        (record { taken = N.taken; on = on_next; sound = N.heard.sound; phase = (w, share, silent) }))
+        (record { taken = N.taken; on = on_next; sound = N.heard.sound; phase = (w, only) }))
 
     -- there is no view
     busy : (why : Why) → transition.answer ≡ Some (answer.Busy why) → IsBusy a d o.ask why → After
@@ -213,15 +208,15 @@ module _ (limit : ℕ) (policy : Policy) (o : Outset) (now next noted : SessionS
       where
         rests : (why : Why) → IsBusy a d o.ask why
             → RestsOn limit policy o.principal o.ask o.session next (answer.Busy why)
-        rests Wide h = (h, share, silent)
-        rests Rounds h = (h, share, silent)
+        rests Wide h = (h, only)
+        rests Rounds h = (h, only)
 
   -- there is a view
   viewed_so : (tag : ℕ) (view : ViewState) → IsViewOf a d o.ask view
       → IsMoved (rules terms x tag o.principal view) transition → After
   viewed_so tag view h is =
       let same : view ≡ record { ask = o.ask; rows = view.rows } = λ i. record { ask = h.of i; rows = view.rows } in
-      ruled_on limit policy o now next noted at sent transition N share silent tag view.rows
+      ruled_on limit policy o now next noted at sent transition N only tag view.rows
       (subst (IsViewOf a d o.ask) same h) (subst (λ (v : ViewState). IsMoved (rules terms x tag o.principal v) transition)
       same is)
 

@@ -8,8 +8,9 @@ use Rattle.album_partition.specs.Marks.{ArePending, state_of, is_full, is_legal,
 use Rattle.album_partition.specs.declared.marks.Mark.{Mark}
 use Rattle.album_partition.proofs.GrowthLemmas.{latest_rises}
 use Rattle.album_passes.specs.Changes.{merged, KeepsOwn, IsUnheard}
-use Rattle.album_passes.specs.Cuts.{Cut, prefix_at, IsPrefix, IsSound, Extends}
+use Rattle.album_passes.specs.Cuts.{Cut, prefix_at, announced_for, IsPrefix, IsSound, Extends}
 use Rattle.album_passes.specs.Pass.{PassState}
+use Rattle.album_stamps.specs.Stamps.{client_number}
 use Rattle.album_passes.proofs.CutLemmas.{extends_self, longer_at}
 use Rattle.album_passes.proofs.PrefixLemmas.{longer_cases}
 use Rattle.album_threads.specs.Controls.{IsUntrimmed, Answers}
@@ -87,6 +88,11 @@ ahead_new n c h = λ t own above. h t own
 
 pub ahead_later : (a b : ChannelState) (counter : ℕ) → IsLater a b → IsAhead a.client counter a.cut → IsAhead b.client counter b.cut
 ahead_later a b counter x h = λ t own above. x.own a.client t refl (own ∙ x.client) ∙ h t (own ∙ x.client) above
+
+-- and nothing of its own is announced
+pub silent_later : (a b : ChannelState) → IsLater a b → (t : ℕ) → client_number t ≡ a.client
+    → announced_for b.cut t ≡ announced_for a.cut t
+silent_later a b x t own = x.own a.client t refl own
 
 -- ---- a trim
 

@@ -16,7 +16,7 @@ use Rattle.album_threads.specs.Envelopes.{Shows}
 use Rattle.album_threads.specs.Phases.{Outset, IsUnderWay}
 use Rattle.album_threads.specs.Resting.{RestsOn}
 use Rattle.album_threads.specs.Sending.{prepared_first, announced_with, announced_by, IsFreeFor, IsFree, IsAnnouncedBy, sent_last, sent_at}
-use Rattle.album_threads.specs.Sessions.{SessionState}
+use Rattle.album_threads.specs.Sessions.{SessionState, AddsNothing}
 use Rattle.album_threads.proofs.SendLemmas.{last_sent, last_at}
 use Rattle.album_views.specs.Checks.{refusal_of}
 use Rattle.album_permits.specs.declared.answers.Answer.{Answer}
@@ -40,7 +40,7 @@ pub data IsMovedOn
     : Type 0 where
   Told : (told : Answer) → transition.answer ≡ Some told → RestsOn limit policy o.principal o.ask o.session noted told
       → IsMovedOn limit policy o noted at sent transition
-  Goes : transition.answer ≡ None → IsFree noted transition.sent.items
+  Goes : transition.answer ≡ None → IsFree policy noted transition.sent.items
       → All (Shows (announced_by noted.cut transition.sent.items)) transition.sent.items
       → ((new : SessionState) → IsAnnouncedBy noted new transition.sent.items
       → IsUnderWay policy o new (sent_at at new.cut transition.sent.items) (sent_last sent transition.sent.items)
@@ -53,6 +53,17 @@ on_heard a b c x h = record {
   client = h.client ∙ x.client;
   grown = extends_trans a.cut b.cut c.cut x.grown h.grown;
   risen = let n : c.counter ≡ b.counter = h.counter in omega (arith, n, x.risen);
+  sound = h.sound;
+}
+
+-- it still has noted, drawn and announced nothing
+pub adds_heard : (a b c : SessionState) → IsOn a b → AddsNothing a b → IsHeard b c → AddsNothing a c
+adds_heard a b c x only h = record {
+  share = h.share ∙ only.share;
+  drawn = record {
+    counter = h.counter ∙ only.drawn.counter;
+    silent = λ t own. h.silent t (own ∙ sym x.client) ∙ only.drawn.silent t own;
+  };
 }
 
 -- a share stays where nothing is noted
@@ -94,8 +105,8 @@ module _ (limit : ℕ) (policy : Policy) (o : Outset) (noted : SessionState) (at
       none : prepared_first transition.sent.items ≡ None
       none = ap prepared_first e ∙ plain
 
-      free : IsFree noted transition.sent.items
-      free = subst (IsFreeFor noted) (sym none) (record { unused = tt; reached = tt })
+      free : IsFree policy noted transition.sent.items
+      free = subst (IsFreeFor policy noted) (sym none) (record { granted = tt; unused = tt; reached = tt })
 
       shows : All (Shows (announced_by noted.cut transition.sent.items)) transition.sent.items
       shows = subst (λ (y : Cut × List Message). All (Shows y.0) y.1)
@@ -138,7 +149,7 @@ module _ (limit : ℕ) (policy : Policy) (o : Outset) (noted : SessionState) (at
       subst (RestsOn limit policy o.principal o.ask o.session noted) one h
   told_rests told is (Goes none free shown goes) = absurd (cc)
 
-  pub free_of : transition.answer ≡ None → IsMovedOn limit policy o noted at sent transition → IsFree noted transition.sent.items
+  pub free_of : transition.answer ≡ None → IsMovedOn limit policy o noted at sent transition → IsFree policy noted transition.sent.items
   free_of is (Told other same h) = absurd (cc)
   free_of is (Goes none free shown goes) = free
 

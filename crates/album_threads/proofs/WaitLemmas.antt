@@ -19,8 +19,8 @@ use Rattle.album_threads.specs.Asks.{IsHeard}
 use Rattle.album_threads.specs.Phases.{Outset, IsReading, IsUnderWay}
 use Rattle.album_threads.specs.Replies.{IsReplied, Leads}
 use Rattle.album_threads.specs.Sessions.{SessionState}
-use Rattle.album_threads.specs.Turns.{client_step_in, terms_in}
-use Rattle.album_threads.proofs.TransitionLemmas.{on_heard}
+use Rattle.album_threads.specs.Steps.{client_step_in, terms_in}
+use Rattle.album_threads.proofs.TransitionLemmas.{on_heard, adds_heard}
 use Rattle.album_threads.proofs.RoundLemmas.{leads}
 
 module _ (limit : ℕ) (policy : Policy) (o : Outset) (now next : SessionState) (at : Cut) (sent : List Message) (m : Message)
@@ -66,8 +66,7 @@ module _ (limit : ℕ) (policy : Policy) (o : Outset) (now next : SessionState) 
                 before = read.before;
                 on = since;
               },
-              h.share ∙ w.phase.1,
-              λ t own. h.silent t (own ∙ sym w.on.client) ∙ w.phase.2 t own,
+              adds_heard o.session now next w.on w.phase.1 h,
             );
           })
       go (Next other gets) led e t = absurd (cc)

@@ -41,7 +41,7 @@ use Rattle.album_reader.proofs.Others.{is_part-own}
 use Rattle.album_threads.specs.Grounds.{items_of, IsKept, IsWithoutRoom}
 use Rattle.album_threads.specs.Envelopes.{Shows}
 use Rattle.album_threads.specs.Replies.{IsReplied}
-use Rattle.album_threads.specs.Writes.{IsPreparedAt, IsCommittedAt, IsFurther, IsEndOf, AreCommits, AreAllCommitted, PrepareTells, CommitTells}
+use Rattle.album_threads.specs.Writes.{IsPreparedAt, IsCommittedAt, IsFurther, IsEndOf, AreCommits, AreAllCommitted, PrepareShows, CommitShows}
 use Rattle.album_threads.proofs.GroundLemmas.{has_more}
 use Rattle.album_threads.proofs.EnvelopeLemmas.{discarded_tells}
 use Rattle.album_writer.specs.Rounds.{answered_by, prepares_left, prepares_by, prepare_stepped, commits_left, commits_by, commit_stepped}
@@ -232,11 +232,11 @@ module _ (limit : ℕ) (b c d : Cut) (begun : WritingState) (m : Message) (x : E
 
   -- what comes of a reply to one of a round's Prepares
   pub prepare_tells : IsSound d → begun.parts ≡ d.parts → IsReplied limit b d (prepares_of begun) m
-      → (w : WritingState) → IsFurther begun (IsPreparedAt c begun) w → PrepareTells limit d begun (prepare_stepped w m)
+      → (w : WritingState) → IsFurther begun (IsPreparedAt c begun) w → PrepareShows limit d begun (prepare_stepped w m)
   prepare_tells sound parts r w h =
-      subst (λ (v : WritingState). PrepareTells limit d begun (prepare_stepped v m)) (sym h.same) (go (reply_in (with w.outstanding) m) refl)
+      subst (λ (v : WritingState). PrepareShows limit d begun (prepare_stepped v m)) (sym h.same) (go (reply_in (with w.outstanding) m) refl)
     where
-      still : PrepareTells limit d begun (Waits (with w.outstanding))
+      still : PrepareShows limit d begun (Waits (with w.outstanding))
       still = record {
         same = refl;
         done = λ n there. ⊎_elim (λ a. inl a) (λ p. inr (prepared_on c d begun x n p)) (h.done n there);
@@ -248,7 +248,7 @@ module _ (limit : ℕ) (b c d : Cut) (begun : WritingState) (m : Message) (x : E
           answered_further (places_in begun) w.outstanding m.from place (IsPreparedAt c begun) (IsPreparedAt d begun) from done (prepared_on c d begun x) h.done
 
       by : ((n : ℕ) → Contains (places_in begun) n → Contains (left w.outstanding) n ⊎ IsPreparedAt d begun n)
-          → (ns : List ℕ) → left w.outstanding ≡ ns → PrepareTells limit d begun (prepares_left (answered_by (with w.outstanding) m.from) ns)
+          → (ns : List ℕ) → left w.outstanding ≡ ns → PrepareShows limit d begun (prepares_left (answered_by (with w.outstanding) m.from) ns)
       by now [] e = record {
         next_is = refl;
         messages_are = refl;
@@ -256,7 +256,7 @@ module _ (limit : ℕ) (b c d : Cut) (begun : WritingState) (m : Message) (x : E
       }
       by now (n ∷ ns) e = record { same = refl; done = now }
 
-      go : (what : WriteReply) → reply_in (with w.outstanding) m ≡ what → PrepareTells limit d begun (prepares_by (with w.outstanding) m.from what)
+      go : (what : WriteReply) → reply_in (with w.outstanding) m ≡ what → PrepareShows limit d begun (prepares_by (with w.outstanding) m.from what)
       go write_reply.Prepared e =
           let t = told-is (with w.outstanding) m write_reply.Prepared e (λ f. absurd (cc)) in
           by (more t.0 t.1.sender (heard_prepared limit b d begun m t.0 r t.1.sender t.1.body)) (left w.outstanding) refl
@@ -272,11 +272,11 @@ module _ (limit : ℕ) (b c d : Cut) (begun : WritingState) (m : Message) (x : E
 
   -- what comes of a reply to one of a round's Commits
   pub commit_tells : IsReplied limit b d (commits_of begun) m
-      → (w : WritingState) → IsFurther begun (IsCommittedAt c begun) w → CommitTells d begun (commit_stepped w m)
+      → (w : WritingState) → IsFurther begun (IsCommittedAt c begun) w → CommitShows d begun (commit_stepped w m)
   commit_tells r w h =
-      subst (λ (v : WritingState). CommitTells d begun (commit_stepped v m)) (sym h.same) (go (reply_in (with w.outstanding) m) refl)
+      subst (λ (v : WritingState). CommitShows d begun (commit_stepped v m)) (sym h.same) (go (reply_in (with w.outstanding) m) refl)
     where
-      still : CommitTells d begun (Waits (with w.outstanding))
+      still : CommitShows d begun (Waits (with w.outstanding))
       still = record {
         same = refl;
         done = λ n there. ⊎_elim (λ a. inl a) (λ p. inr (committed_on c d begun x n p)) (h.done n there);
@@ -288,11 +288,11 @@ module _ (limit : ℕ) (b c d : Cut) (begun : WritingState) (m : Message) (x : E
           answered_further (places_in begun) w.outstanding m.from place (IsCommittedAt c begun) (IsCommittedAt d begun) from done (committed_on c d begun x) h.done
 
       by : ((n : ℕ) → Contains (places_in begun) n → Contains (left w.outstanding) n ⊎ IsCommittedAt d begun n)
-          → (ns : List ℕ) → left w.outstanding ≡ ns → CommitTells d begun (commits_left (answered_by (with w.outstanding) m.from) ns)
+          → (ns : List ℕ) → left w.outstanding ≡ ns → CommitShows d begun (commits_left (answered_by (with w.outstanding) m.from) ns)
       by now [] e = (refl, none_outstanding (places_in begun) (left w.outstanding) (IsCommittedAt d begun) e now)
       by now (n ∷ ns) e = record { same = refl; done = now }
 
-      go : (what : WriteReply) → reply_in (with w.outstanding) m ≡ what → CommitTells d begun (commits_by (with w.outstanding) m.from what)
+      go : (what : WriteReply) → reply_in (with w.outstanding) m ≡ what → CommitShows d begun (commits_by (with w.outstanding) m.from what)
       go write_reply.Prepared e = still
       go write_reply.Committed e =
           let t = told-is (with w.outstanding) m write_reply.Committed e (λ f. absurd (cc)) in

@@ -1,5 +1,5 @@
 -- The parts of a session that an ask keeps, and the items that it reads.
-use Rattle.std.specs.Prelude.{◌≡◌, ◌⊎◌, ◌+◌, ◌<◌, ◌≤◌, ℕ, List, [], ◌∷◌, All, length, map, None, IsTrue}
+use Rattle.std.specs.Prelude.{◌≡◌, ◌⊎◌, ◌+◌, ◌<◌, ◌≤◌, ℕ, max, List, [], ◌∷◌, All, length, map, None, IsTrue}
 use Rattle.album_stamps.specs.Stamps.{is_client, counter_of}
 use Rattle.album_stamps.specs.declared.limits.TheConstants.{MAX_READ_ITEMS, MAX_READS}
 use Rattle.album_audit.specs.Totals.{totals_of, plus}
@@ -21,15 +21,21 @@ use Rattle.album_views.specs.declared.viewing.ViewStep.TheVariants.{Again, Close
 use Rattle.album_views.specs.declared.viewing.Why.{Why}
 use Rattle.album_views.specs.declared.viewing.Why.TheVariants.{Rounds, Wide}
 
--- the same client has seen more, and its clock went no way back
+-- the same client has seen more, its clock went no way back, and what it has seen is sound
 pub record IsOn (old new : SessionState) : Type 0 where
   pub client : new.client ≡ old.client
   pub grown : Extends old.cut new.cut
   pub risen : old.counter ≤ new.counter
+  pub sound : IsSound new.cut
 
 -- no stamp of what was read has a greater counter
 abbrev pub AreSeenBy : ℕ → List ReadVersion → Type 0
 AreSeenBy counter rows = All (λ row. counter_of row.stamp ≤ counter) rows
+
+-- the greatest of this counter and those of the stamps of what was read
+abbrev pub counter_after : ℕ → List ReadVersion → ℕ
+counter_after counter [] = counter
+counter_after counter (row ∷ rows) = counter_after (max counter (counter_of row.stamp)) rows
 
 -- The same session has seen more, and nothing else is changed or announced. And what is so of each session: what it has
 -- seen is sound, its clock is ahead of what is announced of it, and it is of a client.

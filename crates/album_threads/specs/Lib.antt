@@ -4,6 +4,7 @@ pub mod Controls
 pub mod Keepers
 pub mod Opened
 pub mod Grounds
+pub mod Granted
 pub mod Sessions
 pub mod Replies
 pub mod Resting
@@ -11,4 +12,4 @@ pub mod Writes
 pub mod Asks
 pub mod Sending
 pub mod Phases
-pub mod Turns
+pub mod Steps

@@ -11,7 +11,7 @@ use Rattle.album_reader.specs.Rounds.{RoundState, asked_stamps, gets_of}
 use Rattle.album_threads.specs.Asks.{IsLooking, IsOn}
 use Rattle.album_threads.specs.Replies.{IsUnder, IsFirstOver}
 use Rattle.album_threads.specs.Resting.{IsBegun}
-use Rattle.album_threads.specs.Sessions.{SessionState, AnnouncesNothing}
+use Rattle.album_threads.specs.Sessions.{SessionState, AddsNothing}
 use Rattle.album_threads.specs.Writes.{IsBegunOn, IsFurther, IsPreparedAt, IsCommittedAt, AreCommits}
 use Rattle.album_views.specs.Checks.{refusal_of}
 use Rattle.album_views.specs.declared.asks.Ask.{Ask}
@@ -84,13 +84,12 @@ pub record IsWriting
 
 -- ---- an ask
 
--- It reads, and has noted and announced nothing; or it writes.
+-- It reads, and has noted, drawn and announced nothing; or it writes.
 abbrev pub IsPhase : Policy → Outset → SessionState → Cut → List Message → Phase → Type 0
 IsPhase policy outset now at sent (Idle tag) = ⊥
 IsPhase policy outset now at sent (Reads pending_ask round) =
     IsReading outset.principal outset.ask outset.session.cut at now.cut sent pending_ask round
-    × (now.share ≡ outset.session.share)
-    × AnnouncesNothing outset.session now
+    × AddsNothing outset.session now
 IsPhase policy outset now at sent (Prepares writing) = IsWriting policy outset now at sent (Prepares writing)
 IsPhase policy outset now at sent (Commits writing) = IsWriting policy outset now at sent (Commits writing)
 

@@ -1,5 +1,5 @@
 -- On what each answer of a session rests.
-use Rattle.std.specs.Prelude.{◌≡◌, ◌≢◌, ◌⊎◌, ◌<◌, ℕ, true, List, All, map, Some, None}
+use Rattle.std.specs.Prelude.{◌≡◌, ◌≢◌, ◌⊎◌, ◌+◌, ◌<◌, ℕ, true, List, All, map, Some, None}
 use Rattle.album_stamps.specs.Stamps.{client_number, counter_of}
 use Rattle.album_stamps.specs.declared.limits.TheConstants.{MAX_COUNTER}
 use Rattle.album_stamps.specs.declared.refusals.Refusal.{Refusal}
@@ -17,7 +17,8 @@ use Rattle.album_permits.specs.declared.findings.Finding.TheVariants as finding
 use Rattle.album_permits.specs.declared.notes.Note.{Note}
 use Rattle.album_permits.specs.Meaning.{Finds, Notes}
 use Rattle.album_threads.specs.Grounds.{IsOnView, items_of, IsKept, IsWithoutRoom, IsWide, IsOutOfReads}
-use Rattle.album_threads.specs.Sessions.{SessionState, AnnouncesNothing}
+use Rattle.album_threads.specs.Asks.{counter_after}
+use Rattle.album_threads.specs.Sessions.{SessionState, AnnouncesNothing, AddsNothing}
 use Rattle.album_permits.specs.declared.answers.Answer.{Answer}
 use Rattle.album_permits.specs.declared.answers.Answer.TheVariants as answer
 use Rattle.album_views.specs.declared.asks.Ask.{Ask}
@@ -36,14 +37,23 @@ IsFoundOnView policy principal ask old new found Holds =
     IsOnView old.cut new.cut policy principal ask
     (λ case. Finds case found × IsShared old.client old.share new.share case × Holds case)
 
--- The stamp is the client's own, above all that was read, and the last that its clock drew in this ask. It was
--- announced in this ask, with exactly the items that are written, and no other stamp of the client's was.
-pub record IsAnnounced (old new : SessionState) (permit : PermitState) (stamp : ℕ) : Type 0 where
+-- the session's clock has seen what was read, and drawn no stamp
+abbrev pub HasSeen : SessionState → SessionState → PermitState → Type 0
+HasSeen old new case = new.counter ≡ counter_after old.counter case.view.rows
+
+-- The stamp is the client's own, and the one that its clock drew in this ask: its counter is one above the greatest that
+-- the clock drew or saw before. Nothing was announced for it.
+pub record IsDrawn (old new : SessionState) (permit : PermitState) (stamp : ℕ) : Type 0 where
   pub own : client_number stamp ≡ old.client
-  pub above : All (λ row. row.stamp < stamp) permit.view.rows
-  pub risen : old.counter < counter_of stamp
-  pub last : counter_of stamp ≡ new.counter
+  pub next : counter_of stamp ≡ counter_after old.counter permit.view.rows + 1
+  pub last : new.counter ≡ counter_of stamp
   pub unused : announced_for old.cut stamp ≡ None
+
+-- The stamp was drawn in this ask, and is above all that was read. It was announced with exactly the items that are
+-- written, and no other stamp of the client's was.
+pub record IsAnnounced (old new : SessionState) (permit : PermitState) (stamp : ℕ) : Type 0 where
+  pub drawn : IsDrawn old new permit stamp
+  pub above : All (λ row. row.stamp < stamp) permit.view.rows
   pub announced : announced_for new.cut stamp ≡ Some (items_of permit stamp)
   pub alone : (other : ℕ) → client_number other ≡ old.client → other ≢ stamp
       → announced_for new.cut other ≡ announced_for old.cut other
@@ -60,32 +70,37 @@ abbrev pub IsUnsettledBy : ℕ → SessionState → ℕ → Refusal → PermitSt
 IsUnsettledBy limit new stamp why permit =
     ((why ≡ Full) × IsWithoutRoom limit new.cut permit stamp) ⊎ ((why ≡ OutOfMemory) ⊎ (why ≡ Closed))
 
--- the album that gets a child is full at a stamp of the client's for which nothing is announced
-pub record IsAlbumFull (new : SessionState) (permit : PermitState) : Type 0 where
+-- the album that gets a child is full at the stamp that was drawn for it
+pub record IsAlbumFull (old new : SessionState) (permit : PermitState) : Type 0 where
   pub stamp : ℕ
-  pub own : client_number stamp ≡ new.client
-  pub unused : announced_for new.cut stamp ≡ None
+  pub drawn : IsDrawn old new permit stamp
   pub full : is_full_for permit stamp ≡ true
 
+-- what was read has brought the clock to its end, or it was there
+pub record IsSpent (old new : SessionState) (permit : PermitState) : Type 0 where
+  pub seen : HasSeen old new permit
+  pub end : new.counter ≡ MAX_COUNTER
+
 -- why what is granted can't be written: the album is full, or the clock is spent
-abbrev pub IsRefusedBy : SessionState → Refusal → PermitState → Type 0
-IsRefusedBy new why permit =
-    ((why ≡ AlbumFull) × IsAlbumFull new permit) ⊎ ((why ≡ StampsSpent) × (new.counter ≡ MAX_COUNTER))
+abbrev pub IsRefusedBy : SessionState → SessionState → Refusal → PermitState → Type 0
+IsRefusedBy old new why permit =
+    ((why ≡ AlbumFull) × IsAlbumFull old new permit) ⊎ ((why ≡ StampsSpent) × IsSpent old new permit)
 
 -- On what the answer rests, of a session before the ask and after it. After an answer that is no write's nothing was
--- announced, and so nothing was written.
+-- announced, and so nothing was written; and the clock draws a stamp only for a write that is granted.
 abbrev pub RestsOn : ℕ → Policy → Principal → Ask → SessionState → SessionState → Answer → Type 0
 RestsOn limit policy principal ask old new (answer.Served served) =
-    IsFoundOnView policy principal ask old new finding.Granted (λ permit. IsServed permit served)
+    IsFoundOnView policy principal ask old new finding.Granted
+    (λ permit. IsServed permit served × HasSeen old new permit)
     × AnnouncesNothing old new
 RestsOn limit policy principal ask old new (answer.Denied denial) =
-    IsFoundOnView policy principal ask old new (finding.Denied denial) (λ case. Unit {0}) × AnnouncesNothing old new
+    IsFoundOnView policy principal ask old new (finding.Denied denial) (HasSeen old new) × AnnouncesNothing old new
 RestsOn limit policy principal ask old new (answer.Missing object) =
-    IsFoundOnView policy principal ask old new (finding.Missing object) (λ case. Unit {0}) × AnnouncesNothing old new
+    IsFoundOnView policy principal ask old new (finding.Missing object) (HasSeen old new) × AnnouncesNothing old new
 RestsOn limit policy principal ask old new (answer.Busy Wide) =
-    IsWide old.cut new.cut ask × (new.share ≡ old.share) × AnnouncesNothing old new
+    IsWide old.cut new.cut ask × AddsNothing old new
 RestsOn limit policy principal ask old new (answer.Busy Rounds) =
-    IsOutOfReads old.cut new.cut ask × (new.share ≡ old.share) × AnnouncesNothing old new
+    IsOutOfReads old.cut new.cut ask × AddsNothing old new
 RestsOn limit policy principal ask old new (answer.Committed stamp) =
     IsBegun policy principal ask old new stamp (λ permit. IsKept new.cut permit stamp)
 RestsOn limit policy principal ask old new (answer.Aborted stamp) =
@@ -93,4 +108,4 @@ RestsOn limit policy principal ask old new (answer.Aborted stamp) =
 RestsOn limit policy principal ask old new (answer.Unsettled stamp why) =
     IsBegun policy principal ask old new stamp (IsUnsettledBy limit new stamp why)
 RestsOn limit policy principal ask old new (answer.Refused why) =
-    IsFoundOnView policy principal ask old new finding.Granted (IsRefusedBy new why) × AnnouncesNothing old new
+    IsFoundOnView policy principal ask old new finding.Granted (IsRefusedBy old new why) × AnnouncesNothing old new

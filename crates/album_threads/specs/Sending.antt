@@ -5,9 +5,11 @@ use Rattle.album_calls.specs.declared.messages.Body.TheVariants as body
 use Rattle.album_calls.specs.declared.messages.Message.{Message}
 use Rattle.album_calls.specs.declared.requests.Request.{Request}
 use Rattle.album_calls.specs.declared.requests.Request.TheVariants.{Prepare, Commit, Get, Check}
+use Rattle.album_eval.specs.declared.policies.Policy.{Policy}
 use Rattle.album_passes.specs.Changes.{announced_cut}
 use Rattle.album_passes.specs.Cuts.{Cut, Announcement, announced_for, Extends, IsSound}
 use Rattle.album_stamps.specs.Stamps.{client_number, counter_of}
+use Rattle.album_threads.specs.Granted.{IsGrantedFor}
 use Rattle.album_threads.specs.Sessions.{ChannelState, SessionState}
 
 -- ---- what is announced
@@ -48,13 +50,14 @@ abbrev pub IsReached : ℕ → Option Announcement → Type 0
 IsReached counter None = Unit {0}
 IsReached counter (Some (stamp, items)) = counter_of stamp ≤ counter
 
--- what the first of the messages prepares can be announced
-pub record IsFreeFor (session : SessionState) (announcement : Option Announcement) : Type 0 where
+-- what the first of the messages prepares can be announced, and was granted
+pub record IsFreeFor (policy : Policy) (session : SessionState) (announcement : Option Announcement) : Type 0 where
+  pub granted : IsGrantedFor policy session.cut announcement
   pub unused : IsUnused (record { client = session.client; cut = session.cut }) announcement
   pub reached : IsReached session.counter announcement
 
-abbrev pub IsFree : SessionState → List Message → Type 0
-IsFree session messages = IsFreeFor session (prepared_first messages)
+abbrev pub IsFree : Policy → SessionState → List Message → Type 0
+IsFree policy session messages = IsFreeFor policy session (prepared_first messages)
 
 -- that is announced, and nothing else is changed
 pub record IsAnnouncedBy (old new : SessionState) (messages : List Message) : Type 0 where

@@ -11,6 +11,7 @@ use Rattle.album_eval.specs.declared.policies.Policy.{Policy}
 use Rattle.album_passes.specs.Changes.{KeepsOwn}
 use Rattle.album_passes.specs.Cuts.{Cut, announced_for, Extends}
 use Rattle.album_passes.specs.Pass.{PassState}
+use Rattle.album_threads.specs.Granted.{AreGranted}
 
 -- ---- a session's channel to the partitions
 
@@ -56,8 +57,19 @@ abbrev pub AnnouncesNothing : SessionState → SessionState → Type 0
 AnnouncesNothing old new = (stamp : ℕ) → client_number stamp ≡ old.client
     → announced_for new.cut stamp ≡ announced_for old.cut stamp
 
--- the policy is this one, and the clock is the client's, and ahead of what is announced of it
+-- its clock stands where it stood, and nothing is announced
+pub record DrawsNothing (old new : SessionState) : Type 0 where
+  pub counter : new.counter ≡ old.counter
+  pub silent : AnnouncesNothing old new
+
+-- nor is anything noted
+pub record AddsNothing (old new : SessionState) : Type 0 where
+  pub share : new.share ≡ old.share
+  pub drawn : DrawsNothing old new
+
+-- the policy is this one, the clock is the client's, and ahead of what is announced of it, and that was granted
 pub record IsSession (named policy : Policy) (clock : ClockState) (channel : ChannelState) : Type 0 where
   pub policy_is : policy ≡ named
   pub own : clock.client ≡ channel.client
   pub ahead : IsAhead channel.client clock.counter channel.cut
+  pub granted : AreGranted named channel.client channel.cut

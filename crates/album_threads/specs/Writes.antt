@@ -55,10 +55,10 @@ pub record AreCommits (cut : Cut) (begun next : WritingState) (messages : List M
   pub prepared : (place : ℕ) → Contains (places_in begun) place → IsPreparedAt cut begun place
 
 -- what a step of a round of Prepares shows
-abbrev pub PrepareTells : ℕ → Cut → WritingState → WriteStep → Type 0
-PrepareTells limit cut begun (Waits writing) = IsFurther begun (IsPreparedAt cut begun) writing
-PrepareTells limit cut begun (Commits next messages) = AreCommits cut begun next messages
-PrepareTells limit cut begun (Ends outcome) = IsEndOf limit cut begun outcome
+abbrev pub PrepareShows : ℕ → Cut → WritingState → WriteStep → Type 0
+PrepareShows limit cut begun (Waits writing) = IsFurther begun (IsPreparedAt cut begun) writing
+PrepareShows limit cut begun (Commits next messages) = AreCommits cut begun next messages
+PrepareShows limit cut begun (Ends outcome) = IsEndOf limit cut begun outcome
 
 -- each participant has committed, where the outcome is Committed
 abbrev pub AreAllCommitted : Cut → WritingState → Outcome → Type 0
@@ -68,7 +68,7 @@ AreAllCommitted cut begun (outcome.Aborted stamp) = ⊥
 AreAllCommitted cut begun (outcome.Full stamp) = ⊥
 
 -- what a step of a round of Commits shows
-abbrev pub CommitTells : Cut → WritingState → WriteStep → Type 0
-CommitTells cut begun (Waits writing) = IsFurther begun (IsCommittedAt cut begun) writing
-CommitTells cut begun (Commits next messages) = ⊥
-CommitTells cut begun (Ends outcome) = AreAllCommitted cut begun outcome
+abbrev pub CommitShows : Cut → WritingState → WriteStep → Type 0
+CommitShows cut begun (Waits writing) = IsFurther begun (IsCommittedAt cut begun) writing
+CommitShows cut begun (Commits next messages) = ⊥
+CommitShows cut begun (Ends outcome) = AreAllCommitted cut begun outcome

@@ -8,6 +8,10 @@ pub trait Gate {
     fn enter(&self, part: u16, number: u64);
 
     fn leave(&self, part: u16, number: u64);
+
+    /// A partition's thread calls it where it had no memory for what others wait for. It ends then, and the service is
+    /// broken: its sessions answer `Closed`.
+    fn fail(&self, _part: u16) {}
 }
 
 /// A gate that does nothing.

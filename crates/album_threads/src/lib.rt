@@ -5,19 +5,22 @@
 //! A session sends envelopes to the mailboxes of partitions (`session/channel`, `session/round`). A partition's thread
 //! takes each, gives its message to the partition, and sends the reply back with a pass that shows the reply's history
 //! (`partition/thread`, `partition/keeper`). The session joins that pass, and gives the reply to its client, which is
-//! `album_client`'s (`session/turn`), until the client answers (`session/ask`).
+//! `album_client`'s (`session/step`), until the client answers (`session/ask`).
 //!
 //! Read `service`, `session` and `session/ask` first, then `partition/keeper`, and specs/ in the order of
 //! specs/Lib.antt.
 #![tactic(auto)]
 
 // What a service is opened with, and the service: its threads, its sessions, its totals.
+mod breakage;
 mod gate;
 mod opened;
 mod service;
 mod service_names;
+mod visit;
 
 // A session, and how it asks the partitions.
+mod owned_session;
 mod session;
 
 // A partition's thread, and what it keeps.
@@ -36,6 +39,8 @@ pub use envelopes::{ReplyEnvelope, RequestEnvelope};
 pub use gate::{Gate, Open};
 pub use laws::grounds_stay;
 pub use opened::Opened;
+pub use owned_session::OwnedSession;
 pub use service::Service;
 pub use service_names::ServiceNames;
 pub use session::Session;
+pub use visit::{Visit, with_opened, with_service};

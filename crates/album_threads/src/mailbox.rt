@@ -1,8 +1,9 @@
 //! Mailboxes: their mails, and how a thread waits for the next.
+use crate::breakage::Breakage;
 use crate::control::{ControlReply, ControlRequest};
 use crate::envelopes::{ReplyEnvelope, RequestEnvelope};
 use crate::service_names::ServiceNames;
-use crossbeam_channel::{Receiver, Sender};
+use crossbeam_channel::{Receiver, RecvTimeoutError, Sender};
 use std::alloc::Global;
 use std::collections::VecDeque;
 use std::hint::spin_loop;
@@ -20,6 +21,9 @@ const GLANCES: u32 = 5;
 /// How many microseconds it may take until a thread that lets others run is let run again. Where one that only computes
 /// shares its processor it takes some thousands.
 const LATE: u64 = 1_000;
+
+/// How many milliseconds a session waits for a reply until it looks whether the service is broken.
+const PATIENCE: u64 = 100;
 
 /// How many times a thread that was let run late sleeps at once, before it looks again.
 const NAPS: u32 = 256;
@@ -46,6 +50,8 @@ pub(crate) enum SessionMail<J: ServiceNames> {
     Replies(VecDeque<ReplyEnvelope<J>>),
     /// The reply to a control request.
     ControlReply(Box<ControlReply<J>, Global>),
+    /// The partition had no memory for a message of the round of this tag, and has done nothing for it.
+    OutOfMemory(u64),
 }
 
 /// Where a thread takes what lies in its mailbox.
@@ -64,12 +70,43 @@ impl<T: Drop> Inbox<T> {
 
     /// What comes next, or `None` where all who could send it are gone.
     pub(crate) fn next<R: Wait + time::Clock>(&mut self, rt: &R) -> Option<T> {
-        if self.naps > 0 {
-            self.naps -= 1;
-        } else if let Some(message) = self.look(rt) {
+        match self.look_or_nap(rt) {
+            Some(message) => Some(message),
+            None => self.from.recv(rt).ok(),
+        }
+    }
+
+    /// The same, or `None` once the service is found broken.
+    pub(crate) fn next_unless<R: Wait + time::Clock>(
+        &mut self,
+        rt: &R,
+        breakage: &Breakage,
+    ) -> Option<T> {
+        if let Some(message) = self.look_or_nap(rt) {
             return Some(message);
         }
-        self.from.recv(rt).ok()
+        for _ in rt.forever() {
+            match self.from.recv_timeout(rt, Duration::from_millis(PATIENCE)) {
+                Ok(message) => return Some(message),
+                Err(RecvTimeoutError::Disconnected) => return None,
+                Err(RecvTimeoutError::Timeout) => {
+                    if breakage.is_set() {
+                        return None;
+                    }
+                }
+            }
+        }
+        // `forever` has no end.
+        unreachable!()
+    }
+
+    /// What comes while it looks, unless it was let run late lately: then it sleeps at once.
+    fn look_or_nap<R: Wait + time::Clock>(&mut self, rt: &R) -> Option<T> {
+        if self.naps > 0 {
+            self.naps -= 1;
+            return None;
+        }
+        self.look(rt)
     }
 
     /// What comes while it looks. Once it is let run late, it gives up; so it does where the clock can't be read.

@@ -6,6 +6,7 @@ ghost use Rattle.album_audit.specs.Totals.{none};
 ghost use Rattle.album_passes.specs.Changes.{IsUnheard};
 ghost use Rattle.album_threads.specs.Opened.{opened_as};
 
+use crate::breakage::Breakage;
 use crate::gate::Gate;
 use crate::mailbox::PartitionMail;
 use crate::opened::Opened;
@@ -61,6 +62,7 @@ pub struct Service<J: ServiceNames> {
     /// Of the partitions, in order.
     mailboxes: Vec<Sender<PartitionMail<J>>>,
     threads: Vec<JoinHandle<()>>,
+    breakage: Arc<Breakage, Global>,
     ghost table_is: { (arc_value desk).table ≡ J.table },
     ghost terms_are: { (arc_value desk).terms ≡ J.terms },
     ghost policy_is: { policy ≡ J.policy },
@@ -95,6 +97,7 @@ impl<J: ServiceNames + Send + 'static> Service<J> {
         } = opened;
         let desk = Arc::new(alloc, desk)?;
         let gate = Arc::new(alloc, gate)?;
+        let breakage = Arc::new(alloc, Breakage::new())?;
         let book = Arc::new(alloc, Mutex::new(AuditBook::new(blanks)))?;
         let seed = Mutex::new(Seed {
             pass,
@@ -107,6 +110,7 @@ impl<J: ServiceNames + Send + 'static> Service<J> {
             alloc,
             &desk,
             &gate,
+            &breakage,
             owners,
             partitions,
             &mailboxes,
@@ -126,6 +130,7 @@ impl<J: ServiceNames + Send + 'static> Service<J> {
             parts,
             mailboxes,
             threads,
+            breakage,
         })
     }
 
@@ -141,6 +146,7 @@ impl<J: ServiceNames + Send + 'static> Service<J> {
             parts: _,
             mailboxes,
             threads,
+            breakage: _,
         } = self;
         leave_all(rt, &mailboxes, threads);
         book.lock(rt).totals()
@@ -184,16 +190,25 @@ impl<J: ServiceNames> Service<J> {
         ensures refused { IfErr result (λ e. (e ≡ Refusal.OutOfMemory) ⊎ (e ≡ Refusal.SessionsSpent)) }
     {
         let desk = Arc::try_clone(&self.desk)?;
+        let breakage = Arc::try_clone(&self.breakage)?;
         let to = copies_of(self.alloc, &self.mailboxes)?;
         let (end, from) = unbounded(self.alloc)?;
         let mut pass = self.seed.lock(rt).split(&desk);
         let client = desk.draw(rt, &mut pass)?;
-        let channel = PartitionChannel::new(self.alloc, desk, pass, client, self.parts, to, from);
+        let channel = PartitionChannel::new(
+            self.alloc, desk, pass, client, self.parts, to, from, breakage,
+        );
         if channel.register(rt, end).is_err() {
             channel.leave(rt);
             return Err(Refusal::OutOfMemory);
         }
         Ok(channel)
+    }
+
+    /// Whether a partition's thread has ended for want of memory. Then each session answers `Closed`, and all that is
+    /// left is to close the service.
+    pub fn is_broken(&self) -> bool {
+        self.breakage.is_set()
     }
 
     /// The totals of the audit book so far.

@@ -6,14 +6,15 @@ ghost use Rattle.album_passes.specs.Changes.{IsUnheard};
 ghost use Rattle.album_passes.specs.Cuts.{Extends, IsSound, prefix_at};
 ghost use Rattle.album_terminate.specs.declared.deciding.StampState.TheVariants as StampState;
 ghost use Rattle.album_threads.specs.Controls.{Answers, IsUntrimmed};
-ghost use Rattle.album_threads.specs.Sessions.{IsClosedOrOutOfMemory};
+ghost use Rattle.album_threads.specs.Granted.{AreGranted};
+ghost use Rattle.album_threads.specs.Sessions.{IsClosedOrOutOfMemory, AddsNothing};
 
 mod ask;
 mod asked;
 pub(crate) mod channel;
 mod note;
 mod round;
-mod turn;
+mod step;
 
 use crate::control::{Control, ControlAnswer};
 use crate::service_names::ServiceNames;
@@ -58,7 +59,7 @@ impl<J: ServiceNames> Model for Session<J> {
 
 impl<J: ServiceNames> Session<J> {
     /// The session of this channel, whose client has announced no stamp yet.
-    #[tactic(auto, using(crate::proofs::SessionLemmas::ahead_new))]
+    #[tactic(auto, using(crate::proofs::SessionLemmas::ahead_new, crate::proofs::GrantedLemmas::granted_new))]
     pub(crate) fn new(
         alloc: Global,
         channel: PartitionChannel<J>,
@@ -89,6 +90,15 @@ impl<J: ServiceNames> Session<J> {
         self.channel.client()
     }
 
+    /// For contracts alone: each stamp of the client's that is announced is of a write that was granted by the service's
+    /// policy. Nothing is computed.
+    pub fn has_granted_writes(&self)
+        ensures granted { AreGranted J.policy self.now.client self.now.cut }
+        ensures sound { IsSound self.now.cut }
+    {
+        self.channel.is_sound();
+    }
+
     /// The stamps that are pending at the partition, rising.
     ///
     /// # Errors
@@ -100,9 +110,9 @@ impl<J: ServiceNames> Session<J> {
         ensures untouched { self.old.cut.parts ≤ part → self.new ≡ self.old }
         ensures refused { IfErr result (λ e. part < self.old.cut.parts → IsClosedOrOutOfMemory e) }
         ensures grown { Extends self.old.cut self.new.cut }
+        ensures sound { IsSound self.new.cut }
         ensures client { self.new.client ≡ self.old.client }
-        ensures counter { self.new.counter ≡ self.old.counter }
-        ensures share { self.new.share ≡ self.old.share }
+        ensures adds { AddsNothing self.old self.new }
     {
         match self.inquire(rt, part, &Control::Pending)?? {
             ControlAnswer::Pending(stamps) => Ok(stamps),
@@ -130,9 +140,9 @@ impl<J: ServiceNames> Session<J> {
         ensures untouched { self.old.cut.parts ≤ part → self.new ≡ self.old }
         ensures refused { IfErr result (λ e. part < self.old.cut.parts → e ≢ NotPrepared → IsClosedOrOutOfMemory e) }
         ensures grown { Extends self.old.cut self.new.cut }
+        ensures sound { IsSound self.new.cut }
         ensures client { self.new.client ≡ self.old.client }
-        ensures counter { self.new.counter ≡ self.old.counter }
-        ensures share { self.new.share ≡ self.old.share }
+        ensures adds { AddsNothing self.old self.new }
     {
         self.inquire(rt, part, &Control::Sweep(stamp))??;
         Ok(())
@@ -160,40 +170,42 @@ impl<J: ServiceNames> Session<J> {
         ensures nowhere { self.old.cut.parts ≤ part → result ≡ Err NoSuchPart }
         ensures untouched { self.old.cut.parts ≤ part → self.new ≡ self.old }
         ensures grown { Extends self.old.cut self.new.cut }
+        ensures sound { IsSound self.new.cut }
         ensures client { self.new.client ≡ self.old.client }
-        ensures counter { self.new.counter ≡ self.old.counter }
-        ensures share { self.new.share ≡ self.old.share }
+        ensures adds { AddsNothing self.old self.new }
     {
         self.inquire(rt, part, &Control::Trim(item))??;
         Ok(())
     }
 
     /// The partition's answer to the control request.
-    #[tactic(auto, using(crate::proofs::SessionLemmas::ahead_later))]
+    #[tactic(auto, using(crate::proofs::SessionLemmas::silent_later))]
     fn inquire<R: Wait + time::Clock>(
         &mut self,
         rt: &R,
         part: u16,
         control: &Control,
     ) -> Result<Result<ControlAnswer, Refusal>, Refusal>
-        ensures told { IfOk result (Answers J.terms.limit self.new.cut part control.now) }
-        ensures sound { OnOk result (IsSound self.new.cut) }
+        ensures answered { IfOk result (Answers J.terms.limit self.new.cut part control.now) }
         ensures nowhere { self.old.cut.parts ≤ part → result ≡ Err NoSuchPart }
         ensures untouched { self.old.cut.parts ≤ part → self.new ≡ self.old }
         ensures refused { IfErr result (λ e. part < self.old.cut.parts → IsClosedOrOutOfMemory e) }
         ensures grown { Extends self.old.cut self.new.cut }
+        ensures sound { IsSound self.new.cut }
         ensures client { self.new.client ≡ self.old.client }
-        ensures counter { self.new.counter ≡ self.old.counter }
-        ensures share { self.new.share ≡ self.old.share }
+        ensures adds { AddsNothing self.old self.new }
     {
+        self.channel.is_sound();
         if part >= self.channel.parts() {
             return Err(Refusal::NoSuchPart);
         }
-        self.channel.inquire(rt, part, control)
+        let answer = self.channel.inquire(rt, part, control);
+        self.channel.is_sound();
+        answer
     }
 
     /// Both sessions take in all that the other has seen, and then have one cut.
-    #[tactic(auto, using(crate::proofs::SessionLemmas::ahead_later))]
+    #[tactic(auto, using(crate::proofs::SessionLemmas::silent_later))]
     pub fn meet(&mut self, other: &mut Session<J>)
         ensures same { self.new.cut ≡ other.new.cut }
         ensures one_grown { Extends self.old.cut self.new.cut }
@@ -201,12 +213,12 @@ impl<J: ServiceNames> Session<J> {
         ensures apart { self.old.client ≢ other.old.client }
         ensures one_client { self.new.client ≡ self.old.client }
         ensures other_client { other.new.client ≡ other.old.client }
-        ensures one_counter { self.new.counter ≡ self.old.counter }
-        ensures other_counter { other.new.counter ≡ other.old.counter }
-        ensures one_share { self.new.share ≡ self.old.share }
-        ensures other_share { other.new.share ≡ other.old.share }
+        ensures one_adds { AddsNothing self.old self.new }
+        ensures other_adds { AddsNothing other.old other.new }
+        ensures sound { IsSound self.new.cut }
     {
         self.channel.meet(&mut other.channel);
+        self.channel.is_sound();
     }
 
     /// Ends the session: its share goes back to the audit book, and the partitions forget it.

@@ -62,6 +62,7 @@ pub fn converse<J: ServiceNames, T: Wait + time::Clock, R: Read, W: Write>(
     ensures none { turns ≡ 0 → result ≡ Err Fault.Reading }
     ensures unread { turns ≡ 0 → R.remaining reader.new ≡ R.remaining reader.old }
 {
+    session.has_granted_writes();
     let mut lines = Lines::new(alloc);
     let mut scratch = Scratch::new(alloc);
     let mut who = None;
@@ -98,6 +99,7 @@ fn finish<J: ServiceNames, T: Wait + time::Clock, W: Write>(
         (W.contents writer.old) (W.contents writer.new)) }
     ensures on { IsOn session.old session.new }
 {
+    session.has_granted_writes();
     match lines.end() {
         None => Ok(()),
         Some(line) => answer_lines(rt, alloc, scratch, session, who, &[line], writer),
@@ -122,6 +124,7 @@ fn answer_lines<J: ServiceNames, T: Wait + time::Clock, W: Write>(
         (map said lines.now)) (W.contents writer.old) (W.contents writer.new)) }
     ensures on { IsOn session.old session.new }
 {
+    session.has_granted_writes();
     for line in lines {
         let text = answer(rt, alloc, scratch, session, who, line)?;
         write_text(writer, &text)?;

@@ -1,5 +1,5 @@
 //! A partition, with the owner of its history.
-ghost use Rattle.std.specs.Prelude.{◌≡◌, ◌≢◌, ◌<◌, length, map, All, option_map, None, Ok, Err, IfOk, IfErr, IfSome, OnOk, OnErr, IsOkUnless};
+ghost use Rattle.std.specs.Prelude.{◌≡◌, ◌≢◌, ◌<◌, ℕ, length, map, All, option_map, None, Ok, Err, IfOk, IfErr, IfSome, OnOk, OnErr, IsOkUnless};
 ghost use Rattle.album_partition.specs.Answers.{after, answer};
 ghost use Rattle.album_partition.specs.Sweeps.{swept};
 ghost use Rattle.album_passes.specs.Cuts.{Extends, IsSound, prefix_at};
@@ -71,10 +71,10 @@ impl<J: ServiceNames> PartitionKeeper<J> {
         requires table { desk.now.table ≡ J.table }
         requires terms { desk.now.terms ≡ J.terms }
         ensures changed { OnOk result (self.new.partition ≡ after self.old.partition envelope.message) }
-        ensures answered { IfOk result (λ told. option_map (λ told. told.reply) told
+        ensures answered { IfOk result (λ reply. option_map (λ some. some.reply) reply
             ≡ answer self.old.partition envelope.message) }
-        ensures request { IfOk result (λ told. IfSome told (λ told. told.request ≡ envelope.message)) }
-        ensures point { IfOk result (λ told. IfSome told (λ told. told.pass.cut ≡ self.new.owner.cut)) }
+        ensures request { IfOk result (λ reply. IfSome reply (λ some. some.request ≡ envelope.message)) }
+        ensures point { IfOk result (λ reply. IfSome reply (λ some. some.pass.cut ≡ self.new.owner.cut)) }
         ensures grown { Extends self.old.owner.cut self.new.owner.cut }
         ensures heard { Extends envelope.pass.cut self.new.owner.cut }
         ensures unchanged { OnErr result (self.new.partition ≡ self.old.partition) }
@@ -114,7 +114,7 @@ impl<J: ServiceNames> PartitionKeeper<J> {
         requires shown { Shows self.old.owner.cut message.now }
         ensures changed { OnOk result (self.new.partition ≡ after self.old.partition message.now) }
         ensures answered { IfOk result (λ reply. reply ≡ answer self.old.partition message.now) }
-        ensures told { IfOk result (λ reply. IfSome reply
+        ensures replied { IfOk result (λ reply. IfSome reply
             (IsAnswered J.terms.limit self.new.owner.cut message.now)) }
         ensures grown { Extends self.old.owner.cut self.new.owner.cut }
         ensures unchanged { OnErr result (self.new ≡ self.old) }
@@ -145,6 +145,8 @@ impl<J: ServiceNames> PartitionKeeper<J> {
         ensures point { result.pass.cut ≡ self.new.owner.cut }
         ensures grown { Extends self.old.owner.cut self.new.owner.cut }
         ensures heard { Extends request.pass.cut self.new.owner.cut }
+        ensures asked { (stamp : ℕ) → request.control ≡ Control.Sweep stamp → OnOk result.answer
+            (swept self.old.partition stamp ≡ Ok (map (λ envelope. envelope.message) envelopes.new.items)) }
     {
         let asked = request.control();
         let (tag, control, pass) = request.open();
@@ -165,9 +167,11 @@ impl<J: ServiceNames> PartitionKeeper<J> {
         requires table { desk.now.table ≡ J.table }
         requires terms { desk.now.terms ≡ J.terms }
         requires sound { IsSound self.old.owner.cut }
-        ensures told { Answers J.terms.limit self.new.owner.cut self.new.partition.number control result }
+        ensures answered { Answers J.terms.limit self.new.owner.cut self.new.partition.number control result }
         ensures number { self.new.partition.number ≡ self.old.partition.number }
         ensures grown { Extends self.old.owner.cut self.new.owner.cut }
+        ensures asked { (stamp : ℕ) → control ≡ Control.Sweep stamp → OnOk result
+            (swept self.old.partition stamp ≡ Ok (map (λ envelope. envelope.message) envelopes.new.items)) }
     {
         match control {
             Control::Pending => self.pending(),
@@ -215,7 +219,7 @@ impl<J: ServiceNames> PartitionKeeper<J> {
     fn trim(&mut self, desk: &Desk, item: ItemId) -> Result<ControlAnswer, Refusal>
         requires table { desk.now.table ≡ J.table }
         requires terms { desk.now.terms ≡ J.terms }
-        ensures told { AnswersTrimmed J.terms.limit self.new.owner.cut self.new.partition.number item result }
+        ensures answered { AnswersTrimmed J.terms.limit self.new.owner.cut self.new.partition.number item result }
         ensures number { self.new.partition.number ≡ self.old.partition.number }
         ensures grown { Extends self.old.owner.cut self.new.owner.cut }
     {

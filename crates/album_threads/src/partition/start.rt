@@ -6,6 +6,7 @@ ghost use Rattle.album_passes.specs.Desk.{first_owner};
 ghost use Rattle.album_partition.specs.Partition.{first_partition};
 ghost use Rattle.album_threads.specs.Opened.{AreFirst, AreFirstOwners};
 
+use crate::breakage::Breakage;
 use crate::gate::Gate;
 use crate::mailbox::{Inbox, PartitionMail};
 use crate::partition::keeper::PartitionKeeper;
@@ -30,6 +31,7 @@ pub(crate) fn start_all<
     alloc: Global,
     desk: &Arc<Desk, Global>,
     gate: &Arc<G, Global>,
+    breakage: &Arc<Breakage, Global>,
     mut owners: Vec<Owner>,
     mut partitions: Vec<Partition>,
     mailboxes: &[Sender<PartitionMail<J>>],
@@ -54,7 +56,7 @@ pub(crate) fn start_all<
             return Err(AllocError);
         };
         let part = (count - 1 - done) as u16;
-        let post = loop_of(alloc, part, partition, owner, mailboxes)?;
+        let post = loop_of(alloc, part, partition, owner, mailboxes, breakage)?;
         let desk = Arc::try_clone(desk)?;
         let gate = Arc::try_clone(gate)?;
         // Room first: a thread that runs is kept.
@@ -71,6 +73,7 @@ pub(crate) fn loop_of<J: ServiceNames>(
     partition: Partition,
     owner: Owner,
     mailboxes: &[Sender<PartitionMail<J>>],
+    breakage: &Arc<Breakage, Global>,
 ) -> Result<PartitionLoop<J>, AllocError>
     requires partition { partition ≡ first_partition J.terms.parts J.terms.limit J.terms.opening part }
     requires owner { owner ≡ first_owner (record { table = J.table; terms = J.terms }) part }
@@ -80,7 +83,12 @@ pub(crate) fn loop_of<J: ServiceNames>(
         parts.push(mailbox.clone()?)?;
     }
     let keeper = PartitionKeeper::new(part, partition, owner);
-    Ok(PartitionLoop::new(part, keeper, Outbox::new(alloc, parts)))
+    Ok(PartitionLoop::new(
+        part,
+        keeper,
+        Outbox::new(alloc, parts),
+        Arc::try_clone(breakage)?,
+    ))
 }
 
 /// Starts the thread of a partition.

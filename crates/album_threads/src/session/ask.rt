@@ -1,20 +1,20 @@
 //! Asks: a session's client, driven by what the partitions reply.
 ghost use Rattle.std.specs.Prelude.{◌≡◌, ◌≤◌, ◌⊎◌, None, Some, Err, IsTrue, IfOk, IfErr, IfSome, OnErr};
 ghost use Rattle.album_client.specs.Transitions.{client_of};
-ghost use Rattle.album_passes.specs.Cuts.{Extends};
+ghost use Rattle.album_passes.specs.Cuts.{Extends, IsSound};
 ghost use Rattle.album_stamps.specs.Stamps.{is_client};
 ghost use Rattle.album_views.specs.Checks.{refusal_of};
 ghost use Rattle.album_threads.specs.Asks.{IsOn};
 ghost use Rattle.album_threads.specs.Phases.{Outset, IsUnderWay};
 ghost use Rattle.album_threads.specs.Replies.{IsReplied};
 ghost use Rattle.album_threads.specs.Resting.{RestsOn};
-ghost use Rattle.album_threads.specs.Sessions.{IsClosedOrOutOfMemory, AnnouncesNothing};
-ghost use Rattle.album_threads.specs.Turns.{client_step_in, terms_in, IsLed, IsSomehowWaited, IsWaited};
+ghost use Rattle.album_threads.specs.Sessions.{IsClosedOrOutOfMemory, DrawsNothing};
+ghost use Rattle.album_threads.specs.Steps.{client_step_in, terms_in, IsLed, IsSomehowWaited, IsWaited};
 
 use crate::service_names::ServiceNames;
 use crate::session::Session;
 use crate::session::asked::Asked;
-use crate::session::turn::{Turned, cut_off};
+use crate::session::step::{Reaction, cut_off};
 use album_calls::Message;
 use album_client::{Client, ClientStep, Phase, Terms, Transition};
 use album_eval::Principal;
@@ -48,11 +48,13 @@ impl<J: ServiceNames> Session<J> {
         ensures rests { IfOk result (RestsOn J.terms.limit J.policy principal.now ask self.old self.new) }
         ensures checked { IfSome (refusal_of ask principal.now) (λ e. (result ≡ Err e) × (self.new ≡ self.old)) }
         ensures refused { IfErr result (λ e. (refusal_of ask principal.now ≡ Some e) ⊎ IsClosedOrOutOfMemory e) }
-        ensures unbegun { OnErr result (AnnouncesNothing self.old self.new) }
+        ensures unbegun { OnErr result (DrawsNothing self.old self.new) }
         ensures grown { Extends self.old.cut self.new.cut }
+        ensures sound { IsSound self.new.cut }
         ensures client { self.new.client ≡ self.old.client }
         ensures risen { self.old.counter ≤ self.new.counter }
     {
+        self.channel.is_sound();
         ask.check(principal)?;
         let (mut asked, mut phase) = self.begins(rt, principal, ask)?;
         for _ in rt.forever() {
@@ -138,17 +140,18 @@ impl<J: ServiceNames> Session<J> {
         ensures refused { IfErr result IsClosedOrOutOfMemory }
         ensures unbegun { (outset : Outset)
             → IsWaited J.policy outset self.old asked.begun.cut asked.sent.items phase
-            → OnErr result (AnnouncesNothing outset.session self.new) }
+            → OnErr result (DrawsNothing outset.session self.new) }
         ensures on { IsOn self.old self.new }
     {
+        self.channel.is_sound();
         let stamp = phase.stamp();
         let transition = match self.gives(&asked, phase, heard) {
             Ok(transition) => transition,
             Err(why) => return cut_off(stamp, why),
         };
         match self.takes_over(rt, transition)? {
-            Turned::Answers(answer) => Ok(Way::Answered(answer)),
-            Turned::Sends(phase, sent) => self.sends(rt, asked, phase, sent),
+            Reaction::Answers(answer) => Ok(Way::Answered(answer)),
+            Reaction::Sends(phase, sent) => self.sends(rt, asked, phase, sent),
         }
     }
 }

@@ -14,6 +14,11 @@ pub(crate) struct Asked {
 }
 
 impl Asked {
+    /// The tag of the round: that of each of its messages.
+    pub(crate) fn tag(&self) -> u64 {
+        self.sent.first().map_or(0, |message| message.tag())
+    }
+
     /// Where the request stands among the messages. Looked for from `first` on, and then before it: replies come mostly
     /// in the order of the messages, so each is found next to the one before it.
     pub(crate) fn find(&self, request: &Message, first: usize) -> Option<usize>

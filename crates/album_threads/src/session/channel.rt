@@ -8,6 +8,7 @@ ghost use Rattle.album_stamps.specs.declared.limits.TheConstants.{MAX_PARTS};
 ghost use Rattle.album_threads.specs.Controls.{Answers};
 ghost use Rattle.album_threads.specs.Sessions.{IsChannel, IsLater, IsClosedOrOutOfMemory};
 
+use crate::breakage::Breakage;
 use crate::control::{Control, ControlAnswer, ControlReply, ControlRequest};
 use crate::envelopes::ReplyEnvelope;
 use crate::mailbox::{Inbox, PartitionMail, SessionMail};
@@ -42,6 +43,7 @@ pub(crate) struct PartitionChannel<J: ServiceNames> {
     heard: VecDeque<ReplyEnvelope<J>>,
     /// Where, among the messages of a round, the one stands to which a reply was taken last.
     pub(crate) found: usize,
+    breakage: Arc<Breakage, Global>,
 }
 
 impl<J: ServiceNames> Model for PartitionChannel<J> {
@@ -66,6 +68,7 @@ impl<J: ServiceNames> PartitionChannel<J> {
         parts: u16,
         to: Vec<Sender<PartitionMail<J>>>,
         from: Receiver<SessionMail<J>>,
+        breakage: Arc<Breakage, Global>,
     ) -> PartitionChannel<J>
         requires table { (arc_value desk).table ≡ J.table }
         requires is { IsChannel J.table client parts pass }
@@ -83,6 +86,7 @@ impl<J: ServiceNames> PartitionChannel<J> {
             from: Inbox::new(from),
             heard: VecDeque::new(alloc),
             found: 0,
+            breakage,
         }
     }
 
@@ -109,7 +113,7 @@ impl<J: ServiceNames> PartitionChannel<J> {
         let _ = self.pass.length(0);
     }
 
-    /// That no mailbox was found gone.
+    /// That no mailbox was found gone, and the service isn't broken.
     ///
     /// # Errors
     ///
@@ -117,7 +121,7 @@ impl<J: ServiceNames> PartitionChannel<J> {
     pub(crate) fn is_open(&self) -> Result<(), Refusal>
         ensures { IsOkUnless result Refusal.Closed }
     {
-        if self.closed {
+        if self.closed || self.breakage.is_set() {
             return Err(Refusal::Closed);
         }
         Ok(())
@@ -187,12 +191,12 @@ impl<J: ServiceNames> PartitionChannel<J> {
         }
     }
 
-    /// What comes next. `Closed` where all who could send are gone.
+    /// What comes next. `Closed` where all who could send are gone, or the service is broken.
     pub(crate) fn next<R: Wait + time::Clock>(&mut self, rt: &R) -> Result<SessionMail<J>, Refusal>
         ensures closed { IsOkUnless result Refusal.Closed }
         ensures same { self.new ≡ self.old }
     {
-        match self.from.next(rt) {
+        match self.from.next_unless(rt, &self.breakage) {
             Some(word) => Ok(word),
             None => {
                 self.closed = true;
@@ -201,16 +205,17 @@ impl<J: ServiceNames> PartitionChannel<J> {
         }
     }
 
-    /// The envelope that comes next, or `None` where it is a reply, for which nobody waits any more.
+    /// The envelope that comes next, or `None` where a mail comes for which nobody waits any more.
     ///
     /// # Errors
     ///
-    /// `Closed`.
+    /// `OutOfMemory` where a partition had none for a message of the round of this tag; `Closed`.
     pub(crate) fn next_envelope<R: Wait + time::Clock>(
         &mut self,
         rt: &R,
+        tag: u64,
     ) -> Result<Option<ReplyEnvelope<J>>, Refusal>
-        ensures closed { IsOkUnless result Refusal.Closed }
+        ensures refused { IfErr result IsClosedOrOutOfMemory }
         ensures same { self.new ≡ self.old }
     {
         if let Some(envelope) = self.heard.pop_front() {
@@ -218,6 +223,8 @@ impl<J: ServiceNames> PartitionChannel<J> {
         }
         match self.next(rt)? {
             SessionMail::ControlReply(_) => Ok(None),
+            SessionMail::OutOfMemory(of) if of == tag => Err(Refusal::OutOfMemory),
+            SessionMail::OutOfMemory(_) => Ok(None),
             SessionMail::Replies(replies) => {
                 self.heard = replies;
                 Ok(self.heard.pop_front())
@@ -285,7 +292,7 @@ impl<J: ServiceNames> PartitionChannel<J> {
         control: &Control,
     ) -> Result<Result<ControlAnswer, Refusal>, Refusal>
         requires part { part < MAX_PARTS }
-        ensures told { IfOk result (Answers J.terms.limit self.new.cut part control.now) }
+        ensures answered { IfOk result (Answers J.terms.limit self.new.cut part control.now) }
         ensures sound { OnOk result (IsSound self.new.cut) }
         ensures refused { IfErr result IsClosedOrOutOfMemory }
         ensures later { IsLater self.old self.new }
@@ -317,15 +324,15 @@ impl<J: ServiceNames> PartitionChannel<J> {
         control: &Control,
     ) -> Result<Option<Result<ControlAnswer, Refusal>>, Refusal>
         requires part { part < MAX_PARTS }
-        ensures told { IfOk result (λ told. IfSome told (Answers J.terms.limit self.new.cut part control.now)) }
-        ensures sound { IfOk result (λ told. IfSome told (λ _. IsSound self.new.cut)) }
+        ensures answered { IfOk result (λ answer. IfSome answer (Answers J.terms.limit self.new.cut part control.now)) }
+        ensures sound { IfOk result (λ answer. IfSome answer (λ _. IsSound self.new.cut)) }
         ensures unchanged { OnErr result (self.new ≡ self.old) }
-        ensures other { IfOk result (λ told. IfNone told (self.new ≡ self.old)) }
+        ensures other { IfOk result (λ answer. IfNone answer (self.new ≡ self.old)) }
         ensures refused { IfErr result IsClosedOrOutOfMemory }
         ensures later { IsLater self.old self.new }
     {
         match self.next(rt)? {
-            SessionMail::Replies(_) => Ok(None),
+            SessionMail::Replies(_) | SessionMail::OutOfMemory(_) => Ok(None),
             SessionMail::ControlReply(reply) => {
                 Ok(self.take_control_reply(part, tag, control, Box::into_inner(reply)))
             }
@@ -343,7 +350,7 @@ impl<J: ServiceNames> PartitionChannel<J> {
         reply: ControlReply<J>,
     ) -> Option<Result<ControlAnswer, Refusal>>
         requires part { part < MAX_PARTS }
-        ensures told { IfSome result (Answers J.terms.limit self.new.cut part control.now) }
+        ensures answered { IfSome result (Answers J.terms.limit self.new.cut part control.now) }
         ensures sound { IfSome result (λ _. IsSound self.new.cut) }
         ensures other { IfNone result (self.new ≡ self.old) }
         ensures later { IsLater self.old self.new }

@@ -3,7 +3,7 @@ ghost use Rattle.std.specs.Prelude.{◌≡◌, All, IfOk, IfErr, OnOk, IfSome, I
 ghost use Rattle.album_passes.specs.Cuts.{Extends, IsSound};
 ghost use Rattle.album_threads.specs.Envelopes.{Shows};
 ghost use Rattle.album_threads.specs.Replies.{IsReplied};
-ghost use Rattle.album_threads.specs.Sending.{announced_with, prepared_in, sent_at, sent_last, IsUnused};
+ghost use Rattle.album_threads.specs.Sending.{announced_with, prepared_first, prepared_in, sent_at, sent_last, IsUnused};
 ghost use Rattle.album_threads.specs.Sessions.{IsLater, IsClosedOrOutOfMemory};
 
 use crate::envelopes::{ReplyEnvelope, RequestEnvelope};
@@ -68,8 +68,20 @@ impl<J: ServiceNames> PartitionChannel<J> {
         self.send_round(rt, sent)
     }
 
+    /// Announces what the first of the messages prepares, if it prepares anything.
+    pub(crate) fn announce_first(&mut self, messages: &[Message])
+        requires unused { IsUnused self.old (prepared_first messages.now) }
+        ensures cut { self.new.cut ≡ announced_with self.old.cut (prepared_first messages.now) }
+        ensures grown { Extends self.old.cut self.new.cut }
+        ensures client { self.new.client ≡ self.old.client }
+    {
+        if let Some(first) = messages.first() {
+            self.announce(first);
+        }
+    }
+
     /// Announces what the message prepares, if it prepares anything.
-    pub(crate) fn announce(&mut self, message: &Message)
+    fn announce(&mut self, message: &Message)
         requires unused { IsUnused self.old (prepared_in message.now.body) }
         ensures cut { self.new.cut ≡ announced_with self.old.cut (prepared_in message.now.body) }
         ensures grown { Extends self.old.cut self.new.cut }
@@ -119,7 +131,7 @@ impl<J: ServiceNames> PartitionChannel<J> {
     ///
     /// # Errors
     ///
-    /// `Closed`.
+    /// `Closed`, or `OutOfMemory` where a partition had none for one of them.
     #[tactic(auto, using(crate::proofs::SessionLemmas::later_same))]
     pub(crate) fn hear<R: Wait + time::Clock>(
         &mut self,
@@ -128,7 +140,7 @@ impl<J: ServiceNames> PartitionChannel<J> {
     ) -> Result<Message, Refusal>
         ensures replied { IfOk result (IsReplied J.terms.limit asked.now.begun.cut self.new.cut asked.now.sent.items) }
         ensures sound { OnOk result (IsSound self.new.cut) }
-        ensures closed { IsOkUnless result Refusal.Closed }
+        ensures refused { IfErr result IsClosedOrOutOfMemory }
         ensures later { IsLater self.old self.new }
     {
         for _ in rt.forever() {
@@ -151,10 +163,10 @@ impl<J: ServiceNames> PartitionChannel<J> {
             (IsReplied J.terms.limit asked.now.begun.cut self.new.cut asked.now.sent.items)) }
         ensures sound { IfOk result (λ reply. IfSome reply (λ _. IsSound self.new.cut)) }
         ensures other { IfOk result (λ reply. IfNone reply (self.new ≡ self.old)) }
-        ensures closed { IsOkUnless result Refusal.Closed }
+        ensures refused { IfErr result IsClosedOrOutOfMemory }
         ensures later { IsLater self.old self.new }
     {
-        match self.next_envelope(rt)? {
+        match self.next_envelope(rt, asked.tag())? {
             None => Ok(None),
             Some(envelope) => Ok(self.take(asked, envelope)),
         }

@@ -38,6 +38,7 @@ pub(crate) fn answer<J: ServiceNames, T: Wait + time::Clock>(
         (record { who = who.new; session = session.new }) text.items) }
     ensures on { IsOn session.old session.new }
 {
+    session.has_granted_writes();
     if line.is_blank() {
         return Ok(Vec::new(alloc));
     }
@@ -90,6 +91,7 @@ fn attend<J: ServiceNames, T: Wait + time::Clock>(
         ⊎ ((session.new ≡ session.old) × (text.items ≡ refusal_line OutOfMemory))) }
     ensures on { IsOn session.old session.new }
 {
+    session.has_granted_writes();
     match talk_line(alloc, scratch, line) {
         Ok(line) => carry_out(rt, alloc, session, principal, line),
         Err(refusal) => write_refusal(alloc, refusal),

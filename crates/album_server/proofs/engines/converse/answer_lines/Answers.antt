@@ -7,7 +7,7 @@ use Rattle.album_server.proofs.engines.converse.answer_lines.Goals as goal
 pub loop-line-init : goal.loop-line-init
 loop-line-init g c = record {
   told = lines_begin g.J.ServiceNames.terms.limit g.J.ServiceNames.policy _ (g.W.Write.contents c.args.writer.now);
-  on = on_self c.args.session.now;
+  on = on_self c.args.session.now c.has_granted_writes.ensures.sound;
 }
 
 pub loop-line-preserved : goal.loop-line-preserved
@@ -38,7 +38,7 @@ returns-in_err-write_text-clause-fault g c =
     rw (p.1, p.2, c.in_err-write_text.ensures.fault)
     (lines_cut g.J.ServiceNames.terms.limit g.J.ServiceNames.policy said c.args.lines.now c.loop-line.line-index c.line-item.result
     c.loop-line-test.true c.line-item.is _ _ _ _ _ _ _ c.loop-line.invariant.told c.in_ok-text.ensures.told _
-    (on_self _) (rw c.deref.ensures.value at c.in_err-write_text.ensures.err))
+    (on_self _ c.in_ok-text.ensures.on.sound) (rw c.deref.ensures.value at c.in_err-write_text.ensures.err))
 
 pub returns-in_err-write_text-clause-on : goal.returns-in_err-write_text-clause-on
 returns-in_err-write_text-clause-on g c = on_trans _ _ _ c.loop-line.invariant.on c.in_ok-text.ensures.on

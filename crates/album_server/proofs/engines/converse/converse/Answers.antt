@@ -8,7 +8,7 @@ use Rattle.album_server.proofs.engines.converse.converse.Goals as goal
 
 -- a read failed
 pub returns-in_default-clause-err : goal.returns-in_default-clause-err
-returns-in_default-clause-err g c = prefix_so_far _ _ _ _ _ _ _ _ _ _ c.loop-turn.invariant.talked _ (on_self _)
+returns-in_default-clause-err g c = prefix_so_far _ _ _ _ _ _ _ _ _ _ c.loop-turn.invariant.talked _ (on_self _ c.loop-turn.invariant.on.sound)
 
 -- the reader is at its end
 pub returns-then-len-eq0-clause-ok : goal.returns-then-len-eq0-clause-ok
@@ -42,7 +42,7 @@ returns-then-len-eq0-clause-on g c = on_trans _ _ _ c.loop-turn.invariant.on c.f
 pub returns-in_err-ended-clause-err : goal.returns-in_err-ended-clause-err
 returns-in_err-ended-clause-err g c =
     let p = err_from_is_err_and c.from_residual.result c.from_residual.ensures.1 in
-    rw p.1 (prefix_so_far _ _ _ _ _ _ _ _ _ _ c.loop-turn.invariant.talked _ (on_self _))
+    rw p.1 (prefix_so_far _ _ _ _ _ _ _ _ _ _ c.loop-turn.invariant.talked _ (on_self _ c.loop-turn.invariant.on.sound))
 
 pub returns-in_err-ended-clause-fault : goal.returns-in_err-ended-clause-fault
 returns-in_err-ended-clause-fault g c =
@@ -50,7 +50,7 @@ returns-in_err-ended-clause-fault g c =
     let some : take c.in-Ok.len c.read.new.buf ≢ [] =
     λ none. absurd (omega (arith, ap length none, length-take c.in-Ok.len c.read.new.buf, c.in-Ok.ensures.bound)) in
     rw (p.1, p.2)
-    (turn_uncut _ _ _ _ _ _ _ _ _ _ c.loop-turn.invariant.talked _ _ c.in-Ok.ensures.bytes.0 _ _ refl _ (on_self _) some)
+    (turn_uncut _ _ _ _ _ _ _ _ _ _ c.loop-turn.invariant.talked _ _ c.in-Ok.ensures.bytes.0 _ _ refl _ (on_self _ c.loop-turn.invariant.on.sound) some)
 
 pub returns-in_err-ended-clause-few : goal.returns-in_err-ended-clause-few
 returns-in_err-ended-clause-few g c =
@@ -102,4 +102,4 @@ loop-turn-preserved g c =
 
 -- the turns ran out
 pub returns-clause-err : goal.returns-clause-err
-returns-clause-err g c = prefix_so_far _ _ _ _ _ _ _ _ _ _ c.loop-turn.invariant.talked _ (on_self _)
+returns-clause-err g c = prefix_so_far _ _ _ _ _ _ _ _ _ _ c.loop-turn.invariant.talked _ (on_self _ c.loop-turn.invariant.on.sound)

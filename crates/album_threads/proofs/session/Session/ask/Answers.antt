@@ -1,9 +1,9 @@
 use Rattle.std.proofs.Common.{subst}
 use Rattle.album_passes.proofs.CutLemmas.{extends_trans}
 use Rattle.album_threads.specs.Phases.{Outset}
-use Rattle.album_threads.specs.Turns.{IsLed}
-use Rattle.album_threads.specs.Sessions.{AnnouncesNothing}
-use Rattle.album_threads.proofs.TurnLemmas.{on_refusal}
+use Rattle.album_threads.specs.Steps.{IsLed}
+use Rattle.album_threads.specs.Sessions.{DrawsNothing}
+use Rattle.album_threads.proofs.StepLemmas.{on_refusal}
 use Rattle.album_threads.proofs.session.Session.ask.Goals as goal
 
 -- it goes on
@@ -23,7 +23,7 @@ returns-in_err-answer-clause-grown g c =
 pub returns-in_err-answer-clause-unbegun : goal.returns-in_err-answer-clause-unbegun
 returns-in_err-answer-clause-unbegun g c =
     let outset : Outset = record { principal = c.args.principal.now; ask = c.args.ask; session = c.args.self.now } in
-    on_refusal c.from_residual-in_err-answer.result (AnnouncesNothing c.args.self.now c.goes_on.new.self)
+    on_refusal c.from_residual-in_err-answer.result (DrawsNothing c.args.self.now c.goes_on.new.self)
     (c.in_err-answer.ensures.unbegun outset (c.waits-heard.ensures.way outset c.loop.invariant.way))
 
 -- it is answered

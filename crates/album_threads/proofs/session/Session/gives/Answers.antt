@@ -2,8 +2,8 @@ use Rattle.std.proofs.Common.{subst}
 use Rattle.album_client.specs.Clients.{Client}
 use Rattle.album_client.specs.Transitions.{client_of}
 use Rattle.album_client.specs.Terms.{Terms}
-use Rattle.album_threads.specs.Turns.{IsTaken}
-use Rattle.album_threads.proofs.TurnLemmas.{taken_so}
+use Rattle.album_threads.specs.Steps.{IsTaken}
+use Rattle.album_threads.proofs.StepLemmas.{taken_so}
 use Rattle.album_threads.proofs.session.Session.gives.Goals as goal
 
 pub returns-clause-taken : goal.returns-clause-taken

@@ -4,12 +4,13 @@ use Rattle.album_client.specs.declared.clients.Phase.{Phase}
 use Rattle.album_threads.specs.Envelopes.{Shows}
 use Rattle.album_threads.specs.Phases.{IsUnderWay}
 use Rattle.album_threads.specs.Sending.{announced_by, sent_at, sent_last, IsFree, IsAnnouncedBy}
-use Rattle.album_threads.specs.Sessions.{AnnouncesNothing}
-use Rattle.album_threads.specs.Turns.{client_step_in, terms_in, IsTurned}
+use Rattle.album_passes.specs.Cuts.{IsSound}
+use Rattle.album_threads.specs.Sessions.{SessionState, DrawsNothing}
+use Rattle.album_threads.specs.Steps.{client_step_in, terms_in, IsReaction}
 use Rattle.album_threads.proofs.ClockLemmas.{moved_clock}
 use Rattle.album_threads.proofs.LookLemmas.{on_trans}
 use Rattle.album_threads.proofs.TransitionLemmas.{told_rests, free_of, shown_of, goes_of}
-use Rattle.album_threads.proofs.TurnLemmas.{on_moved, led_on, on_announced, on_refusal, cut_led, all_led, unbegun_cut, unbegun_noted, unbegun_sent}
+use Rattle.album_threads.proofs.StepLemmas.{on_moved, led_on, on_announced, on_refusal, cut_led, all_led, unbegun_cut, unbegun_noted, unbegun_sent}
 use Rattle.album_threads.proofs.session.Session.goes_on.Goals as goal
 
 -- no word comes
@@ -34,15 +35,15 @@ takes_over-requires g c =
 -- there is no memory for what is noted of it
 pub returns-in_err-answer-clause-unbegun : goal.returns-in_err-answer-clause-unbegun
 returns-in_err-answer-clause-unbegun g c = λ outset w.
-    on_refusal c.from_residual.result (AnnouncesNothing outset.session c.takes_over.new.self)
+    on_refusal c.from_residual.result (DrawsNothing outset.session c.takes_over.new.self)
     (unbegun_noted g.J.ServiceNames.terms.limit g.J.ServiceNames.policy outset w.before c.args.self.now c.takes_over.new.self c.args.asked.begun.cut
-    c.args.asked.sent.items c.args.phase c.in-Ok.transition w.way w.heard c.takes_over.ensures.cut c.in-Ok.ensures.taken c.in_err-answer.ensures.noted)
+    c.args.asked.sent.items c.args.phase c.in-Ok.transition w.way w.heard c.takes_over.ensures.cut c.in_err-answer.ensures.kept c.in-Ok.ensures.taken c.in_err-answer.ensures.noted)
 
 -- it answers the ask
 pub returns-in-Answers-clause-way : goal.returns-in-Answers-clause-way
 returns-in-Answers-clause-way g c = λ outset w.
     let o = c.in_ok-answer.ensures in
-    let turned = subst (IsTurned c.in-Ok.transition.client.phase c.in-Ok.transition.sent.items c.in-Ok.transition.answer) c.in-Answers.is o.turned in
+    let turned = subst (IsReaction c.in-Ok.transition.client.phase c.in-Ok.transition.sent.items c.in-Ok.transition.answer) c.in-Answers.is o.reaction in
     told_rests g.J.ServiceNames.terms.limit g.J.ServiceNames.policy outset c.takes_over.new.self c.args.asked.begun.cut c.args.asked.sent.items c.in-Ok.transition
     c.in-Answers.answer turned
     (led_on g.J.ServiceNames.terms.limit g.J.ServiceNames.policy outset w.before c.args.self.now c.takes_over.new.self c.args.asked.begun.cut
@@ -54,18 +55,19 @@ returns-in-Answers-clause-on g c =
     let o = c.in_ok-answer.ensures in
     on_moved g.J.ServiceNames.terms.limit g.J.ServiceNames.policy c.args.self.now c.takes_over.new.self c.args.asked.begun.cut c.args.asked.sent.items
     c.args.phase c.in-Ok.transition c.in-Ok.ensures.taken c.takes_over.ensures.client c.takes_over.ensures.cut o.counter
+    (subst (λ (s : SessionState). IsSound s.cut) c.self.view_is c.is_sound.ensures)
 
 -- it goes on
 pub sends-requires : goal.sends-requires
 sends-requires g c =
     let w = c.requires.way.1 in
     let o = c.in_ok-answer.ensures in
-    let turned = subst (IsTurned c.in-Ok.transition.client.phase c.in-Ok.transition.sent.items c.in-Ok.transition.answer) c.in-Sends.is o.turned in
+    let turned = subst (IsReaction c.in-Ok.transition.client.phase c.in-Ok.transition.sent.items c.in-Ok.transition.answer) c.in-Sends.is o.reaction in
     let led = led_on g.J.ServiceNames.terms.limit g.J.ServiceNames.policy c.requires.way.0 w.before c.args.self.now c.takes_over.new.self c.args.asked.begun.cut
     c.args.asked.sent.items c.args.phase c.in-Ok.transition w.heard c.in-Ok.ensures.taken c.takes_over.ensures.client c.takes_over.ensures.cut o.counter
     w.way c.in-Ok.ensures.proper o.shared o.spent in
     record {
-      free = subst (IsFree c.takes_over.new.self) (sym turned.2)
+      free = subst (IsFree g.J.ServiceNames.policy c.takes_over.new.self) (sym turned.2)
           (free_of g.J.ServiceNames.terms.limit g.J.ServiceNames.policy c.requires.way.0 c.takes_over.new.self c.args.asked.begun.cut c.args.asked.sent.items c.in-Ok.transition turned.0 led);
       shown = subst (λ (ms : List Message). All (Shows (announced_by c.takes_over.new.self.cut ms)) ms) (sym turned.2)
           (shown_of g.J.ServiceNames.terms.limit g.J.ServiceNames.policy c.requires.way.0 c.takes_over.new.self c.args.asked.begun.cut c.args.asked.sent.items c.in-Ok.transition turned.0 led);
@@ -74,7 +76,7 @@ sends-requires g c =
 pub returns-in-Sends-clause-way : goal.returns-in-Sends-clause-way
 returns-in-Sends-clause-way g c = λ outset w.
     let o = c.in_ok-answer.ensures in
-    let turned = subst (IsTurned c.in-Ok.transition.client.phase c.in-Ok.transition.sent.items c.in-Ok.transition.answer) c.in-Sends.is o.turned in
+    let turned = subst (IsReaction c.in-Ok.transition.client.phase c.in-Ok.transition.sent.items c.in-Ok.transition.answer) c.in-Sends.is o.reaction in
     let led = led_on g.J.ServiceNames.terms.limit g.J.ServiceNames.policy outset w.before c.args.self.now c.takes_over.new.self c.args.asked.begun.cut
     c.args.asked.sent.items c.args.phase c.in-Ok.transition w.heard c.in-Ok.ensures.taken c.takes_over.ensures.client c.takes_over.ensures.cut o.counter
     w.way c.in-Ok.ensures.proper o.shared o.spent in
@@ -90,13 +92,14 @@ returns-in-Sends-clause-on g c =
     let o = c.in_ok-answer.ensures in
     on_trans c.args.self.now c.takes_over.new.self c.sends.new.self
     (on_moved g.J.ServiceNames.terms.limit g.J.ServiceNames.policy c.args.self.now c.takes_over.new.self c.args.asked.begun.cut c.args.asked.sent.items
-    c.args.phase c.in-Ok.transition c.in-Ok.ensures.taken c.takes_over.ensures.client c.takes_over.ensures.cut o.counter)
+    c.args.phase c.in-Ok.transition c.in-Ok.ensures.taken c.takes_over.ensures.client c.takes_over.ensures.cut o.counter
+    (subst (λ (s : SessionState). IsSound s.cut) c.self.view_is c.is_sound.ensures))
     (on_announced c.takes_over.new.self c.sends.new.self c.in-Sends.sent.items c.sends.ensures.announced)
 
 pub returns-in-Sends-clause-unbegun : goal.returns-in-Sends-clause-unbegun
 returns-in-Sends-clause-unbegun g c = λ outset w.
     let o = c.in_ok-answer.ensures in
-    let turned = subst (IsTurned c.in-Ok.transition.client.phase c.in-Ok.transition.sent.items c.in-Ok.transition.answer) c.in-Sends.is o.turned in
+    let turned = subst (IsReaction c.in-Ok.transition.client.phase c.in-Ok.transition.sent.items c.in-Ok.transition.answer) c.in-Sends.is o.reaction in
     let led = led_on g.J.ServiceNames.terms.limit g.J.ServiceNames.policy outset w.before c.args.self.now c.takes_over.new.self c.args.asked.begun.cut
     c.args.asked.sent.items c.args.phase c.in-Ok.transition w.heard c.in-Ok.ensures.taken c.takes_over.ensures.client c.takes_over.ensures.cut o.counter
     w.way c.in-Ok.ensures.proper o.shared o.spent in

@@ -12,7 +12,7 @@ use Rattle.album_client.specs.declared.clients.Phase.{Phase}
 use Rattle.album_client.specs.declared.clients.Phase.TheVariants as phase
 use Rattle.album_client.specs.declared.transitions.Transition.{Transition}
 use Rattle.album_eval.specs.declared.policies.Policy.{Policy}
-use Rattle.album_passes.specs.Cuts.{Cut, announced_for, Extends}
+use Rattle.album_passes.specs.Cuts.{Cut, announced_for, Extends, IsSound}
 use Rattle.album_passes.proofs.CutLemmas.{extends_self}
 use Rattle.album_stamps.specs.Clocks.{next_of}
 use Rattle.album_stamps.specs.declared.limits.TheConstants.{MAX_COUNTER}
@@ -23,8 +23,8 @@ use Rattle.album_threads.specs.Phases.{Outset, IsPhase, IsUnderWay}
 use Rattle.album_threads.specs.Replies.{IsReplied}
 use Rattle.album_threads.specs.Resting.{RestsOn}
 use Rattle.album_threads.specs.Sending.{IsAnnouncedBy, sent_at, sent_last}
-use Rattle.album_threads.specs.Sessions.{SessionState, IsClosedOrOutOfMemory, AnnouncesNothing}
-use Rattle.album_threads.specs.Turns.{client_step_in, terms_in, IsTaken, IsSent, IsLed}
+use Rattle.album_threads.specs.Sessions.{SessionState, IsClosedOrOutOfMemory, DrawsNothing}
+use Rattle.album_threads.specs.Steps.{client_step_in, terms_in, IsTaken, IsSent, IsLed}
 use Rattle.album_threads.specs.declared.session.asked.Asked.{Asked}
 use Rattle.album_threads.specs.declared.session.ask.Way.{Way}
 use Rattle.album_threads.specs.declared.session.ask.Way.TheVariants.{Answered, Awaits}
@@ -43,7 +43,7 @@ moved_on : (limit : ℕ) (policy : Policy) (o : Outset) (now next noted : Sessio
     → IsMoved (transition_of (terms_in policy next) (client_step_in next) m d) transition → IsMovedOn limit policy o noted at sent transition
 moved_on limit policy o now next noted at sent transition (phase.Idle tag) m N w r is = absurd w
 moved_on limit policy o now next noted at sent transition (phase.Reads pending_ask round) m N w r is =
-    read_on limit policy o now next noted at sent transition N w.1 w.2 pending_ask round m w.0 r is
+    read_on limit policy o now next noted at sent transition N w.1 pending_ask round m w.0 r is
 moved_on limit policy o now next noted at sent transition (phase.Prepares writing) m N w r is =
     prepared_on limit policy o now next noted at sent transition N w.since w.begun w.granted writing m w.carried r is
 moved_on limit policy o now next noted at sent transition (phase.Commits writing) m N w r is =
@@ -85,8 +85,10 @@ module _ (limit : ℕ) (policy : Policy) (o : Outset) (now next noted : SessionS
 -- a session is on from what it was as the reply was heard
 pub on_moved : (limit : ℕ) (policy : Policy) (next noted : SessionState) (at : Cut) (sent : List Message) (d : Phase) (transition : Transition)
     → IsTaken limit at next.cut sent (terms_in policy next) (client_step_in next) d transition
-    → noted.client ≡ next.client → noted.cut ≡ next.cut → noted.counter ≡ transition.client.clock.counter → IsOn next noted
-on_moved limit policy next noted at sent d transition t client cut counter = record {
+    → noted.client ≡ next.client → noted.cut ≡ next.cut → noted.counter ≡ transition.client.clock.counter → IsSound next.cut
+    → IsOn next noted
+on_moved limit policy next noted at sent d transition t client cut counter s = record {
+  sound = subst IsSound (sym cut) s;
   client = client;
   grown = subst (Extends next.cut) (sym cut) (extends_self next.cut);
   risen = (let k = moved_clock (terms_in policy next) (client_step_in next) t.reply d transition t.is in
@@ -99,6 +101,7 @@ on_announced a b messages x = record {
   client = x.client;
   grown = x.grown;
   risen = let n : b.counter ≡ a.counter = x.counter in omega (arith, n);
+  sound = x.sound;
 }
 
 -- what holds anyway holds of a refusal
@@ -127,39 +130,44 @@ module _ (limit : ℕ) (policy : Policy) (o : Outset) where
   sent_led asked d messages new w (Awaits more next) (is, sends, from) =
       subst (λ (z : Cut × List Message × Phase). IsUnderWay policy o new z.0 z.1 z.2) (λ i. (sym from i, sym sends i, sym is i)) w
 
-  -- ---- where it is refused, nothing was announced
+  -- ---- where it is refused, nothing was drawn or announced
 
   pub unbegun_now : (now : SessionState) (at : Cut) (sent : List Message) (d : Phase) → IsUnderWay policy o now at sent d → stamp_at_work d ≡ None
-      → AnnouncesNothing o.session now
+      → DrawsNothing o.session now
   unbegun_now now at sent (phase.Idle tag) w e = absurd w.phase
-  unbegun_now now at sent (phase.Reads pending_ask round) w e = w.phase.2
+  unbegun_now now at sent (phase.Reads pending_ask round) w e = w.phase.1.drawn
   unbegun_now now at sent (phase.Prepares writing) w e = absurd (cc)
   unbegun_now now at sent (phase.Commits writing) w e = absurd (cc)
 
-  unbegun_next : (now next : SessionState) → IsOn o.session now → IsHeard now next → AnnouncesNothing o.session now → AnnouncesNothing o.session next
-  unbegun_next now next on h silent = λ t own. h.silent t (own ∙ sym on.client) ∙ silent t own
+  unbegun_next : (now next : SessionState) → IsOn o.session now → IsHeard now next → DrawsNothing o.session now
+      → DrawsNothing o.session next
+  unbegun_next now next on h drawn = record {
+    counter = h.counter ∙ drawn.counter;
+    silent = λ t own. h.silent t (own ∙ sym on.client) ∙ drawn.silent t own;
+  }
 
   pub unbegun_cut : (now next : SessionState) (at : Cut) (sent : List Message) (d : Phase) (r : Result Way Refusal) → IsUnderWay policy o now at sent d
-      → IsHeard now next → (stamp : Option ℕ) → stamp ≡ stamp_at_work d → OnErr r (stamp ≡ None) → OnErr r (AnnouncesNothing o.session next)
+      → IsHeard now next → (stamp : Option ℕ) → stamp ≡ stamp_at_work d → OnErr r (stamp ≡ None) → OnErr r (DrawsNothing o.session next)
   unbegun_cut now next at sent d (Ok way) w h stamp is none = tt
   unbegun_cut now next at sent d (Err why) w h stamp is none =
       unbegun_next now next w.on h (unbegun_now now at sent d w (sym is ∙ none))
 
   -- of a write nothing is noted
   pub unbegun_noted : (now next noted : SessionState) (at : Cut) (sent : List Message) (d : Phase) (transition : Transition) → IsUnderWay policy o now at sent d
-      → IsHeard now next → noted.cut ≡ next.cut → IsTaken limit at next.cut sent (terms_in policy next) (client_step_in next) d transition
-      → (transition.notes.items ≡ [] → ⊥) → AnnouncesNothing o.session noted
-  unbegun_noted now next noted at sent (phase.Idle tag) transition w h cut t some = absurd w.phase
-  unbegun_noted now next noted at sent (phase.Reads pending_ask round) transition w h cut t some = λ u own.
-      ap (λ (c : Cut). announced_for c u) cut ∙ unbegun_next now next w.on h w.phase.2 u own
-  unbegun_noted now next noted at sent (phase.Prepares writing) transition w h cut t some =
+      → IsHeard now next → noted.cut ≡ next.cut → noted.counter ≡ next.counter → IsTaken limit at next.cut sent (terms_in policy next) (client_step_in next) d transition
+      → (transition.notes.items ≡ [] → ⊥) → DrawsNothing o.session noted
+  unbegun_noted now next noted at sent (phase.Idle tag) transition w h cut kept t some = absurd w.phase
+  unbegun_noted now next noted at sent (phase.Reads pending_ask round) transition w h cut kept t some =
+      let n = unbegun_next now next w.on h w.phase.1.drawn in
+      record { counter = kept ∙ n.counter; silent = λ u own. ap (λ (c : Cut). announced_for c u) cut ∙ n.silent u own }
+  unbegun_noted now next noted at sent (phase.Prepares writing) transition w h cut kept t some =
       absurd (some (t.is.noted ∙ none (prepare_stepped writing t.reply)))
     where
       none : (f : WriteStep) → unwrap_or (prepare_transition (client_step_in next) writing.tag f).noted [] ≡ []
       none (Waits other) = refl
       none (Decides other messages) = refl
       none (Ends out) = refl
-  unbegun_noted now next noted at sent (phase.Commits writing) transition w h cut t some =
+  unbegun_noted now next noted at sent (phase.Commits writing) transition w h cut kept t some =
       absurd (some (t.is.noted ∙ none (commit_stepped writing t.reply)))
     where
       none : (f : WriteStep) → unwrap_or (commit_transition (client_step_in next) writing.tag f).noted [] ≡ []
@@ -168,7 +176,7 @@ module _ (limit : ℕ) (policy : Policy) (o : Outset) where
       none (Ends out) = refl
 
   pub unbegun_sent : (new : SessionState) (at : Cut) (sent : List Message) (d : Phase) (r : Result Way Refusal) → IsUnderWay policy o new at sent d
-      → OnErr r (stamp_at_work d ≡ None) → OnErr r (AnnouncesNothing o.session new)
+      → OnErr r (stamp_at_work d ≡ None) → OnErr r (DrawsNothing o.session new)
   unbegun_sent new at sent d (Ok way) w none = tt
   unbegun_sent new at sent d (Err why) w none = unbegun_now new at sent d w none
 

@@ -18,8 +18,8 @@ use Rattle.album_threads.specs.Resting.{RestsOn}
 use Rattle.album_threads.specs.Sending.{sent_at, sent_last}
 use Rattle.album_threads.specs.Sessions.{SessionState, IsClosedOrOutOfMemory}
 use Rattle.album_threads.specs.declared.session.asked.Asked.{Asked}
-use Rattle.album_threads.specs.declared.session.turn.Turned.{Turned}
-use Rattle.album_threads.specs.declared.session.turn.Turned.TheVariants.{Answers, Sends}
+use Rattle.album_threads.specs.declared.session.step.Reaction.{Reaction}
+use Rattle.album_threads.specs.declared.session.step.Reaction.TheVariants.{Answers, Sends}
 use Rattle.album_threads.specs.declared.session.ask.Way.{Way}
 use Rattle.album_threads.specs.declared.session.ask.Way.TheVariants.{Answered, Awaits}
 use Rattle.album_permits.specs.declared.answers.Answer.{Answer}
@@ -58,21 +58,21 @@ pub record IsTaken
   pub is : IsMoved (transition_of terms client reply phase) transition
 
 -- the client has answered, or does this and sends these messages
-abbrev pub IsTurned : Phase → List Message → Option Answer → Turned → Type 0
-IsTurned phase sent told (Answers found) = told ≡ Some found
-IsTurned phase sent told (Sends next messages) = (told ≡ None) × (next ≡ phase) × (messages.items ≡ sent)
+abbrev pub IsReaction : Phase → List Message → Option Answer → Reaction → Type 0
+IsReaction phase sent given (Answers found) = given ≡ Some found
+IsReaction phase sent given (Sends next messages) = (given ≡ None) × (next ≡ phase) × (messages.items ≡ sent)
 
 -- the answer is that the write that was under way is cut off
-pub record IsCutOff (phase : Phase) (told : Answer) : Type 0 where
+pub record IsCutOff (phase : Phase) (given : Answer) : Type 0 where
   pub stamp : ℕ
   pub of : stamp_at_work phase ≡ Some stamp
   pub why : Refusal
   pub none : IsClosedOrOutOfMemory why
-  pub is : told ≡ answer.Unsettled stamp why
+  pub is : given ≡ answer.Unsettled stamp why
 
 -- the messages are sent, and replies are outstanding; or the ask is cut off
 abbrev pub IsSent : Asked → Phase → List Message → Cut → Way → Type 0
-IsSent asked phase messages now (Answered told) = IsCutOff phase told
+IsSent asked phase messages now (Answered given) = IsCutOff phase given
 IsSent asked phase messages now (Awaits more next) =
     (next ≡ phase)
     × (more.sent.items ≡ sent_last asked.sent.items messages)
@@ -80,7 +80,7 @@ IsSent asked phase messages now (Awaits more next) =
 
 -- the ask is answered, and the answer rests on what it should; or it is under way
 abbrev pub IsLed : ℕ → Policy → Outset → SessionState → Way → Type 0
-IsLed limit policy outset now (Answered told) =
-    RestsOn limit policy outset.principal outset.ask outset.session now told
+IsLed limit policy outset now (Answered given) =
+    RestsOn limit policy outset.principal outset.ask outset.session now given
 IsLed limit policy outset now (Awaits asked phase) =
     IsUnderWay policy outset now asked.begun.cut asked.sent.items phase

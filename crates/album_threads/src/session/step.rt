@@ -11,7 +11,7 @@ ghost use Rattle.album_threads.specs.Phases.{Outset, IsUnderWay};
 ghost use Rattle.album_threads.specs.Replies.{IsReplied};
 ghost use Rattle.album_threads.specs.Sending.{announced_by, IsFree, IsAnnouncedBy};
 ghost use Rattle.album_threads.specs.Sessions.{IsClosedOrOutOfMemory};
-ghost use Rattle.album_threads.specs.Turns.{client_step_in, terms_in, IsTaken, IsWaited, IsTurned, IsSent};
+ghost use Rattle.album_threads.specs.Steps.{client_step_in, terms_in, IsTaken, IsWaited, IsReaction, IsSent};
 
 use crate::service_names::ServiceNames;
 use crate::session::Session;
@@ -26,7 +26,7 @@ use std::time;
 
 /// What the client has come to at one reply.
 #[derive(Drop)]
-pub(crate) enum Turned {
+pub(crate) enum Reaction {
     /// The ask is answered.
     Answers(Answer),
     /// It does this from now on, and sends these messages, if any.
@@ -53,6 +53,7 @@ impl<J: ServiceNames> Session<J> {
         ensures refused { IfErr result IsClosedOrOutOfMemory }
         ensures on { IsOn self.old self.new }
     {
+        self.channel.is_sound();
         for _ in rt.forever() {
             if let Some(heard) = self.waits_once(rt, asked, phase) {
                 return heard;
@@ -86,11 +87,11 @@ impl<J: ServiceNames> Session<J> {
     ///
     /// # Errors
     ///
-    /// `Closed`.
+    /// `Closed` or `OutOfMemory`.
     fn hears<R: Wait + time::Clock>(&mut self, rt: &R, asked: &Asked) -> Result<Message, Refusal>
         ensures replied { IfOk result
             (IsReplied J.terms.limit asked.now.begun.cut self.new.cut asked.now.sent.items) }
-        ensures closed { IsOkUnless result Refusal.Closed }
+        ensures refused { IfErr result IsClosedOrOutOfMemory }
         ensures heard { IsHeard self.old self.new }
     {
         let heard = self.channel.hear(rt, asked);
@@ -135,10 +136,10 @@ impl<J: ServiceNames> Session<J> {
         &mut self,
         rt: &R,
         transition: Transition,
-    ) -> Result<Turned, Refusal>
+    ) -> Result<Reaction, Refusal>
         requires own { transition.client.clock.client ≡ self.old.client }
         requires risen { self.old.counter ≤ transition.client.clock.counter }
-        ensures turned { IfOk result (IsTurned transition.client.phase transition.sent.items transition.answer) }
+        ensures reaction { IfOk result (IsReaction transition.client.phase transition.sent.items transition.answer) }
         ensures shared { OnOk result (AreShared self.old.client self.old.share self.new.share transition.notes.items) }
         ensures counter { OnOk result (self.new.counter ≡ transition.client.clock.counter) }
         ensures spent { OnOk result (next_of transition.client.clock ≡ Err Refusal.StampsSpent
@@ -185,7 +186,7 @@ impl<J: ServiceNames> Session<J> {
         phase: Phase,
         sent: Vec<Message>,
     ) -> Result<Way, Refusal>
-        requires free { IsFree self.old sent.items }
+        requires free { IsFree J.policy self.old sent.items }
         requires shown { All (Shows (announced_by self.old.cut sent.items)) sent.items }
         ensures way { IfOk result (IsSent asked phase sent.items self.new.cut) }
         ensures refused { IfErr result IsClosedOrOutOfMemory }
@@ -201,19 +202,17 @@ impl<J: ServiceNames> Session<J> {
 
     /// Announces what the first of the messages prepares, if it prepares anything.
     fn announces(&mut self, sent: &[Message])
-        requires { IsFree self.old sent.now }
+        requires { IsFree J.policy self.old sent.now }
         ensures { IsAnnouncedBy self.old self.new sent.now }
     {
-        if let Some(first) = sent.first() {
-            self.channel.announce(first);
-        }
+        self.channel.announce_first(sent);
         self.channel.is_sound();
     }
 }
 
 /// Takes the reply, where it ends no round of a read; else gives it, or why none came or was taken.
 fn waited(phase: &mut Phase, heard: Result<Message, Refusal>) -> Option<Result<Message, Refusal>>
-    requires { IsOkUnless heard Refusal.Closed }
+    requires { IfErr heard IsClosedOrOutOfMemory }
     ensures taken { IfNone result (IsOkAnd heard (λ reply.
         (is_waiting phase.old reply ≡ true) × IsTakenBy phase.old reply phase.new)) }
     ensures left { IfSome result (λ _. phase.new ≡ phase.old) }
@@ -259,12 +258,12 @@ fn is_spent_at_its_end(clock: Clock)
 }
 
 /// What the client has come to. Who has answered does nothing more.
-fn by_answer(phase: Phase, sent: Vec<Message>, answer: Option<Answer>) -> Turned
-    ensures { IsTurned phase sent.items answer result }
+fn by_answer(phase: Phase, sent: Vec<Message>, answer: Option<Answer>) -> Reaction
+    ensures { IsReaction phase sent.items answer result }
 {
     match answer {
-        Some(answer) => Turned::Answers(answer),
-        None => Turned::Sends(phase, sent),
+        Some(answer) => Reaction::Answers(answer),
+        None => Reaction::Sends(phase, sent),
     }
 }
 

@@ -1,15 +1,15 @@
-use Rattle.album_tests_store.proofs.sessions.visited.Given as goal
+use Rattle.album_threads.proofs.visit.with_opened.Given as goal
 
 -- the desk, the policy and the four ledgers that were opened here
-abbrev pub ghosts-visited_by-J-ServiceNames : goal.ghosts-visited_by-J-ServiceNames
-ghosts-visited_by-J-ServiceNames g a = record {
+abbrev pub ghosts-visited_as-J-ServiceNames : goal.ghosts-visited_as-J-ServiceNames
+ghosts-visited_as-J-ServiceNames g a = record {
   table = a.opened.desk.table;
   terms = a.opened.desk.terms;
   policy = a.opened.policy;
 }
 
-abbrev pub ghosts-visited_by-J-Books : goal.ghosts-visited_by-J-Books
-ghosts-visited_by-J-Books g a = record {
+abbrev pub ghosts-visited_as-J-Books : goal.ghosts-visited_as-J-Books
+ghosts-visited_as-J-Books g a = record {
   audit_ok = a.opened.books.audit_ok;
   audit_failed = a.opened.books.audit_failed;
   alarm_ok = a.opened.books.alarm_ok;

@@ -1,0 +1,87 @@
+//! A service for the time of one visit. Its names are hidden, and it is closed whatever comes of the visit.
+ghost use Rattle.std.specs.Prelude.{◌≡◌};
+ghost use Rattle.album_threads.specs.Opened.{opened_as};
+
+use crate::gate::{Gate, Open};
+use crate::opened::Opened;
+use crate::service::Service;
+use crate::service_names::ServiceNames;
+use album_items::Opening;
+use album_stamps::Refusal;
+use std::alloc::Global;
+use std::marker::Brand;
+use std::sync::Wait;
+use std::thread::Threads;
+use std::time;
+
+/// What is done with a running service, over the runtime `R`.
+pub trait Visit<R>: Drop {
+    type Answer;
+
+    fn visit<J: ServiceNames + Send + Sync>(
+        self,
+        rt: &R,
+        alloc: Global,
+        service: &Service<J>,
+    ) -> Self::Answer;
+}
+
+/// Opens a service for so many sessions, and at least one, has it visited, closes it, and gives what comes of the visit, be it an error.
+///
+/// # Errors
+///
+/// As `Opened::new`, or `OutOfMemory`, also where a thread can't be had. Then there was no visit.
+pub fn with_service<R, V>(
+    rt: R,
+    alloc: Global,
+    opening: &Opening,
+    sessions: u16,
+    visit: V,
+) -> Result<V::Answer, Refusal>
+where
+    R: Threads + Wait + time::Clock + Copy + Send + Sync + 'static,
+    V: Visit<R>,
+{
+    let opened = Opened::new(alloc, opening, sessions.max(1))?;
+    with_opened(rt, alloc, opened, Open, visit)
+}
+
+/// The same with what was opened, and with a gate that each message passes.
+///
+/// # Errors
+///
+/// `OutOfMemory`, also where a thread can't be had.
+pub fn with_opened<R, G, V>(
+    rt: R,
+    alloc: Global,
+    opened: Opened,
+    gate: G,
+    visit: V,
+) -> Result<V::Answer, Refusal>
+where
+    R: Threads + Wait + time::Clock + Copy + Send + Sync + 'static,
+    G: Gate + Drop + Send + Sync + 'static,
+    V: Visit<R>,
+{
+    visited_as::<Brand, R, G, V>(rt, alloc, opened, gate, visit)
+}
+
+fn visited_as<J, R, G, V>(
+    rt: R,
+    alloc: Global,
+    opened: Opened,
+    gate: G,
+    visit: V,
+) -> Result<V::Answer, Refusal>
+where
+    J: ServiceNames + Send + Sync + 'static,
+    R: Threads + Wait + time::Clock + Copy + Send + Sync + 'static,
+    G: Gate + Drop + Send + Sync + 'static,
+    V: Visit<R>,
+    requires named { opened ≡ opened_as J.table J.terms J.policy J.audit_ok J.audit_failed J.alarm_ok J.alarm_failed }
+{
+    let service = Service::<J>::open(rt, alloc, opened, gate)?;
+    let answer = visit.visit(&rt, alloc, &service);
+    service.close(&rt);
+    Ok(answer)
+}
