@@ -1,6 +1,9 @@
 """What the benches measure of a run of the program: its time, and its memory. ALBUM can name another program."""
 import fcntl
 import os
+import re
+import resource
+import shutil
 import socket
 import struct
 import subprocess
@@ -23,6 +26,56 @@ def seconds_of(subcommand, path):
         began = time.monotonic()
         finish(subprocess.Popen([ALBUM, subcommand], stdin=lines, stdout=subprocess.DEVNULL))
         return time.monotonic() - began
+
+
+def started(subcommand):
+    """The words that start the program as the script `album` does, without the shell."""
+    built = os.path.join(HERE, "..", "crates", "album", "out", "album")
+    os.environ.setdefault("GLIBC_TUNABLES", "glibc.malloc.tcache_count=100")
+    return [os.environ.get("ALBUM", built), subcommand]
+
+
+def judge_peer(folder):
+    """The words that start the peer of `album judge`, built in this folder, or None where it can't be built."""
+    registry = "/usr/share/cargo/registry"
+    wanted = ("serde-", "serde_derive-", "serde_json-")
+    names = os.listdir(registry) if os.path.isdir(registry) else []
+    if shutil.which("cargo") is None or not all(any(n.startswith(it) for n in names) for it in wanted):
+        return None
+    shutil.copytree(os.path.join(HERE, "peer"), folder)
+    source = ["--config", 'source.crates-io.replace-with="debian"', "--config", 'source.debian.directory="%s"' % registry]
+    subprocess.run(["cargo", "build", "--quiet", "--release", "--offline", *source], cwd=folder, check=True)
+    return [os.path.join(folder, "target", "release", "peer")]
+
+
+def output_of(words, path):
+    """What a run over the file writes."""
+    with open(path, "rb") as lines:
+        return subprocess.run(words, stdin=lines, stdout=subprocess.PIPE, check=True).stdout
+
+
+def processor_seconds_of(words, path):
+    """The seconds of processor, its own and the kernel's for it, that a run over the file takes."""
+    before = resource.getrusage(resource.RUSAGE_CHILDREN)
+    with open(path, "rb") as lines:
+        finish(subprocess.Popen(words, stdin=lines, stdout=subprocess.DEVNULL))
+    after = resource.getrusage(resource.RUSAGE_CHILDREN)
+    return after.ru_utime + after.ru_stime - before.ru_utime - before.ru_stime
+
+
+def instructions_of(words, path):
+    """The instructions that a run over the file takes, less those of a run over nothing; None without valgrind."""
+    if shutil.which("valgrind") is None:
+        return None
+    counts = [counted(words, it) for it in (path, os.devnull)]
+    return counts[0] - counts[1]
+
+
+def counted(words, path):
+    tool = ["valgrind", "--tool=callgrind", "--callgrind-out-file=/dev/null"]
+    with open(path, "rb") as lines:
+        run = subprocess.run(tool + words, stdin=lines, stdout=subprocess.DEVNULL, stderr=subprocess.PIPE, check=True)
+    return int(re.search(rb"Collected : (\d+)", run.stderr).group(1))
 
 
 def peak_of(subcommand, path):

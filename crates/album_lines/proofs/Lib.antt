@@ -9,4 +9,6 @@ pub mod Steps
 pub mod Json
 pub mod Entries
 pub mod Questions
+pub mod Taking
+pub mod TakenFields
 pub mod AnswerTexts

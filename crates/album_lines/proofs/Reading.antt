@@ -200,7 +200,7 @@ only_put_at names k l d e ms Equal is later =
 only_put_at names k l d e ms Greater is later =
     ap (λ b. is_among names l && b) later ∙ swapped (is_among names l) (is_among names k) (has_only names ms)
 
-only_put : (names : List (List ℕ)) (k : List ℕ) (d : Data) (ms : Members)
+pub only_put : (names : List (List ℕ)) (k : List ℕ) (d : Data) (ms : Members)
     → has_only names (put k d ms) ≡ (is_among names k && has_only names ms)
 only_put names k d no_members = refl
 only_put names k d (member l e ms) = only_put_at names k l d e ms (slice_cmp nat_cmp k l) refl (only_put names k d ms)

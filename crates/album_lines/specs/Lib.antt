@@ -6,4 +6,5 @@ pub mod Shapes
 pub mod Values
 pub mod JudgeShape
 pub mod JudgeLine
+pub mod Tokens
 pub mod Output

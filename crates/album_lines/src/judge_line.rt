@@ -7,6 +7,7 @@ ghost use Rattle.album_lines.specs.JudgeShape.{spelled_group, spelled_judge};
 ghost use Rattle.album_lines.specs.JudgeLine.{Question, listing, listing_of, question, question_of, carried_list_of, judge_of, IsJudgeLine};
 
 use crate::judge_shape::{GroupShape, JudgeShape, judge_shape};
+use crate::judge_tokens::shape_of_tokens;
 use crate::shapes::EntryShape;
 use crate::trees::data;
 use crate::values::{access_list, mask, members};
@@ -50,6 +51,10 @@ pub struct JudgeLine {
 pub fn read_judge(alloc: Global, scratch: &mut Scratch, bytes: &[u8]) -> Result<JudgeLine, Refusal>
     ensures { Gives question result (judge_of bytes.now) }
 {
+    // What is wrong with a line only its tree tells.
+    if let Some(shape) = shape_of_tokens(alloc, scratch, bytes) {
+        return values_of(alloc, &shape);
+    }
     let value = data(alloc, scratch, bytes)?;
     let shape = judge_shape(alloc, &value)?;
     values_of(alloc, &shape)

@@ -78,7 +78,7 @@ fn kind_shape(value: Option<&Value<'_>>) -> Result<Holder, Refusal>
 }
 
 /// What a kind of object is to its list.
-fn holder(word: &str) -> Option<Holder>
+pub(crate) fn holder(word: &str) -> Option<Holder>
     ensures { result ≡ holder_of word.now }
 {
     match word {
@@ -138,7 +138,7 @@ fn group_shape<'a>(alloc: Global, value: &Value<'a>) -> Result<GroupShape<'a>, R
 }
 
 /// Whether no number stands twice.
-fn are_distinct(alloc: Global, groups: &[GroupShape]) -> Result<bool, AllocError>
+pub(crate) fn are_distinct(alloc: Global, groups: &[GroupShape]) -> Result<bool, AllocError>
     ensures { IfOk result (λ single. single ≡ are_distinct (numbers (map spelled_group groups.now))) }
 {
     let mut seen = BTreeSet::new(alloc);

@@ -5,8 +5,9 @@
 //! refusal comes in too, and its line goes out.
 //!
 //! Read `lines` first, then `judge_line`: a line's JSON value (`trees`), its shape (`judge_shape`, by `shapes` and
-//! `fields`), and the values of that (`values`). The law `questions_by_line` says that a line is read as what it
-//! spells. The lines of a store are read by the same parts, in `album_wire`.
+//! `fields`), and the values of that (`values`). A judge line that has its shape gets none of that tree: the shape is
+//! taken from its tokens (`judge_tokens`). The law `questions_by_line` says that a line is read as what it spells. The
+//! lines of a store are read by the same parts, in `album_wire`.
 #![tactic(auto)]
 
 // A text in pieces, and its lines.
@@ -24,6 +25,7 @@ mod values;
 // A judge line.
 mod judge_line;
 mod judge_shape;
+mod judge_tokens;
 
 // The lines that are written.
 mod output;

@@ -58,7 +58,7 @@ fn entry_shape<'a>(value: &Value<'a>) -> Result<EntryShape<'a>, Refusal>
     })
 }
 
-fn sort(word: &str) -> Option<AceType>
+pub(crate) fn sort(word: &str) -> Option<AceType>
     ensures { result ≡ sort_of word.now }
 {
     match word {

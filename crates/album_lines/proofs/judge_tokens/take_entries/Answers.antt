@@ -1,0 +1,6 @@
+use Rattle.album_lines.proofs.Taking.{maybe_entries}
+use Rattle.album_lines.proofs.judge_tokens.take_entries.Goals as goal
+
+pub returns : goal.returns
+returns c =
+    maybe_entries c.args.reader.now c.take_list.new.reader c.take_each_entry.new.reader c.take_each_entry.result c.in_ok-take_list.ensures c.take_each_entry.ensures
