@@ -1,22 +1,25 @@
 //! Pseudo-random draws, which a seed determines.
+use rand_core::Rng;
+use rand_pcg::Pcg32;
 
-#[derive(Clone, Copy)]
+/// One of the sequences of the generator: any would do.
+const SEQUENCE: u64 = 0;
+
+#[derive(Drop)]
 pub struct Draws {
-    state: u64,
+    generator: Pcg32,
 }
 
 impl Draws {
     pub fn new(seed: u64) -> Draws {
-        Draws { state: seed }
+        Draws {
+            generator: Pcg32::new(seed, SEQUENCE),
+        }
     }
 
     /// A number below the bound, and 0 where the bound is.
     pub fn below(&mut self, bound: u64) -> u64 {
-        self.state = self
-            .state
-            .wrapping_mul(6_364_136_223_846_793_005)
-            .wrapping_add(1_442_695_040_888_963_407);
-        (self.state >> 33) % bound.max(1)
+        self.generator.next_u64() % bound.max(1)
     }
 }
 

@@ -35,9 +35,9 @@ served_is permit (ask.List album) e given h =
         asked = e;
         based = basis-based One permit.principal
             permit.view.rows;
-        told = refl;
+        rows_are = refl;
       };
-      told = sym (same_Some _ _ h);
+      given_is = sym (same_Some _ _ h);
     }
 served_is permit (ask.GetList object) e given h = sym (same_Some _ _ h)
 served_is permit (ask.AddPicture album title content) e given h = absurd (none-some _ h)

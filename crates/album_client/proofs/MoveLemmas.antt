@@ -15,7 +15,7 @@ use Rattle.album_reader.specs.Rounds.{Step as ReadStep}
 use Rattle.album_reader.specs.Rounds.Step.{Same, Next, Done, Gone}
 use Rattle.album_reader.specs.StampSets.{stamps_of}
 use Rattle.album_reader.proofs.Rounds.{some_items}
-use Rattle.album_reader.proofs.TwoRounds.{gone-is_told}
+use Rattle.album_reader.proofs.TwoRounds.{gone-is_gone}
 use Rattle.album_views.specs.Asks.{is_write}
 use Rattle.album_views.specs.Checks.{refusal_of}
 use Rattle.album_views.specs.ReadSets.{names_of}
@@ -29,7 +29,7 @@ use Rattle.album_listing.proofs.GroupsFoundLemmas.{basis-based}
 use Rattle.album_permits.specs.Findings.{ruling_of}
 use Rattle.album_permits.specs.Notes.{notes_of}
 use Rattle.album_permits.specs.Permits.{PermitState}
-use Rattle.album_permits.specs.Rulings.{told_by, IsRuled}
+use Rattle.album_permits.specs.Rulings.{finding_in, IsRuled}
 use Rattle.album_permits.specs.Serving.{IsServed}
 use Rattle.album_permits.specs.declared.rulings.Ruled.{Ruled}
 use Rattle.album_permits.specs.declared.serving.Served.{Served}
@@ -103,7 +103,7 @@ pub readable_gone : (viewing : ViewingState) (round : RoundState) (message : Mes
     → stepped round message ≡ Gone items → AsksReadable (again viewing items)
 readable_gone viewing round message items is gone =
     readable_again viewing items
-    (subst AreReadable (sym (gone-is_told round message items gone).0) (readable_open round is))
+    (subst AreReadable (sym (gone-is_gone round message items gone).0) (readable_open round is))
 
 -- ---- how many messages
 
@@ -178,9 +178,9 @@ just_commits writing next message messages e =
 -- ---- a view
 
 module _ (policy : Policy) (me : Principal) (view : ViewState) (ruled : Ruled) (is : IsRuled policy me view ruled) where
-  pub ruled_is : told_by ruled.ruling ≡ ruling_of (basis_on policy me view.rows) view.ask
+  pub ruled_is : finding_in ruled.ruling ≡ ruling_of (basis_on policy me view.rows) view.ask
   ruled_is =
-      is.told
+      is.finding
       ∙ ruling-alike policy me view.ask view.rows view.rows is.basis _ (record { same = λ item named. refl }) is.based
       (basis-based policy me view.rows)
 
@@ -202,21 +202,21 @@ served_only permit given reads is = go (served_for permit permit.view.ask) refl
     go None e = absurd (true≢false (sym (unserved_writes permit permit.view.ask e) ∙ reads))
 
 -- why a write doesn't begin
-pub full_told : (b : Bool) → refusal.AlbumFull ≡ (if b then refusal.AlbumFull else refusal.OutOfMemory) → b ≡ true
-full_told true e = refl
-full_told false e = absurd (cc)
+pub full_refused : (b : Bool) → refusal.AlbumFull ≡ (if b then refusal.AlbumFull else refusal.OutOfMemory) → b ≡ true
+full_refused true e = refl
+full_refused false e = absurd (cc)
 
-pub memory_told : (b : Bool) (why : Refusal) → why ≡ (if b then refusal.AlbumFull else refusal.OutOfMemory)
+pub memory_refused : (b : Bool) (why : Refusal) → why ≡ (if b then refusal.AlbumFull else refusal.OutOfMemory)
     → (why ≡ refusal.AlbumFull → ⊥) → why ≡ refusal.OutOfMemory
-memory_told true why e other = absurd (other e)
-memory_told false why e other = e
+memory_refused true why e other = absurd (other e)
+memory_refused false why e other = e
 
 -- the ask of a view is ruled on
 pub rules_done : (terms : Terms) (x y : Client) (tag : ℕ) (who : Principal) (view : ViewState) (ruled : Ruled)
     (transition : Transition) → IsRuled terms.policy who view ruled
     → y ≡ record x { clock = clock_after_rows x.clock view.rows }
     → IsMoved (record (rules_by terms y tag (record { view = view; principal = who; policy = terms.policy })
-    (told_by ruled.ruling)) { noted = Some ruled.notes.items }) transition
+    (finding_in ruled.ruling)) { noted = Some ruled.notes.items }) transition
     → IsMoved (rules terms x tag who view) transition
 rules_done terms x y tag who view ruled transition ruling at is =
     rw (at, ruled_is terms.policy who view ruled ruling, noted_is terms.policy who view ruled ruling) at is

@@ -1,7 +1,7 @@
 //! What a client does with a closed view.
 ghost use Rattle.std.specs.Prelude.{◌≡◌, ◌+◌, ◌<◌, ◌^◌, None, Some, IfOk, IsOkUnless};
 ghost use Rattle.album_permits.specs.Permits.{PermitState};
-ghost use Rattle.album_permits.specs.Rulings.{told_by, Keeps};
+ghost use Rattle.album_permits.specs.Rulings.{finding_in, Keeps};
 ghost use Rattle.album_views.specs.Checks.{refusal_of};
 ghost use Rattle.album_client.specs.Grants.{served_for};
 ghost use Rattle.album_client.specs.Transitions.{client_of, IsMoved};
@@ -53,7 +53,7 @@ impl ClientStep {
     fn note_ruling(self, tag: u64, ruled: Ruled) -> Result<Transition, Refusal>
         requires fits { tag + 2 < 2 ^ 64 }
         ensures transition { (permit : PermitState) → Keeps permit.policy permit.principal permit.view ruled.ruling
-            → IfOk result (IsMoved (record (rules_by self.terms (client_of self) tag permit (told_by ruled.ruling)) {
+            → IfOk result (IsMoved (record (rules_by self.terms (client_of self) tag permit (finding_in ruled.ruling)) {
               noted = Some ruled.notes.items;
             })) }
         ensures memory { IsOkUnless result Refusal.OutOfMemory }
@@ -67,7 +67,7 @@ impl ClientStep {
     fn follow_ruling(self, tag: u64, ruling: Ruling) -> Result<Transition, Refusal>
         requires fits { tag + 2 < 2 ^ 64 }
         ensures transition { (permit : PermitState) → Keeps permit.policy permit.principal permit.view ruling
-            → IfOk result (IsMoved (rules_by self.terms (client_of self) tag permit (told_by ruling))) }
+            → IfOk result (IsMoved (rules_by self.terms (client_of self) tag permit (finding_in ruling))) }
         ensures memory { IsOkUnless result Refusal.OutOfMemory }
     {
         match ruling {

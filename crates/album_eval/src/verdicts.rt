@@ -53,7 +53,7 @@ pub fn given_to_owners()
 /// are gone through in order until each bit is allowed, or one that is left is denied. A bit that no entry mentions
 /// is denied.
 pub fn evaluate(list: &AccessList, facts: &Facts, mask: Mask) -> Verdict
-    ensures is { IsVerdict (case_of facts.now) list.now mask result }
+    ensures verdict { IsVerdict (case_of facts.now) list.now mask result }
     ensures computed { result ≡ verdict (case_of facts.now) list.now mask }
 {
     let mut remaining = without(mask, given(facts));

@@ -81,7 +81,7 @@ code_named word =
     else if bytes_eq word (codes "group") then Some 3
     else None
 
--- the item of which the text tells: the kind before its first slash, the number after it
+-- the item that the text names: the kind before its first slash, the number after it
 unfoldable pub item_of : List ℕ → Option ℕ
 item_of text =
     option_and_then (λ code. option_map (item code) (whole_number_of (after_first is_slash text)))

@@ -58,7 +58,7 @@ is_right_row row = has_own_value row && is_low_row row && has_few_children row &
 
 -- ---- what is tested of two rows
 
--- both tell of one item
+-- both are of one item
 abbrev pub same_item : Row → Row → Bool
 same_item a b = a.0 == b.0
 

@@ -1,4 +1,4 @@
--- The values of items, and what each tells.
+-- The values of items, and what each has.
 use Rattle.std.specs.Prelude.{ℕ, Bool, true, false, ◌==◌, List, [], ◌∷◌, Option, Some, None, option_map, option_to_list}
 use Rattle.std.specs.List.{flat_map}
 use Rattle.album_lists.specs.declared.lists.Ace.{Ace}
@@ -35,7 +35,7 @@ head_of (value.Album album) = Some album.head
 head_of (value.List entries) = None
 head_of (value.Group group) = Some group.head
 
--- ---- what a value tells: nothing, where it is of a kind that does not tell it
+-- ---- what a value has: nothing, where it is of a kind that does not have it
 
 -- the album that is a picture's home
 abbrev pub home_of : Value → List ℕ

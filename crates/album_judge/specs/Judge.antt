@@ -16,12 +16,12 @@ abbrev pub listed_by : List Listing → ℕ → List Member
 listed_by [] number = []
 listed_by (l ∷ ls) number = if number == l.number then l.members else listed_by ls number
 
--- what a question is judged on, where `is_in` tells the groups that who asks is in
+-- what a question is judged on, where `is_in` has the groups that its principal is in
 abbrev pub case_by : Question → (ℕ → Bool) → Case
 case_by q is_in =
     record { policy = q.policy; principal = q.who; owner = q.owner; head_group = q.head_group; is_in = is_in }
 
--- the verdict of the question's list, judged with just the groups that who asks is in
+-- the verdict of the question's list, judged with exactly the groups that its principal is in
 pub record IsJudged (q : Question) (v : Verdict) : Type 0 where
   pub is_in : ℕ → Bool
   pub groups : (group : ℕ) → IsTrue (is_in group) ↔ IsMember (listed_by q.groups) q.who group

@@ -35,7 +35,7 @@ use Rattle.album_listing.specs.GroupsFound.{groups_found, basis_on}
 use Rattle.album_listing.specs.Listing.{title_in, row_for, listed, IsListing}
 use Rattle.album_listing.specs.Masks.{READ_ATTRIBUTES, LIST_DIRECTORY}
 use Rattle.album_listing.specs.Reasons.{on, case_on, entries_on, verdict_on, with_verdict, reason_of, is_grant, is_granted_on}
-use Rattle.album_listing.specs.Told.{title_told}
+use Rattle.album_listing.specs.Fields.{title_field}
 use Rattle.album_listing.specs.declared.reasons.Alternative.{Alternative}
 use Rattle.album_listing.specs.declared.reasons.Reason.{Reason}
 use Rattle.album_listing.specs.declared.rows.Row.{Row}
@@ -276,7 +276,7 @@ title-by home (value.Album x) title = if option_map_or (λ number. number == hom
 title-by home (value.List x) title = None
 title-by home (value.Group x) title = None
 
-title-bare : (home : ℕ) (v : Value) → title_in home v ≡ title-by home (bare v) (title_told v)
+title-bare : (home : ℕ) (v : Value) → title_in home v ≡ title-by home (bare v) (title_field v)
 title-bare home value.Missing = refl
 title-bare home (value.Picture x) = refl
 title-bare home (value.Album x) = refl
@@ -372,7 +372,7 @@ listed-both policy me album one other i j alike a b same =
         sym (granted-both policy me one i child a) ∙ g in
         ap (row-with album child (reason_of (made One me one i) (on child READ_ATTRIBUTES)))
         (title-bare (number_of album) (seen one child)
-        ∙ ap (λ (v : Value). title-by (number_of album) v (title_told (seen one child)))
+        ∙ ap (λ (v : Value). title-by (number_of album) v (title_field (seen one child)))
         (bare-alike (ask.List album) one other child alike.ruled named)
         ∙ ap (title-by (number_of album) (bare (seen other child))) (alike.titled child named may)
         ∙ sym (title-bare (number_of album) (seen other child)))
@@ -395,11 +395,11 @@ rows-alike policy me album one other rows more alike granted l m =
     let here : album ≡ l.album = cc (l.asked) in
     let there : album ≡ m.album = cc (m.asked) in
     let named : IsNamed (seen one) (ask.List album) album = Subject album (first-of album (children_of (seen one album))) in
-    l.told
+    l.rows_are
     ∙ ap (λ (x : ℕ). listed l.basis x) (sym here)
     ∙ ap (λ (b : Basis). listed b album) (basis-made One me one l.basis l.based)
     ∙ listed-both policy me album one other l.basis.is_in m.basis.is_in alike l.based.groups m.based.groups
     (seen-same one other album (alike.read album named granted))
     ∙ ap (λ (b : Basis). listed b album) (sym (basis-made One me other m.basis m.based))
     ∙ ap (λ (x : ℕ). listed m.basis x) there
-    ∙ sym m.told
+    ∙ sym m.rows_are

@@ -198,12 +198,12 @@ pub listings-alike :
 listings-alike asked one other me rows more agree l m =
     let album : l.album ≡ m.album = cc (l.asked, m.asked) in
     let there : AgreeOn (ask.List l.album) one other = subst (λ (a : Ask). AgreeOn a one other) l.asked agree in
-    l.told
+    l.rows_are
     ∙ ap (λ (b : Basis). listed b l.album) (basis-made One me one l.basis l.based)
     ∙ listed-alike l.album one other me l.basis.is_in m.basis.is_in there l.based.groups m.based.groups
     ∙ ap (listed (made One me other m.basis.is_in)) album
     ∙ ap (λ (b : Basis). listed b m.album) (sym (basis-made One me other m.basis m.based))
-    ∙ sym m.told
+    ∙ sym m.rows_are
 
 -- ---- policies
 

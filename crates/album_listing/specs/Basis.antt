@@ -21,7 +21,7 @@ pub record Basis : Type 0 where
 abbrev pub members_seen : (ℕ → Value) → ℕ → List Member
 members_seen seen number = members_of (seen (group number))
 
--- the test tells just the groups that the principal is in, by the groups that are seen
+-- exactly the groups that the principal is in pass the test, by the groups that are seen
 pub record AreGroups (seen : ℕ → Value) (principal : Principal) (is_in : ℕ → Bool) : Type 0 where
   pub tied : (number : ℕ) → IsTrue (is_in number) ↔ IsMember (members_seen seen) principal number
 

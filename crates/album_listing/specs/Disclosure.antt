@@ -13,7 +13,7 @@ use Rattle.album_listing.specs.GroupsFound.{basis_on}
 use Rattle.album_listing.specs.Masks.{READ_DATA, READ_ATTRIBUTES, READ_ACL}
 use Rattle.album_listing.specs.Reasons.{is_granted_on}
 use Rattle.album_listing.specs.ViewLookups.{stamp_named}
-use Rattle.album_listing.specs.Told.{title_told}
+use Rattle.album_listing.specs.Fields.{title_field}
 
 -- what a ruling looks at in a value: all of it but title, content and children
 abbrev pub bare : Value → Value
@@ -46,7 +46,7 @@ pub record AreAlikeFor
   pub titled :
       (item : ℕ) → IsNamed (seen one) ask item
       → IsTrue (is_granted_on (basis_on policy principal one) item READ_ATTRIBUTES)
-      → title_told (seen one item) ≡ title_told (seen other item)
+      → title_field (seen one item) ≡ title_field (seen other item)
   -- where it may read the list of an item, that has the same stamp
   pub listed :
       (item : ℕ) → IsNamed (seen one) ask item

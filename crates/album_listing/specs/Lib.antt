@@ -6,6 +6,6 @@ pub mod ViewLookups
 pub mod RulingContexts
 pub mod Listing
 pub mod Showing
-pub mod Told
+pub mod Fields
 pub mod Agreement
 pub mod Disclosure

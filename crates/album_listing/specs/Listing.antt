@@ -45,4 +45,4 @@ pub record IsListing (view : ViewState) (principal : Principal) (rows : List Row
   pub basis : Basis
   pub asked : view.ask ≡ ask.List album
   pub based : IsBasis One principal view.rows basis
-  pub told : rows ≡ listed basis album
+  pub rows_are : rows ≡ listed basis album

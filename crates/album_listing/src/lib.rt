@@ -16,12 +16,12 @@ mod listing;
 mod rows;
 
 // What holds of them.
-mod bases;
+mod basis_laws;
 mod disclosure;
 mod laws;
 mod titles;
 
-pub use bases::a_ruling_has_a_basis;
+pub use basis_laws::a_ruling_has_a_basis;
 pub use disclosure::listings_disclose_nothing;
 pub use laws::{listings_are_alike, listings_look_at_what_is_named};
 pub use listing::list;

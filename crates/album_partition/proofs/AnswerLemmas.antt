@@ -75,13 +75,13 @@ pub record IsRefused (p : PartitionState) (b : Body) (e : Action) : Type 0 where
 -- a vote Committed, or Never, on a pending stamp
 pub record IsVotedCommitted (p : PartitionState) (b : Body) (e : Action) : Type 0 where
   pub t : ℕ
-  pub told : b ≡ body.Reply (reply.Status t vote.Committed)
+  pub voted : b ≡ body.Reply (reply.Status t vote.Committed)
   pub done : e ≡ marks (Committed t)
   pub pending : state_of p.marks t ≡ state.Pending
 
 pub record IsVotedNever (p : PartitionState) (b : Body) (e : Action) : Type 0 where
   pub t : ℕ
-  pub told : b ≡ body.Reply (reply.Status t vote.Never)
+  pub voted : b ≡ body.Reply (reply.Status t vote.Never)
   pub done : e ≡ marks (Discarded t)
   pub pending : state_of p.marks t ≡ state.Pending
 
@@ -90,7 +90,7 @@ pub record IsVotedPrepared (p : PartitionState) (from : Node) (b : Body) (e : Ac
   pub t : ℕ
   pub part : ℕ
   pub sender : from ≡ Part part
-  pub told : b ≡ body.Reply (reply.Status t vote.Prepared)
+  pub voted : b ≡ body.Reply (reply.Status t vote.Prepared)
   pub done : e ≡ on_vote_of p part t
   pub due : lies_at part p.parts (items_at p.marks t) ≡ true
   pub pending : state_of p.marks t ≡ state.Pending
@@ -181,14 +181,14 @@ prepared_acts p (Part part) t pending = go (lies_at part p.parts (items_at p.mar
   where
     go : (b : Bool) → lies_at part p.parts (items_at p.marks t) ≡ b
         → Acts p (Part part) (body.Reply (reply.Status t vote.Prepared)) (if b then on_vote_of p part t else nothing)
-    go true e = voted_prepared (record { t = t; part = part; sender = refl; told = refl; done = refl; due = e; pending = pending })
+    go true e = voted_prepared (record { t = t; part = part; sender = refl; voted = refl; done = refl; due = e; pending = pending })
     go false e = idle refl
 
 vote_acts : (p : PartitionState) (from : Node) (t : ℕ) (v : Vote) → state_of p.marks t ≡ state.Pending
     → Acts p from (body.Reply (reply.Status t v)) (on_vote p from t v)
 vote_acts p from t vote.Prepared pending = prepared_acts p from t pending
-vote_acts p from t vote.Committed pending = voted_committed (record { t = t; told = refl; done = refl; pending = pending })
-vote_acts p from t vote.Never pending = voted_never (record { t = t; told = refl; done = refl; pending = pending })
+vote_acts p from t vote.Committed pending = voted_committed (record { t = t; voted = refl; done = refl; pending = pending })
+vote_acts p from t vote.Never pending = voted_never (record { t = t; voted = refl; done = refl; pending = pending })
 
 status_acts : (p : PartitionState) (from : Node) (t : ℕ) (v : Vote) → Acts p from (body.Reply (reply.Status t v)) (on_status p from t v)
 status_acts p from t v = go (is_pending (state_of p.marks t)) refl

@@ -20,11 +20,11 @@ use Rattle.album_calls.specs.declared.requests.Request.{Request}
 use Rattle.album_calls.specs.declared.requests.Request.TheVariants.{Prepare, Commit, Get, Check}
 use Rattle.album_calls.specs.declared.replies.Reply.{Reply}
 use Rattle.album_calls.specs.declared.replies.Reply.TheVariants as reply
-use Rattle.album_terminate.specs.Deciding.{have_told}
+use Rattle.album_terminate.specs.Deciding.{have_voted}
 use Rattle.album_terminate.specs.declared.deciding.Decision.TheVariants as decision
 use Rattle.album_terminate.specs.declared.deciding.StampState.{StampState}
 use Rattle.album_terminate.specs.declared.deciding.StampState.TheVariants as state
-use Rattle.album_terminate.proofs.Telling.{have_told_tells}
+use Rattle.album_terminate.proofs.Voting.{have_voted_decides}
 use Rattle.album_versions.specs.Best.{best_of}
 use Rattle.album_versions.proofs.Greatest.{best_of-passes, Contains-best_of, All-best_of}
 use Rattle.album_partition.specs.declared.marks.Mark.{Mark}
@@ -43,7 +43,7 @@ use Rattle.album_partition.proofs.PartitionLemmas.{same_partition, stays_after}
 use Rattle.album_partition.proofs.TrimLemmas.{gone_trimmed, gone_unkept, gone_asks}
 use Rattle.album_partition.proofs.StateLemmas.{state_push_other, unknown_tells, committed_tells, prepared_is_pending, committed_is_committed, discarded_is_discarded}
 
--- ---- what a reply tells
+-- ---- what a reply means
 
 said_true : (p : PartitionState) (b : Body) (r : Reply) → IsSaid p b r → IsTrueOf p.marks r
 said_true p b (reply.Prepared t) h = h
@@ -59,10 +59,10 @@ said_true p b (reply.Full t) h = h.1
 said_true p b (reply.Gone i) h = gone_trimmed p.marks i h.0 h.2
 
 -- what an action that is known says
-tells : (p : PartitionState) (e known : Action) (r told : Reply) → e ≡ known → known.reply ≡ Some told
-    → IsTrueOf (p.marks ++ option_to_list known.mark) told → e.reply ≡ Some r → IsTrueOf (with_action p e).marks r
-tells p e known r told is says_it h f =
-    let same : told ≡ r = (let g : known.reply ≡ Some r = subst (λ (x : Action). x.reply ≡ Some r) is f in cc) in
+reply_holds : (p : PartitionState) (e known : Action) (r sent : Reply) → e ≡ known → known.reply ≡ Some sent
+    → IsTrueOf (p.marks ++ option_to_list known.mark) sent → e.reply ≡ Some r → IsTrueOf (with_action p e).marks r
+reply_holds p e known r sent is says_it h f =
+    let same : sent ≡ r = (let g : known.reply ≡ Some r = subst (λ (x : Action). x.reply ≡ Some r) is f in cc) in
     subst (λ (x : Action). IsTrueOf (with_action p x).marks r) (sym is) (subst (IsTrueOf (p.marks ++ option_to_list known.mark)) same h)
 
 silent : (e known : Action) (r : Reply) {X : Type 0} → e ≡ known → known.reply ≡ None → e.reply ≡ Some r → X
@@ -70,37 +70,37 @@ silent e known r is none f = absurd (let g : known.reply ≡ Some r = subst (λ 
 
 true_by : (p : PartitionState) (from : Node) (b : Body) (e : Action) → Acts p from b e → (r : Reply) → e.reply ≡ Some r → IsTrueOf (with_action p e).marks r
 true_by p from b e (idle is) r f = silent e nothing r is refl f
-true_by p from b e (said told is h) r f =
-    tells p e (says told) r told is refl (subst (λ (ms : List Mark). IsTrueOf ms told) (sym (append-nil p.marks)) (said_true p b told h)) f
+true_by p from b e (said sent is h) r f =
+    reply_holds p e (says sent) r sent is refl (subst (λ (ms : List Mark). IsTrueOf ms sent) (sym (append-nil p.marks)) (said_true p b sent h)) f
 true_by p from b e (prepared a) r f =
-    tells p e (marks_and_says (Prepared a.t a.ws a.is) (reply.Prepared a.t)) r (reply.Prepared a.t) a.done refl
+    reply_holds p e (marks_and_says (Prepared a.t a.ws a.is) (reply.Prepared a.t)) r (reply.Prepared a.t) a.done refl
     (inl (prepared_is_pending p.marks a.t a.ws a.is a.unknown)) f
 true_by p from b e (committed a) r f =
-    tells p e (marks_and_says (Committed a.t) (reply.Committed a.t)) r (reply.Committed a.t) a.done refl (committed_is_committed p.marks a.t) f
+    reply_holds p e (marks_and_says (Committed a.t) (reply.Committed a.t)) r (reply.Committed a.t) a.done refl (committed_is_committed p.marks a.t) f
 true_by p from b e (refused a) r f =
-    tells p e (marks_and_says (Discarded a.t) (reply.Status a.t vote.Never)) r (reply.Status a.t vote.Never) a.done refl
+    reply_holds p e (marks_and_says (Discarded a.t) (reply.Status a.t vote.Never)) r (reply.Status a.t vote.Never) a.done refl
     (discarded_is_discarded p.marks a.t (unknown_tells _ _ _ a.unknown).0) f
 true_by p from b e (voted_committed a) r f = silent e (marks (Committed a.t)) r a.done refl f
 true_by p from b e (voted_never a) r f = silent e (marks (Discarded a.t)) r a.done refl f
 true_by p from b e (voted_prepared a) r f = silent e (on_vote_of p a.part a.t) r a.done refl f
 
 -- what is answered is the reply, sent back
-answered_by : (p : PartitionState) (m told : Message) (o : Option Reply) → option_map (reply_to p m) o ≡ Some told
-    → (r : Reply) × (o ≡ Some r) × (told ≡ reply_to p m r)
-answered_by p m told None e = absurd (cc)
-answered_by p m told (Some r) e = (r, refl, cc)
+answered_by : (p : PartitionState) (m sent : Message) (o : Option Reply) → option_map (reply_to p m) o ≡ Some sent
+    → (r : Reply) × (o ≡ Some r) × (sent ≡ reply_to p m r)
+answered_by p m sent None e = absurd (cc)
+answered_by p m sent (Some r) e = (r, refl, cc)
 
-pub replies_are_true : (p : PartitionState) (m told : Message) → answer p m ≡ Some told
-    → (r : Reply) × (told.body ≡ body.Reply r) × IsTrueOf (after p m).marks r
-replies_are_true p m told e =
-    let found = answered_by p m told (action_of p m).reply e in
+pub replies_are_true : (p : PartitionState) (m sent : Message) → answer p m ≡ Some sent
+    → (r : Reply) × (sent.body ≡ body.Reply r) × IsTrueOf (after p m).marks r
+replies_are_true p m sent e =
+    let found = answered_by p m sent (action_of p m).reply e in
     (found.0, ap (λ (x : Message). x.body) found.2, true_by p m.from m.body (action_of p m) (acts_here p m) found.0 found.1)
 
 -- ---- to whom it goes
 
-pub to_the_sender : (p : PartitionState) (m told : Message) → answer p m ≡ Some told → IsReplyTo p m told
-to_the_sender p m told e =
-    let found = answered_by p m told (action_of p m).reply e in
+pub to_the_sender : (p : PartitionState) (m sent : Message) → answer p m ≡ Some sent → IsReplyTo p m sent
+to_the_sender p m sent e =
+    let found = answered_by p m sent (action_of p m).reply e in
     record { sender = ap (λ (x : Message). x.from) found.2; receiver = ap (λ (x : Message). x.to) found.2; tag = ap (λ (x : Message). x.tag) found.2 }
 
 status_silent : (p : PartitionState) (from : Node) (t : ℕ) (v : Vote) → (on_status p from t v).reply ≡ None
@@ -170,24 +170,24 @@ unmarked e known mark is none f = absurd (let g : known.mark ≡ Some mark = sub
 last_vote : (p : PartitionState) (m : Message) (part t : ℕ) (mark : Mark)
     → m.from ≡ Part part → m.body ≡ body.Reply (reply.Status t vote.Prepared)
     → lies_at part p.parts (items_at p.marks t) ≡ true → state_of p.marks t ≡ state.Pending
-    → (b : Bool) → have_told (part ∷ heard p.votes t) (others_of p.number p.parts (items_at p.marks t)) ≡ b
+    → (b : Bool) → have_voted (part ∷ heard p.votes t) (others_of p.number p.parts (items_at p.marks t)) ≡ b
     → mark_by (if b then decision.Commit else decision.Wait) t ≡ Some mark → IsCause p m mark
-last_vote p m part t mark sender told due pending true all f =
+last_vote p m part t mark sender voted due pending true all f =
     subst (IsCause p m) (let same : Committed t ≡ mark = cc in same) (
       pending,
       inr (inr (record {
         part = part;
         sender = sender;
-        told = told;
+        voted = voted;
         due = due;
-        others = (have_told_tells (part ∷ heard p.votes t) (others_of p.number p.parts (items_at p.marks t))).0 all;
+        others = (have_voted_decides (part ∷ heard p.votes t) (others_of p.number p.parts (items_at p.marks t))).0 all;
       })),
     )
-last_vote p m part t mark sender told due pending false all f = absurd (cc)
+last_vote p m part t mark sender voted due pending false all f = absurd (cc)
 
 cause_by : (p : PartitionState) (m : Message) (e : Action) → Acts p m.from m.body e → (mark : Mark) → e.mark ≡ Some mark → IsCause p m mark
 cause_by p m e (idle is) mark f = unmarked e nothing mark is refl f
-cause_by p m e (said told is h) mark f = unmarked e (says told) mark is refl f
+cause_by p m e (said sent is h) mark f = unmarked e (says sent) mark is refl f
 cause_by p m e (prepared a) mark f =
     marks_by p m e (marks_and_says (Prepared a.t a.ws a.is) (reply.Prepared a.t)) (Prepared a.t a.ws a.is) mark a.done refl
     (record { asked = a.asked; unknown = a.unknown; proper = a.proper; room = a.room }) f
@@ -196,11 +196,11 @@ cause_by p m e (committed a) mark f =
 cause_by p m e (refused a) mark f =
     marks_by p m e (marks_and_says (Discarded a.t) (reply.Status a.t vote.Never)) (Discarded a.t) mark a.done refl
     (inl (record { asked = a.asked; unknown = a.unknown; room = a.room })) f
-cause_by p m e (voted_committed a) mark f = marks_by p m e (marks (Committed a.t)) (Committed a.t) mark a.done refl (a.pending, inr (inl a.told)) f
-cause_by p m e (voted_never a) mark f = marks_by p m e (marks (Discarded a.t)) (Discarded a.t) mark a.done refl (inr (a.pending, a.told)) f
+cause_by p m e (voted_committed a) mark f = marks_by p m e (marks (Committed a.t)) (Committed a.t) mark a.done refl (a.pending, inr (inl a.voted)) f
+cause_by p m e (voted_never a) mark f = marks_by p m e (marks (Discarded a.t)) (Discarded a.t) mark a.done refl (inr (a.pending, a.voted)) f
 cause_by p m e (voted_prepared a) mark f =
-    last_vote p m a.part a.t mark a.sender a.told a.due a.pending
-    (have_told (a.part ∷ heard p.votes a.t) (others_of p.number p.parts (items_at p.marks a.t))) refl
+    last_vote p m a.part a.t mark a.sender a.voted a.due a.pending
+    (have_voted (a.part ∷ heard p.votes a.t) (others_of p.number p.parts (items_at p.marks a.t))) refl
     (subst (λ (x : Action). x.mark ≡ Some mark) a.done f)
 
 pub marks_are_caused : (p : PartitionState) (m : Message) (mark : Mark) → (action_of p m).mark ≡ Some mark → IsCause p m mark
@@ -211,9 +211,9 @@ marks_are_caused p m mark f = cause_by p m (action_of p m) (acts_here p m) mark 
 promised_by : (p : PartitionState) (from : Node) (b : Body) (e : Action) (t : ℕ) → Acts p from b e → state_of p.marks t ≡ state.Unknown
     → e.reply ≡ Some (reply.Status t vote.Never) → IsPromisedAgainst (with_action p e).marks t
 promised_by p from b e t (idle is) unknown f = silent e nothing (reply.Status t vote.Never) is refl f
-promised_by p from b e t (said told is h) unknown f =
+promised_by p from b e t (said sent is h) unknown f =
     absurd (
-    let same : told ≡ reply.Status t vote.Never = (let g : Some told ≡ Some (reply.Status t vote.Never) = subst (λ (x : Action). x.reply ≡ Some (reply.Status t vote.Never)) is f in cc) in
+    let same : sent ≡ reply.Status t vote.Never = (let g : Some sent ≡ Some (reply.Status t vote.Never) = subst (λ (x : Action). x.reply ≡ Some (reply.Status t vote.Never)) is f in cc) in
     let gone : state_of p.marks t ≡ state.Discarded = subst (IsSaid p b) same h in
     cc)
 promised_by p from b e t (prepared a) unknown f =
@@ -254,8 +254,8 @@ ComesWithMark (reply.Gone i) = ⊥
 only_said : (p : PartitionState) (from : Node) (b : Body) (e : Action) (r : Reply) → (ComesWithMark r → ⊥)
     → Acts p from b e → e.reply ≡ Some r → IsSaid p b r
 only_said p from b e r alone (idle is) f = silent e nothing r is refl f
-only_said p from b e r alone (said told is h) f =
-    let same : told ≡ r = (let g : Some told ≡ Some r = subst (λ (x : Action). x.reply ≡ Some r) is f in cc) in subst (IsSaid p b) same h
+only_said p from b e r alone (said sent is h) f =
+    let same : sent ≡ r = (let g : Some sent ≡ Some r = subst (λ (x : Action). x.reply ≡ Some r) is f in cc) in subst (IsSaid p b) same h
 only_said p from b e r alone (prepared a) f =
     let same : (reply.Prepared a.t) ≡ r = (let g : Some (reply.Prepared a.t) ≡ Some r = subst (λ (x : Action). x.reply ≡ Some r) a.done f in cc) in absurd (alone (subst ComesWithMark same tt))
 only_said p from b e r alone (committed a) f =

@@ -13,7 +13,7 @@ use Rattle.album_items.specs.Openings.{Row, has_parts, has_limit, has_single_row
 use Rattle.album_calls.specs.declared.messages.Body.{Body}
 use Rattle.album_calls.specs.declared.messages.Message.{Message}
 use Rattle.album_calls.specs.declared.nodes.Node.{Node}
-use Rattle.album_terminate.specs.Deciding.{have_told}
+use Rattle.album_terminate.specs.Deciding.{have_voted}
 use Rattle.album_terminate.specs.declared.deciding.Decision.{Decision}
 use Rattle.album_terminate.specs.declared.deciding.Decision.TheVariants as decision
 use Rattle.album_terminate.specs.declared.deciding.StampState.TheVariants as state
@@ -179,7 +179,7 @@ with_votes p votes h are =
 waits : (p : PartitionState) (part t : ℕ) → IsPartition p
     → lies_at part p.parts (items_at p.marks t) ≡ true
     → has_vote p.votes t part ≡ false
-    → have_told (part ∷ heard p.votes t) (others_of p.number p.parts (items_at p.marks t)) ≡ false
+    → have_voted (part ∷ heard p.votes t) (others_of p.number p.parts (items_at p.marks t)) ≡ false
     → IsPartition (with_action p (on_vote_of p part t))
 waits p part t h due new not_all =
     rw (new, not_all) (rw (append-nil p.marks)
@@ -190,7 +190,7 @@ waits p part t h due new not_all =
 settles : (p : PartitionState) (part t : ℕ) → IsPartition p → state_of p.marks t ≡ state.Pending
     → lies_at part p.parts (items_at p.marks t) ≡ true
     → has_vote p.votes t part ≡ false
-    → have_told (part ∷ heard p.votes t) (others_of p.number p.parts (items_at p.marks t)) ≡ true
+    → have_voted (part ∷ heard p.votes t) (others_of p.number p.parts (items_at p.marks t)) ≡ true
     → IsPartition (with_action p (on_vote_of p part t))
 settles p part t h pending due new all =
     let made = stays_with p (Committed t) h (fits_commit p t h (some_stamp p t h pending) pending) in
@@ -205,10 +205,10 @@ settles p part t h pending due new all =
 with_vote : (p : PartitionState) (part t : ℕ) → IsPartition p → state_of p.marks t ≡ state.Pending
     → lies_at part p.parts (items_at p.marks t) ≡ true
     → IsPartition (with_action p (on_vote_of p part t))
-with_vote p part t h pending due = go (has_vote p.votes t part) (have_told (part ∷ heard p.votes t) (others_of p.number p.parts (items_at p.marks t))) refl refl
+with_vote p part t h pending due = go (has_vote p.votes t part) (have_voted (part ∷ heard p.votes t) (others_of p.number p.parts (items_at p.marks t))) refl refl
   where
     go : (a b : Bool) → has_vote p.votes t part ≡ a
-        → have_told (part ∷ heard p.votes t) (others_of p.number p.parts (items_at p.marks t)) ≡ b
+        → have_voted (part ∷ heard p.votes t) (others_of p.number p.parts (items_at p.marks t)) ≡ b
         → IsPartition (with_action p (on_vote_of p part t))
     go true b e f = subst (λ (action : Action). IsPartition (with_action p action)) (heard_is_nothing p part t h pending e) (unchanged p h)
     go false false e f = waits p part t h due e f

@@ -6,7 +6,7 @@ use Rattle.std.specs.Option.{option_or}
 use Rattle.std.proofs.lemmas.Bool.Decides.{Decides-eqb}
 use Rattle.std.proofs.lemmas.List.{append-nil}
 use Rattle.std.proofs.lemmas.List.Folds.{find-append}
-use Rattle.album_terminate.specs.Deciding.{have_told}
+use Rattle.album_terminate.specs.Deciding.{have_voted}
 use Rattle.album_terminate.specs.declared.deciding.StampState.TheVariants as state
 use Rattle.album_partition.specs.declared.marks.Mark.{Mark}
 use Rattle.album_partition.specs.declared.marks.Mark.TheVariants.{Prepared, Committed, Discarded, Trimmed}
@@ -73,7 +73,7 @@ votes_with_mark number parts marks votes mark may h =
   where
     go : (t : ℕ) (b : Bool) → is_mark_of t mark ≡ b → state_of (marks ++ mark ∷ []) t ≡ state.Pending
         → list_any (λ vote. vote.stamp == t) votes ≡ true
-        → have_told (heard votes t) (others_of number parts (items_at (marks ++ mark ∷ []) t)) ≡ false
+        → have_voted (heard votes t) (others_of number parts (items_at (marks ++ mark ∷ []) t)) ≡ false
     go t true e pending voted =
         let unknown = still_pending marks mark t e may pending in
         let none = (unknown_tells _ _ _ unknown).2 in
@@ -96,10 +96,10 @@ heard-push (v ∷ votes) vote t = go (v.stamp == t) (heard-push votes vote t)
     go false h = h
 
 -- the order of those that were heard does not matter
-told-push : (heard others : List ℕ) (part : ℕ) → have_told (heard ++ part ∷ []) others ≡ have_told (part ∷ heard) others
-told-push heard [] part = refl
-told-push heard (other ∷ others) part =
-    rw (any_push (λ p. p == other) heard part ∙ turn (list_any (λ p. p == other) heard) (part == other), told-push heard others part) refl
+have_voted-push : (heard others : List ℕ) (part : ℕ) → have_voted (heard ++ part ∷ []) others ≡ have_voted (part ∷ heard) others
+have_voted-push heard [] part = refl
+have_voted-push heard (other ∷ others) part =
+    rw (any_push (λ p. p == other) heard part ∙ turn (list_any (λ p. p == other) heard) (part == other), have_voted-push heard others part) refl
   where
     turn : (a b : Bool) → (a || b) ≡ (b || a)
     turn true true = refl
@@ -110,7 +110,7 @@ told-push heard (other ∷ others) part =
 pub votes_with_vote : (number parts : ℕ) (marks : List Mark) (votes : List NotedVote) (vote : NotedVote)
     → has_vote votes vote.stamp vote.part ≡ false
     → is_due parts marks vote ≡ true
-    → (state_of marks vote.stamp ≡ state.Pending → have_told (vote.part ∷ heard votes vote.stamp) (others_of number parts (items_at marks vote.stamp)) ≡ false)
+    → (state_of marks vote.stamp ≡ state.Pending → have_voted (vote.part ∷ heard votes vote.stamp) (others_of number parts (items_at marks vote.stamp)) ≡ false)
     → AreVotes number parts marks votes → AreVotes number parts marks (votes ++ vote ∷ [])
 votes_with_vote number parts marks votes vote new due waits h =
     record {
@@ -119,22 +119,19 @@ votes_with_vote number parts marks votes vote new due waits h =
       open_still = λ t pending voted. go t (vote.stamp == t) refl pending (sym (any_push (λ v. v.stamp == t) votes vote) ∙ voted);
     }
   where
-    told : (t : ℕ) → List ℕ → Bool
-    told t ps = have_told ps (others_of number parts (items_at marks t))
-
     go : (t : ℕ) (b : Bool) → (vote.stamp == t) ≡ b → state_of marks t ≡ state.Pending
         → list_any (λ v. v.stamp == t) votes || (vote.stamp == t) ≡ true
-        → have_told (heard (votes ++ vote ∷ []) t) (others_of number parts (items_at marks t)) ≡ false
+        → have_voted (heard (votes ++ vote ∷ []) t) (others_of number parts (items_at marks t)) ≡ false
     go t true e pending voted =
         let same : vote.stamp ≡ t = (Decides-eqb vote.stamp t).0 e in
         let one : map (λ v. v.part) (filter (λ v. v.stamp == t) (vote ∷ [])) ≡ vote.part ∷ [] = rw e refl in
-        ap (λ (ps : List ℕ). have_told ps (others_of number parts (items_at marks t))) (heard-push votes vote t ∙ ap (λ (ps : List ℕ). heard votes t ++ ps) one)
-        ∙ told-push (heard votes t) (others_of number parts (items_at marks t)) vote.part
-        ∙ subst (λ (u : ℕ). have_told (vote.part ∷ heard votes u) (others_of number parts (items_at marks u)) ≡ false) same
+        ap (λ (ps : List ℕ). have_voted ps (others_of number parts (items_at marks t))) (heard-push votes vote t ∙ ap (λ (ps : List ℕ). heard votes t ++ ps) one)
+        ∙ have_voted-push (heard votes t) (others_of number parts (items_at marks t)) vote.part
+        ∙ subst (λ (u : ℕ). have_voted (vote.part ∷ heard votes u) (others_of number parts (items_at marks u)) ≡ false) same
         (waits (subst (λ (u : ℕ). state_of marks u ≡ state.Pending) (sym same) pending))
     go t false e pending voted =
         let none : map (λ v. v.part) (filter (λ v. v.stamp == t) (vote ∷ [])) ≡ [] = rw e refl in
-        ap (λ (ps : List ℕ). have_told ps (others_of number parts (items_at marks t))) (heard-push votes vote t ∙ ap (λ (ps : List ℕ). heard votes t ++ ps) none ∙ append-nil (heard votes t))
+        ap (λ (ps : List ℕ). have_voted ps (others_of number parts (items_at marks t))) (heard-push votes vote t ∙ ap (λ (ps : List ℕ). heard votes t ++ ps) none ∙ append-nil (heard votes t))
         ∙ h.open_still t pending (other (list_any (λ v. v.stamp == t) votes) voted)
       where
         other : (a : Bool) → a || (vote.stamp == t) ≡ true → a ≡ true
@@ -146,7 +143,7 @@ votes_with_vote number parts marks votes vote new due waits h =
 -- the one that votes is among those that were heard, and so another one is not
 pub heard_already : (number parts : ℕ) (marks : List Mark) (votes : List NotedVote) (t part : ℕ)
     → AreVotes number parts marks votes → state_of marks t ≡ state.Pending → has_vote votes t part ≡ true
-    → have_told (part ∷ heard votes t) (others_of number parts (items_at marks t)) ≡ false
+    → have_voted (part ∷ heard votes t) (others_of number parts (items_at marks t)) ≡ false
 heard_already number parts marks votes t part h pending e =
     once_more (heard votes t) (others_of number parts (items_at marks t)) (is_heard votes e) ∙ h.open_still t pending (is_voted votes e)
   where
@@ -168,7 +165,7 @@ heard_already number parts marks votes t part h pending e =
         go true false f e h = rw f (h e)
         go false b f e h = h e
 
-    once_more : (ps others : List ℕ) → list_any (λ p. p == part) ps ≡ true → have_told (part ∷ ps) others ≡ have_told ps others
+    once_more : (ps others : List ℕ) → list_any (λ p. p == part) ps ≡ true → have_voted (part ∷ ps) others ≡ have_voted ps others
     once_more ps [] e = refl
     once_more ps (other ∷ others) e = rw (is (part == other) refl, once_more ps others e) refl
       where

@@ -134,7 +134,7 @@ mark_with partition part stamp =
     (others_of partition.number partition.parts (items_at partition.marks stamp)))
     stamp
 
--- a vote Prepared, which one of the partitions of the items has told
+-- a vote Prepared of one of the partitions of the items
 abbrev pub on_vote_of : PartitionState → ℕ → ℕ → Action
 on_vote_of partition part stamp =
     record { mark = mark_with partition part stamp; vote = new_vote partition.votes stamp part; reply = None }
@@ -205,7 +205,7 @@ answer partition message = option_map (reply_to partition message) (action_of pa
 
 -- ---- what memory is wanted for
 
--- it tells a version, whose value is copied
+-- it is a version, whose value is copied
 abbrev pub is_version : Reply → Bool
 is_version (reply.Version item stamp value) = true
 is_version (reply.Prepared stamp) = false

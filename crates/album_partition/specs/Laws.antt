@@ -1,10 +1,8 @@
--- What follows of the table of answers: what each reply, each version that is read and each mark tells.
+-- What follows of the table of answers: what each reply, each version that is read and each mark means.
 use Rattle.std.specs.Prelude.{◌≡◌, ◌≢◌, ℕ, ◌≤◌, ◌<◌, true, false, All, Contains, ◌⊎◌, List, [], ◌∷◌, Some, None}
-use Rattle.std.specs.Option.{unwrap_or}
 use Rattle.album_items.specs.ItemIds.{place_of}
 use Rattle.album_items.specs.Openings.{Row}
 use Rattle.album_items.specs.declared.values.Value.{Value}
-use Rattle.album_items.specs.declared.values.Value.TheVariants.{Missing}
 use Rattle.album_calls.specs.declared.messages.Body.{Body}
 use Rattle.album_calls.specs.declared.messages.Body.TheVariants as body
 use Rattle.album_calls.specs.declared.messages.Message.{Message}
@@ -17,13 +15,13 @@ use Rattle.album_terminate.specs.declared.deciding.StampState.TheVariants as sta
 use Rattle.album_partition.specs.declared.marks.Mark.{Mark}
 use Rattle.album_partition.specs.declared.marks.Mark.TheVariants.{Prepared, Committed, Discarded, Trimmed}
 use Rattle.album_partition.specs.Answers.{is_same}
-use Rattle.album_partition.specs.Marks.{state_of, is_full, items_at, value_in, version, has_version, floor, kept_version, is_legal}
+use Rattle.album_partition.specs.Marks.{state_of, is_full, items_at, first_value, version, has_version, floor, kept_version, is_legal}
 use Rattle.album_partition.specs.Partition.{PartitionState}
 use Rattle.album_items.specs.Places.{lies_at, others_of}
 use Rattle.album_partition.specs.Proper.{is_proper}
 use Rattle.album_partition.specs.Votes.{heard}
 
--- ---- what a reply tells
+-- ---- what a reply means
 
 -- The stamp stands as the reply says, and an item that is gone was trimmed. (Of a version and of a Clash this says
 -- nothing.)
@@ -53,11 +51,11 @@ IsClash partition (body.Request (Get item stamps)) = place_of partition.parts it
 IsClash partition (body.Request (Check stamp)) = stamp ≡ 0
 IsClash partition (body.Reply reply) = ⊥
 
--- the message goes from the partition to whom the other came from, under its tag
-pub record IsReplyTo (partition : PartitionState) (message told : Message) : Type 0 where
-  pub sender : told.from ≡ Part partition.number
-  pub receiver : told.to ≡ message.from
-  pub tag : told.tag ≡ message.tag
+-- the answer goes from the partition to the sender of the message, under its tag
+pub record IsReplyTo (partition : PartitionState) (message sent : Message) : Type 0 where
+  pub sender : sent.from ≡ Part partition.number
+  pub receiver : sent.to ≡ message.from
+  pub tag : sent.tag ≡ message.tag
 
 -- ---- what is read of an item
 
@@ -80,7 +78,7 @@ IsReadAt marks item (t ∷ stamps) stamp = IsBest marks item (t ∷ stamps) stam
 -- the value is that of the item's version, and at 0 its first value, or Missing
 pub record IsValueOf (partition : PartitionState) (item stamp : ℕ) (value : Value) : Type 0 where
   pub written : stamp ≢ 0 → version partition.marks item stamp ≡ Some value
-  pub first : stamp ≡ 0 → value ≡ unwrap_or (value_in partition.items item) Missing
+  pub first : stamp ≡ 0 → value ≡ first_value partition.items item
 
 -- the version answers the message
 pub record IsReadOf
@@ -118,7 +116,7 @@ pub record IsChecked (partition : PartitionState) (message : Message) (stamp : �
 pub record IsLastVote (partition : PartitionState) (message : Message) (stamp : ℕ) : Type 0 where
   pub part : ℕ
   pub sender : message.from ≡ Part part
-  pub told : message.body ≡ body.Reply (reply.Status stamp vote.Prepared)
+  pub voted : message.body ≡ body.Reply (reply.Status stamp vote.Prepared)
   pub due : lies_at part partition.parts (items_at partition.marks stamp) ≡ true
   pub others : All (Contains (part ∷ heard partition.votes stamp))
       (others_of partition.number partition.parts (items_at partition.marks stamp))

@@ -1,11 +1,13 @@
--- What a list of marks tells: of a stamp, of the versions of an item, and how full the list is.
+-- What a list of marks has: of a stamp, of the versions of an item, and how full the list is.
 use Rattle.std.specs.Prelude.{◌≡◌, ◌↔◌, Contains, ℕ, ◌+◌, Bool, true, false, ◌==◌, ◌&&◌, ◌||◌, nat_lt, nat_le, List, [], ◌∷◌, ◌++◌, length, filter, is_some, Option, Some, None, if◌then◌else◌}
 use Rattle.std.specs.List.{list_any, filter_map, find}
 use Rattle.std.specs.List.Sorted.{IsStrictlySortedBy}
 use Rattle.std.specs.Map.{lookup}
+use Rattle.std.specs.Option.{unwrap_or}
 use Rattle.std.specs.Ordering.{nat_cmp}
 use Rattle.album_items.specs.Openings.{Row}
 use Rattle.album_items.specs.declared.values.Value.{Value}
+use Rattle.album_items.specs.declared.values.Value.TheVariants.{Missing}
 use Rattle.album_versions.specs.Best.{best_of}
 use Rattle.album_terminate.specs.declared.deciding.StampState.{StampState}
 use Rattle.album_terminate.specs.declared.deciding.StampState.TheVariants as state
@@ -137,6 +139,10 @@ is_legal marks = legal_after [] marks
 -- the value that rows give an item
 abbrev pub value_in : List Row → ℕ → Option Value
 value_in rows item = lookup (λ i. i == item) rows
+
+-- the value that rows give an item, or Missing
+abbrev pub first_value : List Row → ℕ → Value
+first_value rows item = unwrap_or (value_in rows item) Missing
 
 -- the value of the item's version at a stamp: it was prepared there, and not discarded
 abbrev pub version : List Mark → ℕ → ℕ → Option Value

@@ -6,8 +6,8 @@ use Rattle.album_versions.specs.Versions.{VersionsState, version_at, latest_of, 
 use Rattle.album_partition.specs.declared.marks.Mark.{Mark}
 use Rattle.album_partition.specs.Marks.{is_legal, may_follow, mark_writes, value_in, latest, floor, kept_version}
 
--- the marks follow each other as they may, and each item has just the versions, the latest stamp and the floor that
--- they tell
+-- the marks follow each other as they may, and each item has exactly the versions, the latest stamp and the floor that
+-- they make
 pub record IsStored (marks : List Mark) (kept : VersionsState) : Type 0 where
   pub legal : is_legal marks ≡ true
   pub versions : (i t : ℕ) → version_at kept i t ≡ kept_version marks i t

@@ -12,7 +12,7 @@ use Rattle.album_partition.specs.Marks.{state_of, is_pending, items_at}
 use Rattle.album_partition.specs.Partition.{PartitionState}
 use Rattle.album_items.specs.Places.{others_of}
 
--- the partition tells itself that the stamp is prepared here
+-- the partition votes to itself: the stamp is prepared here
 abbrev pub own_vote : ℕ → ℕ → Message
 own_vote number stamp =
     record { from = Part number; to = Part number; tag = 0; body = Reply (Status stamp Prepared) }

@@ -2,13 +2,13 @@
 use Rattle.std.specs.Prelude.{◌≡◌, ℕ, Bool, true, false, ◌==◌, ◌&&◌, List, map, filter, Option, Some, None, if◌then◌else◌}
 use Rattle.std.specs.List.{list_any, list_all}
 use Rattle.album_stamps.specs.Distinct.{no_two}
-use Rattle.album_terminate.specs.Deciding.{have_told}
+use Rattle.album_terminate.specs.Deciding.{have_voted}
 use Rattle.album_terminate.specs.declared.deciding.StampState.TheVariants as state
 use Rattle.album_partition.specs.declared.marks.Mark.{Mark}
 use Rattle.album_partition.specs.Marks.{state_of, items_at}
 use Rattle.album_items.specs.Places.{lies_at, others_of}
 
--- a partition has told that the stamp is prepared there
+-- a partition has voted that the stamp is prepared there
 pub record NotedVote : Type 0 where
   pub stamp : ℕ
   pub part : ℕ
@@ -47,4 +47,4 @@ pub record AreVotes (number parts : ℕ) (marks : List Mark) (votes : List Noted
   pub due : list_all (is_due parts marks) votes ≡ true
   pub open_still : (stamp : ℕ) → state_of marks stamp ≡ state.Pending
       → list_any (λ vote. vote.stamp == stamp) votes ≡ true
-      → have_told (heard votes stamp) (others_of number parts (items_at marks stamp)) ≡ false
+      → have_voted (heard votes stamp) (others_of number parts (items_at marks stamp)) ≡ false

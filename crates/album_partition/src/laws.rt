@@ -74,7 +74,7 @@ pub fn promises_against_are_kept()
         → IsPromisedAgainst marks stamp → state_of marks stamp ≡ StampState.Discarded }
     ensures stays { (marks later : List Mark) (stamp : ℕ)
         → IsPromisedAgainst marks stamp → IsPromisedAgainst (marks ++ later) stamp }
-    ensures told { (partition : PartitionState) (message : Message) (stamp : ℕ)
+    ensures never { (partition : PartitionState) (message : Message) (stamp : ℕ)
         → state_of partition.marks stamp ≡ StampState.Unknown
         → (action_of partition message).reply ≡ Some (Reply.Status stamp Vote.Never)
         → IsPromisedAgainst (after partition message).marks stamp }
@@ -102,9 +102,9 @@ pub fn marks_have_their_causes()
 {}
 
 /// A law: what a reply says of a stamp is so, once the message was received.
-pub fn replies_tell_the_state()
-    ensures { (partition : PartitionState) (message told : Message) → answer partition message ≡ Some told
-        → (reply : AnyReply) × (told.body ≡ Body.Reply reply) × IsTrueOf (after partition message).marks reply }
+pub fn replies_are_true()
+    ensures { (partition : PartitionState) (message sent : Message) → answer partition message ≡ Some sent
+        → (reply : AnyReply) × (sent.body ≡ Body.Reply reply) × IsTrueOf (after partition message).marks reply }
 {}
 
 /// A law: each request to the partition is answered, and the reply is a Clash only where something is
@@ -120,8 +120,8 @@ pub fn requests_are_answered()
 /// A law: to whom a reply goes. The votes that were noted don't change it, a reply is never replied
 /// to, and a message to another node does nothing.
 pub fn replies_go_to_the_sender()
-    ensures sender { (partition : PartitionState) (message told : Message)
-        → answer partition message ≡ Some told → IsReplyTo partition message told }
+    ensures sender { (partition : PartitionState) (message sent : Message)
+        → answer partition message ≡ Some sent → IsReplyTo partition message sent }
     ensures votes { (partition : PartitionState) (message : Message) (votes : List NotedVote)
         → answer (record partition { votes = votes }) message ≡ answer partition message }
     ensures requests { (partition : PartitionState) (message : Message) (reply : AnyReply)

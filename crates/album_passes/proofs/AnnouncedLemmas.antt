@@ -22,19 +22,19 @@ pub some_or_none : (o : Option (List ℕ)) → ((is : List ℕ) × (o ≡ Some i
 some_or_none (Some is) = inl (is, refl)
 some_or_none None = inr refl
 
--- what is told, with the items of t told too
-abbrev pub told_also : (ℕ → Option (List ℕ)) → ℕ → List ℕ → ℕ → Option (List ℕ)
-told_also told t is u = cond (t == u) (Some is) (told u)
+-- what is announced, with the items of t announced too
+abbrev pub also_announced : (ℕ → Option (List ℕ)) → ℕ → List ℕ → ℕ → Option (List ℕ)
+also_announced lists t is u = cond (t == u) (Some is) (lists u)
 
-pub told_here : (told : ℕ → Option (List ℕ)) (t : ℕ) (is : List ℕ) (u : ℕ) → u ≡ t → told_also told t is u ≡ Some is
-told_here told t is u e = ap (λ (b : Bool). cond b (Some is) (told u)) (eq-eqb t u (sym e))
+pub announced_here : (lists : ℕ → Option (List ℕ)) (t : ℕ) (is : List ℕ) (u : ℕ) → u ≡ t → also_announced lists t is u ≡ Some is
+announced_here lists t is u e = ap (λ (b : Bool). cond b (Some is) (lists u)) (eq-eqb t u (sym e))
 
-pub told_else : (told : ℕ → Option (List ℕ)) (t : ℕ) (is : List ℕ) (u : ℕ) → u ≢ t → told_also told t is u ≡ told u
-told_else told t is u n = ap (λ (b : Bool). cond b (Some is) (told u)) (ne_eqb t u (λ e. n (sym e)))
+pub announced_else : (lists : ℕ → Option (List ℕ)) (t : ℕ) (is : List ℕ) (u : ℕ) → u ≢ t → also_announced lists t is u ≡ lists u
+announced_else lists t is u n = ap (λ (b : Bool). cond b (Some is) (lists u)) (ne_eqb t u (λ e. n (sym e)))
 
--- what was told of a stamp is told still, where nothing was of t
-pub told_more : (told : ℕ → Option (List ℕ)) (t : ℕ) (is : List ℕ) → told t ≡ None
-    → (u : ℕ) (js : List ℕ) → told u ≡ Some js → told_also told t is u ≡ Some js
-told_more told t is none u js e = dite (ℕ_discrete u t)
-    (λ same. let had : told t ≡ Some js = subst (λ (x : ℕ). told x ≡ Some js) same e in absurd (cc (had, none)))
-    (λ n. told_else told t is u n ∙ e)
+-- what was announced of a stamp is so still, where nothing was of t
+pub announced_more : (lists : ℕ → Option (List ℕ)) (t : ℕ) (is : List ℕ) → lists t ≡ None
+    → (u : ℕ) (js : List ℕ) → lists u ≡ Some js → also_announced lists t is u ≡ Some js
+announced_more lists t is none u js e = dite (ℕ_discrete u t)
+    (λ same. let had : lists t ≡ Some js = subst (λ (x : ℕ). lists x ≡ Some js) same e in absurd (cc (had, none)))
+    (λ n. announced_else lists t is u n ∙ e)

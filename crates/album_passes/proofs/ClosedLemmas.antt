@@ -1,4 +1,4 @@
--- What a closed cut tells of each stamp, and the least cut that goes on from two. The laws of closed cuts cite the
+-- What a closed cut has of each stamp, and the least cut that goes on from two. The laws of closed cuts cite the
 -- lemmas that are `pub`.
 use Rattle.std.proofs.Common.{rules, ◌≡◌, ℕ, zero, suc, ◌<◌, ◌+◌, Bool, true, false, not, ◌&&◌, ◌||◌, cond, List, [], ◌∷◌, length, get_or, All, Contains, IsSome, Some, None, Option, refl, ap, sym, ◌∙◌, subst, ⊎_elim, arith, ne_eqb}
 use Rattle.std.specs.List.{list_any, list_all, find, range_with_len}
@@ -72,7 +72,7 @@ discards_is t (Committed u) e = absurd (cc (e))
 discards_is t (Discarded u) e = ap Discarded ((Decides-eqb u t).0 e)
 discards_is t (Trimmed i) e = absurd (cc (e))
 
--- ---- what a closed cut tells
+-- ---- what a closed cut has
 
 pub backed_there : (c : Cut) (p : ℕ) (m : Mark) → IsClosedCut c → Contains (prefix_at c p) m → IsBacked c m
 backed_there c p m closed n = All-contains (IsBacked c) (prefix_at c p) m (closed p) n

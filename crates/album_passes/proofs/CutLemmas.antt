@@ -13,7 +13,7 @@ use Rattle.album_partition.proofs.LegalLemmas.{is_legal-push}
 use Rattle.album_passes.specs.Cuts.{Cut, marks_at, prefix_at, prefix_for, announced_for, IsPreparedFor, IsBacked, IsSound, IsPrefix, Extends}
 use Rattle.album_passes.specs.Changes.{longer, longer_each, merged, marked_cut, announced_cut}
 use Rattle.album_passes.proofs.PrefixLemmas.{prefix_self, prefix_trans, any_more, promised_more, longer_cases}
-use Rattle.album_passes.proofs.AnnouncedLemmas.{told_more}
+use Rattle.album_passes.proofs.AnnouncedLemmas.{announced_more}
 
 -- ---- a cut that goes on from another
 
@@ -140,7 +140,7 @@ extends_announced c t is none = record {
   opening = refl;
   parts = refl;
   prefixes = λ p. prefix_self (prefix_at c p);
-  announced = told_more (announced_for c) t is none;
+  announced = announced_more (announced_for c) t is none;
 }
 
 pub sound_announced : (c : Cut) (t : ℕ) (is : List ℕ) → announced_for c t ≡ None → IsSound c → IsSound (announced_cut c t is)

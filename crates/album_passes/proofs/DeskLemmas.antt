@@ -60,7 +60,7 @@ pub begins : (key : Terms) (words : List ℕ) → words ≡ 0 ∷ replicate key.
 begins key words is =
     let hs : List (List Mark) = replicate key.parts [] in
     let none : ℕ → Option (List ℕ) = λ _. None in
-    let run : Run = record { histories = hs; drawn = 0; told = none; owner = λ _. 0; holder = λ _. 0 } in
+    let run : Run = record { histories = hs; drawn = 0; announced = none; owner = λ _. 0; holder = λ _. 0 } in
     let cut : IsCutOf key run (empty_cut key.opening key.parts) = record {
       opening = refl;
       parts = refl;

@@ -1,8 +1,8 @@
 -- A read of two rounds over closed cuts is read atomic and fresh. The laws of reads cite the lemmas that are `pub`; the
 -- main one is `same_written`: what a committed stamp ever wrote, a cut that has it committed has already.
-use Rattle.std.proofs.Common.{◌≡◌, ◌≢◌, ℕ, zero, suc, ◌≤◌, Bool, true, false, ◌==◌, cond, inl, inr, List, [], ◌∷◌, get_or, map, Contains, is_some, Some, None, Option, if◌then◌else◌, refl, ap, sym, ◌∙◌, subst, ⊎_elim, arith}
+use Rattle.std.proofs.Common.{◌≡◌, ◌≢◌, ℕ, zero, suc, ◌<◌, ◌≤◌, Bool, true, false, ◌==◌, cond, inl, inr, List, [], ◌∷◌, get_or, map, Contains, is_some, Some, None, Option, if◌then◌else◌, refl, ap, sym, ◌∙◌, subst, ⊎_elim, arith}
 use Rattle.std.specs.List.{list_any, list_all, find}
-use Rattle.std.specs.Option.{option_or, unwrap_or}
+use Rattle.std.specs.Option.{option_or}
 use Rattle.std.proofs.lemmas.Bool.{and_parts}
 use Rattle.std.proofs.lemmas.Bool.Decides.{Decides-eqb}
 use Rattle.std.proofs.lemmas.List.Elements.{All-contains}
@@ -12,17 +12,17 @@ use mathlib.Core.Logic.{dite}
 use Rattle.album_items.specs.ItemIds.{place_of}
 use Rattle.album_items.specs.Openings.{Row}
 use Rattle.album_items.specs.declared.values.Value.{Value}
-use Rattle.album_items.specs.declared.values.Value.TheVariants.{Missing}
 use Rattle.album_terminate.specs.declared.deciding.StampState.TheVariants as state
 use Rattle.album_partition.specs.declared.marks.Mark.{Mark}
 use Rattle.album_partition.specs.declared.marks.Mark.TheVariants.{Prepared}
 use Rattle.album_partition.specs.Laws.{IsLatest, IsBest, IsReadAt}
-use Rattle.album_partition.specs.Marks.{prepares, commits, discards, state_by, state_of, mark_writes, writes_at, value_in, version, has_version}
+use Rattle.album_partition.specs.Marks.{prepares, commits, discards, state_by, state_of, mark_writes, writes_at, value_in, version, has_version, first_value}
 use Rattle.album_partition.specs.Proper.{is_among}
 use Rattle.album_partition.proofs.ListLemmas.{contains_from_any}
 use Rattle.album_reader.specs.Answers.{ReadVersion}
+use Rattle.album_reader.specs.Atomic.{IsFracturedBy, IsWrittenBy, IsWritten, IsReadAtomic, IsFreshFrom}
 use Rattle.album_passes.specs.Cuts.{Cut, prefix_at, prefix_for, IsPreparedFor, IsSound, IsPrefix, Extends}
-use Rattle.album_passes.specs.Reads.{IsCommitted, written_value, IsFracturedBy, IsWritten, IsReadAtomic, IsFreshFrom, IsAnsweredBetween, IsReadInTwoRounds}
+use Rattle.album_passes.specs.Reads.{IsCommitted, IsCommittedFor, written_value, writes_in_cut, IsAnsweredBetween, IsReadInTwoRounds}
 use Rattle.album_passes.proofs.PrefixLemmas.{any_more}
 use Rattle.album_passes.proofs.CutLemmas.{extends_trans, prefix_for_more}
 use Rattle.album_passes.proofs.ClosedLemmas.{found, found_in, any_found, prepares_is, backed_there, committed_tells, never_discarded, same_list}
@@ -191,28 +191,32 @@ module _ (b m c : Cut) (ones : List ReadVersion) (ts : List ℕ) (fs : List Read
       let had : version r.marks x.item t ≡ Some v = version_along (prefix_for m x.item) r.marks x.item t v r.from (kept_then t h x n) w in
       All-contains (λ (u : ℕ). has_version r.marks x.item u ≡ true → u ≤ x.stamp) ts t (best x n).greatest given (ap is_some had)
 
-  pub read_whole : (x y : ReadVersion) → Contains fs x → Contains fs y → IsFracturedBy c x y → ⊥
+  pub read_whole : (x y : ReadVersion) → Contains fs x → Contains fs y → IsFracturedBy (writes_in_cut c) x y → ⊥
   read_whole x y nx ny f =
-      let older = f.older in
+      let at : x.stamp ≡ f.by = f.at in
+      let older : y.stamp < x.stamp = subst (λ (t : ℕ). y.stamp < t) (sym at) f.older in
       let nz : x.stamp ≢ 0 = λ e. absurd (omega arith) in
       let h = committed_then x nx nz in
-      let w = there (written_value c y.item x.stamp) f.wrote_other in
+      let w = there (written_value c y.item x.stamp)
+      (subst (λ (t : ℕ). is_some (written_value c y.item t) ≡ true) (sym at) f.wrote_other) in
       let had = written_back m c R.middle_sound R.ended_sound R.second_on x.stamp h y.item w.0 w.1 in
       let le = above y ny x.stamp w.0 ((best x nx).given nz) h had in
       omega arith
 
-  pub read_written : (x : ReadVersion) → Contains fs x → IsWritten c x
+  pub read_written : (x : ReadVersion) → Contains fs x → IsWritten (writes_in_cut c) (first_value c.opening) x
   read_written x n = let r = second x n in dite (ℕ_discrete x.stamp 0)
-      (λ (z : x.stamp ≡ 0). inl (z, r.first z ∙ ap (λ (o : List Row). first_in o x.item) (sym R.second_on.opening)))
+      (λ (z : x.stamp ≡ 0). inl (z, r.first z ∙ ap (λ (o : List Row). first_value o x.item) (sym R.second_on.opening)))
       (λ (nz : x.stamp ≢ 0).
       let h = committed_more m c R.second_on x.stamp (committed_then x n nz) in
-      inr (h, written_more c R.ended_sound x.stamp h r.marks x.item x.value r.to (r.written nz)))
-    where
-      first_in : List Row → ℕ → Value
-      first_in o i = unwrap_or (value_in o i) Missing
+      inr record {
+        by = x.stamp;
+        committed = h;
+        at = refl;
+        wrote = written_more c R.ended_sound x.stamp h r.marks x.item x.value r.to (r.written nz);
+      })
 
-  pub read_fresh : (x : ReadVersion) → Contains fs x → (t : ℕ) → list_any (commits t) (prefix_for b x.item) ≡ true → is_some (written_value c x.item t) ≡ true → t ≤ x.stamp
-  read_fresh x n t done wrote =
+  pub read_fresh : IsFreshFrom (writes_in_cut c) (IsCommittedFor b) fs
+  read_fresh x n t wrote done =
       let w = there (written_value c x.item t) wrote in
       let old : IsCommitted b t = (place_of b.parts x.item, done) in
       let mid = committed_more b m R.first_on t old in
@@ -235,26 +239,35 @@ module _ (b m c : Cut) (ones : List ReadVersion) (ts : List ℕ) (fs : List Read
 
 -- ---- as the cut grows
 
-pub atomic_more : (c d : Cut) → IsSound c → IsSound d → Extends c d → (fs : List ReadVersion) → IsReadAtomic c fs → IsReadAtomic d fs
+pub atomic_more : (c d : Cut) → IsSound c → IsSound d → Extends c d → (fs : List ReadVersion)
+    → IsReadAtomic (writes_in_cut c) (first_value c.opening) fs → IsReadAtomic (writes_in_cut d) (first_value d.opening) fs
 atomic_more c d s r x fs a = record {
-  whole = λ f g nf ng y. (let older = y.older in ⊎_elim
+  whole = λ f g nf ng y. (let older : g.stamp < f.stamp = subst (λ (t : ℕ). g.stamp < t) (sym y.at) y.older in ⊎_elim
       (λ (z : (f.stamp ≡ 0) × _). (let e = z.0 in omega arith))
-      (λ (h : IsCommitted c f.stamp × _). a.whole f g nf ng record {
-        committed = h.0;
-        wrote_one = ap is_some (sym (same_written c d s r x f.stamp h.0 f.item)) ∙ y.wrote_one;
-        wrote_other = ap is_some (sym (same_written c d s r x f.stamp h.0 g.item)) ∙ y.wrote_other;
-        older = older;
+      (λ (h : IsWrittenBy (writes_in_cut c) f). (let k = subst (IsCommitted c) (h.at ∙ y.at) h.committed in a.whole f g nf ng record {
+        by = y.by;
+        committed = k;
+        wrote_one = ap is_some (sym (same_written c d s r x y.by k f.item)) ∙ y.wrote_one;
+        wrote_other = ap is_some (sym (same_written c d s r x y.by k g.item)) ∙ y.wrote_other;
+        at = y.at;
+        older = y.older;
+      }))
+      (a.written f nf));
+  written = λ f n. ⊎_elim
+      (λ z. inl (z.0, z.1 ∙ ap (λ (o : List Row). first_value o f.item) (sym x.opening)))
+      (λ (h : IsWrittenBy (writes_in_cut c) f). inr record {
+        by = h.by;
+        committed = committed_more c d x h.by h.committed;
+        at = h.at;
+        wrote = same_written c d s r x h.by h.committed f.item ∙ h.wrote;
       })
-      (All-contains (IsWritten c) fs f a.written nf));
-  written = λ k f l. ⊎_elim
-      (λ z. inl (z.0, z.1 ∙ ap (λ (o : List Row). unwrap_or (value_in o (get_or fs k f).item) Missing) (sym x.opening)))
-      (λ h. inr (committed_more c d x (get_or fs k f).stamp h.0, same_written c d s r x (get_or fs k f).stamp h.0 (get_or fs k f).item ∙ h.1))
-      (a.written k f l);
+      (a.written f n);
 }
 
-pub fresh_more : (a b c d : Cut) → IsSound c → IsSound d → Extends a b → Extends b c → Extends c d → (fs : List ReadVersion) → IsFreshFrom b c fs → IsFreshFrom a d fs
-fresh_more a b c d s r x y z fs f = λ k g l t done wrote.
-    let i = (get_or fs k g).item in
+pub fresh_more : (a b c d : Cut) → IsSound c → IsSound d → Extends a b → Extends b c → Extends c d → (fs : List ReadVersion)
+    → IsFreshFrom (writes_in_cut c) (IsCommittedFor b) fs → IsFreshFrom (writes_in_cut d) (IsCommittedFor a) fs
+fresh_more a b c d s r x y z fs f = λ g n t wrote done.
+    let i = g.item in
     let at_b = any_more (commits t) (prefix_for a i) (prefix_for b i) (prefix_for_more a b x i) done in
     let h = committed_more b c y t (place_of b.parts i, at_b) in
-    f k g l t at_b (ap is_some (sym (same_written c d s r z t h i)) ∙ wrote)
+    f g n t (ap is_some (sym (same_written c d s r z t h i)) ∙ wrote) at_b

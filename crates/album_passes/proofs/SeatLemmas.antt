@@ -85,9 +85,9 @@ pub same_cut : (key : Terms) (r : Run) (drawn : ℕ) (owner holder : ℕ → ℕ
     → IsCutOf key (record r { drawn = drawn; owner = owner; holder = holder }) c
 same_cut key r drawn owner holder c C = record { opening = C.opening; parts = C.parts; prefixes = C.prefixes; announced = C.announced; sound = C.sound }
 
-pub same_owner : (r : Run) (drawn : ℕ) (told : ℕ → Option (List ℕ)) (holder : ℕ → ℕ) (id : ℕ) (c : Cut) (p : ℕ) → Owns r id c p
-    → Owns (record r { drawn = drawn; told = told; holder = holder }) id c p
-same_owner r drawn told holder id c p o = record { alone = o.alone; whole = o.whole }
+pub same_owner : (r : Run) (drawn : ℕ) (lists : ℕ → Option (List ℕ)) (holder : ℕ → ℕ) (id : ℕ) (c : Cut) (p : ℕ) → Owns r id c p
+    → Owns (record r { drawn = drawn; announced = lists; holder = holder }) id c p
+same_owner r drawn lists holder id c p o = record { alone = o.alone; whole = o.whole }
 
 pub same_holder : (r : Run) (histories : List (List Mark)) (owner : ℕ → ℕ) (id : ℕ) (c : Cut) (n : ℕ) → Holds r id c n
     → Holds (record r { histories = histories; owner = owner }) id c n
@@ -98,7 +98,7 @@ pub held_still : (key : Terms) (r : Run) (holder : ℕ → ℕ) (j : ℕ) (u : K
     → Fits key r j u → Fits key (record r { holder = holder }) j u
 held_still key r holder j u same f = record {
   cuts = λ k c e. same_cut key r r.drawn r.owner holder c (f.cuts k c e);
-  owns = λ p l h. same_owner r r.drawn r.told holder j (known u) p (f.owns p l h);
+  owns = λ p l h. same_owner r r.drawn r.announced holder j (known u) p (f.owns p l h);
   number = λ n e. (let o = f.number n e in record { alone = same n o.alone; positive = o.positive; counted = o.counted; heard = o.heard });
   guest = λ n e. (let o = f.guest n e in record { alone = same n o.alone; positive = o.positive; counted = o.counted; heard = o.heard });
   apart = f.apart;

@@ -123,7 +123,7 @@ module _ (key : Terms) where
       let cut_of : (c : Cut) → IsCutOf key k.run c → IsCutOf key (record k.run { holder = holder }) c = same_cut key k.run k.run.drawn k.run.owner holder in
       let left : F id (less_guest v) = record {
         cuts = λ i c e. cut_of c (mine.cuts i c e);
-        owns = λ p l h. same_owner k.run k.run.drawn k.run.told holder id (known v) p (mine.owns p l h);
+        owns = λ p l h. same_owner k.run k.run.drawn k.run.announced holder id (known v) p (mine.owns p l h);
         number = λ n e. (let o = mine.number n e in record {
           alone = given_else k.run.holder v.guest new n (λ m g. mine.apart n m e g) ∙ o.alone;
           positive = o.positive;
@@ -228,7 +228,7 @@ module _ (key : Terms) where
             (λ (o : announced_for c t ≡ None). theirs t o ∙ e)
             (some_or_none (announced_for c t));
       } in
-      let told_m : (t : ℕ) (is : List ℕ) → announced_for m t ≡ Some is → k.run.told t ≡ Some is = λ t is e. ⊎_elim
+      let announced_m : (t : ℕ) (is : List ℕ) → announced_for m t ≡ Some is → k.run.announced t ≡ Some is = λ t is e. ⊎_elim
       (λ (o : (js : List ℕ) × (announced_for c t ≡ Some js)). C.announced t o.0 o.1 ∙ (sym (ours t o.0 o.1) ∙ e))
       (λ (o : announced_for c t ≡ None). D.announced t is (sym (theirs t o) ∙ e))
       (some_or_none (announced_for c t)) in
@@ -239,7 +239,7 @@ module _ (key : Terms) where
             (λ t. subst (λ (h : List Mark). IsPrefix h (marks_at k.run.histories p)) (sym t.1) (D.prefixes p))
             (λ t. subst (λ (h : List Mark). IsPrefix h (marks_at k.run.histories p)) (sym t.1) (C.prefixes p))
             (longer_cases (prefix_at c p) (prefix_at d p)));
-        announced = told_m;
+        announced = announced_m;
         sound = sound_merged c d (C.parts ∙ sym D.parts) C.sound D.sound first_on second_on;
       } in
       let w : Knowledge = with_cut v m in

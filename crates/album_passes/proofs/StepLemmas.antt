@@ -18,7 +18,7 @@ use Rattle.album_passes.specs.Knowledge.{Terms, Knowledge, known, last_known}
 use Rattle.album_passes.specs.Rule.{Run, IsCutOf, Holds, Fits, Agree, Keeps}
 use Rattle.album_passes.specs.Steps.{with_cut, Appends, Announces, with_number, with_drawn, Draws}
 use Rattle.album_passes.proofs.PrefixLemmas.{prefix_self, prefix_trans}
-use Rattle.album_passes.proofs.AnnouncedLemmas.{some_or_none, told_also, told_here, told_else, told_more}
+use Rattle.album_passes.proofs.AnnouncedLemmas.{some_or_none, also_announced, announced_here, announced_else, announced_more}
 use Rattle.album_passes.proofs.CutLemmas.{sound_marked, mark_here, mark_else, sound_announced}
 use Rattle.album_passes.proofs.SeatLemmas.{set_each, at_one, given, given_here, given_else, same_cut, same_owner, same_holder, same_run}
 use Rattle.album_passes.proofs.SplitLemmas.{unmoved}
@@ -34,10 +34,10 @@ module _ (key : Terms) where
       let c : Cut = known v in
       let C : IsCutOf key k.run c = mine.cuts 0 c (ap (λ cs. get_elem? cs 0) one) in
       let o = mine.number n number in
-      let untold : k.run.told t ≡ None = sym (o.heard t mine_is) ∙ fresh in
-      let told : ℕ → Option (List ℕ) = told_also k.run.told t is in
-      let more = told_more k.run.told t is untold in
-      let r : Run = record k.run { told = told } in
+      let unannounced : k.run.announced t ≡ None = sym (o.heard t mine_is) ∙ fresh in
+      let lists : ℕ → Option (List ℕ) = also_announced k.run.announced t is in
+      let more = announced_more k.run.announced t is unannounced in
+      let r : Run = record k.run { announced = lists } in
       let F : ℕ → Knowledge → Type 0 = Fits key r in
       let w : Knowledge = with_cut v (announced_cut c t is) in
       let cut_more : (d : Cut) → IsCutOf key k.run d → IsCutOf key r d = λ d D. record {
@@ -47,15 +47,15 @@ module _ (key : Terms) where
         announced = λ u js e. more u js (D.announced u js e);
         sound = D.sound;
       } in
-      let still : (u : ℕ) → u ≢ t → announced_for (announced_cut c t is) u ≡ announced_for c u = told_else (announced_for c) t is in
+      let still : (u : ℕ) → u ≢ t → announced_for (announced_cut c t is) u ≡ announced_for c u = announced_else (announced_for c) t is in
       let now : F id w = record {
         cuts = at_one (IsCutOf key r) (announced_cut c t is) (record {
           opening = C.opening;
           parts = C.parts;
           prefixes = C.prefixes;
           announced = λ u js e. dite (ℕ_discrete u t)
-              (λ same. told_here k.run.told t is u same ∙ (sym (told_here (announced_for c) t is u same) ∙ e))
-              (λ apart. told_else k.run.told t is u apart ∙ C.announced u js (sym (still u apart) ∙ e));
+              (λ same. announced_here k.run.announced t is u same ∙ (sym (announced_here (announced_for c) t is u same) ∙ e))
+              (λ apart. announced_else k.run.announced t is u apart ∙ C.announced u js (sym (still u apart) ∙ e));
           sound = sound_announced c t is fresh C.sound;
         });
         owns = λ p l h. (let q = mine.owns p l h in record { alone = q.alone; whole = q.whole });
@@ -64,25 +64,25 @@ module _ (key : Terms) where
           positive = q.positive;
           counted = q.counted;
           heard = λ u h. dite (ℕ_discrete u t)
-              (λ same. told_here (announced_for c) t is u same ∙ sym (told_here k.run.told t is u same))
-              (λ apart. still u apart ∙ (q.heard u h ∙ sym (told_else k.run.told t is u apart)));
+              (λ same. announced_here (announced_for c) t is u same ∙ sym (announced_here k.run.announced t is u same))
+              (λ apart. still u apart ∙ (q.heard u h ∙ sym (announced_else k.run.announced t is u apart)));
         });
         guest = λ m e. absurd (cc (e, alone));
         apart = λ m l e g same. cc (g, alone);
         seen = mine.seen;
       } in
-      -- what another seat has heard of its own client is all that is told still
+      -- what another seat has heard of its own client is all that is announced still
       let hears : (j : ℕ) → j ≢ id → (d : Cut) (m : ℕ) → Holds k.run j d m → Holds r j d m = λ j apart d m q. record {
         alone = q.alone;
         positive = q.positive;
         counted = q.counted;
         heard = λ y g. dite (ℕ_discrete y t)
             (λ same. absurd (apart (sym q.alone ∙ (ap k.run.holder (sym g ∙ (ap client_number same ∙ mine_is)) ∙ o.alone))))
-            (λ other. q.heard y g ∙ sym (told_else k.run.told t is y other));
+            (λ other. q.heard y g ∙ sym (announced_else k.run.announced t is y other));
       } in
       let others : (j : ℕ) (u : Knowledge) → j ≢ id → get_elem? s.views j ≡ some u → F j u = λ j u apart e. let f = k.each j u e in record {
         cuts = λ i d h. cut_more d (f.cuts i d h);
-        owns = λ p l h. same_owner k.run k.run.drawn told k.run.holder j (known u) p (f.owns p l h);
+        owns = λ p l h. same_owner k.run k.run.drawn lists k.run.holder j (known u) p (f.owns p l h);
         number = λ m h. hears j apart (known u) m (f.number m h);
         guest = λ m h. hears j apart (last_known u) m (f.guest m h);
         apart = f.apart;
@@ -100,7 +100,7 @@ module _ (key : Terms) where
           most = k.most;
           named = λ u js e. dite (ℕ_discrete u t)
               (λ same. subst (λ (y : ℕ). y ≤ k.run.drawn) (sym (ap client_number same ∙ mine_is)) o.counted)
-              (λ apart. k.named u js (sym (told_else k.run.told t is u apart) ∙ e));
+              (λ apart. k.named u js (sym (announced_else k.run.announced t is u apart) ∙ e));
           each = set_each F s.views id w others now;
         }),
         refl,
@@ -142,7 +142,7 @@ module _ (key : Terms) where
         each = set_each F s.views id w
             (λ j u apart e. (let f = k.each j u e in record {
               cuts = λ i d h. cut_of d (f.cuts i d h);
-              owns = λ p l h. same_owner k.run new k.run.told holder j (known u) p (f.owns p l h);
+              owns = λ p l h. same_owner k.run new k.run.announced holder j (known u) p (f.owns p l h);
               number = λ m h. holds j (known u) m (f.number m h);
               guest = λ m h. holds j (last_known u) m (f.guest m h);
               apart = f.apart;
@@ -150,7 +150,7 @@ module _ (key : Terms) where
             }))
             (record {
               cuts = λ i d h. cut_of d (mine.cuts i d h);
-              owns = λ p l h. same_owner k.run new k.run.told holder id c p (mine.owns p l h);
+              owns = λ p l h. same_owner k.run new k.run.announced holder id c p (mine.owns p l h);
               number = λ m e. (let same : new ≡ m = cc (e) in record {
                 alone = given_here k.run.holder (Some new) id m e;
                 positive = omega arith;
@@ -158,9 +158,9 @@ module _ (key : Terms) where
                 heard = λ t h. ⊎_elim
                     (λ (o : (js : List ℕ) × (announced_for c t ≡ Some js)). o.1 ∙ sym (C.announced t o.0 o.1))
                     (λ (o : announced_for c t ≡ None). o ∙ ⊎_elim
-                    (λ (r : (js : List ℕ) × (k.run.told t ≡ Some js)). (let le = subst (λ (y : ℕ). y ≤ k.run.drawn) h (k.named t r.0 r.1) in absurd (omega arith)))
-                    (λ (r : k.run.told t ≡ None). sym r)
-                    (some_or_none (k.run.told t)))
+                    (λ (r : (js : List ℕ) × (k.run.announced t ≡ Some js)). (let le = subst (λ (y : ℕ). y ≤ k.run.drawn) h (k.named t r.0 r.1) in absurd (omega arith)))
+                    (λ (r : k.run.announced t ≡ None). sym r)
+                    (some_or_none (k.run.announced t)))
                     (some_or_none (announced_for c t));
               });
               guest = λ m e. absurd (cc (e, alone));

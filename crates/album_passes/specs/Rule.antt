@@ -15,7 +15,7 @@ use Rattle.album_passes.specs.Knowledge.{Terms, Knowledge, known, last_known, Ar
 pub record Run : Type 0 where
   pub histories : List (List Mark)
   pub drawn : ℕ
-  pub told : ℕ → Option (List ℕ)
+  pub announced : ℕ → Option (List ℕ)
   pub owner : ℕ → ℕ
   pub holder : ℕ → ℕ
 
@@ -24,7 +24,7 @@ pub record IsCutOf (terms : Terms) (run : Run) (cut : Cut) : Type 0 where
   pub opening : cut.opening ≡ terms.opening
   pub parts : cut.parts ≡ terms.parts
   pub prefixes : (part : ℕ) → IsPrefix (prefix_at cut part) (marks_at run.histories part)
-  pub announced : (stamp : ℕ) (items : List ℕ) → announced_for cut stamp ≡ Some items → run.told stamp ≡ Some items
+  pub announced : (stamp : ℕ) (items : List ℕ) → announced_for cut stamp ≡ Some items → run.announced stamp ≡ Some items
   pub sound : IsSound cut
 
 -- the seat owns the partition, and its cut has the whole history
@@ -37,7 +37,7 @@ pub record Holds (run : Run) (id : ℕ) (cut : Cut) (client : ℕ) : Type 0 wher
   pub alone : run.holder client ≡ id
   pub positive : 0 < client
   pub counted : client ≤ run.drawn
-  pub heard : (stamp : ℕ) → client_number stamp ≡ client → announced_for cut stamp ≡ run.told stamp
+  pub heard : (stamp : ℕ) → client_number stamp ≡ client → announced_for cut stamp ≡ run.announced stamp
 
 -- what the seat knows is so
 pub record Fits (terms : Terms) (run : Run) (id : ℕ) (seat : Knowledge) : Type 0 where
@@ -58,7 +58,7 @@ pub record Agree (terms : Terms) (words : List ℕ) (seats : List Knowledge) : T
   pub legal : (part : ℕ) → is_legal (marks_at run.histories part) ≡ true
   pub few : (part : ℕ) → length (marks_at run.histories part) ≤ terms.limit
   pub most : run.drawn ≤ terms.sessions
-  pub named : (stamp : ℕ) (items : List ℕ) → run.told stamp ≡ Some items → client_number stamp ≤ run.drawn
+  pub named : (stamp : ℕ) (items : List ℕ) → run.announced stamp ≡ Some items → client_number stamp ≤ run.drawn
   pub each : (id : ℕ) (seat : Knowledge) → get_elem? seats id ≡ some seat → Fits terms run id seat
 
 -- the rule, as the table asks for it

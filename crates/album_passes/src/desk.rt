@@ -87,10 +87,10 @@ impl Desk {
     /// `SessionsSpent` where all are drawn.
     pub fn draw<R: Wait>(&self, rt: &R, pass: &mut Pass) -> Result<ClientNo, Refusal>
         requires table { pass.old.table ≡ self.now.table }
-        requires none { pass.old.number ≡ None }
+        requires unnumbered { pass.old.number ≡ None }
         ensures number { IfOk result (λ client. pass.new.number ≡ Some client) }
         ensures rises { IfOk result (λ client. pass.old.drawn < client) }
-        ensures most { IfOk result (λ client. client ≤ self.now.terms.sessions) }
+        ensures counted { IfOk result (λ client. client ≤ self.now.terms.sessions) }
         ensures unheard { IfOk result (λ client. IsUnheard client pass.new.cut) }
         ensures drawn { IfOk result (λ client. pass.new.drawn ≡ client) }
         ensures refused { IsOkUnless result Refusal.SessionsSpent }

@@ -79,7 +79,7 @@ impl Holding {
     /// Gives the first of its partitions away.
     pub fn split_first(&mut self, desk: &Desk) -> Holding
         requires table { self.old.table ≡ desk.now.table }
-        requires some { self.old.seat.low < self.old.seat.high }
+        requires owns { self.old.seat.low < self.old.seat.high }
         ensures left_table { self.new.table ≡ self.old.table }
         ensures left { self.new.seat ≡ less_first self.old.seat }
         ensures table { result.table ≡ self.old.table }
@@ -92,9 +92,9 @@ impl Holding {
 
     /// Takes in the other's cut. The other has no number.
     pub fn join(&mut self, desk: &Desk, other: Holding)
-        requires own { self.old.table ≡ desk.now.table }
-        requires other { other.table ≡ desk.now.table }
-        requires none { other.seat.number ≡ None }
+        requires table { self.old.table ≡ desk.now.table }
+        requires other_table { other.table ≡ desk.now.table }
+        requires unnumbered { other.seat.number ≡ None }
         ensures table { self.new.table ≡ self.old.table }
         ensures seat { self.new.seat ≡ merged_seat self.old.seat other.seat }
         ensures merged { IsMerged (beside self.old.seat other.seat)
@@ -109,10 +109,10 @@ impl Holding {
 
     /// Takes in the other's cut, and gives the other back with the cut of both.
     pub fn meet(&mut self, desk: &Desk, other: Holding) -> Holding
-        requires own { self.old.table ≡ desk.now.table }
-        requires other { other.table ≡ desk.now.table }
+        requires table { self.old.table ≡ desk.now.table }
+        requires other_table { other.table ≡ desk.now.table }
         ensures own_table { self.new.table ≡ self.old.table }
-        ensures own { self.new.seat ≡ less_guest (merged_seat self.old.seat other.seat) }
+        ensures own_seat { self.new.seat ≡ less_guest (merged_seat self.old.seat other.seat) }
         ensures table { result.table ≡ self.old.table }
         ensures seat { result.seat ≡ guest_alone (merged_seat self.old.seat other.seat) }
         ensures merged { IsMerged (beside self.old.seat other.seat)
@@ -169,7 +169,7 @@ impl Holding {
     /// Announces the items for a stamp of its own client, for which nothing was.
     pub fn announce(&mut self, desk: &Desk, stamp: Stamp, items: &[ItemId])
         requires table { self.old.table ≡ desk.now.table }
-        requires own { self.old.seat.number ≡ Some (client_number stamp) }
+        requires number { self.old.seat.number ≡ Some (client_number stamp) }
         requires fresh { announced_for (known self.old.seat) stamp ≡ None }
         ensures table { self.new.table ≡ self.old.table }
         ensures seat { self.new.seat
@@ -183,7 +183,7 @@ impl Holding {
         requires stamp { N.stamp ≡ _stamp }
         requires items { N.items ≡ _items.now }
         requires table { self.old.table ≡ desk.now.table }
-        requires own { self.old.seat.number ≡ Some (client_number N.stamp) }
+        requires number { self.old.seat.number ≡ Some (client_number N.stamp) }
         requires fresh { announced_for (known self.old.seat) N.stamp ≡ None }
         ensures table { self.new.table ≡ self.old.table }
         ensures seat { self.new.seat
@@ -196,11 +196,11 @@ impl Holding {
     pub fn draw<R: Wait>(&mut self, rt: &R, desk: &Desk) -> Option<ClientNo>
         requires table { self.old.table ≡ desk.now.table }
         ensures table { self.new.table ≡ self.old.table }
-        ensures some { IfSome result (λ n. self.new.seat ≡ with_number self.old.seat n) }
+        ensures drawn { IfSome result (λ n. self.new.seat ≡ with_number self.old.seat n) }
         ensures unheard { IfSome result (λ n. IsUnheard n (known self.old.seat)) }
         ensures rises { IfSome result (λ n. self.old.seat.drawn < n) }
-        ensures most { IfSome result (λ n. n ≤ desk.now.terms.sessions) }
-        ensures none { IfNone result (self.new.seat ≡ with_drawn self.old.seat self.new.seat.drawn) }
+        ensures counted { IfSome result (λ n. n ≤ desk.now.terms.sessions) }
+        ensures undrawn { IfNone result (self.new.seat ≡ with_drawn self.old.seat self.new.seat.drawn) }
         ensures seen { IfNone result (self.old.seat.drawn ≤ self.new.seat.drawn) }
         ensures spent { IfNone result (desk.now.terms.sessions ≤ self.new.seat.drawn) }
     {
@@ -210,8 +210,8 @@ impl Holding {
 
 /// The seat takes in the other's cut, and the other's number as its guest's.
 fn take_in(desk: &Desk, seat: &mut Seat<u8, SeatView>, other: Seat<u8, SeatView>)
-    requires own { seat.old.table_id ≡ desk.now.table }
-    requires other { other.table_id ≡ desk.now.table }
+    requires table { seat.old.table_id ≡ desk.now.table }
+    requires other_table { other.table_id ≡ desk.now.table }
     requires bare { other.me.1 ≡ [] }
     requires own_cut { seat.old.me.0.cuts ≡ known seat.old.me.0 ∷ [] }
     requires other_cut { other.me.0.cuts ≡ known other.me.0 ∷ [] }
@@ -228,14 +228,14 @@ fn take_in(desk: &Desk, seat: &mut Seat<u8, SeatView>, other: Seat<u8, SeatView>
 /// Guesses how many numbers are drawn, until a guess is right.
 fn draw_on<R: Wait>(rt: &R, desk: &Desk, seat: &mut Seat<u8, SeatView>) -> Option<ClientNo>
     requires table { seat.old.table_id ≡ desk.now.table }
-    requires one { seat.old.me.0.cuts ≡ known seat.old.me.0 ∷ [] }
+    requires one_cut { seat.old.me.0.cuts ≡ known seat.old.me.0 ∷ [] }
     requires alone { seat.old.me.0.guest ≡ None }
     ensures table { seat.new.table_id ≡ seat.old.table_id }
-    ensures some { IfSome result (λ n. seat.new.me ≡ (with_number seat.old.me.0 n, seat.old.me.1)) }
+    ensures drawn { IfSome result (λ n. seat.new.me ≡ (with_number seat.old.me.0 n, seat.old.me.1)) }
     ensures unheard { IfSome result (λ n. IsUnheard n (known seat.old.me.0)) }
     ensures rises { IfSome result (λ n. seat.old.me.0.drawn < n) }
-    ensures most { IfSome result (λ n. n ≤ desk.now.terms.sessions) }
-    ensures none { IfNone result (seat.new.me ≡ (with_drawn seat.old.me.0 seat.new.me.0.drawn, seat.old.me.1)) }
+    ensures counted { IfSome result (λ n. n ≤ desk.now.terms.sessions) }
+    ensures undrawn { IfNone result (seat.new.me ≡ (with_drawn seat.old.me.0 seat.new.me.0.drawn, seat.old.me.1)) }
     ensures seen { IfNone result (seat.old.me.0.drawn ≤ seat.new.me.0.drawn) }
     ensures spent { IfNone result (desk.now.terms.sessions ≤ seat.new.me.0.drawn) }
 {

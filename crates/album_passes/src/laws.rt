@@ -6,19 +6,20 @@ ghost use Rattle.album_items.specs.Openings.{Row};
 ghost use Rattle.album_terminate.specs.declared.deciding.StampState.TheVariants as StampState;
 ghost use Rattle.album_partition.specs.declared.marks.Mark.{Mark};
 ghost use Rattle.album_partition.specs.declared.marks.Mark.TheVariants as Made;
-ghost use Rattle.album_partition.specs.Marks.{is_mark_of, prepares, commits, discards, state_of, items_at};
+ghost use Rattle.album_partition.specs.Marks.{is_mark_of, prepares, commits, discards, state_of, items_at, first_value};
 ghost use Rattle.album_items.specs.Places.{others_of};
 ghost use Rattle.album_partition.specs.Proper.{is_proper};
 ghost use Rattle.album_reader.specs.Answers.{ReadVersion};
+ghost use Rattle.album_reader.specs.Atomic.{IsReadAtomic, IsFreshFrom};
 ghost use Rattle.album_passes.specs.Cuts.{Cut, prefix_at, announced_for, IsNamed, IsPreparedThroughout, IsPromisedSomewhere, IsBacked, IsClosedCut, IsSound, Extends};
 ghost use Rattle.album_passes.specs.Changes.{marked_cut, merged};
-ghost use Rattle.album_passes.specs.Reads.{IsCommitted, written_value, IsReadAtomic, IsFreshFrom, IsReadInTwoRounds};
+ghost use Rattle.album_passes.specs.Reads.{IsCommitted, IsCommittedFor, written_value, writes_in_cut, IsReadInTwoRounds};
 
 /// A law: what a closed cut has of each stamp that has a mark in it. Its items are announced; a
 /// mark that prepares it names these, and writes only them; where it is committed, each item's
 /// partition has prepared it; where it is discarded, one of them will never prepare it. So no stamp
 /// is committed at one partition and discarded at another.
-pub fn closed_cuts_tell()
+pub fn what_closed_cuts_have()
     ensures announced { (cut : Cut) (part stamp : ℕ) → IsClosedCut cut
         → list_any (is_mark_of stamp) (prefix_at cut part) ≡ true → IsSome (announced_for cut stamp) }
     ensures prepared { (cut : Cut) (part stamp : ℕ) (writes : List Row) (items : List ℕ) → IsClosedCut cut
@@ -77,13 +78,17 @@ pub fn what_is_committed_is_there()
 pub fn reads_are_atomic_and_fresh()
     ensures atomic { (begun middle ended : Cut) (firsts : List ReadVersion) (stamps : List ℕ)
         (answers : List ReadVersion)
-        → IsReadInTwoRounds begun middle ended firsts stamps answers → IsReadAtomic ended answers }
+        → IsReadInTwoRounds begun middle ended firsts stamps answers
+        → IsReadAtomic (writes_in_cut ended) (first_value ended.opening) answers }
     ensures fresh { (begun middle ended : Cut) (firsts : List ReadVersion) (stamps : List ℕ)
         (answers : List ReadVersion)
-        → IsReadInTwoRounds begun middle ended firsts stamps answers → IsFreshFrom begun ended answers }
+        → IsReadInTwoRounds begun middle ended firsts stamps answers
+        → IsFreshFrom (writes_in_cut ended) (IsCommittedFor begun) answers }
     ensures atomic_still { (old new : Cut) (answers : List ReadVersion) → IsSound old → IsSound new → Extends old new
-        → IsReadAtomic old answers → IsReadAtomic new answers }
+        → IsReadAtomic (writes_in_cut old) (first_value old.opening) answers
+        → IsReadAtomic (writes_in_cut new) (first_value new.opening) answers }
     ensures fresh_still { (earlier begun old new : Cut) (answers : List ReadVersion) → IsSound old → IsSound new
         → Extends earlier begun → Extends begun old → Extends old new
-        → IsFreshFrom begun old answers → IsFreshFrom earlier new answers }
+        → IsFreshFrom (writes_in_cut old) (IsCommittedFor begun) answers
+        → IsFreshFrom (writes_in_cut new) (IsCommittedFor earlier) answers }
 {}

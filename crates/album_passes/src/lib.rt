@@ -22,7 +22,7 @@ mod rule;
 
 pub use desk::Desk;
 pub use laws::{
-    closed_cuts_tell, cuts_only_grow, marks_are_backed, reads_are_atomic_and_fresh,
+    cuts_only_grow, marks_are_backed, reads_are_atomic_and_fresh, what_closed_cuts_have,
     what_is_committed_is_there,
 };
 pub use owner::Owner;

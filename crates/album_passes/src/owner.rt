@@ -74,8 +74,8 @@ impl Owner {
     /// history.
     pub fn join(&mut self, desk: &Desk, other: Pass)
         requires table { self.old.table ≡ desk.now.table }
-        requires other { other.table ≡ desk.now.table }
-        requires none { other.number ≡ None }
+        requires other_table { other.table ≡ desk.now.table }
+        requires unnumbered { other.number ≡ None }
         ensures cut { self.new.cut ≡ merged self.old.cut other.cut }
         ensures grown { Extends self.old.cut self.new.cut }
         ensures heard { Extends other.cut self.new.cut }

@@ -61,8 +61,8 @@ impl Pass {
         ensures number { IfSome result (λ client. self.new ≡ drawn_by self.old client) }
         ensures unheard { IfSome result (λ client. IsUnheard client self.old.cut) }
         ensures rises { IfSome result (λ client. self.old.drawn < client) }
-        ensures most { IfSome result (λ client. client ≤ desk.now.terms.sessions) }
-        ensures none { IfNone result (self.new ≡ record self.old { drawn = self.new.drawn }) }
+        ensures counted { IfSome result (λ client. client ≤ desk.now.terms.sessions) }
+        ensures undrawn { IfNone result (self.new ≡ record self.old { drawn = self.new.drawn }) }
         ensures seen { IfNone result (self.old.drawn ≤ self.new.drawn) }
         ensures spent { IfNone result (desk.now.terms.sessions ≤ self.new.drawn) }
     {
@@ -73,7 +73,7 @@ impl Pass {
     /// the pass's own client, for which nothing is announced yet.
     pub fn announce(&mut self, desk: &Desk, stamp: Stamp, items: &[ItemId])
         requires table { self.old.table ≡ desk.now.table }
-        requires own { self.old.number ≡ Some (client_number stamp) }
+        requires number { self.old.number ≡ Some (client_number stamp) }
         requires fresh { announced_for self.old.cut stamp ≡ None }
         ensures cut { self.new.cut ≡ announced_cut self.old.cut stamp items.now }
         ensures announced { announced_for self.new.cut stamp ≡ Some items.now }
@@ -89,8 +89,8 @@ impl Pass {
     /// it of the pass's own client.
     pub fn join(&mut self, desk: &Desk, other: Pass)
         requires table { self.old.table ≡ desk.now.table }
-        requires other { other.table ≡ desk.now.table }
-        requires none { other.number ≡ None }
+        requires other_table { other.table ≡ desk.now.table }
+        requires unnumbered { other.number ≡ None }
         ensures cut { self.new.cut ≡ merged self.old.cut other.cut }
         ensures grown { Extends self.old.cut self.new.cut }
         ensures heard { Extends other.cut self.new.cut }
@@ -117,8 +117,8 @@ impl Pass {
 /// Both passes take in all that the other has seen, and then have one cut. Each keeps its number,
 /// and the numbers of two passes differ.
 pub fn meet(desk: &Desk, one: &mut Pass, other: &mut Pass)
-    requires one { one.old.table ≡ desk.now.table }
-    requires other { other.old.table ≡ desk.now.table }
+    requires table { one.old.table ≡ desk.now.table }
+    requires other_table { other.old.table ≡ desk.now.table }
     ensures cut { one.new.cut ≡ merged one.old.cut other.old.cut }
     ensures same { other.new.cut ≡ one.new.cut }
     ensures one_grown { Extends one.old.cut one.new.cut }

@@ -12,7 +12,7 @@ use Rattle.album_items.specs.Values.{head_of, home_of, children_of, list_of}
 use Rattle.album_items.specs.declared.values.Value.{Value}
 use Rattle.album_items.specs.declared.values.Value.TheVariants as value
 use Rattle.album_listing.specs.Masks.{WRITE_DATA, ADD_FILE, ADD_SUBDIRECTORY, DELETE_CHILD, WRITE_ATTRIBUTES, DELETE, WRITE_OWNER}
-use Rattle.album_listing.specs.Told.{title_told, content_told, members_told, album_home_told}
+use Rattle.album_listing.specs.Fields.{title_field, content_field, members_field, album_home_field}
 use Rattle.album_permits.specs.Changes.{with_title, with_content, with_home, with_owner, with_members, others, without_child, with_child}
 use Rattle.album_permits.specs.Permits.{PermitState}
 use Rattle.album_permits.specs.Rights.{is_granted_to, may_delete, IsGrantedChange}
@@ -39,18 +39,18 @@ MayLeave permit item is =
     (may_delete permit item ≡ true)
     × ((home : ℕ) → Contains (home_of is) home → is_granted_to permit home ADD_FILE ≡ true)
 
--- what is told is the same, or the mask is granted
+-- the field is the same, or the mask is granted
 abbrev IsSame : {A : Type 0} → (Value → A) → Value → Value → Bool → Type 0
-IsSame tells was is granted = (tells is ≡ tells was) ⊎ (granted ≡ true)
+IsSame field was is granted = (field is ≡ field was) ⊎ (granted ≡ true)
 
 pub record Differs (permit : PermitState) (item : ℕ) (was is : Value) : Type 0 where
   pub headed : IsHeaded is
-  pub title : IsSame title_told was is (is_granted_to permit item WRITE_ATTRIBUTES)
-  pub content : IsSame content_told was is (is_granted_to permit item WRITE_DATA)
-  pub members : IsSame members_told was is (is_granted_to permit item WRITE_DATA)
+  pub title : IsSame title_field was is (is_granted_to permit item WRITE_ATTRIBUTES)
+  pub content : IsSame content_field was is (is_granted_to permit item WRITE_DATA)
+  pub members : IsSame members_field was is (is_granted_to permit item WRITE_DATA)
   pub head : IsSame head_of was is (is_granted_to permit item WRITE_OWNER)
   pub own_list : list_of is ≡ list_of was
-  pub album_home : album_home_told is ≡ album_home_told was
+  pub album_home : album_home_field is ≡ album_home_field was
   pub home : (home_of is ≡ home_of was) ⊎ MayLeave permit item is
   pub gained :
       (child : ℕ) → Contains (children_of is) child → Contains (children_of was) child ⊎ MayGain permit item child
@@ -130,11 +130,11 @@ granted-change permit item was is d =
 module _ (permit : PermitState) (item : ℕ) where
   -- home and children stay
   parts :
-      (was is : Value) → IsHeaded is → IsSame title_told was is (is_granted_to permit item WRITE_ATTRIBUTES)
-      → IsSame content_told was is (is_granted_to permit item WRITE_DATA)
-      → IsSame members_told was is (is_granted_to permit item WRITE_DATA)
+      (was is : Value) → IsHeaded is → IsSame title_field was is (is_granted_to permit item WRITE_ATTRIBUTES)
+      → IsSame content_field was is (is_granted_to permit item WRITE_DATA)
+      → IsSame members_field was is (is_granted_to permit item WRITE_DATA)
       → IsSame head_of was is (is_granted_to permit item WRITE_OWNER)
-      → list_of is ≡ list_of was → album_home_told is ≡ album_home_told was → home_of is ≡ home_of was
+      → list_of is ≡ list_of was → album_home_field is ≡ album_home_field was → home_of is ≡ home_of was
       → children_of is ≡ children_of was → Differs permit item was is
   parts was is headed title content members head own album_home home children =
       record {

@@ -1,4 +1,4 @@
--- Each entry that takes note of what a denial tells (`denied-noted`), or of the first alternative of a need of a granted
+-- Each entry that takes note of a reason of a denial (`denied-noted`), or of the first alternative of a need of a granted
 -- ask (`first-noted`), has its note, for the law `what_takes_note_is_noted`.
 use Rattle.std.proofs.Common.{◌≡◌, ◌<◌, ◌+◌, ◌++◌, ℕ, zero, suc, length, List, [], ◌∷◌, Bool, true, false, Option, Some, None, Contains, is_some, map, take, position, option_map, option_to_list, refl, sym, ap, subst, ◌∙◌, arith, add-one, get_or, if◌then◌else◌}
 use Rattle.std.specs.List.{flat_map, cons_option, slice_index_or}
@@ -21,7 +21,7 @@ use Rattle.album_permits.specs.declared.findings.Finding.{Finding}
 use Rattle.album_permits.specs.declared.findings.Finding.TheVariants.{Granted, Denied, Missing}
 use Rattle.album_permits.specs.declared.notes.Note.{Note}
 use Rattle.album_permits.proofs.Elements.{Each, each-one, first, behind}
-use Rattle.album_permits.proofs.Telling.{none-met}
+use Rattle.album_permits.proofs.NoteVerdicts.{none-met}
 
 -- ---- elements
 
@@ -99,7 +99,7 @@ module _ (basis : Basis) where
       go None = first r rs
       go (Some k) = rw add-one (first r (take k rs))
 
-  -- what a denied need tells
+  -- what a denied need means
   denied-need :
       (need : List Alternative) (reasons : List Reason) (r : Reason) (note : Note)
       → need_found basis need ≡ Denied reasons → Contains reasons r → Contains (notes_for basis r) note

@@ -190,11 +190,11 @@ served-alike policy me (ask.List album) one other given more alike kept l m =
     let granted = (only-met (basis_on policy me one) album LIST_DIRECTORY
     (needs-met (permit_on policy me (ask.List album) one) kept)).1 in
     let same = alike.read album (Subject album (first-of album (children_of (seen one album)))) granted in
-    l.told
+    l.given_is
     ∙ ap (λ (o : Option (ℕ × Value)). served.Listed album (option_map_or (λ version. version.0) o 0) l.rows) same
     ∙ ap (served.Listed album (stamp_seen other album))
     (rows-alike policy me album one other l.rows m.rows alike granted l.listing m.listing)
-    ∙ sym m.told
+    ∙ sym m.given_is
 served-alike policy me (ask.GetList object) one other given more alike kept l m =
     let granted = (only-met (basis_on policy me one) object READ_ACL
     (needs-met (permit_on policy me (ask.GetList object) one) kept)).1 in

@@ -25,7 +25,7 @@ use Rattle.album_listing.specs.GroupsFound.{basis_on}
 use Rattle.album_listing.specs.Masks.{READ_DATA, WRITE_DATA, LIST_DIRECTORY, ADD_FILE, ADD_SUBDIRECTORY, DELETE_CHILD, WRITE_ATTRIBUTES, DELETE, READ_ACL, WRITE_ACL, WRITE_OWNER}
 use Rattle.album_listing.specs.Reasons.{on, is_granted_on}
 use Rattle.album_listing.specs.ViewLookups.{stamp_seen, stamp_named, entries_named}
-use Rattle.album_listing.specs.Told.{title_told, content_told}
+use Rattle.album_listing.specs.Fields.{title_field, content_field}
 use Rattle.album_listing.specs.declared.reasons.Alternative.{Alternative}
 use Rattle.album_listing.specs.declared.rows.Row.{Row}
 use Rattle.album_listing.proofs.GroupsFoundLemmas.{basis-based}
@@ -57,7 +57,7 @@ needs-met permit kept =
     (basis-based permit.policy permit.principal permit.view.rows))
     ∙ kept.granted)
 
--- ---- what a met need tells
+-- ---- what a met need means
 
 -- one mask on one object
 just-met :
@@ -371,8 +371,8 @@ module _ (permit : PermitState) where
   abbrev IsReadPicture : ℕ → List ℕ → List ℕ → Type 0
   IsReadPicture object title content =
       IsTrue (is_granted_to permit object READ_DATA)
-      × (title_told (lookup object) ≡ Some title)
-      × (content_told (lookup object) ≡ Some content)
+      × (title_field (lookup object) ≡ Some title)
+      × (content_field (lookup object) ≡ Some content)
 
   picture-for :
       (object stamp : ℕ) (title content : List ℕ) (asked : Ask) → has_needs_met (basis_for permit) asked ≡ true
@@ -390,14 +390,14 @@ module _ (permit : PermitState) where
           let t : title ≡ x.title = cc in
           let k : content ≡ x.content = cc in (
             subst (λ (i : ℕ). is_granted_to permit i READ_DATA ≡ true) (sym o) granted,
-            ap (λ (i : ℕ). title_told (lookup i)) o ∙ ap title_told same ∙ ap Some (sym t),
-            ap (λ (i : ℕ). content_told (lookup i)) o ∙ ap content_told same ∙ ap Some (sym k),
+            ap (λ (i : ℕ). title_field (lookup i)) o ∙ ap title_field same ∙ ap Some (sym t),
+            ap (λ (i : ℕ). content_field (lookup i)) o ∙ ap content_field same ∙ ap Some (sym k),
           )
       go (value.Album x) same granted e = absurd (cc)
       go (value.List x) same granted e = absurd (cc)
       go (value.Group x) same granted e = absurd (cc)
   picture-for object stamp title content (ask.List album) met l =
-      let e = l.told in absurd (let f : served.Picture object stamp title content ≡ served.Listed album (stamp_seen permit.view.rows album) l.rows = e in cc)
+      let e = l.given_is in absurd (let f : served.Picture object stamp title content ≡ served.Listed album (stamp_seen permit.view.rows album) l.rows = e in cc)
   picture-for object stamp title content (ask.GetList other) met l = absurd (cc)
   picture-for object stamp title content (ask.AddPicture into t k) met l = absurd l
   picture-for object stamp title content (ask.AddAlbum into t) met l = absurd l
@@ -440,7 +440,7 @@ module _ (permit : PermitState) where
       go (value.List x) same granted e = at (value.List x) same granted e
       go (value.Group x) same granted e = at (value.Group x) same granted e
   group-for object stamp members (ask.List album) met l =
-      let e = l.told in absurd (let f : served.Group object stamp members ≡ served.Listed album (stamp_seen permit.view.rows album) l.rows = e in cc)
+      let e = l.given_is in absurd (let f : served.Group object stamp members ≡ served.Listed album (stamp_seen permit.view.rows album) l.rows = e in cc)
   group-for object stamp members (ask.GetList other) met l = absurd (cc)
   group-for object stamp members (ask.AddPicture into t k) met l = absurd l
   group-for object stamp members (ask.AddAlbum into t) met l = absurd l
@@ -476,7 +476,7 @@ module _ (permit : PermitState) where
   rows-for album stamp rows (ask.Read other) met l =
       absurd (read-rows other (stamp_seen permit.view.rows other) album stamp rows (lookup other) l)
   rows-for album stamp rows (ask.List other) met l =
-      let e = l.told in
+      let e = l.given_is in
       let o : album ≡ other =
       let f : served.Listed album stamp rows ≡ served.Listed other (stamp_seen permit.view.rows other) l.rows = e in cc in
       subst (λ (i : ℕ). is_granted_to permit i LIST_DIRECTORY ≡ true) (sym o)
@@ -502,7 +502,7 @@ module _ (permit : PermitState) where
   entries-for object stamp entries (ask.Read other) met l =
       absurd (read-entries other (stamp_seen permit.view.rows other) object stamp entries (lookup other) l)
   entries-for object stamp entries (ask.List album) met l =
-      let e = l.told in absurd (let f : served.Entries object stamp entries ≡ served.Listed album (stamp_seen permit.view.rows album) l.rows = e in cc)
+      let e = l.given_is in absurd (let f : served.Entries object stamp entries ≡ served.Listed album (stamp_seen permit.view.rows album) l.rows = e in cc)
   entries-for object stamp entries (ask.GetList other) met l =
       let e : served.Entries object stamp entries
       ≡ served.Entries other (stamp_named permit.view.rows other) (entries_named lookup other) = l in

@@ -6,7 +6,7 @@ pub mod Rows
 pub mod Meeting
 pub mod Needing
 pub mod Elements
-pub mod Telling
+pub mod NoteVerdicts
 pub mod Changing
 pub mod Granting
 pub mod Disclosing

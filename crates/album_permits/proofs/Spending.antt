@@ -219,10 +219,10 @@ served-alike policy me (ask.Read object) one other given more agree l m =
     ∙ sym m
 served-alike policy me (ask.List into) one other given more agree l m =
     let stamps = stamp-alike (ask.List into) one other agree into (Subject into (first-of into (children_of (seen one into)))) in
-    l.told
+    l.given_is
     ∙ ap (λ (s : ℕ). served.Listed into s l.rows) stamps
     ∙ ap (served.Listed into (stamp_seen other into)) (listings-alike (ask.List into) one other me l.rows m.rows agree l.listing m.listing)
-    ∙ sym m.told
+    ∙ sym m.given_is
 served-alike policy me (ask.GetList object) one other given more agree l m =
     l
     ∙ ap (λ (s : ℕ). served.Entries object s (entries_named (seen one) object))

@@ -15,7 +15,7 @@ use Rattle.album_views.specs.Seen.{seen}
 use Rattle.album_listing.specs.GroupsFound.{basis_on}
 use Rattle.album_listing.specs.Masks.{WRITE_DATA, ADD_FILE, ADD_SUBDIRECTORY, DELETE_CHILD, WRITE_ATTRIBUTES, DELETE, WRITE_ACL, WRITE_OWNER}
 use Rattle.album_listing.specs.Reasons.{is_granted_on}
-use Rattle.album_listing.specs.Told.{title_told, content_told, members_told, album_home_told}
+use Rattle.album_listing.specs.Fields.{title_field, content_field, members_field, album_home_field}
 use Rattle.album_permits.specs.Effects.{effect_of}
 use Rattle.album_permits.specs.Permits.{PermitState, IsPermit}
 
@@ -57,8 +57,8 @@ pub record IsRewritten (permit : PermitState) (stamp item : ℕ) (is : Value) : 
   pub written : Contains (effect_of permit stamp) (item, is)
   pub older : ¬ IsNew permit stamp item
 
--- What was and what is to be of an item differ only in what its rights grant: without the right to change it, what it
--- tells it told before.
+-- What was and what is to be of an item differ only in what its rights grant: without the right to change it, a field
+-- is as it was.
 pub record IsGrantedChange (permit : PermitState) (item : ℕ) (was is : Value) : Type 0 where
   -- it is gone where it may be deleted
   pub gone : is ≡ value.Missing → MayVanish permit item
@@ -71,21 +71,21 @@ pub record IsGrantedChange (permit : PermitState) (item : ℕ) (was is : Value) 
       is_granted_to permit item WRITE_OWNER ≡ false → (head : Head) → head_of is ≡ Some head → head_of was ≡ Some head
   -- another title by WRITE_ATTRIBUTES
   pub title :
-      is_granted_to permit item WRITE_ATTRIBUTES ≡ false → (title : List ℕ) → title_told is ≡ Some title
-      → title_told was ≡ Some title
+      is_granted_to permit item WRITE_ATTRIBUTES ≡ false → (title : List ℕ) → title_field is ≡ Some title
+      → title_field was ≡ Some title
   -- another content, or other members, by WRITE_DATA
   pub content :
-      is_granted_to permit item WRITE_DATA ≡ false → (content : List ℕ) → content_told is ≡ Some content
-      → content_told was ≡ Some content
+      is_granted_to permit item WRITE_DATA ≡ false → (content : List ℕ) → content_field is ≡ Some content
+      → content_field was ≡ Some content
   pub members :
-      is_granted_to permit item WRITE_DATA ≡ false → (members : List Member) → members_told is ≡ Some members
-      → members_told was ≡ Some members
+      is_granted_to permit item WRITE_DATA ≡ false → (members : List Member) → members_field is ≡ Some members
+      → members_field was ≡ Some members
   -- a picture leaves its home where it may be deleted, for one on which ADD_FILE is granted; an album stays in its own
   pub home : may_delete permit item ≡ false → (home : ℕ) → Contains (home_of is) home → Contains (home_of was) home
   pub new_home :
       (home : ℕ) → is_granted_to permit home ADD_FILE ≡ false → Contains (home_of is) home
       → Contains (home_of was) home
-  pub album_home : (home : Option ℕ) → album_home_told is ≡ Some home → album_home_told was ≡ Some home
+  pub album_home : (home : Option ℕ) → album_home_field is ≡ Some home → album_home_field was ≡ Some home
   -- it gains a picture by ADD_FILE, and an album by ADD_SUBDIRECTORY
   pub picture_gained :
       is_granted_to permit item ADD_FILE ≡ false → (child : ℕ) → kind_of child ≡ 0 → Contains (children_of is) child

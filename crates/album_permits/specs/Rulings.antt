@@ -17,16 +17,16 @@ use Rattle.album_permits.specs.declared.rulings.Ruling.TheVariants as ruling
 pub record IsFound (policy : Policy) (principal : Principal) (view : ViewState) (found : Found) : Type 0 where
   pub basis : Basis
   pub based : IsBasis policy principal view.rows basis
-  pub told : found.finding ≡ ruling_of basis view.ask
+  pub finding : found.finding ≡ ruling_of basis view.ask
   pub noted : found.notes.items ≡ notes_of basis view.ask
 
--- what a ruling tells
-abbrev pub told_by : Ruling → Finding
-told_by (ruling.Granted permit) = finding.Granted
-told_by (ruling.Denied denial view) = finding.Denied denial
-told_by (ruling.Missing object view) = finding.Missing object
+-- what a ruling found
+abbrev pub finding_in : Ruling → Finding
+finding_in (ruling.Granted permit) = finding.Granted
+finding_in (ruling.Denied denial view) = finding.Denied denial
+finding_in (ruling.Missing object view) = finding.Missing object
 
--- what went in is in the ruling: in the permit, or beside what else it tells
+-- what went in is in the ruling: in the permit, or beside its finding
 abbrev pub Keeps : Policy → Principal → ViewState → Ruling → Type 0
 Keeps policy principal view (ruling.Granted permit) =
     permit ≡ record { view = view; principal = principal; policy = policy }
@@ -37,6 +37,6 @@ Keeps policy principal view (ruling.Missing object back) = back ≡ view
 pub record IsRuled (policy : Policy) (principal : Principal) (view : ViewState) (ruled : Ruled) : Type 0 where
   pub basis : Basis
   pub based : IsBasis policy principal view.rows basis
-  pub told : told_by ruled.ruling ≡ ruling_of basis view.ask
+  pub finding : finding_in ruled.ruling ≡ ruling_of basis view.ask
   pub noted : ruled.notes.items ≡ notes_of basis view.ask
   pub kept : Keeps policy principal view ruled.ruling

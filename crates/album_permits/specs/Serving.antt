@@ -25,7 +25,7 @@ read_of object stamp (value.Group group) = served.Group object stamp (members_of
 pub record AreServedRows (permit : PermitState) (album : ℕ) (given : Served) : Type 0 where
   pub rows : List Row
   pub listing : IsListing permit.view permit.principal rows
-  pub told : given ≡ served.Listed album (stamp_seen permit.view.rows album) rows
+  pub given_is : given ≡ served.Listed album (stamp_seen permit.view.rows album) rows
 
 -- what an ask is served: with the stamp of its object, or of the object's list where that is asked for
 abbrev pub IsServedFor : PermitState → Served → Ask → Type 0

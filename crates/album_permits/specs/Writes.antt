@@ -13,4 +13,4 @@ pub record WritesState : Type 0 where
 pub record AreWrites (state : WritesState) (writes : List Write) : Type 0 where
   pub change : IsTrue (is_write state.permit.view.ask)
   pub room : is_full_for state.permit state.stamp ≡ false
-  pub told : writes ≡ effect_of state.permit state.stamp
+  pub effect : writes ≡ effect_of state.permit state.stamp

@@ -33,24 +33,24 @@ mod outs;
 
 // What holds of rulings, and of what is written.
 mod disclosure;
-mod laws;
-mod meaning;
-mod noting;
+mod effect_laws;
+mod grant_laws;
+mod note_laws;
 mod rights;
-mod transactions;
+mod ruling_laws;
 
 pub use answers::Answer;
 pub use disclosure::{answers_disclose_nothing, secrets_decide_nothing};
+pub use effect_laws::an_effect_is_one_transaction;
 pub use events::Event;
 pub use findings::{Denial, Finding};
-pub use laws::{one_ruling, permits_are_spent_on_what_is_named, rulings_look_at_what_is_named};
-pub use meaning::{granted_where_each_need_is_met, what_is_written_is_needed};
+pub use grant_laws::{granted_where_each_need_is_met, what_is_written_is_needed};
+pub use note_laws::{notes_go_with_the_ruling, notes_say_the_verdict, what_takes_note_is_noted};
 pub use notes::Note;
-pub use noting::{notes_go_with_the_ruling, notes_tell_the_verdict, what_takes_note_is_noted};
 pub use outs::Out;
 pub use permits::Permit;
 pub use rights::{what_changes_is_granted, what_is_served_is_granted};
+pub use ruling_laws::{one_ruling, permits_are_spent_on_what_is_named, rulings_look_at_what_is_named};
 pub use rulings::{Ruled, Ruling, rule_on};
 pub use serving::Served;
-pub use transactions::an_effect_is_one_transaction;
 pub use writes::Writes;

@@ -7,7 +7,7 @@ ghost use Rattle.album_items.specs.declared.values.Value.{Value};
 ghost use Rattle.album_views.specs.Seen.{seen};
 ghost use Rattle.album_listing.specs.Masks.{READ_DATA, LIST_DIRECTORY, READ_ACL};
 ghost use Rattle.album_listing.specs.ViewLookups.{entries_named};
-ghost use Rattle.album_listing.specs.Told.{title_told, content_told};
+ghost use Rattle.album_listing.specs.Fields.{title_field, content_field};
 ghost use Rattle.album_listing.specs.declared.rows.Row.{Row};
 ghost use Rattle.album_permits.specs.Permits.{PermitState, IsPermit};
 ghost use Rattle.album_permits.specs.Rights.{is_granted_to, IsGrantedChange, IsRewritten};
@@ -26,8 +26,8 @@ pub fn what_is_served_is_granted()
     ensures picture { (permit : PermitState) (object stamp : ℕ) (title content : List ℕ)
         → IsPermit permit → IsServed permit (served.Picture object stamp title content)
         → IsTrue (is_granted_to permit object READ_DATA)
-        × (title_told (seen permit.view.rows object) ≡ Some title)
-        × (content_told (seen permit.view.rows object) ≡ Some content) }
+        × (title_field (seen permit.view.rows object) ≡ Some title)
+        × (content_field (seen permit.view.rows object) ≡ Some content) }
     ensures group { (permit : PermitState) (object stamp : ℕ) (members : List Member)
         → IsPermit permit → IsServed permit (served.Group object stamp members)
         → IsTrue (is_granted_to permit object READ_DATA)

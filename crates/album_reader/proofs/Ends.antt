@@ -21,8 +21,8 @@ pub new_answer-absent :
     → body_version message.body ≡ Some version → is_answer round.asker message version.item ≡ true
     → position (λ other. version.item == other) round.items ≡ None
     → new_answer round message ≡ None
-new_answer-absent round message version tells own e =
-    new_answer-answer round message version tells own
+new_answer-absent round message version carries own e =
+    new_answer-answer round message version carries own
     ∙ ap (λ (b : Bool). if b then Some version else None) (lacks-absent round version.item e)
 
 -- an item that has its answer
@@ -32,8 +32,8 @@ pub new_answer-taken :
     → position (λ other. version.item == other) round.items ≡ Some index
     → is_some (get_or round.answers index None) ≡ true
     → new_answer round message ≡ None
-new_answer-taken round message version index lasts tells own e taken =
-    new_answer-answer round message version tells own
+new_answer-taken round message version index lasts carries own e taken =
+    new_answer-answer round message version carries own
     ∙ ap (λ (b : Bool). if b then Some version else None) (lacks-taken round version.item index lasts e taken)
 
 none-is : (o : Option ReadVersion) → is_some o ≡ false → o ≡ None
@@ -48,14 +48,14 @@ pub IsFresh-free :
     → position (λ other. fresh.version.item == other) round.items ≡ Some fresh.index
     → is_some (get_or round.answers fresh.index None) ≡ false
     → IsFresh round message fresh
-IsFresh-free round message fresh lasts tells own e free =
+IsFresh-free round message fresh lasts carries own e free =
     let empty : get_or round.answers fresh.index None ≡ None =
     none-is (get_or round.answers fresh.index None) free in record {
       inside = index-inside round fresh.version.item fresh.index lasts e;
       empty = empty;
       asked = (index-of round.items fresh.version.item fresh.index e).1;
       counts =
-          new_answer-answer round message (answer_of fresh.version) tells own
+          new_answer-answer round message (answer_of fresh.version) carries own
           ∙ ap (λ (b : Bool). if b then Some (answer_of fresh.version) else None)
           (lacks-free round fresh.version.item fresh.index lasts e empty);
     }

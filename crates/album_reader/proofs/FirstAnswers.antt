@@ -1,4 +1,4 @@
--- What replies change in a round, for the laws on what it was told (`stepped-after_replies`,
+-- What replies change in a round, for the laws on what it depends on (`stepped-after_replies`,
 -- `stepped_all-after_replies`) and on what was read (`items_read-whole`, `version_read-whole`).
 use Rattle.std.proofs.Common.{◌≡◌, ℕ, suc, ◌+◌, ◌<◌, Bool, true, false, not, ◌&&◌, ◌||◌, ◌==◌, List, [], ◌∷◌, ◌++◌, length, map, get_or, drop, add-one, drop-cons, Option, Some, None, is_some, refl, sym, ap, ◌∙◌, Contains, if◌then◌else◌, arith}
 use Rattle.std.specs.Prelude.{find, option_map, option_and_then}
@@ -70,7 +70,7 @@ module _ (asker : Asker) where
       go None e = absurd (cc)
       go (Some answer) e = refl
 
-  -- what tells nothing of the item changes nothing
+  -- what has nothing of the item changes nothing
   first_answer-none :
       (replies more : List Message) (item : ℕ)
       → first_answer asker more item ≡ None
@@ -115,8 +115,8 @@ module _ (asker : Asker) where
         (first_answer-none replies (message ∷ []) item nothing)
         ∙ ap (λ (os : List (Option ReadVersion)). first_answer asker replies item ∷ os) (map-none items none)
 
-    module _ (answer : ReadVersion) (tells : answer_in asker message ≡ Some answer) where
-      -- an item that it doesn't tell of, or that has an answer
+    module _ (answer : ReadVersion) (carries : answer_in asker message ≡ Some answer) where
+      -- an item that it isn't of, or that has an answer
       one-same :
           (item : ℕ)
           → ((answer.item == item) ≡ true → is_some (first_answer asker replies item) ≡ true)
@@ -130,9 +130,9 @@ module _ (asker : Asker) where
           go true e = first_answer-stays replies (message ∷ []) item (answered e)
           go false e =
               first_answer-none replies (message ∷ []) item
-              (first_answer-one answer item tells ∙ ap (λ (b : Bool). if b then Some answer else None) e)
+              (first_answer-one answer item carries ∙ ap (λ (b : Bool). if b then Some answer else None) e)
 
-      -- it tells of none of the items
+      -- it is of none of the items
       map-absent :
           (items : List ℕ)
           → has_item items answer.item ≡ false
@@ -145,7 +145,7 @@ module _ (asker : Asker) where
           (one-same item (λ same. absurd (cc)))
           ∙ ap (λ (os : List (Option ReadVersion)). first_answer asker replies item ∷ os) (map-absent items parts.1)
 
-      -- the item that it tells of has an answer
+      -- the item that it is of has an answer
       answered :
           (items : List ℕ)
           → has_answer (answers_there (map (first_answer asker replies) items)) answer.item ≡ true
@@ -182,7 +182,7 @@ module _ (asker : Asker) where
           (one-same item (λ same. ap (λ (n : ℕ). is_some (first_answer asker replies n)) (sym (eqb-true answer.item item same)) ∙ there))
           ∙ ap (λ (os : List (Option ReadVersion)). first_answer asker replies item ∷ os) (map-answered items there)
 
-      -- it tells of an item that has none
+      -- it is of an item that has none
       map-new :
           (items : List ℕ)
           → has_answer (answers_there (map (first_answer asker replies) items)) answer.item ≡ false
@@ -204,7 +204,7 @@ module _ (asker : Asker) where
               ≡ (if answer.item == item then Some answer else None) =
               first_answer-append replies (message ∷ []) item
               ∙ ap (λ (p : Option ReadVersion). option_or p (first_answer asker (message ∷ []) item)) f
-              ∙ first_answer-one answer item tells in
+              ∙ first_answer-one answer item carries in
               ap (λ (p : Option ReadVersion). p ∷ put_answer answer items (map (first_answer asker replies) items)) (sym head)
               ∙ ap (λ (os : List (Option ReadVersion)). first_answer asker (replies ++ message ∷ []) item ∷ os) (later g)
           go (Some old) f g later =
@@ -291,15 +291,15 @@ module _ (round : RoundState) (replies : List Message) (message : Message) where
       → has_item round.items answer.item ≡ true
       → has_answer (answers_there (map (first_answer round.asker replies) round.items)) answer.item ≡ false
       → outcome (with_answer (after_replies round replies) answer) ≡ taken_after round replies message
-  new_after answer tells asked free =
+  new_after answer carries asked free =
       ap (λ (os : List (Option ReadVersion)). outcome (with_these round os))
-      (map-new round.asker replies message answer tells round.items free)
+      (map-new round.asker replies message answer carries round.items free)
       ∙ sym (
       ap (λ (b : Bool).
       if is_some (if b then Some (answers_there (map (first_answer round.asker replies) round.items)) else None)
       then Same (after_replies round (replies ++ message ∷ []))
       else outcome (after_replies round (replies ++ message ∷ [])))
-      (not_whole round.asker replies message answer tells round.items asked free)
+      (not_whole round.asker replies message answer carries round.items asked free)
       )
 
   -- what comes of a version is what comes of all the replies with it
@@ -402,7 +402,7 @@ whole-goes round (message ∷ more) replies there =
     (whole-goes round more (replies ++ message ∷ [])
     (ap are_there (map-stays round.asker replies (message ∷ []) round.items there) ∙ there))
 
--- what comes of replies one after another is what they tell all together
+-- what comes of replies one after another is what comes of all together
 pub stepped_all-after_replies :
     (round : RoundState) (more replies : List Message)
     → all_answers round.asker replies round.items ≡ None

@@ -17,15 +17,15 @@ use Rattle.album_calls.specs.declared.nodes.Node.TheVariants.{Part, Client}
 use Rattle.album_calls.specs.declared.replies.Reply.{Reply}
 use Rattle.album_calls.specs.declared.replies.Reply.TheVariants as reply
 use Rattle.album_reader.specs.Answers.{ReadVersion, reply_version, body_version, reply_gone, body_gone, is_answer, if_answer, answers_there}
-use Rattle.album_reader.specs.Others.{IsOther, IsGone, Tells}
+use Rattle.album_reader.specs.Others.{IsOther, IsGone, IsAbout}
 use Rattle.album_reader.specs.Others.IsOther.{OtherTag, ToOther, OfNoItem, FromOther, NotAsked, Answered, GoneTooEarly}
-use Rattle.album_reader.specs.Others.Tells.{ItsVersion, ThatItIsGone}
+use Rattle.album_reader.specs.Others.IsAbout.{ItsVersion, ItIsGone}
 use Rattle.album_reader.specs.Rounds.{RoundState, has_item, has_answer, lacks, if_lacking, new_answer, with_answer, outcome, taken, is_gone, stepped}
 use Rattle.album_reader.specs.Rounds.Step.{Same, Gone}
 
 -- ---- it is no answer
 
--- it tells no version
+-- it has no version
 pub new_answer-no_version :
     (round : RoundState) (message : Message)
     → body_version message.body ≡ None
@@ -33,13 +33,13 @@ pub new_answer-no_version :
 new_answer-no_version round message none =
     ap (λ (o : Option ReadVersion). option_and_then (if_lacking round) (option_and_then (if_answer round.asker message) o)) none
 
--- it tells one, and is no answer for its item
+-- it has one, and is no answer for its item
 pub new_answer-no_answer :
     (round : RoundState) (message : Message) (version : ReadVersion)
     → body_version message.body ≡ Some version → is_answer round.asker message version.item ≡ false
     → new_answer round message ≡ None
-new_answer-no_answer round message version tells other =
-    ap (λ (o : Option ReadVersion). option_and_then (if_lacking round) (option_and_then (if_answer round.asker message) o)) tells
+new_answer-no_answer round message version about other =
+    ap (λ (o : Option ReadVersion). option_and_then (if_lacking round) (option_and_then (if_answer round.asker message) o)) about
     ∙ ap (λ (b : Bool). option_and_then (if_lacking round) (if b then Some version else None)) other
 
 -- it is one
@@ -47,11 +47,11 @@ pub new_answer-answer :
     (round : RoundState) (message : Message) (version : ReadVersion)
     → body_version message.body ≡ Some version → is_answer round.asker message version.item ≡ true
     → new_answer round message ≡ (if lacks round version.item then Some version else None)
-new_answer-answer round message version tells own =
-    ap (λ (o : Option ReadVersion). option_and_then (if_lacking round) (option_and_then (if_answer round.asker message) o)) tells
+new_answer-answer round message version about own =
+    ap (λ (o : Option ReadVersion). option_and_then (if_lacking round) (option_and_then (if_answer round.asker message) o)) about
     ∙ ap (λ (b : Bool). option_and_then (if_lacking round) (if b then Some version else None)) own
 
--- whatever it tells, it is no answer
+-- whatever it is about, it is no answer
 no_answer :
     (round : RoundState) (message : Message)
     → ((item : ℕ) → is_answer round.asker message item ≡ false) → new_answer round message ≡ None
@@ -61,39 +61,39 @@ no_answer round message other = go (body_version message.body) refl
     go None e = new_answer-no_version round message e
     go (Some version) e = new_answer-no_answer round message version e (other version.item)
 
--- the round doesn't lack what it tells
+-- the round doesn't lack what it is about
 not_lacking :
     (round : RoundState) (message : Message) (version : ReadVersion)
     → body_version message.body ≡ Some version → lacks round version.item ≡ false
     → new_answer round message ≡ None
-not_lacking round message version tells full = go (is_answer round.asker message version.item) refl
+not_lacking round message version about full = go (is_answer round.asker message version.item) refl
   where
     go : (b : Bool) → is_answer round.asker message version.item ≡ b → new_answer round message ≡ None
-    go true e = new_answer-answer round message version tells e ∙ ap (λ (b : Bool). if b then Some version else None) full
-    go false e = new_answer-no_answer round message version tells e
+    go true e = new_answer-answer round message version about e ∙ ap (λ (b : Bool). if b then Some version else None) full
+    go false e = new_answer-no_answer round message version about e
 
 -- ---- it does not end the read
 
--- it tells of no item that is gone
+-- it is about no item that is gone
 is_gone-none : (round : RoundState) (message : Message) → body_gone message.body ≡ None → is_gone round message ≡ false
 is_gone-none round message none =
     and_right (is_some round.stamps) _
     (ap (λ (o : Option ℕ). option_map_or (λ item. is_answer round.asker message item && lacks round item) o false) none)
 
--- it tells of one, and is no answer for it, or the round doesn't lack it
+-- it is about one, and is no answer for it, or the round doesn't lack it
 is_gone-other :
     (round : RoundState) (message : Message) (item : ℕ) → body_gone message.body ≡ Some item
     → (is_answer round.asker message item && lacks round item) ≡ false → is_gone round message ≡ false
-is_gone-other round message item tells other =
+is_gone-other round message item about other =
     and_right (is_some round.stamps) _
-    (ap (λ (o : Option ℕ). option_map_or (λ item. is_answer round.asker message item && lacks round item) o false) tells
+    (ap (λ (o : Option ℕ). option_map_or (λ item. is_answer round.asker message item && lacks round item) o false) about
     ∙ other)
 
 -- it comes in the first round
 pub is_gone-early : (round : RoundState) (message : Message) → round.stamps ≡ None → is_gone round message ≡ false
 is_gone-early round message first = and_left _ _ (ap (λ (o : Option (List ℕ)). is_some o) first)
 
--- whatever it tells, it is no answer
+-- whatever it is about, it is no answer
 no_answer-gone :
     (round : RoundState) (message : Message)
     → ((item : ℕ) → is_answer round.asker message item ≡ false) → is_gone round message ≡ false
@@ -193,20 +193,20 @@ has_answer-at (Some first ∷ answers) (suc index) answer e = or_right _ _ (has_
 abbrev IsNothing : RoundState → Message → Type 0
 IsNothing round message = (new_answer round message ≡ None) × (is_gone round message ≡ false)
 
--- it tells of an item for which it is no answer, or which is not lacking
-tells-nothing :
-    (round : RoundState) (message : Message) (item : ℕ) → Tells message item
+-- it is about an item for which it is no answer, or which is not lacking
+about-nothing :
+    (round : RoundState) (message : Message) (item : ℕ) → IsAbout message item
     → (is_answer round.asker message item && lacks round item) ≡ false → IsNothing round message
-tells-nothing round message item (ItsVersion stamp value tells) other =
-    (by (is_answer round.asker message item) refl other, is_gone-none round message (ap body_gone tells))
+about-nothing round message item (ItsVersion stamp value about) other =
+    (by (is_answer round.asker message item) refl other, is_gone-none round message (ap body_gone about))
   where
     by :
         (b : Bool) → is_answer round.asker message item ≡ b → (b && lacks round item) ≡ false
         → new_answer round message ≡ None
-    by true e f = not_lacking round message (version item stamp value) (ap body_version tells) f
-    by false e f = new_answer-no_answer round message (version item stamp value) (ap body_version tells) e
-tells-nothing round message item (ThatItIsGone tells) other =
-    (new_answer-no_version round message (ap body_version tells), is_gone-other round message item (ap body_gone tells) other)
+    by true e f = not_lacking round message (version item stamp value) (ap body_version about) f
+    by false e f = new_answer-no_answer round message (version item stamp value) (ap body_version about) e
+about-nothing round message item (ItIsGone about) other =
+    (new_answer-no_version round message (ap body_version about), is_gone-other round message item (ap body_gone about) other)
 
 is_nothing : (round : RoundState) (message : Message) → IsOther round message → IsNothing round message
 is_nothing round message (OtherTag other) =
@@ -220,22 +220,22 @@ is_nothing round message (ToOther other) =
 is_nothing round message (OfNoItem other) = (
   new_answer-no_version round message
       (body_version-none message.body (λ item stamp value e. other item (ItsVersion stamp value e))),
-  is_gone-none round message (body_gone-none message.body (λ item e. other item (ThatItIsGone e))),
+  is_gone-none round message (body_gone-none message.body (λ item e. other item (ItIsGone e))),
 )
-is_nothing round message (FromOther item tells other) =
-    tells-nothing round message item tells
+is_nothing round message (FromOther item about other) =
+    about-nothing round message item about
     (and_left _ _ (and_right _ _ (is_part-other message.from (place_of round.asker.parts item) other)))
-is_nothing round message (NotAsked item tells other) =
-    tells-nothing round message item tells
+is_nothing round message (NotAsked item about other) =
+    about-nothing round message item about
     (and_right (is_answer round.asker message item) _ (and_left _ _ (has_item-absent round.items item other)))
-is_nothing round message (Answered item tells answer own there) =
+is_nothing round message (Answered item about answer own there) =
     let (at, inside, here) = at_from_Contains round.answers (Some answer) there in
     let has : has_answer (answers_there round.answers) item ≡ true =
     subst (λ (n : ℕ). has_answer (answers_there round.answers) n ≡ true) own (has_answer-at round.answers at answer (here None)) in
-    tells-nothing round message item tells
+    about-nothing round message item about
     (and_right (is_answer round.asker message item) _ (and_right (has_item round.items item) _ (not_from_true _ has)))
-is_nothing round message (GoneTooEarly item tells first) =
-    (new_answer-no_version round message (ap body_version tells), is_gone-early round message first)
+is_nothing round message (GoneTooEarly item about first) =
+    (new_answer-no_version round message (ap body_version about), is_gone-early round message first)
 
 pub new_answer-other : (round : RoundState) (message : Message) → IsOther round message → new_answer round message ≡ None
 new_answer-other round message other = (is_nothing round message other).0
@@ -288,12 +288,12 @@ answer-there (Some first ∷ answers) item e = go (first.item == item) refl e (a
 some-none : (answer : ReadVersion) → Some answer ≡ None → ⊥
 some-none answer e = cc
 
--- what tells of an item, and is one of them unless it is an answer for an item that is lacking
+-- what is about an item, and is one of them unless it is an answer for an item that is lacking
 other-item :
-    (round : RoundState) (message : Message) (item : ℕ) → Tells message item
+    (round : RoundState) (message : Message) (item : ℕ) → IsAbout message item
     → (is_answer round.asker message item ≡ true → lacks round item ≡ true → ⊥)
     → IsOther round message
-other-item round message item tells counts =
+other-item round message item about counts =
     by_tag (message.tag == round.asker.tag) refl (is_client message.to round.asker.client) refl
     (is_part message.from (place_of round.asker.parts item)) refl (has_item round.items item) refl
     (has_answer (answers_there round.answers) item) refl
@@ -311,14 +311,14 @@ other-item round message item tells counts =
         false≢true (sym g ∙ ap (λ (n : Node). is_client n round.asker.client) same
         ∙ eq-eqb round.asker.client round.asker.client refl))
     by_tag true f true g false h d i e j =
-        FromOther item tells (λ (same : message.from ≡ Part (place_of round.asker.parts item)).
+        FromOther item about (λ (same : message.from ≡ Part (place_of round.asker.parts item)).
         false≢true (sym h ∙ ap (λ (n : Node). is_part n (place_of round.asker.parts item)) same
         ∙ eq-eqb (place_of round.asker.parts item) (place_of round.asker.parts item) refl))
     by_tag true f true g true h false i e j =
-        NotAsked item tells (λ there. false≢true (sym i ∙ has_item-there round.items item there))
+        NotAsked item about (λ there. false≢true (sym i ∙ has_item-there round.items item there))
     by_tag true f true g true h true i true j =
         let (answer, own, there) = answer-there round.answers item j in
-        Answered item tells answer own there
+        Answered item about answer own there
     by_tag true f true g true h true i false j =
         absurd (counts (and_from _ _ (and_from _ _ f g) h) (and_from _ _ i (ap not j)))
 
@@ -327,23 +327,23 @@ other-version :
     (round : RoundState) (message : Message) (item stamp : ℕ) (value : Value)
     → message.body ≡ body.Reply (reply.Version item stamp value) → new_answer round message ≡ None
     → IsOther round message
-other-version round message item stamp value tells none =
-    other-item round message item (ItsVersion stamp value tells) (λ answers lacking.
+other-version round message item stamp value about none =
+    other-item round message item (ItsVersion stamp value about) (λ answers lacking.
     some-none (version item stamp value) (
     sym (ap (λ (b : Bool). if b then Some (version item stamp value) else None) lacking)
-    ∙ sym (new_answer-answer round message (version item stamp value) (ap body_version tells) answers)
+    ∙ sym (new_answer-answer round message (version item stamp value) (ap body_version about) answers)
     ∙ none
     ))
 
--- an answer for an item that is lacking ends the second round where it tells that the item is gone
+-- an answer for an item that is lacking ends the second round where it says that the item is gone
 counts-is_gone :
     (round : RoundState) (message : Message) (item : ℕ)
     → is_some round.stamps ≡ true → body_gone message.body ≡ Some item
     → is_answer round.asker message item ≡ true → lacks round item ≡ true
     → is_gone round message ≡ true
-counts-is_gone round message item second tells answers lacking =
+counts-is_gone round message item second about answers lacking =
     and_from _ _ second
-    (ap (λ (o : Option ℕ). option_map_or (λ item. is_answer round.asker message item && lacks round item) o false) tells
+    (ap (λ (o : Option ℕ). option_map_or (λ item. is_answer round.asker message item && lacks round item) o false) about
     ∙ and_from _ _ answers lacking)
 
 -- a word that an item is gone, and the read goes on
@@ -351,13 +351,13 @@ other-gone :
     (round : RoundState) (message : Message) (item : ℕ)
     → message.body ≡ body.Reply (reply.Gone item) → is_gone round message ≡ false
     → IsOther round message
-other-gone round message item tells goes_on = by round.stamps refl
+other-gone round message item about goes_on = by round.stamps refl
   where
     by : (o : Option (List ℕ)) → round.stamps ≡ o → IsOther round message
-    by None e = GoneTooEarly item tells e
+    by None e = GoneTooEarly item about e
     by (Some stamps) e =
-        other-item round message item (ThatItIsGone tells) (λ answers lacking.
-        false≢true (sym goes_on ∙ counts-is_gone round message item (ap (λ (o : Option (List ℕ)). is_some o) e) (ap body_gone tells) answers lacking))
+        other-item round message item (ItIsGone about) (λ answers lacking.
+        false≢true (sym goes_on ∙ counts-is_gone round message item (ap (λ (o : Option (List ℕ)). is_some o) e) (ap body_gone about) answers lacking))
 
 of_no_item :
     (round : RoundState) (message : Message)
@@ -366,9 +366,9 @@ of_no_item :
     → IsOther round message
 of_no_item round message no_version no_gone = OfNoItem none
   where
-    none : (item : ℕ) → Tells message item → ⊥
+    none : (item : ℕ) → IsAbout message item → ⊥
     none item (ItsVersion stamp value e) = no_version item stamp value e
-    none item (ThatItIsGone e) = no_gone item e
+    none item (ItIsGone e) = no_gone item e
 
 other-reply :
     (round : RoundState) (message : Message) (r : Reply)
@@ -443,7 +443,7 @@ IsGone-is_gone round message e = go (body_gone message.body) refl parts.1
         let lacking = and_parts (has_item round.items item) (not (has_answer (answers_there round.answers) item)) both.1 in record {
           item = item;
           second = λ first. false≢true (sym (ap (λ (o : Option (List ℕ)). is_some o) first) ∙ parts.0);
-          told = gone_body message.body item f;
+          gone = gone_body message.body item f;
           tag = eqb-true message.tag round.asker.tag ours.0;
           receiver = is_client-own message.to round.asker.client ours.1;
           sender = is_part-own message.from (place_of round.asker.parts item) own.1;
@@ -480,6 +480,6 @@ is_gone-IsGone round message gone = go (is_gone round message) refl
     go : (b : Bool) → is_gone round message ≡ b → is_gone round message ≡ true
     go true e = e
     go false e =
-        counts-is_gone round message gone.item (second round.stamps refl) (ap body_gone gone.told) answers
+        counts-is_gone round message gone.item (second round.stamps refl) (ap body_gone gone.gone) answers
         (and_from _ _ (has_item-there round.items gone.item gone.asked)
         (free (has_answer (answers_there round.answers) gone.item) refl))

@@ -63,7 +63,7 @@ first-not_done round message answers first e =
     subst IsNotDone e (step-cases IsNotDone round message tt tt (λ a. tt)
     (λ a all. subst (λ (o : Option (List ℕ)). IsNotDone (end_by o (with_answer round a) all)) (sym first) tt))
 
--- the step tells of no item that is gone
+-- the step is not that an item is gone
 abbrev IsNotGone : Step → Type 0
 IsNotGone (Same round) = Unit {0}
 IsNotGone (Next round gets) = Unit {0}
@@ -78,11 +78,11 @@ taken-not_gone round message =
     by None now all = tt
     by (Some stamps) now all = tt
 
--- a read ends so only where the message tells it
-pub gone-is_told :
+-- a read ends so only where the message says it
+pub gone-is_gone :
     (round : RoundState) (message : Message) (items : List ℕ)
     → stepped round message ≡ Gone items → (items ≡ round.items) × (is_gone round message ≡ true)
-gone-is_told round message items e = by (is_gone round message) e
+gone-is_gone round message items e = by (is_gone round message) e
   where
     by :
         (b : Bool) → (if b then Gone round.items else taken round message) ≡ Gone items
@@ -94,7 +94,7 @@ pub first-not_gone :
     (round : RoundState) (message : Message) (items : List ℕ)
     → round.stamps ≡ None → stepped round message ≢ Gone items
 first-not_gone round message items first e =
-    false≢true (sym (is_gone-early round message first) ∙ (gone-is_told round message items e).1)
+    false≢true (sym (is_gone-early round message first) ∙ (gone-is_gone round message items e).1)
 
 pub second-asks_no_more :
     (round next : RoundState) (stamps : List ℕ) (message : Message) (gets : List Message)

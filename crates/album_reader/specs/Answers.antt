@@ -1,4 +1,4 @@
--- Who asks, and the answers among the replies that it is given.
+-- The asker of a round, and the answers among the replies that it is given.
 use Rattle.std.specs.Prelude.{ℕ, Bool, ◌&&◌, ◌==◌, List, [], ◌∷◌, Option, Some, None, is_some, map, find, option_and_then, if◌then◌else◌}
 use Rattle.std.specs.List.{list_all, filter_map}
 use Rattle.album_items.specs.ItemIds.{place_of}
@@ -10,7 +10,7 @@ use Rattle.album_calls.specs.declared.messages.Message.{Message}
 use Rattle.album_calls.specs.declared.replies.Reply.{Reply}
 use Rattle.album_calls.specs.declared.replies.Reply.TheVariants as reply
 
--- who asks, under which tag, of how many partitions
+-- the client that asks, under which tag, of how many partitions
 pub record Asker : Type 0 where
   pub client : ℕ
   pub tag : ℕ
@@ -24,7 +24,7 @@ pub record ReadVersion : Type 0 where
 
 -- ---- one message
 
--- the version that a reply tells, if it tells one
+-- the version in a reply, if it has one
 abbrev pub reply_version : Reply → Option ReadVersion
 reply_version (reply.Prepared stamp) = None
 reply_version (reply.Committed stamp) = None
@@ -36,12 +36,12 @@ reply_version reply.Clash = None
 reply_version (reply.Full stamp) = None
 reply_version (reply.Gone item) = None
 
--- the version that a body tells, if it tells one
+-- the version in a body, if it has one
 abbrev pub body_version : Body → Option ReadVersion
 body_version (body.Request request) = None
 body_version (body.Reply reply) = reply_version reply
 
--- the item that a reply tells to be gone, if it tells that of one
+-- the item that is gone by a reply, if one is
 abbrev pub reply_gone : Reply → Option ℕ
 reply_gone (reply.Prepared stamp) = None
 reply_gone (reply.Committed stamp) = None
@@ -53,7 +53,7 @@ reply_gone reply.Clash = None
 reply_gone (reply.Full stamp) = None
 reply_gone (reply.Gone item) = Some item
 
--- the item that a body tells to be gone, if it tells that of one
+-- the item that is gone by a body, if one is
 abbrev pub body_gone : Body → Option ℕ
 body_gone (body.Request request) = None
 body_gone (body.Reply reply) = reply_gone reply

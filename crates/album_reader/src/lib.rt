@@ -25,7 +25,7 @@ mod laws;
 
 pub use answers::ReadVersion;
 pub use laws::{
-    a_message_counts_or_is_other, a_read_has_two_rounds, a_round_is_what_it_was_told,
+    a_message_counts_or_is_other, a_read_has_two_rounds, a_round_depends_on_its_replies,
     second_round_asks_with_each_stamp, what_was_read_is_the_first_answers,
 };
 pub use reading::{Reading, Step};

@@ -1,6 +1,6 @@
 //! A partition's vote on a stamp, and its decision by the votes of the others.
 ghost use Rattle.std.specs.Prelude.{◌≡◌, ◌↔◌, ◌⊎◌, All, Contains};
-ghost use Rattle.album_terminate.specs.Deciding.{vote_of, have_told, decision_of};
+ghost use Rattle.album_terminate.specs.Deciding.{vote_of, have_voted, decision_of};
 
 use album_calls::Vote;
 
@@ -52,7 +52,7 @@ pub fn vote_of(state: StampState) -> Vote
 /// whose client has stopped. It differs in three ways. A partition asks by a Check when it is swept, and by no timer.
 /// It notes each vote, so the votes may come one by one. One that knows nothing of the stamp keeps its vote `Never`
 /// as a mark, for which there has to be room: else it replies Full, and nothing is decided by that.
-#[tactic(auto, using(crate::proofs::Telling::have_told_tells))]
+#[tactic(auto, using(crate::proofs::Voting::have_voted_decides))]
 pub fn decide(vote: Vote, heard: &[u16], others: &[u16]) -> Decision
     ensures decision { result ≡ decision_of vote heard.now others.now }
     ensures commit { (result ≡ Decision.Commit)
@@ -62,14 +62,14 @@ pub fn decide(vote: Vote, heard: &[u16], others: &[u16]) -> Decision
     match vote {
         Vote::Committed => Decision::Commit,
         Vote::Never => Decision::Discard,
-        Vote::Prepared if have_told(heard, others) => Decision::Commit,
+        Vote::Prepared if have_voted(heard, others) => Decision::Commit,
         Vote::Prepared => Decision::Wait,
     }
 }
 
 /// Whether each of the others is among those that were heard.
-fn have_told(heard: &[u16], others: &[u16]) -> bool
-    ensures { result ≡ have_told heard.now others.now }
+fn have_voted(heard: &[u16], others: &[u16]) -> bool
+    ensures { result ≡ have_voted heard.now others.now }
 {
     others.iter().all(|other| heard.contains(other))
 }

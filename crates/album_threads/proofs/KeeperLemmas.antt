@@ -98,7 +98,7 @@ cause_backs limit c p m s inside shown votes h (Committed t) here why =
     (λ told. let v = voter c m.from t vote.Committed (shown_as c m (body.Reply (reply.Status t vote.Committed)) told h) in
     committed_tells c v.0 t s.closed v.2)
     (λ last.
-    let told = shown_as c m (body.Reply (reply.Status t vote.Prepared)) last.told h in
+    let told = shown_as c m (body.Reply (reply.Status t vote.Prepared)) last.voted h in
     let theirs : list_any (prepares t) (prefix_at c last.part) ≡ true = subst (λ (n : Node). ShowsVote c n t vote.Prepared) last.sender told in
     let own : list_any (prepares t) (prefix_at c p.number) ≡ true = ap (list_any (prepares t)) (sym shown.marks) ∙ (pending_tells _ _ _ why.0).2 in
     let heard_all = All-cons (λ (q : ℕ). list_any (prepares t) (prefix_at c q) ≡ true) last.part (heard p.votes t) theirs
@@ -150,7 +150,7 @@ noted_from p from b e (voted_never a) v f = none_some (ap (λ (x : Action). x.vo
 noted_from p from b e (voted_prepared a) v f =
     let g : new_vote p.votes a.t a.part ≡ Some v = ap (λ (x : Action). x.vote) (sym a.done) ∙ f in
     let same = go (has_vote p.votes a.t a.part) g in
-    (a.sender ∙ ap (λ (x : NotedVote). Part x.part) same, a.told ∙ ap (λ (x : NotedVote). body.Reply (reply.Status x.stamp vote.Prepared)) same)
+    (a.sender ∙ ap (λ (x : NotedVote). Part x.part) same, a.voted ∙ ap (λ (x : NotedVote). body.Reply (reply.Status x.stamp vote.Prepared)) same)
   where
     go : (b : Bool) → (if b then None else Some (record { stamp = a.t; part = a.part })) ≡ Some v → record { stamp = a.t; part = a.part } ≡ v
     go true g = none_some g

@@ -301,7 +301,7 @@ leads limit b c d begun round m first on both parts r u = by (is_gone round m) r
     second gone e f = (and_parts _ _ (e ∙ f)).0
 
     gone : IsGone round m → IsGoneBetween b d (asked_stamps begun) begun.items
-    gone g = gone_between limit b d begun.asker (asked_stamps begun) begun.items m g.item both parts r g.told
+    gone g = gone_between limit b d begun.asker (asked_stamps begun) begun.items m g.item both parts r g.gone
         (g.sender ∙ ap (λ (a : Asker). Part (place_of a.parts g.item)) u.asker)
         (subst (λ (is : List ℕ). Contains is g.item) u.items g.asked)
 

@@ -53,7 +53,7 @@ use Rattle.album_writer.specs.declared.outcomes.Outcome.TheVariants as outcome
 use Rattle.album_writer.specs.declared.write_replies.WriteReply.{WriteReply}
 use Rattle.album_writer.specs.declared.write_replies.WriteReply.TheVariants as write_reply
 use Rattle.album_writer.proofs.Placing.{participant, filter-has}
-use Rattle.album_writer.proofs.Strays.{told-is, part-number}
+use Rattle.album_writer.proofs.Strays.{reply-is, part-number}
 
 -- ---- what a partition did with a Prepare
 
@@ -258,14 +258,14 @@ module _ (limit : ℕ) (b c d : Cut) (begun : WritingState) (m : Message) (x : E
 
       go : (what : WriteReply) → reply_in (with w.outstanding) m ≡ what → PrepareShows limit d begun (prepares_by (with w.outstanding) m.from what)
       go write_reply.Prepared e =
-          let t = told-is (with w.outstanding) m write_reply.Prepared e (λ f. absurd (cc)) in
+          let t = reply-is (with w.outstanding) m write_reply.Prepared e (λ f. absurd (cc)) in
           by (more t.0 t.1.sender (heard_prepared limit b d begun m t.0 r t.1.sender t.1.body)) (left w.outstanding) refl
       go write_reply.Committed e = still
       go write_reply.Discarded e =
-          let t = told-is (with w.outstanding) m write_reply.Discarded e (λ f. absurd (cc)) in
+          let t = reply-is (with w.outstanding) m write_reply.Discarded e (λ f. absurd (cc)) in
           (refl, heard_discarded limit b d (prepares_of begun) m t.0 r t.1.sender begun.stamp sound t.1.body)
       go write_reply.Full e =
-          let t = told-is (with w.outstanding) m write_reply.Full e (λ f. absurd (cc)) in
+          let t = reply-is (with w.outstanding) m write_reply.Full e (λ f. absurd (cc)) in
           let of = subst (λ (k : ℕ). Contains (places_of k (items_in begun)) t.0) parts t.1.participant in
           (refl, heard_full limit b d (prepares_of begun) m t.0 r t.1.sender begun.permit begun.stamp of t.1.body)
       go write_reply.Nothing e = still
@@ -295,7 +295,7 @@ module _ (limit : ℕ) (b c d : Cut) (begun : WritingState) (m : Message) (x : E
       go : (what : WriteReply) → reply_in (with w.outstanding) m ≡ what → CommitShows d begun (commits_by (with w.outstanding) m.from what)
       go write_reply.Prepared e = still
       go write_reply.Committed e =
-          let t = told-is (with w.outstanding) m write_reply.Committed e (λ f. absurd (cc)) in
+          let t = reply-is (with w.outstanding) m write_reply.Committed e (λ f. absurd (cc)) in
           by (more t.0 t.1.sender (heard_committed limit b d (commits_of begun) m t.0 r t.1.sender begun.stamp t.1.body)) (left w.outstanding) refl
       go write_reply.Discarded e = still
       go write_reply.Full e = still

@@ -7,10 +7,11 @@ use Rattle.album_items.specs.Transactions.{items_written}
 use Rattle.album_eval.specs.declared.facts.Principal.{Principal}
 use Rattle.album_eval.specs.declared.policies.Policy.{Policy}
 use Rattle.album_terminate.specs.declared.deciding.StampState.TheVariants as state
-use Rattle.album_partition.specs.Marks.{commits, state_of, is_full}
+use Rattle.album_partition.specs.Marks.{commits, state_of, is_full, first_value}
 use Rattle.album_partition.specs.declared.marks.Mark.{Mark}
 use Rattle.album_partition.specs.declared.marks.Mark.TheVariants.{Prepared, Committed, Discarded, Trimmed}
 use Rattle.album_reader.specs.Answers.{ReadVersion}
+use Rattle.album_reader.specs.Atomic.{IsReadAtomic, IsFreshFrom}
 use Rattle.album_reader.specs.Snapshots.{items_read}
 use Rattle.album_views.specs.Asks.{objects_of}
 use Rattle.album_views.specs.ReadSets.{names_of}
@@ -19,14 +20,14 @@ use Rattle.album_views.specs.declared.asks.Ask.{Ask}
 use Rattle.album_permits.specs.Effects.{effect_of}
 use Rattle.album_permits.specs.Permits.{PermitState, permit_on}
 use Rattle.album_passes.specs.Cuts.{Cut, prefix_at, IsPrefix}
-use Rattle.album_passes.specs.Reads.{IsReadAtomic, IsFreshFrom}
+use Rattle.album_passes.specs.Reads.{IsCommittedFor, writes_in_cut}
 
 -- ---- a view
 
 -- what was read is read atomic, with the cut's marks as histories, and fresh from the cut with which the ask began
 pub record IsSeen (begun now : Cut) (rows : List ReadVersion) : Type 0 where
-  pub atomic : IsReadAtomic now rows
-  pub fresh : IsFreshFrom begun now rows
+  pub atomic : IsReadAtomic (writes_in_cut now) (first_value now.opening) rows
+  pub fresh : IsFreshFrom (writes_in_cut now) (IsCommittedFor begun) rows
 
 -- The ask has a view, made of versions that were read so. The property holds of the permit that the view, the principal
 -- and the policy would make.

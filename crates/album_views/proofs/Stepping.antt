@@ -73,32 +73,32 @@ module _ (viewing : ViewingState) (rows : List ReadVersion) where
   chosen closed wide last =
       if closed then Closed whole else if wide then Busy Wide else if last then Busy Rounds else Again next names
 
-  -- what of each test a step tells
-  closed-told : (a b c : Bool) (view : ViewState) → chosen a b c ≡ Closed view → (a ≡ true) × (view ≡ whole)
-  closed-told true b c view e = (refl, cc)
-  closed-told false true c view e = absurd (cc)
-  closed-told false false true view e = absurd (cc)
-  closed-told false false false view e = absurd (cc)
+  -- what of each test a step shows
+  closed-chosen : (a b c : Bool) (view : ViewState) → chosen a b c ≡ Closed view → (a ≡ true) × (view ≡ whole)
+  closed-chosen true b c view e = (refl, cc)
+  closed-chosen false true c view e = absurd (cc)
+  closed-chosen false false true view e = absurd (cc)
+  closed-chosen false false false view e = absurd (cc)
 
-  wide-told : (a b c : Bool) → chosen a b c ≡ Busy Wide → (a ≡ false) × (b ≡ true)
-  wide-told true b c e = absurd (cc)
-  wide-told false true c e = (refl, refl)
-  wide-told false false true e = absurd (cc)
-  wide-told false false false e = absurd (cc)
+  wide-chosen : (a b c : Bool) → chosen a b c ≡ Busy Wide → (a ≡ false) × (b ≡ true)
+  wide-chosen true b c e = absurd (cc)
+  wide-chosen false true c e = (refl, refl)
+  wide-chosen false false true e = absurd (cc)
+  wide-chosen false false false e = absurd (cc)
 
-  rounds-told : (a b c : Bool) → chosen a b c ≡ Busy Rounds → (a ≡ false) × (b ≡ false) × (c ≡ true)
-  rounds-told true b c e = absurd (cc)
-  rounds-told false true c e = absurd (cc)
-  rounds-told false false true e = (refl, refl, refl)
-  rounds-told false false false e = absurd (cc)
+  rounds-chosen : (a b c : Bool) → chosen a b c ≡ Busy Rounds → (a ≡ false) × (b ≡ false) × (c ≡ true)
+  rounds-chosen true b c e = absurd (cc)
+  rounds-chosen false true c e = absurd (cc)
+  rounds-chosen false false true e = (refl, refl, refl)
+  rounds-chosen false false false e = absurd (cc)
 
-  again-told :
+  again-chosen :
       (a b c : Bool) (other : ViewingState) (items : List ℕ) → chosen a b c ≡ Again other items
       → (a ≡ false) × (b ≡ false) × (c ≡ false) × (items ≡ names) × (other ≡ next)
-  again-told true b c other items e = absurd (cc)
-  again-told false true c other items e = absurd (cc)
-  again-told false false true other items e = absurd (cc)
-  again-told false false false other items e = (refl, refl, refl, cc, cc)
+  again-chosen true b c other items e = absurd (cc)
+  again-chosen false true c other items e = absurd (cc)
+  again-chosen false false true other items e = absurd (cc)
+  again-chosen false false false other items e = (refl, refl, refl, cc, cc)
 
   -- the same, of the tests themselves
   is-lacking : (IsClosed viewing.ask rows → ⊥) → is_closed viewing.ask rows ≡ false
@@ -111,7 +111,7 @@ module _ (viewing : ViewingState) (rows : List ReadVersion) where
   pub closed-by :
       (view : ViewState) → (stepped viewing rows ≡ Closed view) ↔ (IsClosed viewing.ask rows × (view ≡ whole))
   closed-by view = (
-    λ e. (let told = closed-told _ _ _ view e in (closed-is rows viewing.ask told.0, told.1)),
+    λ e. (let all = closed-chosen _ _ _ view e in (closed-is rows viewing.ask all.0, all.1)),
     λ h. step-closed viewing rows (is-closed rows viewing.ask h.0) ∙ ap Closed (sym h.1),
   )
 
@@ -119,7 +119,7 @@ module _ (viewing : ViewingState) (rows : List ReadVersion) where
       (stepped viewing rows ≡ Busy Wide)
       ↔ ((IsClosed viewing.ask rows → ⊥) × (MAX_READ_ITEMS < length (names_of rows viewing.ask)))
   wide-by = (
-    λ e. (let told = wide-told _ _ _ e in (not-closed rows viewing.ask told.0, ltb-true _ _ told.1)),
+    λ e. (let all = wide-chosen _ _ _ e in (not-closed rows viewing.ask all.0, ltb-true _ _ all.1)),
     λ h. step-unclosed viewing rows (is-lacking h.0) ∙ unclosed-wide viewing names h.1,
   )
 
@@ -129,8 +129,8 @@ module _ (viewing : ViewingState) (rows : List ReadVersion) where
       × (length (names_of rows viewing.ask) ≤ MAX_READ_ITEMS)
       × (MAX_READS ≤ viewing.reads + 1))
   rounds-by = (
-    λ e. (let told = rounds-told _ _ _ e in
-        (not-closed rows viewing.ask told.0, ltb-false _ _ told.1, leb-true _ _ told.2)),
+    λ e. (let all = rounds-chosen _ _ _ e in
+        (not-closed rows viewing.ask all.0, ltb-false _ _ all.1, leb-true _ _ all.2)),
     λ h. step-unclosed viewing rows (is-lacking h.0)
         ∙ unclosed-again viewing names h.1
         ∙ ap (λ b. if b then Busy Rounds else Again next names) (le-leb MAX_READS (viewing.reads + 1) h.2),
@@ -145,8 +145,8 @@ module _ (viewing : ViewingState) (rows : List ReadVersion) where
       × (items ≡ names_of rows viewing.ask)
       × (other ≡ record { ask = viewing.ask; reads = viewing.reads + 1 }))
   again-by other items = (
-    λ e. (let told = again-told _ _ _ other items e in
-        (not-closed rows viewing.ask told.0, ltb-false _ _ told.1, leb-false _ _ told.2, told.3, told.4)),
+    λ e. (let all = again-chosen _ _ _ other items e in
+        (not-closed rows viewing.ask all.0, ltb-false _ _ all.1, leb-false _ _ all.2, all.3, all.4)),
     λ h. step-unclosed viewing rows (is-lacking h.0)
         ∙ unclosed-again viewing names h.1
         ∙ ap (λ b. if b then Busy Rounds else Again next names) (lt-leb MAX_READS (viewing.reads + 1) h.2)

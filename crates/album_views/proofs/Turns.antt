@@ -37,7 +37,7 @@ read-has (row ∷ rows) item = go (row.item == item) refl (sameness-sym row.item
     go true e s rest = ap first e ∙ sym (or_left (item == row.item) (has (items_read rows) item) (sym s ∙ e))
     go false e s rest = ap first e ∙ rest ∙ sym (ap (λ b. b || has (items_read rows) item) (sym s ∙ e))
 
--- what was not read tells of no group
+-- what was not read is of no group
 unread-nothing : (rows : List ReadVersion) (item : ℕ) → has (items_read rows) item ≡ false → inner_of (seen rows) item ≡ []
 unfolding seen
 unread-nothing rows item e = go (version_read rows item) (read-has rows item ∙ e)

@@ -11,7 +11,7 @@ use Rattle.album_wire.specs.declared.opening_shape.Header.{Header}
 use Rattle.album_wire.specs.declared.opening_shape.TheConstants.{DEFAULT_LIMIT, DEFAULT_POLICY}
 
 -- How the store is to be opened. Where `limit` or `policy` is left out it is the usual one, and where `trace` is, no
--- message is told.
+-- message is written.
 pub record IsHeader (header : Header) (d : Data) : Type 0 where
   pub names : HasOnly (codes "parts" ∷ codes "limit" ∷ codes "policy" ∷ codes "trace" ∷ []) d
   pub parts : HasMember (codes "parts") (IsWhole header.parts) d

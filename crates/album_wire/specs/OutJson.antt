@@ -1,4 +1,4 @@
--- The lines of what an event tells: its notes, its answers, and in a trace its messages.
+-- The lines of an event's outputs: its notes, its answers, and in a trace its messages.
 use Rattle.std.specs.Prelude.{ℕ, List, [], ◌∷◌, codes, map, Option, Some, None}
 use Rattle.serde_json.specs.Data.{Data, null, boolean, string}
 use Rattle.album_stamps.specs.Refusals.{number_of, name_of}
@@ -172,7 +172,7 @@ answer_json client (answer.Refused refusal) = refused_json client refusal
 
 -- ---- lines
 
--- The line of what is told. That a message is sent has none, where the message is not at hand.
+-- The line of an output. That a message is sent has none, where the message is not at hand.
 unfoldable pub out_line : Out → Option Message → List ℕ
 out_line (out.Sent number) None = []
 out_line (out.Sent number) (Some message) = line_text (message_json number message)

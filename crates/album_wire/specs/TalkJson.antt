@@ -55,4 +55,4 @@ talk_json (out.Totals audits alarms) = totals_json audits alarms
 
 -- the line
 unfoldable pub talk_text : TalkOut → List ℕ
-talk_text told = line_text (talk_json told)
+talk_text output = line_text (talk_json output)

@@ -1,7 +1,7 @@
 //! The lines of a store: read by their JSON, and written.
 //!
 //! What comes in: the bytes of a line of an opening, of an event, or of a connection. What goes out: what it says, or
-//! the first test that it fails. What a store tells comes in too, and its line goes out.
+//! the first test that it fails. A store's outputs come in too, and their lines go out.
 //!
 //! Read `opening_line` first: the shape of a line (`opening_shape`, `item_shapes`), then its values (`item_texts`).
 //! `event_line` goes the same way, by `event_shape` and `ask_shape`; `talk_line`, what a connection says, by

@@ -19,7 +19,7 @@ pub const DEFAULT_LIMIT: u64 = 100_000;
 pub const DEFAULT_POLICY: u64 = 1;
 
 /// How the store is to be opened: how many partitions there are, for how many marks the history of each has
-/// room, by which policy lists are judged, and whether each message that is sent is to be told.
+/// room, by which policy lists are judged, and whether each message that is sent is to be written.
 #[derive(Clone, Copy, Debug, PartialEq, Eq)]
 pub struct Header {
     pub parts: u64,

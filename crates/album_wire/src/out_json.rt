@@ -1,4 +1,4 @@
-//! The lines of what an event tells: its notes, its answers, and in a trace its messages.
+//! The lines of an event's outputs: its notes, its answers, and in a trace its messages.
 ghost use Rattle.std.specs.Prelude.{◌≡◌, ◌++◌, [], ◌∷◌, true, Some, None, codes, option_map, false, map, IfOk, IsOkUnless};
 ghost use Rattle.serde_json.specs.View.{view};
 ghost use Rattle.serde_json.specs.Written.{has_float};
@@ -21,7 +21,7 @@ use bitflags::Flags;
 use serde_json::{Value, json};
 use std::alloc::{AllocError, Global};
 
-/// The line of what an event tells. That a message is sent has a line where the message is given, and no byte where
+/// The line of an output. That a message is sent has a line where the message is given, and no byte where
 /// it isn't.
 ///
 /// # Errors

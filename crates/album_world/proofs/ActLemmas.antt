@@ -20,7 +20,7 @@ use Rattle.album_calls.specs.declared.requests.Request.{Request}
 use Rattle.album_calls.specs.declared.requests.Request.TheVariants.{Prepare, Commit, Get, Check}
 use Rattle.album_calls.specs.declared.replies.Reply.{Reply}
 use Rattle.album_calls.specs.declared.replies.Reply.TheVariants as reply
-use Rattle.album_terminate.specs.Deciding.{have_told}
+use Rattle.album_terminate.specs.Deciding.{have_voted}
 use Rattle.album_terminate.specs.declared.deciding.Decision.TheVariants as decision
 use Rattle.album_terminate.specs.declared.deciding.StampState.{StampState}
 use Rattle.album_terminate.specs.declared.deciding.StampState.TheVariants as state
@@ -234,7 +234,7 @@ module _ (o : Opening) (some : 0 < o.parts) (w : World) (k : IsKept o w) (p : �
 
   -- all others are prepared, and so is p
   settled_by_votes : (t q : ℕ) → state_of h.marks t ≡ state.Pending → IsPreparedIn (history w q) t
-      → have_told (q ∷ heard h.votes t) (others_of h.number h.parts (items_at h.marks t)) ≡ true → IsSettled o w t
+      → have_voted (q ∷ heard h.votes t) (others_of h.number h.parts (items_at h.marks t)) ≡ true → IsSettled o w t
   settled_by_votes t q u d all =
       let a = is_prepared t state.Pending u (inl refl) in
       let s = sound.prepared t a in
@@ -278,9 +278,9 @@ module _ (o : Opening) (some : 0 < o.parts) (w : World) (k : IsKept o w) (p : �
 
   part_action : (t q : ℕ) → state_of h.marks t ≡ state.Pending → IsPreparedIn (history w q) t
       → IsAction o w p h.marks m (on_vote_of h q t)
-  part_action t q u d = go (have_told (q ∷ heard h.votes t) (others_of h.number h.parts (items_at h.marks t))) refl
+  part_action t q u d = go (have_voted (q ∷ heard h.votes t) (others_of h.number h.parts (items_at h.marks t))) refl
     where
-      go : (b : Bool) → have_told (q ∷ heard h.votes t) (others_of h.number h.parts (items_at h.marks t)) ≡ b
+      go : (b : Bool) → have_voted (q ∷ heard h.votes t) (others_of h.number h.parts (items_at h.marks t)) ≡ b
           → IsAction o w p h.marks m
           (record {
             mark = mark_by (if b then decision.Commit else decision.Wait) t;

@@ -8,12 +8,14 @@ use Rattle.album_partition.specs.Marks.{commits, discards}
 use Rattle.album_partition.specs.Partition.{PartitionState}
 use Rattle.album_partition.specs.declared.marks.Mark.{Mark}
 use Rattle.album_reader.specs.Answers.{ReadVersion}
+use Rattle.album_reader.specs.Atomic.{IsFreshFrom}
 use Rattle.album_client.specs.Terms.{Terms, terms_of}
 use Rattle.album_permits.specs.declared.events.Event.{Event}
 use Rattle.album_world.specs.State.{history_in}
 use Rattle.album_world.specs.Past.{World, Asked, Read}
 use Rattle.album_world.specs.Committing.{history, IsCommittedAt}
-use Rattle.album_world.specs.Fresh.{IsFreshFrom, ViewsAreFresh}
+use Rattle.album_world.specs.Atomic.{writes_in_world}
+use Rattle.album_world.specs.Fresh.{IsCommittedFor, ViewsAreFresh}
 use Rattle.album_world.specs.Requests.{AreAtOrAfter, AnswersAreToRequests, IsReadFor, IsServedAlone}
 use Rattle.album_world.specs.Runs.{run_of}
 use Rattle.album_world.proofs.ListLemmas.{In, contains, within, any_more}
@@ -27,12 +29,13 @@ use Rattle.album_world.proofs.PromiseLemmas.{views_are_fresh}
 
 -- what is fresh from later partitions is fresh from earlier ones
 fresh_before : (t : Terms) (w : World) (later earlier : List PartitionState) (rows : List ReadVersion)
-    → AreAtOrAfter later earlier → IsFreshFrom t w later rows → IsFreshFrom t w earlier rows
-fresh_before t w later earlier rows after fresh row l by begun wrote committed =
+    → AreAtOrAfter later earlier → IsFreshFrom (writes_in_world w) (IsCommittedFor t later) rows
+    → IsFreshFrom (writes_in_world w) (IsCommittedFor t earlier) rows
+fresh_before t w later earlier rows after fresh row l past wrote committed =
     let p = place_of t.parts row.item in
-    fresh row l by begun wrote
-    (subst (λ (z : List Mark). list_any (commits by.stamp) z ≡ true) (sym (after p).1)
-    (any_more (commits by.stamp) (history_in earlier p) (after p).0 committed))
+    fresh row l past wrote
+    (subst (λ (z : List Mark). list_any (commits past.by.stamp) z ≡ true) (sym (after p).1)
+    (any_more (commits past.by.stamp) (history_in earlier p) (after p).0 committed))
 
 read_for : (t : Terms) (w : World) → ViewsAreFresh t w → (a : Asked) (f : Read) → IsReadOf w a f → IsReadFor t w a f
 read_for t w fresh a f h = record {

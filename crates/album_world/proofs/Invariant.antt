@@ -21,7 +21,7 @@ use Rattle.album_terminate.specs.declared.deciding.StampState.TheVariants as sta
 use Rattle.album_partition.specs.declared.marks.Mark.{Mark}
 use Rattle.album_partition.specs.Votes.{NotedVote}
 use Rattle.album_partition.specs.Partition.{PartitionState, IsPartition}
-use Rattle.album_partition.specs.Marks.{commits, discards, state_of, is_full, value_in, is_legal, IsPromisedAgainst}
+use Rattle.album_partition.specs.Marks.{commits, discards, state_of, is_full, value_in, first_value, is_legal, IsPromisedAgainst}
 use Rattle.album_reader.specs.Answers.{ReadVersion}
 use Rattle.album_reader.specs.Rounds.{RoundState, are_in_order}
 use Rattle.album_items.specs.Places.{places_of, rows_placed_at}
@@ -36,7 +36,6 @@ use Rattle.album_client.specs.Steps.{Transaction}
 use Rattle.album_world.specs.State.{history_in, client_at}
 use Rattle.album_world.specs.Past.{World, Read, PastAnswer, last_begun}
 use Rattle.album_world.specs.Committing.{history, IsCommitted, IsCommittedAt}
-use Rattle.album_world.specs.Atomic.{first_value}
 use Rattle.album_world.proofs.ListLemmas.{In}
 use Rattle.album_world.proofs.MarkLemmas.{IsPreparedIn, wrote}
 
@@ -81,7 +80,7 @@ pub record IsFullFor (o : Opening) (w : World) (p t : ℕ) : Type 0 where
 
 -- a value that an item has at a stamp
 abbrev pub IsValue : Opening → World → ℕ → ℕ → Value → Type 0
-IsValue o w i t v = ((t ≡ 0) × (v ≡ first_value o i)) ⊎
+IsValue o w i t v = ((t ≡ 0) × (v ≡ first_value o.items i)) ⊎
     ((t ≡ 0 → ⊥) × (wrote (history w (place_of o.parts i)) t i ≡ Some v))
 
 abbrev pub IsZeroOrCommitted : World → ℕ → Type 0

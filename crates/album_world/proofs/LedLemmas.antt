@@ -387,7 +387,7 @@ module _ (o : Opening) (w : World) (k : IsKept o w) (b : IsBooked (terms_of o) w
                 writes = record {
                   change = unserved_writes permit pending_ask.viewing.ask unserved;
                   room = room;
-                  told = refl;
+                  effect = refl;
                 };
                 drawn = subst (λ (z : ℕ). IsDrawnBy next z stamp) (sym number) (drawn_by next turn.client.phase same);
                 later = λ row i. later row (within rows i);

@@ -4,7 +4,7 @@ use Rattle.std.specs.List.{list_any, range_with_len}
 use Rattle.album_items.specs.ItemIds.{place_of, number_of, kind_of}
 use Rattle.album_items.specs.Openings.{Row}
 use Rattle.album_items.specs.declared.values.Value.{Value}
-use Rattle.album_terminate.specs.Deciding.{have_told}
+use Rattle.album_terminate.specs.Deciding.{have_voted}
 use Rattle.album_partition.specs.Votes.{NotedVote, heard}
 use Rattle.album_partition.specs.Marks.{value_in}
 use Rattle.album_items.specs.Places.{lies_at, is_other, others_of, places_of, rows_placed_at}
@@ -116,7 +116,7 @@ heard_is votes t q h =
     record { by = r.0; noted = f.0; stamp = eqb-true r.0.stamp t f.1; part = sym r.2 }
 
 pub told_is : (part t q : ℕ) (votes : List NotedVote) (others : List ℕ)
-    → have_told (part ∷ heard votes t) others ≡ true → In q others → (q ≡ part) ⊎ IsNoted votes t q
+    → have_voted (part ∷ heard votes t) others ≡ true → In q others → (q ≡ part) ⊎ IsNoted votes t q
 told_is part t q votes others h k =
     let a = in_all (λ other. list_any (λ one. one == other) (part ∷ heard votes t)) others h k in
     let r = in_any (λ one. one == q) (part ∷ heard votes t) a in

@@ -9,16 +9,17 @@ use Rattle.album_items.specs.declared.openings.Opening.{Opening}
 use Rattle.album_partition.specs.declared.marks.Mark.{Mark}
 use Rattle.album_partition.specs.declared.marks.Mark.TheVariants.{Prepared}
 use Rattle.album_partition.specs.Partition.{PartitionState}
-use Rattle.album_partition.specs.Marks.{prepares, commits, value_in, IsPromisedAgainst}
+use Rattle.album_partition.specs.Marks.{prepares, commits, value_in, first_value, IsPromisedAgainst}
 use Rattle.album_partition.proofs.StateLemmas.{unknown_tells}
 use Rattle.album_reader.specs.Answers.{ReadVersion}
+use Rattle.album_reader.specs.Atomic.{IsFracturedBy, IsWritten, IsFreshRow}
 use Rattle.album_client.specs.Terms.{terms_of}
 use Rattle.album_client.specs.Steps.{Transaction}
 use Rattle.album_world.specs.State.{history_in}
 use Rattle.album_world.specs.Past.{World}
 use Rattle.album_world.specs.Committing.{history, IsCommitted, IsCommittedAt, IsCommittedEverywhere, IsPromisedSomewhere}
-use Rattle.album_world.specs.Atomic.{IsFracturedBy, IsWritten, ViewsAreReadAtomic}
-use Rattle.album_world.specs.Fresh.{IsFreshRow, ViewsAreFresh}
+use Rattle.album_world.specs.Atomic.{writes_in_world, ViewsAreReadAtomic}
+use Rattle.album_world.specs.Fresh.{IsCommittedFor, ViewsAreFresh}
 use Rattle.album_world.specs.Outcomes.{IsLost}
 use Rattle.album_world.proofs.ListLemmas.{In, contains, within, find_more}
 use Rattle.album_world.proofs.MarkLemmas.{IsPreparedIn, wrote, wrote_is, wrote_none, some_is}
@@ -30,22 +31,22 @@ module _ (o : Opening) (w : World) (k : IsKept o w) where
   -- ---- snapshots
 
   whole : (began : List PartitionState) (fs : List ReadVersion) → IsRead o w began fs → (f g : ReadVersion) → In f fs → In g fs
-      → IsFracturedBy w f g → ⊥
+      → IsFracturedBy (writes_in_world w) f g → ⊥
   whole began fs d f g fi gi x =
+      let by : Transaction = x.by.by in
+      let a : f.stamp ≡ by.stamp = x.at in
+      let s : g.stamp < by.stamp = x.older in
       ⊎_elim
-      (λ (z : f.stamp ≡ 0). let a : f.stamp ≡ x.by.stamp = x.at in let b : g.stamp < x.by.stamp = x.older in
-      omega arith)
+      (λ (z : f.stamp ≡ 0). omega arith)
       (λ (n : IsNoLater w g.item g.stamp f.stamp).
-      let e : n.of ≡ x.by = k.unique n.of x.by n.begun (within w.past.transactions x.begun) (n.stamp ∙ x.at) in
+      let e : n.of ≡ by = k.unique n.of by n.begun (within w.past.transactions x.by.begun) (n.stamp ∙ a) in
       let b : f.stamp ≤ g.stamp = n.bound
       (subst (λ (z : Transaction). is_some (value_in z.writes g.item) ≡ true) (sym e) x.wrote_other) in
-      let a : f.stamp ≡ x.by.stamp = x.at in
-      let s : g.stamp < x.by.stamp = x.older in
       omega arith)
       (d.above g f gi fi)
 
   written : (began : List PartitionState) (fs : List ReadVersion) → IsRead o w began fs → (f : ReadVersion) → In f fs
-      → IsWritten o w f
+      → IsWritten (writes_in_world w) (first_value o.items) f
   written began fs d f h =
       let g = d.found f h in
       ⊎_elim inl
@@ -54,8 +55,7 @@ module _ (o : Opening) (w : World) (k : IsKept o w) where
       (λ (c : IsCommitted w f.stamp).
       let r = written_by o w k f.item f.stamp f.value v.1 in
       inr (record {
-        by = r.0;
-        begun = contains r.1;
+        by = record { by = r.0; begun = contains r.1 };
         committed = subst (IsCommitted w) (sym r.2) c;
         at = r.2;
         wrote = r.3;
@@ -72,9 +72,10 @@ module _ (o : Opening) (w : World) (k : IsKept o w) where
       }
 
   fresh : (began : List PartitionState) (fs : List ReadVersion) → IsRead o w began fs → (f : ReadVersion) → In f fs
-      → IsFreshRow (terms_of o) w began f
-  fresh began fs d f h r begun_ wrote_it c =
-      let begun = within w.past.transactions begun_ in
+      → IsFreshRow (writes_in_world w) (IsCommittedFor (terms_of o) began) f
+  fresh began fs d f h past wrote_it c =
+      let r : Transaction = past.by in
+      let begun = within w.past.transactions past.begun in
       let p = place_of o.parts f.item in
       let b = d.begun p in
       let q = b.committed r.stamp c in

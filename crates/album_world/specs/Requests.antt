@@ -3,9 +3,11 @@ use Rattle.std.specs.Prelude.{◌≡◌, ◌≤◌, ℕ, List, [], ◌∷◌, �
 use Rattle.album_partition.specs.Partition.{PartitionState}
 use Rattle.album_partition.specs.declared.marks.Mark.{Mark}
 use Rattle.album_reader.specs.Answers.{ReadVersion}
+use Rattle.album_reader.specs.Atomic.{IsFreshFrom}
 use Rattle.album_client.specs.Terms.{Terms}
 use Rattle.album_client.specs.Steps.{Transaction}
-use Rattle.album_world.specs.Fresh.{IsFreshFrom}
+use Rattle.album_world.specs.Atomic.{writes_in_world}
+use Rattle.album_world.specs.Fresh.{IsCommittedFor}
 use Rattle.album_world.specs.Past.{Asked, Read, PastAnswer, World, last_asked, last_read}
 use Rattle.album_world.specs.Runs.{past_answer}
 use Rattle.album_world.specs.State.{history_in}
@@ -26,7 +28,8 @@ pub record IsReadFor (terms : Terms) (world : World) (asked : Asked) (read : Rea
   pub ask : read.ask ≡ asked.ask
   pub principal : read.principal ≡ asked.principal
   pub later : AreAtOrAfter read.begun.partitions asked.partitions
-  pub fresh : (rows : List ReadVersion) → read.rows ≡ Some rows → IsFreshFrom terms world asked.partitions rows
+  pub fresh : (rows : List ReadVersion) → read.rows ≡ Some rows
+      → IsFreshFrom (writes_in_world world) (IsCommittedFor terms asked.partitions) rows
 
 -- the client began the write for this request: by a permit for its ask and principal
 pub record IsWriteFor (world : World) (asked : Asked) (by : Transaction) : Type 0 where

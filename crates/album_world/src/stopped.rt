@@ -40,7 +40,7 @@ impl Stopped {
     /// Whether the client was stopped.
     #[tactic(auto, using(crate::proofs::FlagLemmas::flag_is))]
     pub fn has(&self, client: ClientNo) -> bool
-        ensures is { result ≡ list_any (λ stopped. stopped == client) self.now }
+        ensures stopped { result ≡ list_any (λ stopped. stopped == client) self.now }
         ensures client { is_client client ≡ true }
     {
         self.flags[usize::from(client.number())]

@@ -1,4 +1,4 @@
--- A write's state depends on the messages that were given: `prepare-told` and `commit-told`, for the clauses
+-- A write's state depends on the messages that were given: `prepare-replied` and `commit-replied`, for the clauses
 -- `all_given` and the law `a_write_depends_on_its_replies`.
 use Rattle.std.proofs.Common.{◌≡◌, ℕ, Bool, true, false, not, ◌&&◌, ◌||◌, cond, List, [], ◌∷◌, ◌++◌, filter, refl, sym, ap, ◌∙◌}
 use Rattle.std.proofs.Math.Bool.{or-false}
@@ -46,50 +46,50 @@ not_or false b = refl
 
 -- ---- one message more
 
-module _ (tells : WriteReply → Bool) (x : WritingState) (given : List Message) (m : Message) where
+module _ (counts : WriteReply → Bool) (x : WritingState) (given : List Message) (m : Message) where
   abbrev unheard : List Message → List ℕ
-  unheard ms = filter (λ place. not (has_replied tells x ms place)) (places_in x)
+  unheard ms = filter (λ place. not (has_replied counts x ms place)) (places_in x)
 
   pushed :
       (n : ℕ)
-      → has_replied tells x (given ++ m ∷ []) n ≡ (has_replied tells x given n || (tells (reply_in x m) && is_part m.from n))
+      → has_replied counts x (given ++ m ∷ []) n ≡ (has_replied counts x given n || (counts (reply_in x m) && is_part m.from n))
   pushed n =
-      list_any-append (λ (message : Message). tells (reply_in x message) && is_part message.from n) given (m ∷ [])
-      ∙ ap (λ (b : Bool). has_replied tells x given n || b) (or-false (tells (reply_in x m) && is_part m.from n))
+      list_any-append (λ (message : Message). counts (reply_in x message) && is_part message.from n) given (m ∷ [])
+      ∙ ap (λ (b : Bool). has_replied counts x given n || b) (or-false (counts (reply_in x m) && is_part m.from n))
 
   -- a participant that has replied is no longer outstanding
   answer-push :
-      tells (reply_in x m) ≡ true
+      counts (reply_in x m) ≡ true
       → filter (λ place. not (is_part m.from place)) (unheard given) ≡ unheard (given ++ m ∷ [])
   answer-push e =
-      filter_twice (λ place. not (is_part m.from place)) (λ place. not (has_replied tells x given place))
-      (λ place. not (has_replied tells x (given ++ m ∷ []) place))
-      (λ n. ap not (pushed n ∙ ap (λ (b : Bool). has_replied tells x given n || (b && is_part m.from n)) e)
-      ∙ not_or (has_replied tells x given n) (is_part m.from n))
+      filter_twice (λ place. not (is_part m.from place)) (λ place. not (has_replied counts x given place))
+      (λ place. not (has_replied counts x (given ++ m ∷ []) place))
+      (λ n. ap not (pushed n ∙ ap (λ (b : Bool). has_replied counts x given n || (b && is_part m.from n)) e)
+      ∙ not_or (has_replied counts x given n) (is_part m.from n))
       (places_in x)
 
   -- another message changes nothing
-  other-push : tells (reply_in x m) ≡ false → unheard given ≡ unheard (given ++ m ∷ [])
+  other-push : counts (reply_in x m) ≡ false → unheard given ≡ unheard (given ++ m ∷ [])
   other-push e =
-      filter_alike (λ place. not (has_replied tells x given place))
-      (λ place. not (has_replied tells x (given ++ m ∷ []) place))
-      (λ n. ap not (sym (pushed n ∙ ap (λ (b : Bool). has_replied tells x given n || (b && is_part m.from n)) e
-      ∙ or-false (has_replied tells x given n))))
+      filter_alike (λ place. not (has_replied counts x given place))
+      (λ place. not (has_replied counts x (given ++ m ∷ []) place))
+      (λ n. ap not (sym (pushed n ∙ ap (λ (b : Bool). has_replied counts x given n || (b && is_part m.from n)) e
+      ∙ or-false (has_replied counts x given n))))
       (places_in x)
 
 -- ---- how a round begins
 
-pub first-told :
+pub first-replied :
     (permit : PermitState) (stamp client tag parts : ℕ)
     → prepare_round permit stamp client tag parts
     ≡ replied_round is_prepared_reply (prepare_round permit stamp client tag parts) []
-first-told permit stamp client tag parts =
+first-replied permit stamp client tag parts =
     ap (λ (z : List ℕ). let a : WritingState = record (prepare_round permit stamp client tag parts) { outstanding = z }
     in a)
     (filter_all (λ place. true) (λ n. refl) (places_in (prepare_round permit stamp client tag parts)))
 
-pub second-told : (x : WritingState) → commit_round x ≡ replied_round is_committed_reply (commit_round x) []
-second-told x =
+pub second-replied : (x : WritingState) → commit_round x ≡ replied_round is_committed_reply (commit_round x) []
+second-replied x =
     ap (λ (z : List ℕ). let a : WritingState = record (commit_round x) { outstanding = z } in a)
     (filter_all (λ place. true) (λ n. refl) (places_in x))
 
@@ -99,8 +99,8 @@ module _ (x : WritingState) (given : List Message) (m : Message) where
   abbrev with : List ℕ → WritingState
   with z = record x { outstanding = z }
 
-  pub prepare-told : prepare_stepped (replied_round is_prepared_reply x given) m ≡ prepare_step_after x given m
-  prepare-told = go (reply_in x m) refl
+  pub prepare-replied : prepare_stepped (replied_round is_prepared_reply x given) m ≡ prepare_step_after x given m
+  prepare-replied = go (reply_in x m) refl
     where
       go :
           (what : WriteReply) → reply_in x m ≡ what
@@ -115,8 +115,8 @@ module _ (x : WritingState) (given : List Message) (m : Message) where
       go write_reply.Nothing e =
           ap (λ (z : List ℕ). Waits (with z)) (other-push is_prepared_reply x given m (ap is_prepared_reply e))
 
-  pub commit-told : commit_stepped (replied_round is_committed_reply x given) m ≡ commit_step_after x given m
-  commit-told = go (reply_in x m) refl
+  pub commit-replied : commit_stepped (replied_round is_committed_reply x given) m ≡ commit_step_after x given m
+  commit-replied = go (reply_in x m) refl
     where
       go :
           (what : WriteReply) → reply_in x m ≡ what
@@ -138,10 +138,10 @@ pub prepare-step :
     (x : WritingState) (m : Message) (step : WriteStep) → step ≡ prepare_stepped x m
     → (given : List Message) → x ≡ replied_round is_prepared_reply x given → step ≡ prepare_step_after x given m
 prepare-step x m step e given same =
-    e ∙ ap (λ (z : WritingState). prepare_stepped z m) same ∙ prepare-told x given m
+    e ∙ ap (λ (z : WritingState). prepare_stepped z m) same ∙ prepare-replied x given m
 
 pub commit-step :
     (x : WritingState) (m : Message) (step : WriteStep) → step ≡ commit_stepped x m
     → (given : List Message) → x ≡ replied_round is_committed_reply x given → step ≡ commit_step_after x given m
 commit-step x m step e given same =
-    e ∙ ap (λ (z : WritingState). commit_stepped z m) same ∙ commit-told x given m
+    e ∙ ap (λ (z : WritingState). commit_stepped z m) same ∙ commit-replied x given m

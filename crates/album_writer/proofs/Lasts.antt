@@ -8,8 +8,8 @@ use Rattle.album_calls.specs.declared.messages.Message.{Message}
 use Rattle.album_calls.specs.declared.nodes.Node.{Node}
 use Rattle.album_calls.specs.declared.replies.Reply.TheVariants as reply
 use Rattle.album_reader.proofs.Others.{is_part-own}
-use Rattle.album_writer.proofs.Giving.{prepare-told, commit-told}
-use Rattle.album_writer.proofs.Strays.{told-is, told-kind, the_reply, part-number}
+use Rattle.album_writer.proofs.Giving.{prepare-replied, commit-replied}
+use Rattle.album_writer.proofs.Strays.{reply-is, reply-kind, the_reply, part-number}
 use Rattle.album_writer.specs.Counting.{IsReplyFrom, IsReplyTo, IsReplyAmong, IsLastOf}
 use Rattle.album_writer.specs.Given.{has_replied, replied_round, prepares_then, prepare_step_after, commits_then, commit_step_after}
 use Rattle.album_writer.specs.Rounds.{WriteStep, answered_by, prepares_left, prepares_by, prepare_stepped, commits_left, commits_by, commit_stepped}
@@ -42,50 +42,50 @@ left-none p (k ∷ ns) none =
     ∙ left-none p ns (λ n there. none n (suc there.0, omega (arith, there.1), there.2))
 
 module _
-    (tells : WriteReply → Bool) (kind : WriteReply) (some : kind ≢ write_reply.Nothing) (tells-own : tells kind ≡ true)
-    (tells-is : (what : WriteReply) → tells what ≡ true → what ≡ kind)
+    (counts : WriteReply → Bool) (kind : WriteReply) (some : kind ≢ write_reply.Nothing) (counts-own : counts kind ≡ true)
+    (counts-is : (what : WriteReply) → counts what ≡ true → what ≡ kind)
     (x : WritingState)
   where
     has_replied-among :
-        (ms : List Message) (place : ℕ) → has_replied tells x ms place ≡ true
+        (ms : List Message) (place : ℕ) → has_replied counts x ms place ≡ true
         → IsReplyAmong x ms (the_reply x.stamp kind) place
     has_replied-among ms place e =
         let (at, message, inside, here, same) =
-        Any-from_list_any (λ (message : Message). tells (reply_in x message) && is_part message.from place) ms e
+        Any-from_list_any (λ (message : Message). counts (reply_in x message) && is_part message.from place) ms e
         in
-        let both = and_parts (tells (reply_in x message)) (is_part message.from place) same in
-        let (other, t) = told-is x message kind (tells-is (reply_in x message) both.0) some in
+        let both = and_parts (counts (reply_in x message)) (is_part message.from place) same in
+        let (other, t) = reply-is x message kind (counts-is (reply_in x message) both.0) some in
         let own : other ≡ place = part-number other place (sym t.sender ∙ is_part-own message.from place both.1) in
         (message, (at, inside, here), subst (λ (n : ℕ). IsReplyFrom x message (the_reply x.stamp kind) n) own t)
 
     among-has_replied :
         (ms : List Message) (place : ℕ) → IsReplyAmong x ms (the_reply x.stamp kind) place
-        → has_replied tells x ms place ≡ true
+        → has_replied counts x ms place ≡ true
     among-has_replied ms place (message, there, t) =
         let (at, inside, here) = at_from_Contains ms message there in
-        list_any_at (λ (message : Message). tells (reply_in x message) && is_part message.from place) ms at message
+        list_any_at (λ (message : Message). counts (reply_in x message) && is_part message.from place) ms at message
         inside
-        (subst (λ (k : Message). (tells (reply_in x k) && is_part k.from place) ≡ true) (sym (here message))
-        (and_from (tells (reply_in x message)) (is_part message.from place)
-        (ap tells (told-kind x message kind (place, t)) ∙ tells-own)
+        (subst (λ (k : Message). (counts (reply_in x k) && is_part k.from place) ≡ true) (sym (here message))
+        (and_from (counts (reply_in x message)) (is_part message.from place)
+        (ap counts (reply-kind x message kind (place, t)) ∙ counts-own)
         (ap (λ (n : Node). is_part n place) t.sender ∙ eq-eqb place place refl)))
 
     -- none is outstanding where each has replied
-    each-told :
-        (ms : List Message) → (replied_round tells x ms).outstanding ≡ []
+    each-replied :
+        (ms : List Message) → (replied_round counts x ms).outstanding ≡ []
         → (place : ℕ) → Contains (places_in x) place → IsReplyAmong x ms (the_reply x.stamp kind) place
-    each-told ms none place there =
+    each-replied ms none place there =
         has_replied-among ms place
-        (not-false (has_replied tells x ms place)
-        (none-left (λ place. not (has_replied tells x ms place)) (places_in x) none place there))
+        (not-false (has_replied counts x ms place)
+        (none-left (λ place. not (has_replied counts x ms place)) (places_in x) none place there))
 
-    told-each :
+    replied-each :
         (ms : List Message)
         → ((place : ℕ) → Contains (places_in x) place → IsReplyAmong x ms (the_reply x.stamp kind) place)
-        → (replied_round tells x ms).outstanding ≡ []
-    told-each ms each =
-        left-none (λ place. not (has_replied tells x ms place)) (places_in x)
-        (λ place there. not_from_true (has_replied tells x ms place) (among-has_replied ms place (each place there)))
+        → (replied_round counts x ms).outstanding ≡ []
+    replied-each ms each =
+        left-none (λ place. not (has_replied counts x ms place)) (places_in x)
+        (λ place there. not_from_true (has_replied counts x ms place) (among-has_replied ms place (each place there)))
 
 -- ---- the ends of a round
 
@@ -123,8 +123,8 @@ module _ (x : WritingState) (given : List Message) (m : Message) where
           reply_in x m ≡ write_reply.Prepared → (ns : List ℕ) → (replied_round is_prepared_reply x all).outstanding ≡ ns
           → prepares_left (replied_round is_prepared_reply x all) ns ≡ commits → IsLastOf (reply.Prepared x.stamp) x given m
       left f [] none g = record {
-        last = told-is x m write_reply.Prepared f prepared-some;
-        each = each-told is_prepared_reply write_reply.Prepared prepared-some refl is_prepared x all none;
+        last = reply-is x m write_reply.Prepared f prepared-some;
+        each = each-replied is_prepared_reply write_reply.Prepared prepared-some refl is_prepared x all none;
       }
       left f (n ∷ ns) some g = absurd (cc)
 
@@ -139,9 +139,9 @@ module _ (x : WritingState) (given : List Message) (m : Message) where
 
   prepared-last : IsLastOf (reply.Prepared x.stamp) x given m → prepare_step_after x given m ≡ commits
   prepared-last last =
-      ap (prepares_then (replied_round is_prepared_reply x all)) (told-kind x m write_reply.Prepared last.last)
+      ap (prepares_then (replied_round is_prepared_reply x all)) (reply-kind x m write_reply.Prepared last.last)
       ∙ ap (prepares_left (replied_round is_prepared_reply x all))
-      (told-each is_prepared_reply write_reply.Prepared prepared-some refl is_prepared x all last.each)
+      (replied-each is_prepared_reply write_reply.Prepared prepared-some refl is_prepared x all last.each)
 
   last-committed :
       commit_step_after x given m ≡ Ends (outcome.Committed x.stamp) → IsLastOf (reply.Committed x.stamp) x given m
@@ -152,8 +152,8 @@ module _ (x : WritingState) (given : List Message) (m : Message) where
           → commits_left (replied_round is_committed_reply x all) ns ≡ Ends (outcome.Committed x.stamp)
           → IsLastOf (reply.Committed x.stamp) x given m
       left f [] none g = record {
-        last = told-is x m write_reply.Committed f committed-some;
-        each = each-told is_committed_reply write_reply.Committed committed-some refl is_committed x all none;
+        last = reply-is x m write_reply.Committed f committed-some;
+        each = each-replied is_committed_reply write_reply.Committed committed-some refl is_committed x all none;
       }
       left f (n ∷ ns) some g = absurd (cc)
 
@@ -170,24 +170,24 @@ module _ (x : WritingState) (given : List Message) (m : Message) where
   committed-last :
       IsLastOf (reply.Committed x.stamp) x given m → commit_step_after x given m ≡ Ends (outcome.Committed x.stamp)
   committed-last last =
-      ap (commits_then (replied_round is_committed_reply x all)) (told-kind x m write_reply.Committed last.last)
+      ap (commits_then (replied_round is_committed_reply x all)) (reply-kind x m write_reply.Committed last.last)
       ∙ ap (commits_left (replied_round is_committed_reply x all))
-      (told-each is_committed_reply write_reply.Committed committed-some refl is_committed x all last.each)
+      (replied-each is_committed_reply write_reply.Committed committed-some refl is_committed x all last.each)
 
   pub commits-last :
       (prepare_stepped (replied_round is_prepared_reply x given) m ≡ Commits (commit_round x) (commits_of (commit_round x)))
       ↔ IsLastOf (reply.Prepared x.stamp) x given m
   commits-last = (
-    λ e. last-prepared (sym (prepare-told x given m) ∙ e),
-    λ last. prepare-told x given m ∙ prepared-last last,
+    λ e. last-prepared (sym (prepare-replied x given m) ∙ e),
+    λ last. prepare-replied x given m ∙ prepared-last last,
   )
 
   pub ends-last :
       (commit_stepped (replied_round is_committed_reply x given) m ≡ Ends (outcome.Committed x.stamp))
       ↔ IsLastOf (reply.Committed x.stamp) x given m
   ends-last = (
-    λ e. last-committed (sym (commit-told x given m) ∙ e),
-    λ last. commit-told x given m ∙ committed-last last,
+    λ e. last-committed (sym (commit-replied x given m) ∙ e),
+    λ last. commit-replied x given m ∙ committed-last last,
   )
 
 module _ (x : WritingState) (m : Message) where
@@ -229,15 +229,15 @@ module _ (x : WritingState) (m : Message) where
           ⊎ ((o ≡ outcome.Full x.stamp) × IsReplyTo x m (reply.Full x.stamp))
       go write_reply.Prepared f g = absurd (not-left o (answered_by x m.from).outstanding g)
       go write_reply.Committed f g = absurd (cc)
-      go write_reply.Discarded f g = inl (cc, told-is x m write_reply.Discarded f (λ q. absurd (cc)))
-      go write_reply.Full f g = inr (cc, told-is x m write_reply.Full f (λ q. absurd (cc)))
+      go write_reply.Discarded f g = inl (cc, reply-is x m write_reply.Discarded f (λ q. absurd (cc)))
+      go write_reply.Full f g = inr (cc, reply-is x m write_reply.Full f (λ q. absurd (cc)))
       go write_reply.Nothing f g = absurd (cc)
 
   pub aborts : IsReplyTo x m (reply.Discarded x.stamp) → prepare_stepped x m ≡ Ends (outcome.Aborted x.stamp)
-  aborts tells = ap (prepares_by x m.from) (told-kind x m write_reply.Discarded tells)
+  aborts counts = ap (prepares_by x m.from) (reply-kind x m write_reply.Discarded counts)
 
   pub is-full : IsReplyTo x m (reply.Full x.stamp) → prepare_stepped x m ≡ Ends (outcome.Full x.stamp)
-  is-full tells = ap (prepares_by x m.from) (told-kind x m write_reply.Full tells)
+  is-full counts = ap (prepares_by x m.from) (reply-kind x m write_reply.Full counts)
 
   -- a round of Commits ends in no other way
   pub over-committed : (o : Outcome) → commit_stepped x m ≡ Ends o → o ≡ outcome.Committed x.stamp

@@ -1,4 +1,4 @@
--- What a message replies (`told-is`, `told-by`), and which messages leave a round as it is, for
+-- What a message replies (`reply-is`, `reply-from`), and which messages leave a round as it is, for
 -- the clauses `stray` (`prepares-stray`, `commits-stray`) and the law `a_message_counts_or_is_stray`.
 use Rattle.std.proofs.Common.{◌≡◌, ◌≢◌, ℕ, zero, suc, ◌<◌, Bool, true, false, not, ◌&&◌, ◌==◌, cond, List, [], ◌∷◌, filter, get_or, length, Contains, refl, sym, ap, ◌∙◌, subst, arith, true≢false, if◌then◌else◌}
 use Rattle.std.specs.List.{list_any}
@@ -37,10 +37,10 @@ is_from_participant-from x m r place t =
     ∙ eq-eqb place (get_or (places_in x) at 0) (sym (here 0))))
 
 -- a message with a reply of a participant is that reply to the write
-pub told-by :
+pub reply-from :
     (x : WritingState) (m : Message) (r : Reply) (place : ℕ) → IsReplyFrom x m r place
     → reply_in x m ≡ write_reply_of x.stamp r
-told-by x m r place t =
+reply-from x m r place t =
     ap (λ (b : Bool). if b then body_reply x.stamp m.body else write_reply.Nothing) (is_from_participant-from x m r place t)
     ∙ ap (body_reply x.stamp) t.body
 
@@ -62,44 +62,44 @@ by-kind make kind stamp of what is e some = go (of == stamp) refl e
     go true f g = ap make (eqb-true of stamp f) ∙ is ∙ ap (the_reply stamp) g
     go false f g = absurd (some (sym g))
 
-reply-tells :
+reply-has :
     (stamp : ℕ) (r : Reply) (what : WriteReply) → write_reply_of stamp r ≡ what → what ≢ write_reply.Nothing → r ≡ the_reply stamp what
-reply-tells stamp (reply.Prepared of) what e some = by-kind reply.Prepared write_reply.Prepared stamp of what refl e some
-reply-tells stamp (reply.Committed of) what e some = by-kind reply.Committed write_reply.Committed stamp of what refl e some
-reply-tells stamp (reply.Discarded of) what e some = by-kind reply.Discarded write_reply.Discarded stamp of what refl e some
-reply-tells stamp (reply.Version item at value) what e some = absurd (some (sym e))
-reply-tells stamp (reply.Status of vote) what e some = absurd (some (sym e))
-reply-tells stamp (reply.NotPrepared of) what e some = absurd (some (sym e))
-reply-tells stamp reply.Clash what e some = absurd (some (sym e))
-reply-tells stamp (reply.Full of) what e some = by-kind reply.Full write_reply.Full stamp of what refl e some
-reply-tells stamp (reply.Gone item) what e some = absurd (some (sym e))
+reply-has stamp (reply.Prepared of) what e some = by-kind reply.Prepared write_reply.Prepared stamp of what refl e some
+reply-has stamp (reply.Committed of) what e some = by-kind reply.Committed write_reply.Committed stamp of what refl e some
+reply-has stamp (reply.Discarded of) what e some = by-kind reply.Discarded write_reply.Discarded stamp of what refl e some
+reply-has stamp (reply.Version item at value) what e some = absurd (some (sym e))
+reply-has stamp (reply.Status of vote) what e some = absurd (some (sym e))
+reply-has stamp (reply.NotPrepared of) what e some = absurd (some (sym e))
+reply-has stamp reply.Clash what e some = absurd (some (sym e))
+reply-has stamp (reply.Full of) what e some = by-kind reply.Full write_reply.Full stamp of what refl e some
+reply-has stamp (reply.Gone item) what e some = absurd (some (sym e))
 
-body-tells :
+body-has :
     (stamp : ℕ) (b : Body) (what : WriteReply) → body_reply stamp b ≡ what → what ≢ write_reply.Nothing
     → b ≡ body.Reply (the_reply stamp what)
-body-tells stamp (body.Request request) what e some = absurd (some (sym e))
-body-tells stamp (body.Reply r) what e some = ap body.Reply (reply-tells stamp r what e some)
+body-has stamp (body.Request request) what e some = absurd (some (sym e))
+body-has stamp (body.Reply r) what e some = ap body.Reply (reply-has stamp r what e some)
 
-own-told : (kind : WriteReply) (stamp : ℕ) → (if stamp == stamp then kind else write_reply.Nothing) ≡ kind
-own-told kind stamp = ap (λ (b : Bool). if b then kind else write_reply.Nothing) (eq-eqb stamp stamp refl)
+own-kind : (kind : WriteReply) (stamp : ℕ) → (if stamp == stamp then kind else write_reply.Nothing) ≡ kind
+own-kind kind stamp = ap (λ (b : Bool). if b then kind else write_reply.Nothing) (eq-eqb stamp stamp refl)
 
-the_reply-told : (stamp : ℕ) (kind : WriteReply) → write_reply_of stamp (the_reply stamp kind) ≡ kind
-the_reply-told stamp write_reply.Prepared = own-told write_reply.Prepared stamp
-the_reply-told stamp write_reply.Committed = own-told write_reply.Committed stamp
-the_reply-told stamp write_reply.Discarded = own-told write_reply.Discarded stamp
-the_reply-told stamp write_reply.Full = own-told write_reply.Full stamp
-the_reply-told stamp write_reply.Nothing = refl
+the_reply-kind : (stamp : ℕ) (kind : WriteReply) → write_reply_of stamp (the_reply stamp kind) ≡ kind
+the_reply-kind stamp write_reply.Prepared = own-kind write_reply.Prepared stamp
+the_reply-kind stamp write_reply.Committed = own-kind write_reply.Committed stamp
+the_reply-kind stamp write_reply.Discarded = own-kind write_reply.Discarded stamp
+the_reply-kind stamp write_reply.Full = own-kind write_reply.Full stamp
+the_reply-kind stamp write_reply.Nothing = refl
 
 -- the reply is of its kind
-pub told-kind :
+pub reply-kind :
     (x : WritingState) (m : Message) (kind : WriteReply) → IsReplyTo x m (the_reply x.stamp kind) → reply_in x m ≡ kind
-told-kind x m kind (place, t) = told-by x m (the_reply x.stamp kind) place t ∙ the_reply-told x.stamp kind
+reply-kind x m kind (place, t) = reply-from x m (the_reply x.stamp kind) place t ∙ the_reply-kind x.stamp kind
 
 -- a reply to the write is a reply of a participant
-pub told-is :
+pub reply-is :
     (x : WritingState) (m : Message) (what : WriteReply) → reply_in x m ≡ what → what ≢ write_reply.Nothing
     → IsReplyTo x m (the_reply x.stamp what)
-told-is x m what e some = go (is_from_participant x m) refl e
+reply-is x m what e some = go (is_from_participant x m) refl e
   where
     go :
         (b : Bool) → is_from_participant x m ≡ b → (if b then body_reply x.stamp m.body else write_reply.Nothing) ≡ what
@@ -111,7 +111,7 @@ told-is x m what e some = go (is_from_participant x m) refl e
         let (at, place, inside, here, same) = Any-from_list_any (is_part m.from) (places_in x) both.1 in (
           place,
           record {
-            body = body-tells x.stamp m.body what g some;
+            body = body-has x.stamp m.body what g some;
             tag = eqb-true m.tag x.tag ours.0;
             receiver = is_client-own m.to x.client ours.1;
             sender = is_part-own m.from place same;
@@ -127,16 +127,16 @@ part-number a b e = cc
 same-reply : (r s : Reply) → body.Reply r ≡ body.Reply s → r ≡ s
 same-reply r s e = cc
 
-stray-told :
+stray-reply :
     (replies : List Reply) (once : Reply) (x : WritingState) (m : Message) (r : Reply) (place : ℕ)
     → IsStray replies once x m → IsReplyFrom x m r place → Contains replies r
     → (r ≡ once) × (Contains x.outstanding place → ⊥)
-stray-told replies once x m r place (UnderOtherTag other) t among = absurd (other t.tag)
-stray-told replies once x m r place (ToOtherNode other) t among = absurd (other t.receiver)
-stray-told replies once x m r place (FromOtherNode other) t among = absurd (other place t.participant t.sender)
-stray-told replies once x m r place (OfOtherKind other) t among = absurd (other r among t.body)
-stray-told replies once x m r place (Repeated p from tells heard) t among = (
-  same-reply r once (sym t.body ∙ tells),
+stray-reply replies once x m r place (UnderOtherTag other) t among = absurd (other t.tag)
+stray-reply replies once x m r place (ToOtherNode other) t among = absurd (other t.receiver)
+stray-reply replies once x m r place (FromOtherNode other) t among = absurd (other place t.participant t.sender)
+stray-reply replies once x m r place (OfOtherKind other) t among = absurd (other r among t.body)
+stray-reply replies once x m r place (Repeated p from has heard) t among = (
+  same-reply r once (sym t.body ∙ has),
   λ there. heard (subst (λ (n : ℕ). Contains x.outstanding n) (part-number place p (sym t.sender ∙ from)) there),
 )
 
@@ -175,9 +175,9 @@ module _ (x : WritingState) (m : Message) where
     where
       go : (what : WriteReply) → reply_in x m ≡ what → prepare_stepped x m ≡ Waits x
       go write_reply.Prepared e =
-          let (place, t) = told-is x m write_reply.Prepared e (λ q. absurd (cc)) in
+          let (place, t) = reply-is x m write_reply.Prepared e (λ q. absurd (cc)) in
           let heard =
-          stray-told (prepare_replies x.stamp) (reply.Prepared x.stamp) x m (reply.Prepared x.stamp) place stray t
+          stray-reply (prepare_replies x.stamp) (reply.Prepared x.stamp) x m (reply.Prepared x.stamp) place stray t
           (0, omega arith, refl)
           in
           ap (prepares_by x m.from) e
@@ -185,17 +185,17 @@ module _ (x : WritingState) (m : Message) where
           ∙ prepares-wait x.outstanding some
       go write_reply.Committed e = ap (prepares_by x m.from) e
       go write_reply.Discarded e =
-          let (place, t) = told-is x m write_reply.Discarded e (λ q. absurd (cc)) in
+          let (place, t) = reply-is x m write_reply.Discarded e (λ q. absurd (cc)) in
           let heard =
-          stray-told (prepare_replies x.stamp) (reply.Prepared x.stamp) x m (reply.Discarded x.stamp) place stray t
+          stray-reply (prepare_replies x.stamp) (reply.Prepared x.stamp) x m (reply.Discarded x.stamp) place stray t
           (1, omega arith, refl)
           in
           let wrong = heard.0 in
           absurd (cc)
       go write_reply.Full e =
-          let (place, t) = told-is x m write_reply.Full e (λ q. absurd (cc)) in
+          let (place, t) = reply-is x m write_reply.Full e (λ q. absurd (cc)) in
           let heard =
-          stray-told (prepare_replies x.stamp) (reply.Prepared x.stamp) x m (reply.Full x.stamp) place stray t
+          stray-reply (prepare_replies x.stamp) (reply.Prepared x.stamp) x m (reply.Full x.stamp) place stray t
           (2, omega arith, refl)
           in
           let wrong = heard.0 in
@@ -208,9 +208,9 @@ module _ (x : WritingState) (m : Message) where
       go : (what : WriteReply) → reply_in x m ≡ what → commit_stepped x m ≡ Waits x
       go write_reply.Prepared e = ap (commits_by x m.from) e
       go write_reply.Committed e =
-          let (place, t) = told-is x m write_reply.Committed e (λ q. absurd (cc)) in
+          let (place, t) = reply-is x m write_reply.Committed e (λ q. absurd (cc)) in
           let heard =
-          stray-told (commit_replies x.stamp) (reply.Committed x.stamp) x m (reply.Committed x.stamp) place stray t
+          stray-reply (commit_replies x.stamp) (reply.Committed x.stamp) x m (reply.Committed x.stamp) place stray t
           (0, omega arith, refl)
           in
           ap (commits_by x m.from) e
@@ -232,8 +232,8 @@ module _
       where
         of-other-kind : counts (body_reply x.stamp m.body) ≡ false → IsStray replies once x m
         of-other-kind f =
-            OfOtherKind (λ r among tells. false≢true
-            (sym f ∙ ap (λ (b : Body). counts (body_reply x.stamp b)) tells ∙ known r among))
+            OfOtherKind (λ r among has. false≢true
+            (sym f ∙ ap (λ (b : Body). counts (body_reply x.stamp b)) has ∙ known r among))
 
         from-elsewhere : list_any (is_part m.from) (places_in x) ≡ false → IsStray replies once x m
         from-elsewhere f =
@@ -288,9 +288,9 @@ prepares-known stamp r (k, inside, here) = go k inside here
     go :
         (k : ℕ) → k < 3 → get_or (prepare_replies stamp) k r ≡ r
         → counts_in_prepares (write_reply_of stamp r) ≡ true
-    go zero l same = by (reply.Prepared stamp) same (ap counts_in_prepares (own-told write_reply.Prepared stamp))
-    go (suc zero) l same = by (reply.Discarded stamp) same (ap counts_in_prepares (own-told write_reply.Discarded stamp))
-    go (suc (suc zero)) l same = by (reply.Full stamp) same (ap counts_in_prepares (own-told write_reply.Full stamp))
+    go zero l same = by (reply.Prepared stamp) same (ap counts_in_prepares (own-kind write_reply.Prepared stamp))
+    go (suc zero) l same = by (reply.Discarded stamp) same (ap counts_in_prepares (own-kind write_reply.Discarded stamp))
+    go (suc (suc zero)) l same = by (reply.Full stamp) same (ap counts_in_prepares (own-kind write_reply.Full stamp))
     go (suc (suc (suc k))) l same = absurd (omega (arith, l))
 
 commits-known :
@@ -302,7 +302,7 @@ commits-known stamp r (k, inside, here) = go k inside here
         → counts_in_commits (write_reply_of stamp r) ≡ true
     go zero l same =
         subst (λ (z : Reply). counts_in_commits (write_reply_of stamp z) ≡ true) same
-        (ap counts_in_commits (own-told write_reply.Committed stamp))
+        (ap counts_in_commits (own-kind write_reply.Committed stamp))
     go (suc k) l same = absurd (omega (arith, l))
 
 -- what a filter leaves has passed it
@@ -359,7 +359,7 @@ module _ (x : WritingState) (m : Message) where
 
       go : (what : WriteReply) → reply_in x m ≡ what → prepares_by x m.from (reply_in x m) ≡ Waits x → IsStrayToPrepares x m
       go write_reply.Prepared f g =
-          let (place, t) = told-is x m write_reply.Prepared f (λ q. absurd (cc)) in
+          let (place, t) = reply-is x m write_reply.Prepared f (λ q. absurd (cc)) in
           let same = waits (answered_by x m.from).outstanding (sym (ap (prepares_by x m.from) f) ∙ g) in
           Repeated place t.sender t.body (left-out m.from place x.outstanding t.sender same)
       go write_reply.Committed f g = none-counts (ap counts_in_prepares f)
@@ -384,7 +384,7 @@ module _ (x : WritingState) (m : Message) where
       go : (what : WriteReply) → reply_in x m ≡ what → commits_by x m.from (reply_in x m) ≡ Waits x → IsStrayToCommits x m
       go write_reply.Prepared f g = none-counts (ap counts_in_commits f)
       go write_reply.Committed f g =
-          let (place, t) = told-is x m write_reply.Committed f (λ q. absurd (cc)) in
+          let (place, t) = reply-is x m write_reply.Committed f (λ q. absurd (cc)) in
           let same = waits (answered_by x m.from).outstanding (sym (ap (commits_by x m.from) f) ∙ g) in
           Repeated place t.sender t.body (left-out m.from place x.outstanding t.sender same)
       go write_reply.Discarded f g = none-counts (ap counts_in_commits f)

@@ -30,9 +30,9 @@ impl Partition {
         ensures memory { IsOkUnless result Refusal.OutOfMemory }
     {
         let number = self.seat.number;
-        let told = Body::Reply(Reply::Status(stamp, Vote::Prepared));
+        let vote = Body::Reply(Reply::Status(stamp, Vote::Prepared));
         let mut messages = Vec::new(self.alloc);
-        messages.push(Message::new(Node::Part(number), Node::Part(number), 0, told))?;
+        messages.push(Message::new(Node::Part(number), Node::Part(number), 0, vote))?;
         Ok(messages)
     }
 }

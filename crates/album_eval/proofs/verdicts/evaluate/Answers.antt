@@ -26,23 +26,23 @@ loop-index-preserved c =
 pub returns-then-is_empty : goal.returns-then-is_empty
 returns-then-is_empty c =
     let is = verdict_granted (case_of c.args.facts.now) c.args.list.now c.args.mask _ _ (sym (c.if-is_empty.ensures tt)) c.loop-index.invariant in
-    record { is = is; computed = one_verdict _ _ _ _ _ is (verdict_computed (case_of c.args.facts.now) c.args.list.now c.args.mask) }
+    record { verdict = is; computed = one_verdict _ _ _ _ _ is (verdict_computed (case_of c.args.facts.now) c.args.list.now c.args.mask) }
 
 -- denied by an entry
 pub returns-then-intersects : goal.returns-then-intersects
 returns-then-intersects c =
     let at : slice_get c.args.list.now c.loop-index.index ≡ Some c.entry-item.result = rw c.entries-entry-items.ensures.entries at (slice_get_read c.entries-entry-items.result.now _ _ _ refl c.loop-index-test.true c.entry-item.is) in
     let is = verdict_denied (case_of c.args.facts.now) c.args.list.now c.args.mask _ c.entry-item.result _ at (sym c.if-is_match.ensures) c.in-Denied.is (sym (c.if-intersects.ensures tt)) c.loop-index.invariant in
-    record { is = is; computed = one_verdict _ _ _ _ _ is (verdict_computed (case_of c.args.facts.now) c.args.list.now c.args.mask) }
+    record { verdict = is; computed = one_verdict _ _ _ _ _ is (verdict_computed (case_of c.args.facts.now) c.args.list.now c.args.mask) }
 
 -- granted at the end
 pub returns-then-is_empty-2 : goal.returns-then-is_empty-2
 returns-then-is_empty-2 c =
     let is = verdict_granted (case_of c.args.facts.now) c.args.list.now c.args.mask _ _ (sym (c.if-is_empty-2.ensures tt)) c.loop-index.invariant in
-    record { is = is; computed = one_verdict _ _ _ _ _ is (verdict_computed (case_of c.args.facts.now) c.args.list.now c.args.mask) }
+    record { verdict = is; computed = one_verdict _ _ _ _ _ is (verdict_computed (case_of c.args.facts.now) c.args.list.now c.args.mask) }
 
 -- denied at the end
 pub returns-else-is_empty-2 : goal.returns-else-is_empty-2
 returns-else-is_empty-2 c =
     let is = verdict_at_end (case_of c.args.facts.now) c.args.list.now c.args.mask c.loop-index.index _ (rw c.entries-entry-items.ensures.entries at c.loop-index-test.false) (sym (c.if-is_empty-2.ensures tt)) c.loop-index.invariant in
-    record { is = is; computed = one_verdict _ _ _ _ _ is (verdict_computed (case_of c.args.facts.now) c.args.list.now c.args.mask) }
+    record { verdict = is; computed = one_verdict _ _ _ _ _ is (verdict_computed (case_of c.args.facts.now) c.args.list.now c.args.mask) }

@@ -11,5 +11,5 @@ returns-clause-discarded c = promised_discarded
 pub returns-clause-stays : goal.returns-clause-stays
 returns-clause-stays c = promised_stays
 
-pub returns-clause-told : goal.returns-clause-told
-returns-clause-told c = never_is_a_promise
+pub returns-clause-never : goal.returns-clause-never
+returns-clause-never c = never_is_a_promise

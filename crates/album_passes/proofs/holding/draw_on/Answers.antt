@@ -7,7 +7,7 @@ use Rattle.album_passes.proofs.holding.draw_on.Goals as goal
 -- the seat has the cut that it had, and no guest
 pub compare_exchange-found-requires : goal.compare_exchange-found-requires
 compare_exchange-found-requires g c =
-    let one = subst (λ cs. cs ≡ first_of cs ∷ []) (sym (ap (λ m. m.0.cuts) c.loop.invariant.3)) c.requires.one in
+    let one = subst (λ cs. cs ≡ first_of cs ∷ []) (sym (ap (λ m. m.0.cuts) c.loop.invariant.3)) c.requires.one_cut in
     let alone = ap (λ m. m.0.guest) c.loop.invariant.3 ∙ c.requires.alone in
     let d = c.desk.invariant in (
       c.loop.invariant.2 ∙ c.requires.table ∙ sym (ap (λ (p : DeskState). p.table) c.desk.view_is),

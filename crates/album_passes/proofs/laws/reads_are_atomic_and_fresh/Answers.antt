@@ -1,17 +1,15 @@
-use Rattle.std.proofs.Common.{get_or}
-use Rattle.std.proofs.lemmas.List.Elements.{All-contains_itself}
 use Rattle.album_passes.proofs.ReadLemmas.{read_whole, read_written, read_fresh, atomic_more, fresh_more}
 use Rattle.album_passes.proofs.laws.reads_are_atomic_and_fresh.Goals as goal
 
 pub returns-clause-atomic : goal.returns-clause-atomic
 returns-clause-atomic c = λ begun middle ended firsts stamps answers r. record {
-  whole = λ one other n o f. read_whole begun middle ended firsts stamps answers r one other n o f;
-  written = λ k x l. read_written begun middle ended firsts stamps answers r (get_or answers k x) (All-contains_itself answers k x l);
+  whole = read_whole begun middle ended firsts stamps answers r;
+  written = read_written begun middle ended firsts stamps answers r;
 }
 
 pub returns-clause-fresh : goal.returns-clause-fresh
-returns-clause-fresh c = λ begun middle ended firsts stamps answers r k x l.
-    read_fresh begun middle ended firsts stamps answers r (get_or answers k x) (All-contains_itself answers k x l)
+returns-clause-fresh c = λ begun middle ended firsts stamps answers r.
+    read_fresh begun middle ended firsts stamps answers r
 
 pub returns-clause-atomic_still : goal.returns-clause-atomic_still
 returns-clause-atomic_still c = λ old new answers s r x a. atomic_more old new s r x answers a

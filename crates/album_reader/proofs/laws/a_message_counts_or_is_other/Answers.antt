@@ -1,5 +1,5 @@
 use Rattle.album_reader.proofs.Others.{new_answer-other, not_gone-other, IsOther-nothing, IsGone-is_gone, is_gone-IsGone}
-use Rattle.album_reader.proofs.TwoRounds.{gone-is_told}
+use Rattle.album_reader.proofs.TwoRounds.{gone-is_gone}
 use Rattle.album_reader.proofs.laws.a_message_counts_or_is_other.Goals as goal
 
 pub returns-clause-other : goal.returns-clause-other
@@ -11,5 +11,5 @@ returns-clause-gone c = λ round message. (is_gone-IsGone round message, IsGone-
 
 pub returns-clause-over : goal.returns-clause-over
 returns-clause-over c = λ round message items e.
-    let told = gone-is_told round message items e in
-    (told.0, IsGone-is_gone round message told.1)
+    let gone = gone-is_gone round message items e in
+    (gone.0, IsGone-is_gone round message gone.1)

@@ -1,6 +1,6 @@
 use Rattle.std.proofs.Common.{◌+◌}
 use Rattle.album_writer.specs.Writing.{prepare_round}
-use Rattle.album_client.proofs.MoveLemmas.{few_prepares, full_told, memory_told}
+use Rattle.album_client.proofs.MoveLemmas.{few_prepares, full_refused, memory_refused}
 use Rattle.album_permits.specs.Effects.{is_full_for}
 use Rattle.album_client.proofs.transitions.ClientStep.begin_write.Goals as goal
 
@@ -13,11 +13,11 @@ with-requires c =
 pub returns-in-AlbumFull-clause-transition : goal.returns-in-AlbumFull-clause-transition
 returns-in-AlbumFull-clause-transition c =
     let full =
-    full_told (is_full_for c.args.permit c.args.stamp) (rw c.in-AlbumFull.is at c.in-Err.ensures.refusal) in
+    full_refused (is_full_for c.args.permit c.args.stamp) (rw c.in-AlbumFull.is at c.in-Err.ensures.refusal) in
     rw full (rw c.in-AlbumFull.is at c.end_ask.ensures)
 
 -- memory ran out
 pub returns-in_default-clause-memory : goal.returns-in_default-clause-memory
 returns-in_default-clause-memory c =
-    memory_told (is_full_for c.args.permit c.args.stamp) c.in-Err.field-0.refusal c.in-Err.ensures.refusal
+    memory_refused (is_full_for c.args.permit c.args.stamp) c.in-Err.field-0.refusal c.in-Err.ensures.refusal
     c.in_default.not-AlbumFull

@@ -7,4 +7,4 @@ use Rattle.album_judge.proofs.engines.judge.verdict.Goals as goal
 
 pub returns-clause-judged : goal.returns-clause-judged
 returns-clause-judged c =
-    judged_on (question c.args.line) c.evaluate.result (listed_in c.in_ok-by_number.by_number) (set.contains nat_cmp c.in_ok-found.found) c.in_ok-by_number.ensures c.in_ok-found.ensures.exact c.evaluate.ensures.is
+    judged_on (question c.args.line) c.evaluate.result (listed_in c.in_ok-by_number.by_number) (set.contains nat_cmp c.in_ok-found.found) c.in_ok-by_number.ensures c.in_ok-found.ensures.exact c.evaluate.ensures.verdict

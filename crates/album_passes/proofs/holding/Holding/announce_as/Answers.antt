@@ -10,5 +10,5 @@ pub load-requires : goal.load-requires
 load-requires g c =
     let t = g.N.NamesItems.stamp in
     let P : Held → Type 0 = λ y. (y.seat.number ≡ Some (client_number t)) × (announced_for (known y.seat) t ≡ None) in
-    let q = subst P (sym c.self.view_is) (c.requires.own, c.requires.fresh) in
+    let q = subst P (sym c.self.view_is) (c.requires.number, c.requires.fresh) in
     (search rules, search rules, announces _ _ _ _ _ (client_number t) t _ c.self.invariant.1.one c.self.invariant.1.alone q.0 refl q.1)

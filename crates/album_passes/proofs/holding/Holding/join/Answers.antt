@@ -8,7 +8,7 @@ invariant_of-self c =
     let e = c.take_in.ensures.seat in
     let now = hosting _ _ _ _ _ _ c.self.invariant.1 c.other.invariant.1 (ap (λ m. m.0) e) c.take_in.ensures.merged c.greater_each-all.ensures in (
       ap (λ m. m.1) e ∙ c.self.invariant.0,
-      held_of _ _ _ refl (ap (λ m. m.0.guest) e ∙ (ap (λ h. h.seat.number) c.other.view_is ∙ c.requires.none)) now,
+      held_of _ _ _ refl (ap (λ m. m.0.guest) e ∙ (ap (λ h. h.seat.number) c.other.view_is ∙ c.requires.unnumbered)) now,
     )
 
 pub returns-clause-sound : goal.returns-clause-sound

@@ -1,5 +1,0 @@
-use Rattle.album_permits.proofs.Needing.{effect-may}
-use Rattle.album_permits.proofs.meaning.what_is_written_is_needed.Goals as goal
-
-pub returns : goal.returns
-returns c = effect-may

@@ -1,5 +1,0 @@
-use Rattle.album_permits.proofs.Completing.{denied-noted, first-noted}
-use Rattle.album_permits.proofs.noting.what_takes_note_is_noted.Goals as goal
-
-pub returns : goal.returns
-returns c = record { denied = denied-noted; granted = first-noted }
