@@ -9,6 +9,7 @@ pub mod Steps
 pub mod Json
 pub mod Entries
 pub mod Questions
+pub mod Fronts
 pub mod Taking
 pub mod TakenFields
 pub mod AnswerTexts
