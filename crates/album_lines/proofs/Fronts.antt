@@ -1,45 +1,45 @@
 -- The token at the front of a text, and what stands behind it. For `tokens`.
-use Rattle.std.proofs.Common.{◌≡◌, ◌<◌, ◌+◌, ◌^◌, ℕ, suc, List, [], ◌∷◌, ◌++◌, length, take, drop, Bool, true, false, cond, not, ◌||◌, ◌==◌, Some, None, decimal, refl, sym, ap, ap₂, ◌∙◌, arith}
+use Rattle.std.proofs.Common.{nat_lt, ◌≡◌, ◌<◌, ◌+◌, ◌^◌, ℕ, suc, List, [], ◌∷◌, ◌++◌, length, take, drop, Bool, true, false, cond, not, ◌||◌, ◌==◌, Some, None, decimal, refl, sym, ap, ap₂, ◌∙◌, arith}
 use Rattle.std.specs.List.{list_all, prefix_len, slice_get}
 use Rattle.std.proofs.lemmas.List.{take-append-drop}
-use Rattle.std.proofs.lemmas.Bool.{and_parts, leb-true}
+use Rattle.std.proofs.lemmas.Bool.{and_parts, ltb-false}
 use Rattle.std.proofs.lemmas.Bool.Decides.{Decides-eqb}
 use Rattle.json.specs.Token.{Token, begin_object, end_object, begin_array, end_array, key, string, number}
 use Rattle.json.specs.Lex as lexed
 use Rattle.json.specs.Lex.{Lexeme, between, in_string, lex, punctuate, may_begin, may_close, begins_colon, token, comma, colon, string_token}
 use Rattle.json.specs.Text.{content, plain}
 use Rattle.json.specs.Print.{escape, escape_byte}
+use Rattle.json.specs.Run.{is_plain}
 use Rattle.json.specs.Word.{ends_word}
 use Rattle.json.proofs.Printed.Strings.{escape_byte_plain, content-escape, lex-escape}
 use Rattle.json.proofs.Printed.Numbers.{lex-number}
 use Rattle.json.proofs.Printed.Decimals.{IsNumber-decimal}
 use Rattle.album_lists.specs.Whos.{whole_number_of}
 use Rattle.album_lists.proofs.Numbers.{number_spelled}
-use Rattle.album_lines.specs.Front.{MayBegin, MayClose, GoesOn, is_itself, is_blank}
+use Rattle.album_lines.specs.Front.{MayBegin, MayClose, GoesOn, is_blank}
 use Rattle.album_lines.proofs.Newlines.{all_in_prefix}
 
 -- ---- a text
 
-not_so : (a : Bool) → not a ≡ true → a ≡ false
-not_so true h = cc
-not_so false h = refl
+itself : (x : ℕ) → is_plain x ≡ true → escape_byte x ≡ x ∷ []
+itself x = go (x == 34) refl (x == 92) refl (nat_lt x 32) refl
+  where
+    go : (a : Bool) → (x == 34) ≡ a → (b : Bool) → (x == 92) ≡ b → (c : Bool) → nat_lt x 32 ≡ c
+        → not ((a || b) || c) ≡ true → escape_byte x ≡ x ∷ []
+    go false e false f false g h =
+        escape_byte_plain x (λ is. let yes = (Decides-eqb x 34).1 is in absurd (cc)) (λ is. let yes = (Decides-eqb x 92).1 is in absurd (cc))
+        (ltb-false x 32 g)
+    go true e b f c g h = cc
+    go false e true f c g h = cc
+    go false e false f true g h = cc
 
-itself : (x : ℕ) → is_itself x ≡ true → escape_byte x ≡ x ∷ []
-itself x h =
-    let first = and_parts _ _ h in
-    let second = and_parts _ _ first.1 in
-    escape_byte_plain x
-    (λ e. let yes = (Decides-eqb x 34).1 e in let no = not_so _ first.0 in absurd (cc))
-    (λ e. let yes = (Decides-eqb x 92).1 e in let no = not_so _ second.0 in absurd (cc))
-    (leb-true 32 x second.1)
-
-all_themselves : (s : List ℕ) → list_all is_itself s ≡ true → escape s ≡ s
+all_themselves : (s : List ℕ) → list_all is_plain s ≡ true → escape s ≡ s
 all_themselves [] h = refl
 all_themselves (x ∷ s) h =
     let both = and_parts _ _ h in
     ap₂ (λ (a b : List ℕ). a ++ b) (itself x both.0) (all_themselves s both.1)
 
-lex_text : (s more : List ℕ) → list_all is_itself s ≡ true
+lex_text : (s more : List ℕ) → list_all is_plain s ≡ true
     → lex between (34 ∷ (s ++ 34 ∷ more)) ≡ token (string s) ∷ lex between more
 unfolding lex
 lex_text s more h =
@@ -48,12 +48,12 @@ lex_text s more h =
 
 pub a_quoted : (text body front back more : List ℕ)
     → text ≡ 34 ∷ body
-    → front ≡ take (prefix_len is_itself body) body
+    → front ≡ take (prefix_len is_plain body) body
     → body ≡ front ++ back
     → back ≡ 34 ∷ more
     → lex between text ≡ token (string front) ∷ lex between more
 a_quoted text body front back more first is parts last =
-    let plain_front : list_all is_itself front ≡ true = ap (list_all is_itself) is ∙ all_in_prefix is_itself body in
+    let plain_front : list_all is_plain front ≡ true = ap (list_all is_plain) is ∙ all_in_prefix is_plain body in
     ap (lex between) (first ∙ ap (λ b. 34 ∷ b) (parts ∙ ap (λ b. front ++ b) last)) ∙ lex_text front more plain_front
 
 -- a text that was split

@@ -1,5 +1,5 @@
 -- The tokens of what is left of a text, by what stands before it.
-use Rattle.std.specs.Prelude.{◌≡◌, ◌&&◌, ◌||◌, ◌==◌, ℕ, List, Bool, true, false, not, nat_le}
+use Rattle.std.specs.Prelude.{◌≡◌, ◌||◌, ◌==◌, ℕ, List, Bool, true, false}
 use Rattle.json.specs.Token.{Token}
 use Rattle.json.specs.Lex as lexed
 use Rattle.json.specs.Lex.{between, lex, punctuate, may_begin, may_close, begins_colon}
@@ -21,10 +21,6 @@ MayBegin ts text = (p : lexed.Place) × (may_begin p ≡ true) × (ts ≡ punctu
 
 abbrev pub MayClose : List Token → List ℕ → Type 0
 MayClose ts text = (p : lexed.Place) × (may_close p ≡ true) × (ts ≡ punctuate p (lex between text))
-
--- in a JSON text it stands for itself: no quote, no backslash and no control byte
-abbrev pub is_itself : ℕ → Bool
-is_itself byte = not (byte == 34) && (not (byte == 92) && nat_le 32 byte)
 
 -- the tokens are those behind a value that ends where this text begins
 abbrev pub GoesOn : List ℕ → List Token → Type 0

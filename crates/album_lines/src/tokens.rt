@@ -1,17 +1,20 @@
 //! A JSON text, taken token by token from its front: those tokens that lines of the usual form have, and no others.
 //! A text with an escape isn't taken, nor is a number that isn't whole: None then, and nothing more is to be taken.
-ghost use Rattle.std.specs.Prelude.{◌≡◌, ◌<◌, ◌^◌, ◌∷◌, [], IsTrue, IfSome, OnSome, MatchOption, true, false, decimal};
+ghost use Rattle.std.specs.Prelude.{◌≡◌, ◌<◌, ◌^◌, ◌∷◌, [], IsTrue, IfSome, OnSome, MatchOption, true, false, decimal, ◌+◌, ◌≤◌, length, drop, map};
 ghost use Rattle.std.specs.Bool.{MatchBool};
 ghost use Rattle.std.specs.List.{prefix_len};
 ghost use Rattle.std.specs.Char.{is_ascii_digit};
+ghost use Rattle.std.specs.Simd.Lanes.{mask_l};
 ghost use Rattle.json.specs.Lex.{between, lex, begins_colon, token};
 ghost use Rattle.json.specs.Lex as lexed;
 ghost use Rattle.json.specs.Token.{begin_object, end_object, begin_array, end_array, key, string, number};
+ghost use Rattle.json.specs.Run.{is_plain, is_stop};
 ghost use Rattle.json.specs.Word.{ends_word};
-ghost use Rattle.album_lines.specs.Front.{MayBegin, MayClose, GoesOn, is_itself, is_blank};
+ghost use Rattle.album_lines.specs.Front.{MayBegin, MayClose, GoesOn, is_blank};
 
 use album_lists::whole_number;
 use std::marker::Model;
+use std::simd::prelude::*;
 
 /// What stands before what is left: a bracket or a colon, a comma, or a value.
 #[derive(Clone, Copy, Drop)]
@@ -174,21 +177,40 @@ fn quoted(text: &str) -> Option<(&str, &str)>
     Some((front, more))
 }
 
-/// How many bytes stand for themselves in a text, before the first that doesn't.
+/// How many bytes stand for themselves in a text, before a quote, a backslash or a control byte: 16 at a time.
 fn plain_len(text: &[u8]) -> usize
-    ensures { result ≡ prefix_len is_itself text.now }
+    ensures { result ≡ prefix_len is_plain text.now }
 {
     let mut len = 0;
-    while len < text.len() && is_itself(text[len]) {
-        len += 1;
+    while text.len() - len >= 16 {
+        let found = stops(u8x16::from_slice(&text[len..]));
+        if found != 0 {
+            return len + found.trailing_zeros() as usize;
+        }
+        len += 16;
     }
-    len
+    plain_end(text, len)
 }
 
-fn is_itself(byte: u8) -> bool
-    ensures { result ≡ is_itself byte }
+/// The bytes that don't, a bit for each.
+fn stops(bytes: u8x16) -> u64
+    ensures { result ≡ mask_l (map is_stop bytes) }
 {
-    byte != b'"' && (byte != b'\\' && byte >= 0x20)
+    (bytes.simd_eq(u8x16::splat(b'"'))
+        | bytes.simd_eq(u8x16::splat(b'\\'))
+        | bytes.simd_lt(u8x16::splat(0x20))).to_bitmask()
+}
+
+/// Where the first of them is from here on, or the end.
+fn plain_end(text: &[u8], from: usize) -> usize
+    requires { from ≤ length text.now }
+    ensures { result ≡ from + prefix_len is_plain (drop from text.now) }
+{
+    let mut i = from;
+    while i < text.len() && text[i] != b'"' && text[i] != b'\\' && text[i] >= 0x20 {
+        i += 1;
+    }
+    i
 }
 
 /// A whole number, and what stands behind it.
