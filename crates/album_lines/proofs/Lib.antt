@@ -9,6 +9,10 @@ pub mod Steps
 pub mod Json
 pub mod Entries
 pub mod Questions
+pub mod Numerals
+pub mod Lanes
+pub mod Runs
+pub mod Fronts
 pub mod Taking
 pub mod TakenFields
 pub mod AnswerTexts

@@ -19,7 +19,7 @@ not_true : (b : Bool) → ¬ (b ≡ true) → b ≡ false
 not_true true h = absurd (h refl)
 not_true false h = refl
 
-all_in_prefix : (p : ℕ → Bool) (xs : List ℕ) → list_all p (take (prefix_len p xs) xs) ≡ true
+pub all_in_prefix : (p : ℕ → Bool) (xs : List ℕ) → list_all p (take (prefix_len p xs) xs) ≡ true
 all_in_prefix p [] = refl
 all_in_prefix p (x ∷ xs) = by_test (p x) refl (prefix_len p xs) (all_in_prefix p xs)
   where

@@ -1,7 +1,6 @@
 -- The members of an object, taken one by one, and the shape that their fields make. For `judge_tokens`.
-use Rattle.std.proofs.Common.{◌≡◌, ◌<◌, ◌-◌, ◌&&◌, ℕ, List, [], ◌∷◌, length, map, codes, bytes_eq, Bool, true, false, cond, Option, Some, None, option_map, unwrap_or, Result, Ok, Err, IfSome, MatchResult, Vec, Global, Bor, refl, sym, ap, ◌∙◌, subst, arith}
+use Rattle.std.proofs.Common.{MatchOption, ◌≡◌, ◌<◌, ◌-◌, ◌&&◌, ℕ, List, [], ◌∷◌, length, map, codes, bytes_eq, Bool, true, false, cond, Option, Some, None, option_map, unwrap_or, Result, Ok, IfSome, Vec, Global, Bor, refl, sym, ap, ◌∙◌, subst, arith}
 use Rattle.std.specs.Option.{ok_or}
-use Rattle.std.specs.Result.{result_ok}
 use Rattle.std.specs.Str.{IsUtf8}
 use Rattle.std.proofs.lemmas.Bool.{and_parts, and_from}
 use Rattle.std.proofs.lemmas.Slice.Eq.{bytes_eq-Decides}
@@ -580,13 +579,21 @@ made_of_fields f entries kind head_group mask groups empty owner who policy is_e
 
 -- ---- the line
 
-pub key_read : {E : Type 0} (r : Result (Option (Bor (List ℕ))) E) (k : Option (Bor (List ℕ))) (old new : List Token)
-    → MatchResult r (λ k. read_key old ≡ Some (option_map (λ s. s.now) k, new)) (λ _. read_key old ≡ None)
-    → result_ok r ≡ Some k
-    → read_key old ≡ Some (option_map (λ s. s.now) k, new)
-key_read (Ok x) k old new h e =
-    let same : x ≡ k = cc in h ∙ ap (λ (y : Option (Bor (List ℕ))). Some (option_map (λ (s : Bor (List ℕ)). s.now) y, new)) same
-key_read (Err x) k old new h e = cc
+pub name_taken : (k : Option (Bor (List ℕ))) (name : Bor (List ℕ)) (old new : List Token)
+    → MatchOption k (old ≡ Token.end_object ∷ new) (λ n. old ≡ Token.key n.now ∷ new)
+    → k ≡ Some name
+    → read_key old ≡ Some (Some name.now, new)
+name_taken None name old new h e = cc
+name_taken (Some n) name old new h e =
+    let same : n ≡ name = cc in
+    ap read_key h ∙ ap (λ (m : Bor (List ℕ)). Some (Some m.now, new)) same
+
+pub none_taken : (k : Option (Bor (List ℕ))) (old new : List Token)
+    → MatchOption k (old ≡ Token.end_object ∷ new) (λ n. old ≡ Token.key n.now ∷ new)
+    → k ≡ None
+    → read_key old ≡ Some (None, new)
+none_taken None old new h e = ap read_key h
+none_taken (Some n) old new h e = cc
 
 pub line_taken : (bytes : List ℕ) (all ts rest : List Token) (f : Fields) (o : Option JudgeShape)
     → IsUtf8 bytes

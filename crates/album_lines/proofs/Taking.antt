@@ -1,5 +1,5 @@
 -- What is taken of tokens, put together from its parts. For `judge_tokens`: values, the items of a list, and loops.
-use Rattle.std.proofs.Common.{◌≡◌, ◌≤◌, ◌<◌, ◌-◌, ◌++◌, ℕ, suc, List, [], ◌∷◌, length, map, is_some, IfSome, Vec, Global, true, Option, Some, None, option_map, unwrap_or, Result, Ok, refl, sym, ap, ◌∙◌, subst, arith}
+use Rattle.std.proofs.Common.{◌^◌, decimal, Bor, ◌≡◌, ◌≤◌, ◌<◌, ◌-◌, ◌++◌, ℕ, suc, List, [], ◌∷◌, length, map, is_some, IfSome, Vec, Global, true, Option, Some, None, option_map, unwrap_or, Result, Ok, refl, sym, ap, ◌∙◌, subst, arith}
 use Rattle.std.proofs.lemmas.List.{append_assoc, append-nil}
 use Rattle.std.proofs.lemmas.Bool.{and_from}
 use Rattle.json.specs.Token.{Token}
@@ -13,8 +13,6 @@ use Rattle.album_stamps.specs.declared.refusals.Refusal.{Refusal}
 use Rattle.album_stamps.specs.Distinct.{are_distinct}
 use Rattle.album_stamps.specs.Outcome.{◌>>=◌}
 use Rattle.album_access.specs.declared.types.AceType.{AceType}
-use Rattle.album_lists.specs.Whos.{whole_number_of}
-use Rattle.album_lists.proofs.Numbers.{number_spelled}
 use Rattle.album_lists.specs.declared.lists.Holder.{Holder}
 use Rattle.album_eval.specs.Policies.{policy_of}
 use Rattle.album_eval.specs.declared.policies.Policy.{Policy}
@@ -52,26 +50,26 @@ deeper m n ts rest j le b = λ depth more. b depth (omega (arith, le, more))
 pub a_text : (ts rest : List Token) (s : List ℕ) → ts ≡ Token.string s ∷ rest → Takes 0 text_of ts s rest
 a_text ts rest s e = (json.string s, λ depth le. ap (json.value depth) e ∙ value_is depth (Token.string s ∷ rest), refl, refl)
 
--- a numeral without leading zeros is a number that is in range
-pub a_whole : (ts rest : List Token) (s : List ℕ) (n : ℕ)
-    → ts ≡ Token.number s ∷ rest
-    → whole_number_of s ≡ Some n
-    → Takes 0 whole_of ts n rest
-a_whole ts rest s n e is =
-    let spelled = number_spelled n s is in
-    let read : number_of s ≡ Some (unsigned n) = ap number_of spelled.1 ∙ number_of-decimal n spelled.0 in (
-      json.number s,
-      λ depth le. ap (json.value depth) e ∙ value_is depth (Token.number s ∷ rest),
+pub maybe_text : (ts rest : List Token) (o : Option (Bor (List ℕ)))
+    → IfSome o (λ t. ts ≡ Token.string t.now ∷ rest)
+    → IfSome o (λ t. Takes 0 text_of ts t.now rest)
+maybe_text ts rest None e = tt
+maybe_text ts rest (Some t) e = a_text ts rest t.now e
+
+a_whole : (ts rest : List Token) (n : ℕ) → n < 2 ^ 64 → ts ≡ Token.number (decimal n) ∷ rest → Takes 0 whole_of ts n rest
+a_whole ts rest n fits e =
+    let read : number_of (decimal n) ≡ Some (unsigned n) = number_of-decimal n fits in (
+      json.number (decimal n),
+      λ depth le. ap (json.value depth) e ∙ value_is depth (Token.number (decimal n) ∷ rest),
       ap is_some read,
       ap (λ o. whole_of (unwrap_or (option_map number o) null)) read,
     )
 
-pub maybe_whole : (ts rest : List Token) (s : List ℕ) (o : Option ℕ)
-    → ts ≡ Token.number s ∷ rest
-    → o ≡ whole_number_of s
+pub maybe_whole : (ts rest : List Token) (o : Option ℕ)
+    → IfSome o (λ n. (n < 2 ^ 64) × (ts ≡ Token.number (decimal n) ∷ rest))
     → IfSome o (λ n. Takes 0 whole_of ts n rest)
-maybe_whole ts rest s None e is = tt
-maybe_whole ts rest s (Some n) e is = a_whole ts rest s n e (sym is)
+maybe_whole ts rest None e = tt
+maybe_whole ts rest (Some n) e = a_whole ts rest n e.0 e.1
 
 -- ---- the items of a list
 

@@ -6,5 +6,6 @@ pub mod Shapes
 pub mod Values
 pub mod JudgeShape
 pub mod JudgeLine
+pub mod Front
 pub mod Tokens
 pub mod Output

@@ -52,7 +52,7 @@ pub fn read_judge(alloc: Global, scratch: &mut Scratch, bytes: &[u8]) -> Result<
     ensures { Gives question result (judge_of bytes.now) }
 {
     // What is wrong with a line only its tree tells.
-    if let Some(shape) = shape_of_tokens(alloc, scratch, bytes) {
+    if let Some(shape) = shape_of_tokens(alloc, bytes) {
         return values_of(alloc, &shape);
     }
     let value = data(alloc, scratch, bytes)?;

@@ -1,5 +1,5 @@
 //! The shape of a judge line, taken token by token, with no tree between. Of a line that hasn't the shape nothing is
-//! taken: what is wrong with it is found in its tree.
+//! taken, nor of one that has it with an escape: the line's tree tells what it is, or what is wrong with it.
 ghost use Rattle.std.specs.Prelude.{◌≡◌, ◌∷◌, ◌<◌, List, Some, Ok, IfSome, OnSome, map, length};
 ghost use Rattle.json.specs.Token.{begin_array, end_array};
 ghost use Rattle.json.specs.Json.{object};
@@ -12,9 +12,9 @@ ghost use Rattle.album_lines.specs.Tokens.{line_shape_of, Takes, TakesAll, AreFi
 
 use crate::judge_shape::{GroupShape, JudgeShape, are_distinct, holder};
 use crate::shapes::{EntryShape, sort};
+use crate::tokens::Tokens;
 use album_eval::Policy;
-use album_lists::{Holder, whole_number};
-use json::{Reader, Scratch, Token};
+use album_lists::Holder;
 use std::alloc::Global;
 use std::str;
 
@@ -37,24 +37,16 @@ pub(crate) struct Fields<'a> {
 }
 
 /// The shape of the line, where it has it. Where memory is refused nothing is taken either.
-pub(crate) fn shape_of_tokens<'a>(
-    alloc: Global,
-    scratch: &'a mut Scratch,
-    bytes: &'a [u8],
-) -> Option<JudgeShape<'a>>
+pub(crate) fn shape_of_tokens<'a>(alloc: Global, bytes: &'a [u8]) -> Option<JudgeShape<'a>>
     ensures { IfSome result (λ shape. line_shape_of bytes.now ≡ Ok (spelled_judge shape)) }
 {
     let Ok(text) = str::from_utf8(bytes) else {
         return None;
     };
-    let Ok(mut reader) = Reader::new(text, scratch) else {
-        return None;
-    };
-    let Some(Token::BeginObject) = reader.next() else {
-        return None;
-    };
-    let fields = take_fields(alloc, &mut reader)?;
-    if reader.next().is_some() {
+    let mut tokens = Tokens::of(text);
+    tokens.take_object()?;
+    let fields = take_fields(alloc, &mut tokens)?;
+    if !tokens.are_over() {
         return None;
     }
     shape_of(alloc, fields)
@@ -78,8 +70,8 @@ fn shape_of<'a>(alloc: Global, fields: Fields<'a>) -> Option<JudgeShape<'a>>
 }
 
 /// The fields of an object, up to its brace.
-fn take_fields<'a>(alloc: Global, reader: &mut Reader<'a>) -> Option<Fields<'a>>
-    ensures { IfSome result (λ fields. TakesFields reader.old fields reader.new) }
+fn take_fields<'a>(alloc: Global, tokens: &mut Tokens<'a>) -> Option<Fields<'a>>
+    ensures { IfSome result (λ fields. TakesFields tokens.old fields tokens.new) }
 {
     let mut fields = Fields {
         entries: None,
@@ -91,8 +83,8 @@ fn take_fields<'a>(alloc: Global, reader: &mut Reader<'a>) -> Option<Fields<'a>>
         mask: None,
         policy: None,
     };
-    while let Some(key) = reader.next_key().ok()? {
-        take_field(alloc, reader, key, &mut fields)?;
+    while let Some(key) = tokens.take_key()? {
+        take_field(alloc, tokens, key, &mut fields)?;
     }
     Some(fields)
 }
@@ -100,101 +92,101 @@ fn take_fields<'a>(alloc: Global, reader: &mut Reader<'a>) -> Option<Fields<'a>>
 /// The field of this name.
 fn take_field<'a>(
     alloc: Global,
-    reader: &mut Reader<'a>,
+    tokens: &mut Tokens<'a>,
     key: &str,
     fields: &mut Fields<'a>,
 ) -> Option<()>
-    ensures { IfSome result (λ _. TakesField key.now reader.old reader.new fields.old fields.new) }
+    ensures { IfSome result (λ _. TakesField key.now tokens.old tokens.new fields.old fields.new) }
 {
     match key {
-        "entries" => fields.entries = Some(take_entries(alloc, reader)?),
-        "kind" => fields.holder = Some(holder(take_text(reader)?)?),
-        "group" => fields.head_group = Some(take_whole(reader)?),
-        "groups" => fields.groups = Some(take_groups(alloc, reader)?),
-        "owner" => fields.owner = Some(take_text(reader)?),
-        "who" => fields.who = Some(take_text(reader)?),
-        "mask" => fields.mask = Some(take_whole(reader)?),
-        "policy" => fields.policy = Some(Policy::of(take_whole(reader)?)?),
+        "entries" => fields.entries = Some(take_entries(alloc, tokens)?),
+        "kind" => fields.holder = Some(holder(take_text(tokens)?)?),
+        "group" => fields.head_group = Some(take_whole(tokens)?),
+        "groups" => fields.groups = Some(take_groups(alloc, tokens)?),
+        "owner" => fields.owner = Some(take_text(tokens)?),
+        "who" => fields.who = Some(take_text(tokens)?),
+        "mask" => fields.mask = Some(take_whole(tokens)?),
+        "policy" => fields.policy = Some(Policy::of(take_whole(tokens)?)?),
         _ => return None,
     }
     Some(())
 }
 
 /// A list of groups, no number twice.
-fn take_groups<'a>(alloc: Global, reader: &mut Reader<'a>) -> Option<Vec<GroupShape<'a>>>
+fn take_groups<'a>(alloc: Global, tokens: &mut Tokens<'a>) -> Option<Vec<GroupShape<'a>>>
     ensures { IfSome result (λ groups.
-        Takes 3 (λ d. groups_shape_of (Some d)) reader.old (map spelled_group groups.items) reader.new) }
+        Takes 3 (λ d. groups_shape_of (Some d)) tokens.old (map spelled_group groups.items) tokens.new) }
 {
-    take_list(reader)?;
-    let groups = take_each_group(alloc, reader)?;
+    take_list(tokens)?;
+    let groups = take_each_group(alloc, tokens)?;
     if !are_distinct(alloc, &groups).ok()? {
         return None;
     }
     Some(groups)
 }
 
-fn take_each_group<'a>(alloc: Global, reader: &mut Reader<'a>) -> Option<Vec<GroupShape<'a>>>
+fn take_each_group<'a>(alloc: Global, tokens: &mut Tokens<'a>) -> Option<Vec<GroupShape<'a>>>
     ensures { IfSome result (λ groups.
-        TakesAll 2 group_shape_of reader.old (map spelled_group groups.items) reader.new) }
+        TakesAll 2 group_shape_of tokens.old (map spelled_group groups.items) tokens.new) }
 {
     let mut groups = Vec::new(alloc);
-    while !reader.take_end_array() {
-        groups.push(take_group(alloc, reader)?).ok()?;
+    while !tokens.take_end()? {
+        groups.push(take_group(alloc, tokens)?).ok()?;
     }
     Some(groups)
 }
 
-fn take_group<'a>(alloc: Global, reader: &mut Reader<'a>) -> Option<GroupShape<'a>>
-    ensures { IfSome result (λ group. Takes 2 group_shape_of reader.old (spelled_group group) reader.new) }
+fn take_group<'a>(alloc: Global, tokens: &mut Tokens<'a>) -> Option<GroupShape<'a>>
+    ensures { IfSome result (λ group. Takes 2 group_shape_of tokens.old (spelled_group group) tokens.new) }
 {
-    take_list(reader)?;
-    let number = take_whole(reader)?;
-    take_list(reader)?;
-    let members = take_each_text(alloc, reader)?;
-    take_end(reader)?;
+    take_list(tokens)?;
+    let number = take_whole(tokens)?;
+    take_list(tokens)?;
+    let members = take_each_text(alloc, tokens)?;
+    take_end(tokens)?;
     Some(GroupShape { number, members })
 }
 
-fn take_each_text<'a>(alloc: Global, reader: &mut Reader<'a>) -> Option<Vec<&'a str>>
+fn take_each_text<'a>(alloc: Global, tokens: &mut Tokens<'a>) -> Option<Vec<&'a str>>
     ensures { IfSome result (λ texts.
-        TakesAll 0 text_of reader.old (map (λ t. t.now) texts.items) reader.new) }
+        TakesAll 0 text_of tokens.old (map (λ t. t.now) texts.items) tokens.new) }
 {
     let mut texts = Vec::with_capacity(alloc, MEMBERS_AT_FIRST).ok()?;
-    while !reader.take_end_array() {
-        texts.push(take_text(reader)?).ok()?;
+    while !tokens.take_end()? {
+        texts.push(take_text(tokens)?).ok()?;
     }
     Some(texts)
 }
 
 /// A list of entries.
-fn take_entries<'a>(alloc: Global, reader: &mut Reader<'a>) -> Option<Vec<EntryShape<'a>>>
+fn take_entries<'a>(alloc: Global, tokens: &mut Tokens<'a>) -> Option<Vec<EntryShape<'a>>>
     ensures { IfSome result (λ shapes.
-        Takes 2 entry_shapes_of reader.old (map spelled_entry shapes.items) reader.new) }
+        Takes 2 entry_shapes_of tokens.old (map spelled_entry shapes.items) tokens.new) }
 {
-    take_list(reader)?;
-    take_each_entry(alloc, reader)
+    take_list(tokens)?;
+    take_each_entry(alloc, tokens)
 }
 
-fn take_each_entry<'a>(alloc: Global, reader: &mut Reader<'a>) -> Option<Vec<EntryShape<'a>>>
+fn take_each_entry<'a>(alloc: Global, tokens: &mut Tokens<'a>) -> Option<Vec<EntryShape<'a>>>
     ensures { IfSome result (λ shapes.
-        TakesAll 1 entry_shape_of reader.old (map spelled_entry shapes.items) reader.new) }
+        TakesAll 1 entry_shape_of tokens.old (map spelled_entry shapes.items) tokens.new) }
 {
     let mut shapes = Vec::with_capacity(alloc, ENTRIES_AT_FIRST).ok()?;
-    while !reader.take_end_array() {
-        shapes.push(take_entry(reader)?).ok()?;
+    while !tokens.take_end()? {
+        shapes.push(take_entry(tokens)?).ok()?;
     }
     Some(shapes)
 }
 
-fn take_entry<'a>(reader: &mut Reader<'a>) -> Option<EntryShape<'a>>
-    ensures { IfSome result (λ shape. Takes 1 entry_shape_of reader.old (spelled_entry shape) reader.new) }
+fn take_entry<'a>(tokens: &mut Tokens<'a>) -> Option<EntryShape<'a>>
+    ensures { IfSome result (λ shape. Takes 1 entry_shape_of tokens.old (spelled_entry shape) tokens.new) }
 {
-    take_list(reader)?;
-    let sort = sort(take_text(reader)?)?;
-    let who = take_text(reader)?;
-    let mask = take_whole(reader)?;
-    let flags = take_whole(reader)?;
-    take_end(reader)?;
+    take_list(tokens)?;
+    let sort = sort(take_text(tokens)?)?;
+    let who = take_text(tokens)?;
+    let mask = take_whole(tokens)?;
+    let flags = take_whole(tokens)?;
+    take_end(tokens)?;
     Some(EntryShape {
         sort,
         who,
@@ -204,41 +196,29 @@ fn take_entry<'a>(reader: &mut Reader<'a>) -> Option<EntryShape<'a>>
 }
 
 /// A whole number.
-fn take_whole(reader: &mut Reader<'_>) -> Option<u64>
-    ensures { IfSome result (λ n. Takes 0 whole_of reader.old n reader.new) }
+fn take_whole(tokens: &mut Tokens<'_>) -> Option<u64>
+    ensures { IfSome result (λ n. Takes 0 whole_of tokens.old n tokens.new) }
 {
-    match reader.next()? {
-        Token::Number(text) => whole_number(text),
-        _ => None,
-    }
+    tokens.take_whole()
 }
 
 /// A text.
-fn take_text<'a>(reader: &mut Reader<'a>) -> Option<&'a str>
-    ensures { IfSome result (λ text. Takes 0 text_of reader.old text.now reader.new) }
+fn take_text<'a>(tokens: &mut Tokens<'a>) -> Option<&'a str>
+    ensures { IfSome result (λ text. Takes 0 text_of tokens.old text.now tokens.new) }
 {
-    match reader.next()? {
-        Token::String(text) => Some(text),
-        _ => None,
-    }
+    tokens.take_text()
 }
 
 /// The bracket that opens a list.
-fn take_list(reader: &mut Reader<'_>) -> Option<()>
-    ensures { OnSome result (reader.old ≡ begin_array ∷ reader.new) }
+fn take_list(tokens: &mut Tokens<'_>) -> Option<()>
+    ensures { OnSome result (tokens.old ≡ begin_array ∷ tokens.new) }
 {
-    match reader.next()? {
-        Token::BeginArray => Some(()),
-        _ => None,
-    }
+    tokens.take_list()
 }
 
 /// The bracket that closes one.
-fn take_end(reader: &mut Reader<'_>) -> Option<()>
-    ensures { OnSome result (reader.old ≡ end_array ∷ reader.new) }
+fn take_end(tokens: &mut Tokens<'_>) -> Option<()>
+    ensures { OnSome result (tokens.old ≡ end_array ∷ tokens.new) }
 {
-    match reader.next()? {
-        Token::EndArray => Some(()),
-        _ => None,
-    }
+    if tokens.take_end()? { Some(()) } else { None }
 }

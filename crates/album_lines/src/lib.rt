@@ -5,8 +5,8 @@
 //! refusal comes in too, and its line goes out.
 //!
 //! Read `lines` first, then `judge_line`: a line's JSON value (`trees`), its shape (`judge_shape`, by `shapes` and
-//! `fields`), and the values of that (`values`). A judge line that has its shape gets none of that tree: the shape is
-//! taken from its tokens (`judge_tokens`). The law `questions_by_line` says that a line is read as what it spells. The
+//! `fields`), and the values of that (`values`). A judge line of the usual form gets no tree: its shape is taken token
+//! by token (`judge_tokens`, by `tokens`). The law `questions_by_line` says that a line is read as what it spells. The
 //! lines of a store are read by the same parts, in `album_wire`.
 #![tactic(auto)]
 
@@ -16,6 +16,7 @@ mod lines;
 // The JSON value of a line, and what stands where in it.
 mod fields;
 mod numbers;
+mod tokens;
 mod trees;
 
 // Access lists and members, as a line has them.

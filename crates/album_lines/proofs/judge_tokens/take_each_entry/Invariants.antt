@@ -6,8 +6,8 @@ use Rattle.album_lines.proofs.judge_tokens.take_each_entry.Given as goal
 
 abbrev pub invariant-loop-shapes : goal.invariant-loop-shapes
 invariant-loop-shapes l =
-    (xs : List SpelledEntry) (rest : List Token) → TakesAll 1 entry_shape_of l.reader xs rest
-    → TakesAll 1 entry_shape_of l.initial.reader (map spelled_entry l.shapes.items ++ xs) rest
+    (xs : List SpelledEntry) (rest : List Token) → TakesAll 1 entry_shape_of l.tokens xs rest
+    → TakesAll 1 entry_shape_of l.initial.tokens (map spelled_entry l.shapes.items ++ xs) rest
 
 abbrev pub decreases-loop-shapes : goal.decreases-loop-shapes
-decreases-loop-shapes l = length l.reader
+decreases-loop-shapes l = length l.tokens

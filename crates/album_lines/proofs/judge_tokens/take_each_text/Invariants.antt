@@ -6,8 +6,8 @@ use Rattle.album_lines.proofs.judge_tokens.take_each_text.Given as goal
 
 abbrev pub invariant-loop-texts : goal.invariant-loop-texts
 invariant-loop-texts l =
-    (xs : List (List ℕ)) (rest : List Token) → TakesAll 0 text_of l.reader xs rest
-    → TakesAll 0 text_of l.initial.reader (map (λ t. t.now) l.texts.items ++ xs) rest
+    (xs : List (List ℕ)) (rest : List Token) → TakesAll 0 text_of l.tokens xs rest
+    → TakesAll 0 text_of l.initial.tokens (map (λ t. t.now) l.texts.items ++ xs) rest
 
 abbrev pub decreases-loop-texts : goal.decreases-loop-texts
-decreases-loop-texts l = length l.reader
+decreases-loop-texts l = length l.tokens

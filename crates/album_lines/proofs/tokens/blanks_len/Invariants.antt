@@ -1,0 +1,10 @@
+use Rattle.std.proofs.Common.{◌≡◌, ◌+◌, ◌-◌, ◌≤◌, length, drop}
+use Rattle.std.specs.List.{prefix_len}
+use Rattle.album_lines.specs.Front.{is_blank}
+use Rattle.album_lines.proofs.tokens.blanks_len.Given as goal
+
+abbrev pub invariant-loop-len : goal.invariant-loop-len
+invariant-loop-len l = (prefix_len is_blank l.text ≡ l.len + prefix_len is_blank (drop l.len l.text)) × (l.len ≤ length l.text)
+
+abbrev pub decreases-loop-len : goal.decreases-loop-len
+decreases-loop-len l = length l.text - l.len
