@@ -79,9 +79,9 @@ module _ (b m c : Cut) (begun next : RoundState) (gets : List Message) (F : IsFi
         seen = record {
           atomic = record {
             whole = read_whole b m c F.answers (stamps_of F.answers) rows R;
-            written = λ k d l. read_written b m c F.answers (stamps_of F.answers) rows R (get_or rows k d) (Contains-get_or rows k d l);
+            written = read_written b m c F.answers (stamps_of F.answers) rows R;
           };
-          fresh = λ k d l. read_fresh b m c F.answers (stamps_of F.answers) rows R (get_or rows k d) (Contains-get_or rows k d l);
+          fresh = read_fresh b m c F.answers (stamps_of F.answers) rows R;
         };
       }
 
