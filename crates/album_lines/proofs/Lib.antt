@@ -9,7 +9,6 @@ pub mod Steps
 pub mod Json
 pub mod Entries
 pub mod Questions
-pub mod Numerals
 pub mod Lanes
 pub mod Runs
 pub mod Fronts

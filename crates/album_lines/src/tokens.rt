@@ -1,11 +1,9 @@
 //! A JSON text, taken token by token from its front: those tokens that lines of the usual form have, and no others.
 //! A text with an escape isn't taken, nor is a number that isn't whole: None then, and nothing more is to be taken.
-ghost use Rattle.std.specs.Prelude.{◌≡◌, ◌<◌, ◌^◌, ◌∷◌, [], IsTrue, IfSome, OnSome, MatchOption, true, false, decimal, ◌+◌, ◌≤◌, length, drop, map, get_or};
+ghost use Rattle.std.specs.Prelude.{◌≡◌, ◌<◌, ◌^◌, ◌∷◌, [], IsTrue, IfSome, OnSome, MatchOption, true, false, decimal, ◌+◌, ◌≤◌, length, drop, map};
 ghost use Rattle.std.specs.Bool.{MatchBool};
 ghost use Rattle.std.specs.List.{prefix_len};
 ghost use Rattle.std.specs.Char.{is_ascii_digit};
-ghost use Rattle.std.specs.Str.{all_ascii_digits};
-ghost use Rattle.std.specs.Str.Parse.{digits_value};
 ghost use Rattle.std.specs.Simd.Lanes.{mask_l};
 ghost use Rattle.json.specs.Lex.{between, lex, begins_colon, token};
 ghost use Rattle.json.specs.Lex as lexed;
@@ -14,6 +12,7 @@ ghost use Rattle.json.specs.Run.{is_plain, is_stop};
 ghost use Rattle.json.specs.Word.{ends_word};
 ghost use Rattle.album_lines.specs.Front.{MayBegin, MayClose, GoesOn, is_blank};
 
+use album_lists::whole_number;
 use std::marker::Model;
 use std::simd::prelude::*;
 
@@ -223,46 +222,8 @@ fn whole(text: &str) -> Option<(u64, &str)>
     if !ends_word(more) {
         return None;
     }
-    let n = numeral(front.as_bytes())?;
+    let n = whole_number(front)?;
     Some((n, more))
-}
-
-/// The number that these digits are, without a leading zero.
-fn numeral(digits: &[u8]) -> Option<u64>
-    ensures { IfSome result (λ n. (n < 2 ^ 64) × (decimal n ≡ digits.now)) }
-{
-    if !may_be_numeral(digits) {
-        return None;
-    }
-    value(digits)
-}
-
-/// Whether there are digits, and no zero that leads others.
-fn may_be_numeral(digits: &[u8]) -> bool
-    ensures { IsTrue result → (0 < length digits.now)
-        × (get_or digits.now 0 0 ≡ 48 → length digits.now ≡ 1) }
-{
-    match digits.len() {
-        0 => false,
-        1 => true,
-        _ => digits[0] != b'0',
-    }
-}
-
-/// The number that these digits write, where it fits 64 bits.
-#[tactic(auto, using(crate::proofs::Numerals::digit_is))]
-fn value(digits: &[u8]) -> Option<u64>
-    ensures { IfSome result (λ n. (n < 2 ^ 64)
-        × (all_ascii_digits digits.now ≡ true) × (digits_value 10 digits.now ≡ n)) }
-{
-    let mut n: u64 = 0;
-    for digit in digits {
-        if !digit.is_ascii_digit() {
-            return None;
-        }
-        n = n.checked_mul(10)?.checked_add(u64::from(*digit - b'0'))?;
-    }
-    Some(n)
 }
 
 /// How many digits stand at the front.
