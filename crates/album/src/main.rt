@@ -7,16 +7,20 @@ mod texts;
 use crate::texts::{
     ABOUT, JUDGE_ABOUT, JUDGE_HELP, NO_TEXT, REPLAY_ABOUT, REPLAY_HELP, SERVE_ABOUT, SERVE_HELP,
 };
-use album_server::{Fault, Served, Serving, judge, replay, serve_for, serve_until};
+use album_server::{
+    Admins, Fault, Refusal, Served, Serving, judge, replay, serve_beside, serve_for, serve_until,
+};
 use clap::error::ErrorKind;
 use clap::{Arg, ArgAction, ArgMatches, Command, Error, value_parser};
 use std::alloc::{AllocError, Global};
+use std::fs::File;
 use std::io::{Read, Write};
 use std::net::{Net, TcpListener, TcpStream};
 use std::process::ExitCode;
+use std::rt::Files;
 use std::sync::Wait;
 use std::thread::Threads;
-use std::{env, io, time};
+use std::{env, fs, io, time};
 
 /// How many reads a run may make.
 const TURNS: u64 = 4_294_967_296;
@@ -36,16 +40,19 @@ fn main(rt: HostRuntime) -> ExitCode {
     match matches.subcommand_name() {
         Some("judge") => status(
             &rt,
-            judge_lines(rt.alloc(), &mut rt.stdin(), &mut rt.stdout()),
+            judge_lines(&rt, rt.alloc(), &mut rt.stdin(), &mut rt.stdout(), &matches),
         ),
         Some("replay") => status(
             &rt,
-            replay_lines(rt.alloc(), &mut rt.stdin(), &mut rt.stdout()),
+            replay_lines(&rt, rt.alloc(), &mut rt.stdin(), &mut rt.stdout(), &matches),
         ),
-        Some("serve") => served(
-            &rt,
-            serve_port(rt, rt.alloc(), rt.stdin(), &mut rt.stdout(), &matches),
-        ),
+        Some("serve") => match admins(rt.alloc(), &matches) {
+            Err(why) => refuse_admins(&rt, why),
+            Ok(admins) => served(
+                &rt,
+                serve_port(rt, rt.alloc(), rt.stdin(), &mut rt.stdout(), &matches, admins),
+            ),
+        },
         // No other command line has matched.
         _ => ExitCode::from(2),
     }
@@ -59,16 +66,28 @@ fn parse<'a>(alloc: Global, words: &'a [String]) -> Result<ArgMatches<'a>, Error
 fn command<'a>(alloc: Global) -> Result<Command<'a>, AllocError> {
     let judge = Command::new(alloc, "judge")
         .about(JUDGE_ABOUT)
-        .after_help(JUDGE_HELP);
+        .after_help(JUDGE_HELP)
+        .arg(questions_arg(alloc))?;
     let replay = Command::new(alloc, "replay")
         .about(REPLAY_ABOUT)
-        .after_help(REPLAY_HELP);
+        .after_help(REPLAY_HELP)
+        .arg(script_arg(alloc))?;
     Command::new(alloc, "album")
         .about(ABOUT)
         .subcommand_required(true)
         .subcommand(judge)?
         .subcommand(replay)?
         .subcommand(serve_command(alloc)?)
+}
+
+fn questions_arg<'a>(alloc: Global) -> Arg<'a> {
+    Arg::new(alloc, "FILE")
+        .help("Files of questions, in the place of standard input")
+        .num_args(0..)
+}
+
+fn script_arg<'a>(alloc: Global) -> Arg<'a> {
+    Arg::new(alloc, "FILE").help("A file with the script, in the place of standard input")
 }
 
 fn serve_command<'a>(alloc: Global) -> Result<Command<'a>, AllocError> {
@@ -78,7 +97,9 @@ fn serve_command<'a>(alloc: Global) -> Result<Command<'a>, AllocError> {
         .arg(port_arg(alloc))?
         .arg(conns_arg(alloc))?
         .arg(idle_arg(alloc))?
-        .arg(until_eof_arg(alloc))
+        .arg(until_eof_arg(alloc))?
+        .arg(opening_arg(alloc))?
+        .arg(admin_arg(alloc))
 }
 
 fn port_arg<'a>(alloc: Global) -> Arg<'a> {
@@ -112,27 +133,67 @@ fn until_eof_arg<'a>(alloc: Global) -> Arg<'a> {
         .action(ArgAction::SetTrue)
 }
 
-/// Answers the lines of the reader, to its end.
-fn judge_lines<R: Read, W: Write>(
+fn opening_arg<'a>(alloc: Global) -> Arg<'a> {
+    Arg::new(alloc, "opening")
+        .long("opening")
+        .value_name("FILE")
+        .help("A file with the opening, in the place of standard input")
+}
+
+fn admin_arg<'a>(alloc: Global) -> Arg<'a> {
+    Arg::new(alloc, "admin")
+        .long("admin")
+        .value_name("WHO")
+        .help("Who may sweep, trim and ask what is pending, in the place of everyone; may be given again")
+        .action(ArgAction::Append)
+}
+
+/// Answers the lines of each file that is named, to its end, or else those of the reader.
+fn judge_lines<T: Files + Eprint, R: Read, W: Write>(
+    rt: &T,
     alloc: Global,
     reader: &mut R,
     writer: &mut W,
+    matches: &ArgMatches<'_>,
 ) -> Result<(), Fault> {
-    judge(alloc, reader, writer, TURNS)?;
+    let named = matches.subcommand_matches("judge");
+    match named.and_then(|m| m.get_strs("FILE")) {
+        None => judge(alloc, reader, writer, TURNS)?,
+        Some(paths) => {
+            for path in paths {
+                judge(alloc, &mut open(rt, path)?, writer, TURNS)?;
+            }
+        }
+    }
     writer.flush().map_err(|_| Fault::Writing)
 }
 
-/// Replays the lines of the reader, to its end or to the refusal of their opening.
-fn replay_lines<R: Read, W: Write>(
+/// Replays the lines of the file that is named, or else those of the reader, to their end or to the refusal of their
+/// opening.
+fn replay_lines<T: Files + Eprint, R: Read, W: Write>(
+    rt: &T,
     alloc: Global,
     reader: &mut R,
     writer: &mut W,
+    matches: &ArgMatches<'_>,
 ) -> Result<(), Fault> {
-    replay(alloc, reader, writer, TURNS)?;
+    let named = matches.subcommand_matches("replay");
+    match named.and_then(|m| m.get_str("FILE")) {
+        None => replay(alloc, reader, writer, TURNS)?,
+        Some(path) => replay(alloc, &mut open(rt, path)?, writer, TURNS)?,
+    }
     writer.flush().map_err(|_| Fault::Writing)
 }
 
-/// Serves the port that the command line names. The bound is that of `Host`, written out: the borrow checker wants the
+/// The file at the path, to be read. Why it can't be is told on standard error.
+fn open<T: Files + Eprint>(rt: &T, path: &str) -> Result<T::File, Fault> {
+    fs::open(rt, path).map_err(|error| {
+        let _ = eprintln!(rt; "album: {path}: {error}");
+        Fault::Reading
+    })
+}
+
+/// Serves the port that the command line names. The bound has that of `Host`, written out: the borrow checker wants the
 /// types that it names where `main` calls this.
 fn serve_port<T, R: Read + Send + Drop, W: Write>(
     rt: T,
@@ -140,6 +201,7 @@ fn serve_port<T, R: Read + Send + Drop, W: Write>(
     mut reader: R,
     writer: &mut W,
     matches: &ArgMatches<'_>,
+    admins: Admins,
 ) -> Result<Served, Fault>
 where
     T: Net<Listener = TcpListener, Stream = TcpStream>
@@ -147,6 +209,7 @@ where
         + Wait
         + time::Clock
         + Eprint
+        + Files<File = File>
         + Copy
         + Send
         + Sync
@@ -163,11 +226,36 @@ where
         conns,
         turns: TURNS,
         idle,
+        admins,
     };
-    if matches.is_some_and(|m| m.get_flag("until-eof")) {
-        return serve_until(rt, alloc, reader, writer, serving);
+    let until_eof = matches.is_some_and(|m| m.get_flag("until-eof"));
+    match matches.and_then(|m| m.get_str("opening")) {
+        None if until_eof => serve_until(rt, alloc, reader, writer, serving),
+        None => serve_for(rt, alloc, &mut reader, writer, serving),
+        Some(path) => {
+            let mut opening = open(&rt, path)?;
+            if until_eof {
+                return serve_beside(rt, alloc, &mut opening, reader, writer, serving);
+            }
+            serve_for(rt, alloc, &mut opening, writer, serving)
+        }
     }
-    serve_for(rt, alloc, &mut reader, writer, serving)
+}
+
+/// Who may do more than ask, by the command line.
+fn admins(alloc: Global, matches: &ArgMatches<'_>) -> Result<Admins, Refusal> {
+    let named = matches.subcommand_matches("serve");
+    let words: &[&str] = named.and_then(|m| m.get_strs("admin")).unwrap_or(&[]);
+    Admins::named(alloc, words)
+}
+
+/// One who is named isn't a user or `ANONYMOUS@`, or there is no memory for it.
+fn refuse_admins(rt: &impl Eprint, why: Refusal) -> ExitCode {
+    if matches!(why, Refusal::OutOfMemory) {
+        return status(rt, Err(Fault::Memory));
+    }
+    let _ = eprintln!(rt; "error: invalid value for '--admin <WHO>': {why}");
+    ExitCode::from(2)
 }
 
 /// The status of a service that has ended.

@@ -28,7 +28,9 @@ It is answered by one of these lines, `at` being the index of the entry that den
   {"answer":"granted"}
   {"answer":"denied","at":0}
   {"answer":"denied","at":"end"}
-  {"name":"BadMask","refused":5}"#;
+  {"name":"BadMask","refused":5}
+
+The lines of each FILE are answered in turn, in the place of standard input."#;
 
 pub(crate) const REPLAY_ABOUT: &str =
     "Opens a store by the first lines of standard input, and tells what the events of the others bring about";
@@ -68,7 +70,7 @@ each refusal:
   {"answer":"served","client":1,"content":"736561","object":"picture/0","stamp":0,"title":"Sea"}
   {"name":"NoSuchMessage","refused":14}
 
-A refused event changes nothing, and a refused opening ends the run."#;
+A refused event changes nothing, and a refused opening ends the run. With FILE the script is read from it."#;
 
 pub(crate) const SERVE_ABOUT: &str =
     "Opens a store by the lines of standard input, and answers what connections to a port ask of it";

@@ -7,4 +7,5 @@ pub mod Standing
 pub mod ReplayTurns
 pub mod Talking
 pub mod TalkTurns
+pub mod Naming
 pub mod Promising

@@ -1,6 +1,7 @@
 -- A talk: what the lines of a connection are answered, in a session.
 use Rattle.std.specs.Prelude.{◌≡◌, ◌≢◌, ◌⊎◌, ◌≤◌, ℕ, List, [], ◌∷◌, ◌++◌, MatchBool, Option, Some, None, Result, Ok, Err}
 use Rattle.album_stamps.specs.declared.refusals.Refusal.{Refusal}
+use Rattle.album_stamps.specs.Outcome.{◌>>=◌}
 use Rattle.album_stamps.specs.declared.refusals.Refusal.TheVariants.{OutOfMemory, BadLine, NoSuchPart, NotPrepared}
 use Rattle.album_terminate.specs.declared.deciding.StampState.TheVariants as state
 use Rattle.album_partition.specs.Marks.{ArePending, state_of, latest, floor}
@@ -24,6 +25,8 @@ use Rattle.album_wire.specs.declared.talk_json.TalkOut.TheVariants as says
 use Rattle.album_wire.specs.TalkLine.{hello_line_of, talk_line_of}
 use Rattle.album_wire.specs.declared.talk_line.TalkLine.{TalkLine}
 use Rattle.album_wire.specs.declared.talk_line.TalkLine.TheVariants as line
+use Rattle.album_server.specs.Admins.{permitted}
+use Rattle.album_server.specs.declared.admins.Admins.{Admins}
 
 -- ---- what a session tells to a line
 
@@ -126,7 +129,7 @@ pub record Talker : Type 0 where
 abbrev pub stranger : SessionState → Talker
 stranger session = record { who = None; session = session }
 
--- the first line, and a later one; nothing is read of one that is too long
+-- the first line, and a later one, which who talks may send; nothing is read of one that is too long
 abbrev pub hello_line_read : Line → Result Principal Refusal
 hello_line_read None = Err BadLine
 hello_line_read (Some bytes) = hello_line_of bytes
@@ -134,6 +137,9 @@ hello_line_read (Some bytes) = hello_line_of bytes
 abbrev pub talk_line_read : Line → Result TalkLine Refusal
 talk_line_read None = Err BadLine
 talk_line_read (Some bytes) = talk_line_of bytes
+
+abbrev pub talk_line_heard : Admins → Principal → Line → Result TalkLine Refusal
+talk_line_heard admins who line = talk_line_read line >>= permitted admins who
 
 -- the first line says who talks, and is told the client's number
 abbrev pub Greets : Talker → Result Principal Refusal → Talker → List ℕ → Type 0
@@ -154,33 +160,34 @@ Attends limit policy who old (Ok said) new text = IsAnswered limit policy who sa
 Attends limit policy who old (Err why) new text = (new ≡ old) × (text ≡ refusal_line why)
 
 -- until it is said who talks, a line that doesn't say so is refused
-abbrev pub Hears : ℕ → Policy → Option Principal → Talker → Line → Talker → List ℕ → Type 0
-Hears limit policy None old line new text = Greets old (hello_line_read line) new text
-Hears limit policy (Some who) old line new text = Attends limit policy who old (talk_line_read line) new text
+abbrev pub Hears : ℕ → Policy → Admins → Option Principal → Talker → Line → Talker → List ℕ → Type 0
+Hears limit policy admins None old line new text = Greets old (hello_line_read line) new text
+Hears limit policy admins (Some who) old line new text =
+    Attends limit policy who old (talk_line_heard admins who line) new text
 
 -- A blank line is skipped. On another memory may run out; then that is told, and nothing has happened.
-abbrev pub TalksOnce : ℕ → Policy → Talker → Line → Talker → List ℕ → Type 0
-TalksOnce limit policy old line new text =
+abbrev pub TalksOnce : ℕ → Policy → Admins → Talker → Line → Talker → List ℕ → Type 0
+TalksOnce limit policy admins old line new text =
     MatchBool (is_blank line) ((new ≡ old) × (text ≡ []))
-    (Hears limit policy old.who old line new text ⊎ ((new ≡ old) × (text ≡ refusal_line OutOfMemory)))
+    (Hears limit policy admins old.who old line new text ⊎ ((new ≡ old) × (text ≡ refusal_line OutOfMemory)))
 
 -- ---- the whole talk
 
 -- the lines are told one after another, and this is written
-abbrev pub Talks : ℕ → Policy → Talker → List Line → Talker → List ℕ → Type 0
-Talks limit policy old [] new text = (new ≡ old) × (text ≡ [])
-Talks limit policy old (line ∷ lines) new text =
+abbrev pub Talks : ℕ → Policy → Admins → Talker → List Line → Talker → List ℕ → Type 0
+Talks limit policy admins old [] new text = (new ≡ old) × (text ≡ [])
+Talks limit policy admins old (line ∷ lines) new text =
     (between : Talker) × (first : List ℕ) × (others : List ℕ)
-    × TalksOnce limit policy old line between first
-    × Talks limit policy between lines new others
+    × TalksOnce limit policy admins old line between first
+    × Talks limit policy admins between lines new others
     × (text ≡ first ++ others)
 
 -- what may be written of the lines, by talks in which the session saw no more than this one has seen
-abbrev pub MayTalk : ℕ → Policy → SessionState → Talker → List Line → List ℕ → Type 0
-MayTalk limit policy bound old lines text =
-    (new : Talker) × Talks limit policy old lines new text × IsOn new.session bound
+abbrev pub MayTalk : ℕ → Policy → Admins → SessionState → Talker → List Line → List ℕ → Type 0
+MayTalk limit policy admins bound old lines text =
+    (new : Talker) × Talks limit policy admins old lines new text × IsOn new.session bound
 
 -- the talk of these lines, in a session that is so before it and so after it
-abbrev pub IsTalk : ℕ → Policy → SessionState → SessionState → List Line → List ℕ → Type 0
-IsTalk limit policy old new lines text =
-    (who : Option Principal) × Talks limit policy (stranger old) lines (record { who = who; session = new }) text
+abbrev pub IsTalk : ℕ → Policy → Admins → SessionState → SessionState → List Line → List ℕ → Type 0
+IsTalk limit policy admins old new lines text =
+    (who : Option Principal) × Talks limit policy admins (stranger old) lines (record { who = who; session = new }) text

@@ -14,16 +14,21 @@
 // What the lines of an opening say. Both a replay and a service begin with them.
 mod openings;
 
+// Who may say what over a connection.
+mod admins;
+
 // The engines.
 mod engines;
 
 // What holds of replays.
 mod laws;
 
+pub use admins::{Admins, only_admins_are_heard};
 pub use album_judge::{Fault, judge, one_judgement};
+pub use album_stamps::Refusal;
 pub use engines::converse::converse;
 pub use engines::replay::replay;
-pub use engines::serve::{Host, Served, Serving, serve, serve_for, serve_until};
+pub use engines::serve::{Host, Served, Serving, serve, serve_beside, serve_for, serve_until};
 pub use laws::{
     a_replay_runs_what_its_lines_spell, replays_are_computed, replays_go_on, what_replay_prints,
     worked_replays,

@@ -7,7 +7,7 @@ use crate::runs::{Engine, Script, assert_kept};
 use crate::streams::{Counted, Pieces, Taking, Waiting};
 use album_items::{ItemValues, Opening};
 use album_judge::Fault;
-use album_server::converse;
+use album_server::{Admins, converse};
 use album_stamps::Refusal;
 use album_threads::{Open, Opened, Service, ServiceNames, Session};
 use std::alloc::Global;
@@ -31,7 +31,15 @@ impl<J: ServiceNames, R: Wait + time::Clock + Copy> Engine for Talking<J, R> {
         writer: &mut Taking,
         turns: u64,
     ) -> Result<(), Fault> {
-        converse(&self.rt, alloc, reader, writer, &mut self.session, turns)
+        converse(
+            &self.rt,
+            alloc,
+            reader,
+            writer,
+            &mut self.session,
+            &Admins::Anyone,
+            turns,
+        )
     }
 }
 
@@ -83,7 +91,8 @@ fn waited_for<J: ServiceNames, R: Wait + time::Clock>(
         given: 0,
         answered,
     };
-    Ok(converse(rt, alloc, &mut reader, &mut writer, session, 100).err())
+    let admins = Admins::Anyone;
+    Ok(converse(rt, alloc, &mut reader, &mut writer, session, &admins, 100).err())
 }
 
 /// The session talks.

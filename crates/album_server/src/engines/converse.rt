@@ -9,6 +9,7 @@ ghost use Rattle.album_judge.specs.Writes.{HasRead, Writes, Exchanges, IsPrefixO
 
 mod answers;
 
+use crate::admins::Admins;
 use crate::engines::converse::answers::answer;
 use album_eval::Principal;
 use album_judge::{Fault, PIECE, write_text};
@@ -21,7 +22,8 @@ use std::sync::Wait;
 use std::time;
 
 /// Answers each line that is read by one line, in order, by what the session is told, before the next line is looked
-/// into; a line of spaces, tabs and carriage returns alone is skipped. The first line has to say who talks.
+/// into; a line of spaces, tabs and carriage returns alone is skipped. The first line has to say who talks, who may only
+/// ask where others are the admins.
 ///
 /// # Errors
 ///
@@ -33,23 +35,24 @@ pub fn converse<J: ServiceNames, T: Wait + time::Clock, R: Read, W: Write>(
     reader: &mut R,
     writer: &mut W,
     session: &mut Session<J>,
+    admins: &Admins,
     turns: u64,
 ) -> Result<(), Fault>
     // Without a fault all was read, and just the talk of its lines is written, in which the session went on.
     ensures ok { OnOk result (IfSome (R.remaining reader.old) (λ input.
-        Writes (IsTalk J.terms.limit J.policy session.old session.new (lines_of input))
+        Writes (IsTalk J.terms.limit J.policy admins.now session.old session.new (lines_of input))
         (W.contents writer.old) (W.contents writer.new))) }
     ensures whole { OnOk result (IsAtEnd (R.remaining reader.new)) }
 
     // On a fault, a prefix of such a talk is, by what the session has seen at the end.
     ensures err { OnErr result (IfSome (R.remaining reader.old) (λ input.
-        Writes (IsPrefixOf (MayTalk J.terms.limit J.policy session.new (stranger session.old) (lines_of input)))
+        Writes (IsPrefixOf (MayTalk J.terms.limit J.policy admins.now session.new (stranger session.old) (lines_of input)))
         (W.contents writer.old) (W.contents writer.new))) }
 
     // What is written then answers what was read. Reading: each line that has ended, and nothing else.
     // Writing: an answer is cut short. Memory: each answer is whole, and one is not there.
     ensures fault { IfErr result (λ fault.
-        Exchanges (IsEndedBy fault (MayTalk J.terms.limit J.policy session.new (stranger session.old)))
+        Exchanges (IsEndedBy fault (MayTalk J.terms.limit J.policy admins.now session.new (stranger session.old)))
         (R.remaining reader.old) (R.remaining reader.new) (W.contents writer.old) (W.contents writer.new)) }
 
     // The session has only seen more.
@@ -72,10 +75,28 @@ pub fn converse<J: ServiceNames, T: Wait + time::Clock, R: Read, W: Write>(
             return Err(Fault::Reading);
         };
         if len == 0 {
-            return finish(rt, alloc, &mut scratch, session, &mut who, lines, writer);
+            return finish(
+                rt,
+                alloc,
+                &mut scratch,
+                session,
+                admins,
+                &mut who,
+                lines,
+                writer,
+            );
         }
         let ended = lines.feed(&piece[..len])?;
-        answer_lines(rt, alloc, &mut scratch, session, &mut who, &ended, writer)?;
+        answer_lines(
+            rt,
+            alloc,
+            &mut scratch,
+            session,
+            admins,
+            &mut who,
+            &ended,
+            writer,
+        )?;
     }
     Err(Fault::Reading)
 }
@@ -86,15 +107,16 @@ fn finish<J: ServiceNames, T: Wait + time::Clock, W: Write>(
     alloc: Global,
     scratch: &mut Scratch,
     session: &mut Session<J>,
+    admins: &Admins,
     who: &mut Option<Principal>,
     lines: Lines,
     writer: &mut W,
 ) -> Result<(), Fault>
-    ensures ok { OnOk result (Writes (Talks J.terms.limit J.policy (record { who = who.old; session = session.old })
+    ensures ok { OnOk result (Writes (Talks J.terms.limit J.policy admins.now (record { who = who.old; session = session.old })
         (last lines) (record { who = who.new; session = session.new }))
         (W.contents writer.old) (W.contents writer.new)) }
     ensures fault { IfErr result (λ fault. Writes
-        (IsLeftBy fault (MayTalk J.terms.limit J.policy session.new (record { who = who.old; session = session.old }))
+        (IsLeftBy fault (MayTalk J.terms.limit J.policy admins.now session.new (record { who = who.old; session = session.old }))
         (last lines))
         (W.contents writer.old) (W.contents writer.new)) }
     ensures on { IsOn session.old session.new }
@@ -102,7 +124,7 @@ fn finish<J: ServiceNames, T: Wait + time::Clock, W: Write>(
     session.has_granted_writes();
     match lines.end() {
         None => Ok(()),
-        Some(line) => answer_lines(rt, alloc, scratch, session, who, &[line], writer),
+        Some(line) => answer_lines(rt, alloc, scratch, session, admins, who, &[line], writer),
     }
 }
 
@@ -112,21 +134,22 @@ fn answer_lines<J: ServiceNames, T: Wait + time::Clock, W: Write>(
     alloc: Global,
     scratch: &mut Scratch,
     session: &mut Session<J>,
+    admins: &Admins,
     who: &mut Option<Principal>,
     lines: &[LineIn],
     writer: &mut W,
 ) -> Result<(), Fault>
-    ensures ok { OnOk result (Writes (Talks J.terms.limit J.policy (record { who = who.old; session = session.old })
+    ensures ok { OnOk result (Writes (Talks J.terms.limit J.policy admins.now (record { who = who.old; session = session.old })
         (map said lines.now) (record { who = who.new; session = session.new }))
         (W.contents writer.old) (W.contents writer.new)) }
     ensures fault { IfErr result (λ fault. Writes
-        (IsLeftBy fault (MayTalk J.terms.limit J.policy session.new (record { who = who.old; session = session.old }))
+        (IsLeftBy fault (MayTalk J.terms.limit J.policy admins.now session.new (record { who = who.old; session = session.old }))
         (map said lines.now)) (W.contents writer.old) (W.contents writer.new)) }
     ensures on { IsOn session.old session.new }
 {
     session.has_granted_writes();
     for line in lines {
-        let text = answer(rt, alloc, scratch, session, who, line)?;
+        let text = answer(rt, alloc, scratch, session, admins, who, line)?;
         write_text(writer, &text)?;
     }
     Ok(())

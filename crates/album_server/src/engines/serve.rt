@@ -6,6 +6,7 @@ mod accepting;
 mod connections;
 mod faults;
 
+use crate::admins::Admins;
 use crate::engines::serve::accepting::{Limits, accept_all};
 use crate::engines::serve::connections::Connections;
 use crate::engines::serve::faults::Teller;
@@ -39,7 +40,7 @@ pub enum Served {
 }
 
 /// Where and how long a service is run.
-#[derive(Clone, Copy, Debug)]
+#[derive(Debug, Drop)]
 pub struct Serving {
     /// The port of 127.0.0.1.
     pub port: u16,
@@ -49,6 +50,8 @@ pub struct Serving {
     pub turns: u64,
     /// A connection that says nothing for so many seconds ends, by the fault `Reading`. 0 is no limit.
     pub idle: u32,
+    /// Who may sweep, trim and ask what is pending.
+    pub admins: Admins,
 }
 
 /// What a service runs on: sockets, threads, the clock and standard error.
@@ -97,6 +100,7 @@ pub fn serve<T: Host, R: Read, W: Write>(
         conns,
         turns,
         idle: 0,
+        admins: Admins::Anyone,
     };
     serve_for(rt, alloc, reader, writer, serving)
 }
@@ -113,7 +117,7 @@ pub fn serve_for<T: Host, R: Read, W: Write>(
     writer: &mut W,
     serving: Serving,
 ) -> Result<Served, Fault> {
-    let (opened, listener) = match begin(&rt, alloc, reader, writer, serving)? {
+    let (opened, listener) = match begin(&rt, alloc, reader, writer, &serving)? {
         Ok(begun) => begun,
         Err(served) => return Ok(served),
     };
@@ -133,11 +137,31 @@ pub fn serve_until<T: Host, R: Read + Send + Drop, W: Write>(
     writer: &mut W,
     serving: Serving,
 ) -> Result<Served, Fault> {
-    let (opened, listener) = match begin(&rt, alloc, &mut reader, writer, serving)? {
+    let (opened, listener) = match begin(&rt, alloc, &mut reader, writer, &serving)? {
         Ok(begun) => begun,
         Err(served) => return Ok(served),
     };
     serve_opened(rt, alloc, opened, &listener, Some(reader), writer, serving)
+}
+
+/// The same, where the opening is read by itself, and the input beside it has nothing but its end.
+///
+/// # Errors
+///
+/// As `serve`.
+pub fn serve_beside<T: Host, O: Read, R: Read + Send + Drop, W: Write>(
+    rt: T,
+    alloc: Global,
+    opening: &mut O,
+    input: R,
+    writer: &mut W,
+    serving: Serving,
+) -> Result<Served, Fault> {
+    let (opened, listener) = match begin(&rt, alloc, opening, writer, &serving)? {
+        Ok(begun) => begun,
+        Err(served) => return Ok(served),
+    };
+    serve_opened(rt, alloc, opened, &listener, Some(input), writer, serving)
 }
 
 /// The opening is read and opened, and the port is had; or else it is told why not.
@@ -146,7 +170,7 @@ fn begin<T, R: Read, W: Write>(
     alloc: Global,
     reader: &mut R,
     writer: &mut W,
-    serving: Serving,
+    serving: &Serving,
 ) -> Result<Result<(Opened, TcpListener), Served>, Fault>
 where
     T: Net<Listener = TcpListener, Stream = TcpStream> + Eprint,
@@ -298,15 +322,32 @@ where
 {
     let (teller, faults) = Teller::open(rt, alloc)?;
     let service = Service::<J>::open(rt, alloc, opened, Open)?;
-    let told = tell(alloc, &TalkOut::Serving(serving.port), writer);
-    let connections = Connections::new(alloc, faults);
+    let Serving {
+        port,
+        conns,
+        turns,
+        idle,
+        admins,
+    } = serving;
+    let limits = Limits {
+        conns,
+        turns,
+        idle: idle_of(idle),
+        until_told: input.is_some(),
+    };
+    let told = tell(alloc, &TalkOut::Serving(port), writer);
+    let connections = Connections::new(alloc, faults, admins);
     if told.is_ok() {
-        attend_all(rt, alloc, &service, listener, &connections, input, serving);
+        attend_all(rt, alloc, &service, listener, &connections, input, limits);
     }
     // Nobody tells a fault any more.
     drop(connections);
+    let is_broken = service.is_broken();
     let totals = service.close(&rt);
     told?;
+    if is_broken {
+        return Err(Fault::Memory);
+    }
     tell(alloc, &totals_out(totals), writer)?;
     teller.close(&rt);
     Ok(())
@@ -320,19 +361,13 @@ fn attend_all<J, T, R>(
     listener: &TcpListener,
     connections: &Connections,
     input: Option<R>,
-    serving: Serving,
+    limits: Limits,
 )
 where
     J: ServiceNames + Send + Sync,
     T: Threads + Wait + time::Clock + Copy + Send + Sync,
     R: Read + Send + Drop,
 {
-    let limits = Limits {
-        conns: serving.conns,
-        turns: serving.turns,
-        idle: idle_of(serving.idle),
-        until_told: input.is_some(),
-    };
     thread::scope(thread::scope_env(), &rt, |scope| {
         if let Some(reader) = input {
             let reads = scope.spawn(move || read_to_end(&rt, reader, connections, limits.turns));

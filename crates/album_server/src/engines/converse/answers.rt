@@ -5,8 +5,9 @@ ghost use Rattle.album_stamps.specs.Outcome.{Gives};
 ghost use Rattle.album_threads.specs.Asks.{IsOn};
 ghost use Rattle.album_lines.specs.Lines.{said};
 ghost use Rattle.album_lines.specs.Output.{refusal_line};
-ghost use Rattle.album_server.specs.Talk.{AnswersTalk, Attends, Greets, IsAsked, IsPendingTold, IsSweptFor, IsTrimmedFor, TalksOnce, hello_line_read, talk_line_read};
+ghost use Rattle.album_server.specs.Talk.{AnswersTalk, Attends, Greets, IsAsked, IsPendingTold, IsSweptFor, IsTrimmedFor, TalksOnce, hello_line_read, talk_line_heard};
 
+use crate::admins::Admins;
 use album_eval::Principal;
 use album_items::ItemId;
 use album_lines::{LineIn, write_refusal};
@@ -30,10 +31,11 @@ pub(crate) fn answer<J: ServiceNames, T: Wait + time::Clock>(
     alloc: Global,
     scratch: &mut Scratch,
     session: &mut Session<J>,
+    admins: &Admins,
     who: &mut Option<Principal>,
     line: &LineIn,
 ) -> Result<Vec<u8>, Refusal>
-    ensures told { IfOk result (λ text. TalksOnce J.terms.limit J.policy
+    ensures told { IfOk result (λ text. TalksOnce J.terms.limit J.policy admins.now
         (record { who = who.old; session = session.old }) (said line.now)
         (record { who = who.new; session = session.new }) text.items) }
     ensures on { IsOn session.old session.new }
@@ -44,7 +46,7 @@ pub(crate) fn answer<J: ServiceNames, T: Wait + time::Clock>(
     }
     match &*who {
         None => greet(alloc, scratch, session, who, line),
-        Some(principal) => attend(rt, alloc, scratch, session, principal, line),
+        Some(principal) => attend(rt, alloc, scratch, session, admins, principal, line),
     }
 }
 
@@ -82,27 +84,35 @@ fn attend<J: ServiceNames, T: Wait + time::Clock>(
     alloc: Global,
     scratch: &mut Scratch,
     session: &mut Session<J>,
+    admins: &Admins,
     principal: &Principal,
     line: &LineIn,
 ) -> Result<Vec<u8>, Refusal>
     ensures attends { IfOk result (λ text. Attends J.terms.limit J.policy principal.now
-        (record { who = Some principal.now; session = session.old }) (talk_line_read (said line.now))
+        (record { who = Some principal.now; session = session.old }) (talk_line_heard admins.now principal.now (said line.now))
         (record { who = Some principal.now; session = session.new }) text.items
         ⊎ ((session.new ≡ session.old) × (text.items ≡ refusal_line OutOfMemory))) }
     ensures on { IsOn session.old session.new }
 {
     session.has_granted_writes();
-    match talk_line(alloc, scratch, line) {
+    match talk_line(alloc, scratch, admins, principal, line) {
         Ok(line) => carry_out(rt, alloc, session, principal, line),
         Err(refusal) => write_refusal(alloc, refusal),
     }
 }
 
-/// What a later line says.
-fn talk_line(alloc: Global, scratch: &mut Scratch, line: &LineIn) -> Result<TalkLine, Refusal>
-    ensures { Gives (λ line. line) result (talk_line_read (said line.now)) }
+/// What a later line says, where who talks may send it.
+fn talk_line(
+    alloc: Global,
+    scratch: &mut Scratch,
+    admins: &Admins,
+    principal: &Principal,
+    line: &LineIn,
+) -> Result<TalkLine, Refusal>
+    ensures { Gives (λ line. line) result (talk_line_heard admins.now principal.now (said line.now)) }
 {
-    read_talk(alloc, scratch, line.bytes()?)
+    let said = read_talk(alloc, scratch, line.bytes()?)?;
+    admins.permit(principal, said)
 }
 
 /// The text of what the session is told to the line.

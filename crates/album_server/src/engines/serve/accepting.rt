@@ -59,7 +59,7 @@ where
         let _ = listener.set_nonblocking(true);
     }
     for _ in rt.forever() {
-        let is_closed = connections.is_closed(&rt);
+        let is_closed = is_closed(&rt, service, connections);
         let is_full = is_closed || count.counted >= limits.conns;
         if is_full {
             if connections.have_ended() && (is_closed || !limits.until_told) {
@@ -79,6 +79,18 @@ where
         }
     }
     unreachable!()
+}
+
+/// Whether no connection begins any more. So it is once a partition's thread has ended for want of memory.
+fn is_closed<J: ServiceNames, T: Wait>(
+    rt: &T,
+    service: &Service<J>,
+    connections: &Connections,
+) -> bool {
+    if service.is_broken() {
+        connections.close(rt);
+    }
+    connections.is_closed(rt)
 }
 
 impl Count {

@@ -1,4 +1,5 @@
 //! The connections of a service that are open. Each has a session and a thread of its own.
+use crate::admins::Admins;
 use crate::engines::converse::converse;
 use album_judge::Fault;
 use album_stamps::{ClientNo, Refusal};
@@ -28,11 +29,13 @@ pub(crate) struct Connections {
     ended: AtomicU64,
     /// Takes the faults by which they end.
     faults: Sender<Fault>,
+    /// Who may do more than ask.
+    admins: Admins,
 }
 
 impl Connections {
     /// None is open yet.
-    pub(crate) fn new(alloc: Global, faults: Sender<Fault>) -> Connections {
+    pub(crate) fn new(alloc: Global, faults: Sender<Fault>, admins: Admins) -> Connections {
         Connections {
             streams: Mutex::new(Streams {
                 open: BTreeMap::new(alloc),
@@ -41,6 +44,7 @@ impl Connections {
             begun: AtomicU64::new(0),
             ended: AtomicU64::new(0),
             faults,
+            admins,
         }
     }
 
@@ -124,19 +128,20 @@ where
     T: Wait + time::Clock + Copy + Send + Sync,
 {
     let _ = stream.set_nodelay(true);
+    let (rt, client) = (guest.rt, guest.session.client());
     let (mut from, mut to): (&TcpStream, &TcpStream) = (stream, stream);
     let done = converse(
-        &guest.rt,
+        &rt,
         alloc,
         &mut from,
         &mut to,
         &mut guest.session,
+        &connections.admins,
         turns,
     );
     if let Err(fault) = done {
-        let _ = connections.faults.send(&guest.rt, fault);
+        let _ = connections.faults.send(&rt, fault);
     }
-    let (rt, client) = (guest.rt, guest.session.client());
     drop(guest);
     connections.end(&rt, client);
 }

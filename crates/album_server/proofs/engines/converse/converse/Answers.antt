@@ -8,7 +8,7 @@ use Rattle.album_server.proofs.engines.converse.converse.Goals as goal
 
 -- a read failed
 pub returns-in_default-clause-err : goal.returns-in_default-clause-err
-returns-in_default-clause-err g c = prefix_so_far _ _ _ _ _ _ _ _ _ _ c.loop-turn.invariant.talked _ (on_self _ c.loop-turn.invariant.on.sound)
+returns-in_default-clause-err g c = prefix_so_far _ _ _ _ _ _ _ _ _ _ _ c.loop-turn.invariant.talked _ (on_self _ c.loop-turn.invariant.on.sound)
 
 -- the reader is at its end
 pub returns-then-len-eq0-clause-ok : goal.returns-then-len-eq0-clause-ok
@@ -16,7 +16,7 @@ returns-then-len-eq0-clause-ok g c =
     let none : take c.in-Ok.len c.read.new.buf ≡ [] = ap (λ n. take n c.read.new.buf) c.if-len-eq0.true in
     let end = c.in-Ok.ensures.bytes.1 c.if-len-eq0.true (omega arith) in
     on_ok_weaker c.finish.result
-    (λ w. last_done _ _ _ _ _ _ _ _ _ _ c.loop-turn.invariant.talked _ _ c.in-Ok.ensures.bytes.0 none
+    (λ w. last_done _ _ _ _ _ _ _ _ _ _ _ c.loop-turn.invariant.talked _ _ c.in-Ok.ensures.bytes.0 none
     (record { who = c.finish.new.who; session = c.finish.new.session }) _ end w)
     c.finish.ensures.ok
 
@@ -25,14 +25,14 @@ returns-then-len-eq0-clause-err g c =
     let none : take c.in-Ok.len c.read.new.buf ≡ [] = ap (λ n. take n c.read.new.buf) c.if-len-eq0.true in
     let end = c.in-Ok.ensures.bytes.1 c.if-len-eq0.true (omega arith) in
     IfErr-weaker c.finish.result _ _
-    (λ fault w. prefix_of_last _ _ _ _ _ _ _ _ _ _ c.loop-turn.invariant.talked _ _ c.in-Ok.ensures.bytes.0 none _ fault _ end w)
+    (λ fault w. prefix_of_last _ _ _ _ _ _ _ _ _ _ _ c.loop-turn.invariant.talked _ _ c.in-Ok.ensures.bytes.0 none _ fault _ end w)
     c.finish.ensures.fault
 
 pub returns-then-len-eq0-clause-fault : goal.returns-then-len-eq0-clause-fault
 returns-then-len-eq0-clause-fault g c =
     let none : take c.in-Ok.len c.read.new.buf ≡ [] = ap (λ n. take n c.read.new.buf) c.if-len-eq0.true in
     IfErr-weaker c.finish.result _ _
-    (λ fault w. last_left _ _ _ _ _ _ _ _ _ _ c.loop-turn.invariant.talked _ _ c.in-Ok.ensures.bytes.0 none _ fault _ w)
+    (λ fault w. last_left _ _ _ _ _ _ _ _ _ _ _ c.loop-turn.invariant.talked _ _ c.in-Ok.ensures.bytes.0 none _ fault _ w)
     c.finish.ensures.fault
 
 pub returns-then-len-eq0-clause-on : goal.returns-then-len-eq0-clause-on
@@ -42,7 +42,7 @@ returns-then-len-eq0-clause-on g c = on_trans _ _ _ c.loop-turn.invariant.on c.f
 pub returns-in_err-ended-clause-err : goal.returns-in_err-ended-clause-err
 returns-in_err-ended-clause-err g c =
     let p = err_from_is_err_and c.from_residual.result c.from_residual.ensures.1 in
-    rw p.1 (prefix_so_far _ _ _ _ _ _ _ _ _ _ c.loop-turn.invariant.talked _ (on_self _ c.loop-turn.invariant.on.sound))
+    rw p.1 (prefix_so_far _ _ _ _ _ _ _ _ _ _ _ c.loop-turn.invariant.talked _ (on_self _ c.loop-turn.invariant.on.sound))
 
 pub returns-in_err-ended-clause-fault : goal.returns-in_err-ended-clause-fault
 returns-in_err-ended-clause-fault g c =
@@ -50,13 +50,13 @@ returns-in_err-ended-clause-fault g c =
     let some : take c.in-Ok.len c.read.new.buf ≢ [] =
     λ none. absurd (omega (arith, ap length none, length-take c.in-Ok.len c.read.new.buf, c.in-Ok.ensures.bound)) in
     rw (p.1, p.2)
-    (turn_uncut _ _ _ _ _ _ _ _ _ _ c.loop-turn.invariant.talked _ _ c.in-Ok.ensures.bytes.0 _ _ refl _ (on_self _ c.loop-turn.invariant.on.sound) some)
+    (turn_uncut _ _ _ _ _ _ _ _ _ _ _ c.loop-turn.invariant.talked _ _ c.in-Ok.ensures.bytes.0 _ _ refl _ (on_self _ c.loop-turn.invariant.on.sound) some)
 
 pub returns-in_err-ended-clause-few : goal.returns-in_err-ended-clause-few
 returns-in_err-ended-clause-few g c =
     let short : length (take c.in-Ok.len c.read.new.buf) ≤ PIECE =
     omega (arith, length-take c.in-Ok.len c.read.new.buf) in
-    has_read_more _ _ _ _ _ _ _ _ _ _ c.loop-turn.invariant.talked _ _ c.in-Ok.ensures.bytes.0 _ short c.loop-turn-test.true
+    has_read_more _ _ _ _ _ _ _ _ _ _ _ c.loop-turn.invariant.talked _ _ c.in-Ok.ensures.bytes.0 _ short c.loop-turn-test.true
 
 -- an answer is not written
 pub returns-in_err-answer_lines-clause-err : goal.returns-in_err-answer_lines-clause-err
@@ -65,7 +65,7 @@ returns-in_err-answer_lines-clause-err g c =
     err_from_is_err_and c.from_residual-in_err-answer_lines.result c.from_residual-in_err-answer_lines.ensures.1 in
     let left = rw c.deref.ensures.value at c.in_err-answer_lines.ensures.fault in
     rw p.1
-    (prefix_of_turn _ _ _ _ _ _ _ _ _ _ c.loop-turn.invariant.talked _ _ c.in-Ok.ensures.bytes.0 _ _
+    (prefix_of_turn _ _ _ _ _ _ _ _ _ _ _ c.loop-turn.invariant.talked _ _ c.in-Ok.ensures.bytes.0 _ _
     c.in_ok-ended.ensures.lines _ c.in_err-answer_lines.field-0.0 _ left)
 
 pub returns-in_err-answer_lines-clause-fault : goal.returns-in_err-answer_lines-clause-fault
@@ -74,14 +74,14 @@ returns-in_err-answer_lines-clause-fault g c =
     err_from_is_err_and c.from_residual-in_err-answer_lines.result c.from_residual-in_err-answer_lines.ensures.1 in
     let left = rw c.deref.ensures.value at c.in_err-answer_lines.ensures.fault in
     rw (p.1, p.2)
-    (turn_left _ _ _ _ _ _ _ _ _ _ c.loop-turn.invariant.talked _ _ c.in-Ok.ensures.bytes.0 _ _
+    (turn_left _ _ _ _ _ _ _ _ _ _ _ c.loop-turn.invariant.talked _ _ c.in-Ok.ensures.bytes.0 _ _
     c.in_ok-ended.ensures.lines _ c.in_err-answer_lines.field-0.0 _ left)
 
 pub returns-in_err-answer_lines-clause-few : goal.returns-in_err-answer_lines-clause-few
 returns-in_err-answer_lines-clause-few g c =
     let short : length (take c.in-Ok.len c.read.new.buf) ≤ PIECE =
     omega (arith, length-take c.in-Ok.len c.read.new.buf) in
-    has_read_more _ _ _ _ _ _ _ _ _ _ c.loop-turn.invariant.talked _ _ c.in-Ok.ensures.bytes.0 _ short c.loop-turn-test.true
+    has_read_more _ _ _ _ _ _ _ _ _ _ _ c.loop-turn.invariant.talked _ _ c.in-Ok.ensures.bytes.0 _ short c.loop-turn-test.true
 
 pub returns-in_err-answer_lines-clause-on : goal.returns-in_err-answer_lines-clause-on
 returns-in_err-answer_lines-clause-on g c = on_trans _ _ _ c.loop-turn.invariant.on c.answer_lines.ensures.on
@@ -93,7 +93,7 @@ loop-turn-preserved g c =
     omega (arith, length-take c.in-Ok.len c.read.new.buf) in
     record {
       talked =
-          turn_done _ _ _ _ _ _ _ _ _ _ c.loop-turn.invariant.talked _ _ c.in-Ok.ensures.bytes.0 _ _
+          turn_done _ _ _ _ _ _ _ _ _ _ _ c.loop-turn.invariant.talked _ _ c.in-Ok.ensures.bytes.0 _ _
           c.in_ok-ended.ensures.lines (record { who = c.answer_lines.new.who; session = c.answer_lines.new.session }) _ short
           (rw c.deref.ensures.value at c.in_ok-answer_lines.ensures.ok);
       on = on_trans _ _ _ c.loop-turn.invariant.on c.answer_lines.ensures.on;
@@ -102,4 +102,4 @@ loop-turn-preserved g c =
 
 -- the turns ran out
 pub returns-clause-err : goal.returns-clause-err
-returns-clause-err g c = prefix_so_far _ _ _ _ _ _ _ _ _ _ c.loop-turn.invariant.talked _ (on_self _ c.loop-turn.invariant.on.sound)
+returns-clause-err g c = prefix_so_far _ _ _ _ _ _ _ _ _ _ _ c.loop-turn.invariant.talked _ (on_self _ c.loop-turn.invariant.on.sound)

@@ -5,7 +5,7 @@ use Rattle.album_server.proofs.engines.converse.converse.Given as goal
 
 abbrev pub invariant-loop-turn : goal.invariant-loop-turn
 invariant-loop-turn g l = record {
-  talked : HasTalked g.J.ServiceNames.terms.limit g.J.ServiceNames.policy l.initial.session
+  talked : HasTalked g.J.ServiceNames.terms.limit g.J.ServiceNames.policy l.admins l.initial.session
       (record { who = l.who; session = l.session }) l._turn l.lines
       (g.R.Read.remaining l.initial.reader) (g.R.Read.remaining l.reader)
       (g.W.Write.contents l.initial.writer) (g.W.Write.contents l.writer);

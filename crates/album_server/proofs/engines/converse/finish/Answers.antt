@@ -10,16 +10,17 @@ pub returns-in-None-clause-ok : goal.returns-in-None-clause-ok
 returns-in-None-clause-ok g c =
     let limit = g.J.ServiceNames.terms.limit in
     let policy = g.J.ServiceNames.policy in
+    let admins = c.args.admins.now in
     let written = g.W.Write.contents c.args.writer.now in
-    subst (λ (ls : List Line). Writes (Talks limit policy (record { who = c.args.who.now; session = c.args.session.now }) ls
+    subst (λ (ls : List Line). Writes (Talks limit policy admins (record { who = c.args.who.now; session = c.args.session.now }) ls
     (record { who = c.args.who.now; session = c.args.session.now })) written written) c.in-None.ensures
-    (lines_begin limit policy (record { who = c.args.who.now; session = c.args.session.now }) written)
+    (lines_begin limit policy admins (record { who = c.args.who.now; session = c.args.session.now }) written)
 
 -- it does not
 pub returns-in-Some-clause-ok : goal.returns-in-Some-clause-ok
 returns-in-Some-clause-ok g c =
     subst (λ (ls : List Line). OnOk c.answer_lines.result (Writes
-    (Talks g.J.ServiceNames.terms.limit g.J.ServiceNames.policy (record { who = c.args.who.now; session = c.args.session.now }) ls
+    (Talks g.J.ServiceNames.terms.limit g.J.ServiceNames.policy c.args.admins.now (record { who = c.args.who.now; session = c.args.session.now }) ls
     (record { who = c.answer_lines.new.who; session = c.answer_lines.new.session }))
     (g.W.Write.contents c.args.writer.now) (g.W.Write.contents c.answer_lines.new.writer)))
     c.in-Some.ensures c.answer_lines.ensures.ok
@@ -27,7 +28,7 @@ returns-in-Some-clause-ok g c =
 pub returns-in-Some-clause-fault : goal.returns-in-Some-clause-fault
 returns-in-Some-clause-fault g c =
     subst (λ (ls : List Line). IfErr c.answer_lines.result (λ fault. Writes
-    (IsLeftBy fault (MayTalk g.J.ServiceNames.terms.limit g.J.ServiceNames.policy c.answer_lines.new.session
+    (IsLeftBy fault (MayTalk g.J.ServiceNames.terms.limit g.J.ServiceNames.policy c.args.admins.now c.answer_lines.new.session
     (record { who = c.args.who.now; session = c.args.session.now })) ls)
     (g.W.Write.contents c.args.writer.now) (g.W.Write.contents c.answer_lines.new.writer)))
     c.in-Some.ensures c.answer_lines.ensures.fault
