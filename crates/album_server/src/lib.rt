@@ -26,7 +26,7 @@ mod laws;
 pub use admins::{Admins, only_admins_are_heard};
 pub use album_judge::{Fault, judge, one_judgement};
 pub use album_stamps::Refusal;
-pub use engines::converse::converse;
+pub use engines::converse::{converse, converse_with};
 pub use engines::replay::replay;
 pub use engines::serve::{Host, Served, Serving, serve, serve_beside, serve_for, serve_until};
 pub use laws::{

@@ -7,7 +7,7 @@ use crate::runs::{Engine, Script, assert_kept};
 use crate::streams::{Counted, Pieces, Taking, Waiting};
 use album_items::{ItemValues, Opening};
 use album_judge::Fault;
-use album_server::{Admins, converse};
+use album_server::{Admins, converse_with};
 use album_stamps::Refusal;
 use album_threads::{Open, Opened, Service, ServiceNames, Session};
 use std::alloc::Global;
@@ -31,7 +31,7 @@ impl<J: ServiceNames, R: Wait + time::Clock + Copy> Engine for Talking<J, R> {
         writer: &mut Taking,
         turns: u64,
     ) -> Result<(), Fault> {
-        converse(
+        converse_with(
             &self.rt,
             alloc,
             reader,
@@ -92,7 +92,7 @@ fn waited_for<J: ServiceNames, R: Wait + time::Clock>(
         answered,
     };
     let admins = Admins::Anyone;
-    Ok(converse(rt, alloc, &mut reader, &mut writer, session, &admins, 100).err())
+    Ok(converse_with(rt, alloc, &mut reader, &mut writer, session, &admins, 100).err())
 }
 
 /// The session talks.

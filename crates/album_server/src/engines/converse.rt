@@ -22,14 +22,56 @@ use std::sync::Wait;
 use std::time;
 
 /// Answers each line that is read by one line, in order, by what the session is told, before the next line is looked
-/// into; a line of spaces, tabs and carriage returns alone is skipped. The first line has to say who talks, who may only
-/// ask where others are the admins.
+/// into; a line of spaces, tabs and carriage returns alone is skipped. The first line has to say who talks.
 ///
 /// # Errors
 ///
 /// `Reading`, where a read fails, or `turns` reads did not come to the end; `Memory`, where there is none for a line,
 /// or for the text of its answer; `Writing`, where a write fails or takes no byte. The first that comes ends it.
 pub fn converse<J: ServiceNames, T: Wait + time::Clock, R: Read, W: Write>(
+    rt: &T,
+    alloc: Global,
+    reader: &mut R,
+    writer: &mut W,
+    session: &mut Session<J>,
+    turns: u64,
+) -> Result<(), Fault>
+    // Without a fault all was read, and just the talk of its lines is written, in which the session went on.
+    ensures ok { OnOk result (IfSome (R.remaining reader.old) (λ input.
+        Writes (IsTalk J.terms.limit J.policy Admins.Anyone session.old session.new (lines_of input))
+        (W.contents writer.old) (W.contents writer.new))) }
+    ensures whole { OnOk result (IsAtEnd (R.remaining reader.new)) }
+
+    // On a fault, a prefix of such a talk is, by what the session has seen at the end.
+    ensures err { OnErr result (IfSome (R.remaining reader.old) (λ input.
+        Writes (IsPrefixOf (MayTalk J.terms.limit J.policy Admins.Anyone session.new (stranger session.old) (lines_of input)))
+        (W.contents writer.old) (W.contents writer.new))) }
+
+    // What is written then answers what was read. Reading: each line that has ended, and nothing else.
+    // Writing: an answer is cut short. Memory: each answer is whole, and one is not there.
+    ensures fault { IfErr result (λ fault.
+        Exchanges (IsEndedBy fault (MayTalk J.terms.limit J.policy Admins.Anyone session.new (stranger session.old)))
+        (R.remaining reader.old) (R.remaining reader.new) (W.contents writer.old) (W.contents writer.new)) }
+
+    // The session has only seen more.
+    ensures on { IsOn session.old session.new }
+
+    // A turn reads one piece at most.
+    ensures few { HasRead turns (R.remaining reader.old) (R.remaining reader.new) }
+
+    // No turn, no read.
+    ensures none { turns ≡ 0 → result ≡ Err Fault.Reading }
+    ensures unread { turns ≡ 0 → R.remaining reader.new ≡ R.remaining reader.old }
+{
+    converse_with(rt, alloc, reader, writer, session, &Admins::Anyone, turns)
+}
+
+/// The same, where who talks may only ask, unless it is one of the admins.
+///
+/// # Errors
+///
+/// As `converse`.
+pub fn converse_with<J: ServiceNames, T: Wait + time::Clock, R: Read, W: Write>(
     rt: &T,
     alloc: Global,
     reader: &mut R,

@@ -1,6 +1,6 @@
 //! The connections of a service that are open. Each has a session and a thread of its own.
 use crate::admins::Admins;
-use crate::engines::converse::converse;
+use crate::engines::converse::converse_with;
 use album_judge::Fault;
 use album_stamps::{ClientNo, Refusal};
 use album_threads::{ServiceNames, Session};
@@ -130,7 +130,7 @@ where
     let _ = stream.set_nodelay(true);
     let (rt, client) = (guest.rt, guest.session.client());
     let (mut from, mut to): (&TcpStream, &TcpStream) = (stream, stream);
-    let done = converse(
+    let done = converse_with(
         &rt,
         alloc,
         &mut from,

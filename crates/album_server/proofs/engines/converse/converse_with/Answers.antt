@@ -4,7 +4,7 @@ use Rattle.std.proofs.lemmas.Result.{IfErr-weaker, on_ok_weaker, err_from_is_err
 use Rattle.album_threads.proofs.LookLemmas.{on_self, on_trans}
 use Rattle.album_judge.specs.declared.engines.judge.TheConstants.{PIECE}
 use Rattle.album_server.proofs.TalkTurns.{has_read_more, prefix_so_far, turn_done, turn_left, turn_uncut, prefix_of_turn, last_done, last_left, prefix_of_last}
-use Rattle.album_server.proofs.engines.converse.converse.Goals as goal
+use Rattle.album_server.proofs.engines.converse.converse_with.Goals as goal
 
 -- a read failed
 pub returns-in_default-clause-err : goal.returns-in_default-clause-err

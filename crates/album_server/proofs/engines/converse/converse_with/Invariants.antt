@@ -1,7 +1,7 @@
 use Rattle.std.proofs.Common.{◌≡◌}
 use Rattle.album_threads.specs.Asks.{IsOn}
 use Rattle.album_server.proofs.TalkTurns.{HasTalked}
-use Rattle.album_server.proofs.engines.converse.converse.Given as goal
+use Rattle.album_server.proofs.engines.converse.converse_with.Given as goal
 
 abbrev pub invariant-loop-turn : goal.invariant-loop-turn
 invariant-loop-turn g l = record {
