@@ -50,7 +50,14 @@ fn main(rt: HostRuntime) -> ExitCode {
             Err(why) => refuse_admins(&rt, why),
             Ok(admins) => served(
                 &rt,
-                serve_port(rt, rt.alloc(), rt.stdin(), &mut rt.stdout(), &matches, admins),
+                serve_port(
+                    rt,
+                    rt.alloc(),
+                    rt.stdin(),
+                    &mut rt.stdout(),
+                    &matches,
+                    admins,
+                ),
             ),
         },
         // No other command line has matched.
@@ -144,7 +151,9 @@ fn admin_arg<'a>(alloc: Global) -> Arg<'a> {
     Arg::new(alloc, "admin")
         .long("admin")
         .value_name("WHO")
-        .help("Who may sweep, trim and ask what is pending, in the place of everyone; may be given again")
+        .help(
+            "Who may sweep, trim and ask what is pending, in the place of everyone; may be given again",
+        )
         .action(ArgAction::Append)
 }
 
