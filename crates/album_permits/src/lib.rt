@@ -50,7 +50,9 @@ pub use notes::Note;
 pub use outs::Out;
 pub use permits::Permit;
 pub use rights::{what_changes_is_granted, what_is_served_is_granted};
-pub use ruling_laws::{one_ruling, permits_are_spent_on_what_is_named, rulings_look_at_what_is_named};
+pub use ruling_laws::{
+    one_ruling, permits_are_spent_on_what_is_named, rulings_look_at_what_is_named,
+};
 pub use rulings::{Ruled, Ruling, rule_on};
 pub use serving::Served;
 pub use writes::Writes;
