@@ -73,7 +73,9 @@ pub record AreFields (ms : json.Members) (f : Fields) : Type 0 where
 -- the tokens begin with the value of a member of this name, which makes these fields those
 abbrev pub TakesField : List ℕ → List Token → List Token → Fields → Fields → Type 0
 TakesField name ts left old new =
-    (j : json.Json) × Begins 3 ts j left × ((ms : json.Members) → AreFields ms old → AreFields (with_last ms name j) new)
+    (j : json.Json)
+    × Begins 3 ts j left
+    × ((ms : json.Members) → AreFields ms old → AreFields (with_last ms name j) new)
 
 -- the tokens begin with the members of which these fields are read
 abbrev pub TakesFields : List Token → Fields → List Token → Type 0

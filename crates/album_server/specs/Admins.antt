@@ -31,5 +31,6 @@ is_admin (admins.These named) who = list_any (names_principal who) named.items
 abbrev pub permitted : Admins → Principal → TalkLine → Result TalkLine Refusal
 permitted admins who (line.Ask ask) = Ok (line.Ask ask)
 permitted admins who (line.Pending part) = if is_admin admins who then Ok (line.Pending part) else Err BadRequest
-permitted admins who (line.Sweep part stamp) = if is_admin admins who then Ok (line.Sweep part stamp) else Err BadRequest
+permitted admins who (line.Sweep part stamp) =
+    if is_admin admins who then Ok (line.Sweep part stamp) else Err BadRequest
 permitted admins who (line.Trim part item) = if is_admin admins who then Ok (line.Trim part item) else Err BadRequest

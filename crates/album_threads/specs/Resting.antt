@@ -41,8 +41,8 @@ IsFoundOnView policy principal ask old new found Holds =
 abbrev pub HasSeen : SessionState → SessionState → PermitState → Type 0
 HasSeen old new case = new.counter ≡ counter_after old.counter case.view.rows
 
--- The stamp is the client's own, and the one that its clock drew in this ask: its counter is one above the greatest that
--- the clock drew or saw before. Nothing was announced for it.
+-- The stamp is the client's own, and the one that its clock drew in this ask: its counter is one above the greatest
+-- that the clock drew or saw before. Nothing was announced for it.
 pub record IsDrawn (old new : SessionState) (permit : PermitState) (stamp : ℕ) : Type 0 where
   pub own : client_number stamp ≡ old.client
   pub next : counter_of stamp ≡ counter_after old.counter permit.view.rows + 1

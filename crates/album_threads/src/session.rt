@@ -90,8 +90,8 @@ impl<J: ServiceNames> Session<J> {
         self.channel.client()
     }
 
-    /// For contracts alone: each stamp of the client's that is announced is of a write that was granted by the service's
-    /// policy. Nothing is computed.
+    /// For contracts alone: each announced stamp of the client is of a write that the service's policy granted. Nothing
+    /// is computed.
     pub fn has_granted_writes(&self)
         ensures granted { AreGranted J.policy self.now.client self.now.cut }
         ensures sound { IsSound self.now.cut }

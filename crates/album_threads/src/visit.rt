@@ -26,7 +26,8 @@ pub trait Visit<R>: Drop {
     ) -> Self::Answer;
 }
 
-/// Opens a service for so many sessions, and at least one, has it visited, closes it, and gives what comes of the visit, be it an error.
+/// Opens a service for so many sessions, and at least one, has it visited, and closes it. What comes of the visit is
+/// given back, be it an error.
 ///
 /// # Errors
 ///

@@ -44,7 +44,8 @@ pub fn converse<J: ServiceNames, T: Wait + time::Clock, R: Read, W: Write>(
 
     // On a fault, a prefix of such a talk is, by what the session has seen at the end.
     ensures err { OnErr result (IfSome (R.remaining reader.old) (λ input.
-        Writes (IsPrefixOf (MayTalk J.terms.limit J.policy Admins.Anyone session.new (stranger session.old) (lines_of input)))
+        Writes (IsPrefixOf
+        (MayTalk J.terms.limit J.policy Admins.Anyone session.new (stranger session.old) (lines_of input)))
         (W.contents writer.old) (W.contents writer.new))) }
 
     // What is written then answers what was read. Reading: each line that has ended, and nothing else.
@@ -88,7 +89,8 @@ pub fn converse_with<J: ServiceNames, T: Wait + time::Clock, R: Read, W: Write>(
 
     // On a fault, a prefix of such a talk is, by what the session has seen at the end.
     ensures err { OnErr result (IfSome (R.remaining reader.old) (λ input.
-        Writes (IsPrefixOf (MayTalk J.terms.limit J.policy admins.now session.new (stranger session.old) (lines_of input)))
+        Writes (IsPrefixOf
+        (MayTalk J.terms.limit J.policy admins.now session.new (stranger session.old) (lines_of input)))
         (W.contents writer.old) (W.contents writer.new))) }
 
     // What is written then answers what was read. Reading: each line that has ended, and nothing else.
@@ -154,11 +156,13 @@ fn finish<J: ServiceNames, T: Wait + time::Clock, W: Write>(
     lines: Lines,
     writer: &mut W,
 ) -> Result<(), Fault>
-    ensures ok { OnOk result (Writes (Talks J.terms.limit J.policy admins.now (record { who = who.old; session = session.old })
+    ensures ok { OnOk result (Writes (Talks J.terms.limit J.policy admins.now
+        (record { who = who.old; session = session.old })
         (last lines) (record { who = who.new; session = session.new }))
         (W.contents writer.old) (W.contents writer.new)) }
     ensures fault { IfErr result (λ fault. Writes
-        (IsLeftBy fault (MayTalk J.terms.limit J.policy admins.now session.new (record { who = who.old; session = session.old }))
+        (IsLeftBy fault (MayTalk J.terms.limit J.policy admins.now session.new
+        (record { who = who.old; session = session.old }))
         (last lines))
         (W.contents writer.old) (W.contents writer.new)) }
     ensures on { IsOn session.old session.new }
@@ -181,11 +185,13 @@ fn answer_lines<J: ServiceNames, T: Wait + time::Clock, W: Write>(
     lines: &[LineIn],
     writer: &mut W,
 ) -> Result<(), Fault>
-    ensures ok { OnOk result (Writes (Talks J.terms.limit J.policy admins.now (record { who = who.old; session = session.old })
+    ensures ok { OnOk result (Writes (Talks J.terms.limit J.policy admins.now
+        (record { who = who.old; session = session.old })
         (map said lines.now) (record { who = who.new; session = session.new }))
         (W.contents writer.old) (W.contents writer.new)) }
     ensures fault { IfErr result (λ fault. Writes
-        (IsLeftBy fault (MayTalk J.terms.limit J.policy admins.now session.new (record { who = who.old; session = session.old }))
+        (IsLeftBy fault (MayTalk J.terms.limit J.policy admins.now session.new
+        (record { who = who.old; session = session.old }))
         (map said lines.now)) (W.contents writer.old) (W.contents writer.new)) }
     ensures on { IsOn session.old session.new }
 {

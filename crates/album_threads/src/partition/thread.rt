@@ -146,8 +146,8 @@ impl<J: ServiceNames> PartitionLoop<J> {
         }
     }
 
-    /// Takes one mail after another, until it is to leave or all senders are gone. Where it has no memory for what others
-    /// wait for, it breaks the service, and ends.
+    /// Takes one mail after another, until it is to leave or all senders are gone. Where it has no memory for what
+    /// others wait for, it breaks the service, and ends.
     pub(crate) fn run<R: Wait + time::Clock, G: Gate>(
         &mut self,
         rt: &R,

@@ -89,7 +89,8 @@ fn attend<J: ServiceNames, T: Wait + time::Clock>(
     line: &LineIn,
 ) -> Result<Vec<u8>, Refusal>
     ensures attends { IfOk result (λ text. Attends J.terms.limit J.policy principal.now
-        (record { who = Some principal.now; session = session.old }) (talk_line_heard admins.now principal.now (said line.now))
+        (record { who = Some principal.now; session = session.old })
+        (talk_line_heard admins.now principal.now (said line.now))
         (record { who = Some principal.now; session = session.new }) text.items
         ⊎ ((session.new ≡ session.old) × (text.items ≡ refusal_line OutOfMemory))) }
     ensures on { IsOn session.old session.new }
