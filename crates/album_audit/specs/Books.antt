@@ -1,7 +1,9 @@
 -- What an audit book holds.
-use Rattle.std.specs.Prelude.{◌≡◌, ◌≤◌, ◌<◌, ◌+◌, ◌^◌, ◌||◌, nat_le, Bool, ℕ}
+use Rattle.std.specs.Prelude.{◌≡◌, ◌≤◌, ◌<◌, ◌+◌, ◌++◌, [], ◌^◌, ◌||◌, nat_le, Bool, ℕ, List, Option, Some, None, option_map}
+use Rattle.std.specs.Option.{unwrap_or}
 use Rattle.album_stamps.specs.declared.limits.TheConstants.{CLIENTS}
-use Rattle.album_audit.specs.Totals.{none}
+use Rattle.album_audit.specs.Totals.{totals_of, none, plus}
+use Rattle.album_audit.specs.declared.totals.Record.{Record}
 use Rattle.album_audit.specs.declared.totals.Totals.{Totals}
 
 -- the names of the four ledgers of a book
@@ -11,17 +13,33 @@ pub record LedgerNames : Type 0 where
   pub alarm_ok : ℕ
   pub alarm_failed : ℕ
 
--- how much was noted of each kind, how many shares were given, how many of them aren't gathered, and what the gathered
--- ones had
+-- how much was noted of each kind, how many shares were given, how many of them aren't gathered, what the gathered
+-- ones had, and, where records are kept, those that aren't taken yet
 pub record BookState : Type 0 where
   pub totals : Totals
   pub given : ℕ
   pub out : ℕ
   pub gathered : Totals
+  pub kept : Option (List Record)
 
 -- the book as it opens
 abbrev pub new_book : BookState
-new_book = record { totals = none; given = 0; out = 0; gathered = none }
+new_book = record { totals = none; given = 0; out = 0; gathered = none; kept = None }
+
+-- the book with these records more: they count, and where records are kept they are, after those before them
+abbrev pub book_with : BookState → List Record → BookState
+book_with book records = record book {
+  totals = plus book.totals (totals_of records);
+  kept = option_map (λ before. before ++ records) book.kept;
+}
+
+-- the records that are kept
+abbrev pub kept_records : Option (List Record) → List Record
+kept_records kept = unwrap_or kept []
+
+-- records are kept as before, and these are all taken
+abbrev pub none_kept : Option (List Record) → Option (List Record)
+none_kept kept = option_map (λ (_ : List Record). []) kept
 
 -- What is true of each book: it gives a share for each client at most, and once every share is gathered, what was
 -- gathered is what was noted.
@@ -30,13 +48,13 @@ pub record IsBook (book : BookState) : Type 0 where
   pub less : book.out ≤ book.given
   pub settled : book.out ≡ 0 → book.gathered ≡ book.totals
 
--- one of the totals has come to the end of its numbers
-abbrev pub is_at_end : Totals → Bool
-is_at_end totals =
-    nat_le (2 ^ 64) (totals.audit_ok + 1)
-    || nat_le (2 ^ 64) (totals.audit_failed + 1)
-    || nat_le (2 ^ 64) (totals.alarm_ok + 1)
-    || nat_le (2 ^ 64) (totals.alarm_failed + 1)
+-- one of the totals has no number any more
+abbrev pub is_past_end : Totals → Bool
+is_past_end totals =
+    nat_le (2 ^ 64) totals.audit_ok
+    || nat_le (2 ^ 64) totals.audit_failed
+    || nat_le (2 ^ 64) totals.alarm_ok
+    || nat_le (2 ^ 64) totals.alarm_failed
 
 -- of each ledger, what isn't lent is in the book
 pub record AreLent (out : ℕ) (parts : Totals) : Type 0 where

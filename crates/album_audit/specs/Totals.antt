@@ -1,5 +1,6 @@
 -- How many notes there are of each kind.
-use Rattle.std.specs.Prelude.{◌+◌, List, Bool, not, ◌&&◌, count_by}
+use Rattle.std.specs.Prelude.{◌+◌, ℕ, List, map, filter, length, Bool, not, ◌&&◌, count_by}
+use Rattle.album_permits.specs.declared.notes.Note.{Note}
 use Rattle.album_audit.specs.declared.totals.Record.{Record}
 use Rattle.album_audit.specs.declared.totals.Totals.{Totals}
 
@@ -27,6 +28,19 @@ totals_of records = record {
   alarm_ok = count_by is_alarm_ok records;
   alarm_failed = count_by is_alarm_failed records;
 }
+
+-- the same of notes, which is that of their records, whoever's they are
+abbrev pub totals_by_kind : List Note → Totals
+totals_by_kind notes = record {
+  audit_ok = length (filter (λ note. not note.alarm && note.success) notes);
+  audit_failed = length (filter (λ note. not note.alarm && not note.success) notes);
+  alarm_ok = length (filter (λ note. note.alarm && note.success) notes);
+  alarm_failed = length (filter (λ note. note.alarm && not note.success) notes);
+}
+
+-- the records of a client's notes
+abbrev pub records_of : ℕ → List Note → List Record
+records_of client notes = map (λ note. record { client = client; note = note }) notes
 
 -- no note of any kind
 abbrev pub none : Totals

@@ -1,8 +1,8 @@
 //! The audit book.
-ghost use Rattle.std.specs.Prelude.{◌≡◌, ◌≤◌, ◌+◌, ◌∷◌, [], true, false, IfOk, IfErr, OnOk, OnErr, IsOkUnless, MatchResult};
+ghost use Rattle.std.specs.Prelude.{◌≡◌, ◌≤◌, ◌⊎◌, ◌+◌, ◌∷◌, [], true, false, Some, IsSome, IfOk, IfErr, OnOk, OnErr, IsOkUnless};
 ghost use Rattle.album_stamps.specs.declared.limits.TheConstants.{CLIENTS};
-ghost use Rattle.album_audit.specs.Totals.{totals_of, none, plus};
-ghost use Rattle.album_audit.specs.Books.{is_at_end, new_book};
+ghost use Rattle.album_audit.specs.Totals.{totals_of, records_of, none, plus};
+ghost use Rattle.album_audit.specs.Books.{is_past_end, new_book, book_with, kept_records, none_kept};
 
 use crate::names::{AlarmFailed, AlarmOk, AuditFailed, AuditOk, Blanks, Books};
 use crate::share::Share;
@@ -10,15 +10,19 @@ use crate::tally::Tally;
 use crate::totals::{Record, Totals};
 use album_permits::Note;
 use album_stamps::{CLIENTS, ClientNo, Refusal};
+use std::alloc::{AllocError, Global};
 use std::marker::Model;
+use std::mem;
 
 /// How much was noted, and the shares of it that sessions have. Contracts see the totals, how many shares were given,
-/// how many of them aren't gathered, and what the gathered ones had. What was noted isn't kept, so a book takes no more
-/// memory however much is.
+/// how many of them aren't gathered, what the gathered ones had, and the records that are kept. Where none are, a book
+/// takes no more memory however much is noted.
 #[derive(Drop)]
 pub struct AuditBook<J: Books> {
     given: u64,
     out: u64,
+    /// The records that aren't taken yet, in order, where records are kept.
+    kept: Option<Vec<Record>>,
     audit_ok: Tally<AuditOk<J>>,
     audit_failed: Tally<AuditFailed<J>>,
     alarm_ok: Tally<AlarmOk<J>>,
@@ -26,7 +30,7 @@ pub struct AuditBook<J: Books> {
 }
 
 impl<J: Books> Model for AuditBook<J> {
-    ghost use Rattle.std.specs.Prelude.{◌≡◌};
+    ghost use Rattle.std.specs.Prelude.{◌≡◌, option_map};
     ghost use Rattle.album_audit.specs.Books.{BookState, IsBook, AreLent};
 
     ghost Value = { BookState };
@@ -40,6 +44,7 @@ impl<J: Books> Model for AuditBook<J> {
       };
       given = b.given;
       out = b.out;
+      kept = option_map (λ kept. kept.items) b.kept;
       gathered = record {
         audit_ok = b.audit_ok.rest.amount;
         audit_failed = b.audit_failed.rest.amount;
@@ -57,6 +62,7 @@ impl<J: Books> Model for AuditBook<J> {
       };
       given = b.given;
       out = b.out;
+      kept = option_map (λ kept. kept.items) b.kept;
       gathered = record {
         audit_ok = b.audit_ok.rest.amount;
         audit_failed = b.audit_failed.rest.amount;
@@ -92,6 +98,7 @@ impl<J: Books> AuditBook<J> {
         AuditBook {
             given: 0,
             out: 0,
+            kept: None,
             audit_ok: Tally::open(audit_ok),
             audit_failed: Tally::open(audit_failed),
             alarm_ok: Tally::open(alarm_ok),
@@ -126,52 +133,79 @@ impl<J: Books> AuditBook<J> {
         })
     }
 
-    /// Counts one note, in the book and in the share.
+    /// Counts one note, in the book and in the share. Where records are kept, its record is too, after those before it.
     ///
     /// # Errors
     ///
-    /// `OutOfMemory` exactly where a total has come to the end of its numbers, after 2^64 - 1 notes of one kind. The
-    /// book and the share stay as they are then. It takes no memory.
+    /// As `note_all`.
     pub fn note(
         &mut self,
         share: &mut Share<J>,
         client: ClientNo,
         note: Note,
     ) -> Result<(), Refusal>
-        ensures book { OnOk result (self.new ≡ record self.old {
-          totals = plus self.old.totals (totals_of (record { client = client; note = note } ∷ []));
-        }) }
+        ensures book { OnOk result (self.new ≡ book_with self.old (record { client = client; note = note } ∷ [])) }
         ensures share { OnOk result
             (share.new ≡ plus share.old (totals_of (record { client = client; note = note } ∷ []))) }
         ensures memory { IsOkUnless result Refusal.OutOfMemory }
-        ensures end { OnErr result (is_at_end self.old.totals ≡ true) }
-        ensures counted { OnOk result (is_at_end self.old.totals ≡ false) }
+        ensures end { OnErr result
+            ((is_past_end (plus self.old.totals (totals_of (record { client = client; note = note } ∷ []))) ≡ true)
+            ⊎ IsSome self.old.kept) }
+        ensures counted { OnOk result
+            (is_past_end (plus self.old.totals (totals_of (record { client = client; note = note } ∷ []))) ≡ false) }
         ensures unchanged { OnErr result ((self.new ≡ self.old) × (share.new ≡ share.old)) }
     {
-        if self.is_at_end() {
+        self.note_all(share, client, &[note])
+    }
+
+    /// Counts the notes of a client, in the book and in the share. Where records are kept, theirs are too, together and
+    /// in order, after those before them.
+    ///
+    /// # Errors
+    ///
+    /// `OutOfMemory` where a total would come to the end of its numbers, after 2^64 - 1 notes of one kind, or where
+    /// records are kept and there is no memory for these. The book and the share stay as they are then.
+    #[tactic(auto, using(crate::proofs::Counting::totals_of_notes))]
+    pub fn note_all(
+        &mut self,
+        share: &mut Share<J>,
+        client: ClientNo,
+        notes: &[Note],
+    ) -> Result<(), Refusal>
+        ensures book { OnOk result (self.new ≡ book_with self.old (records_of client notes.now)) }
+        ensures share { OnOk result (share.new ≡ plus share.old (totals_of (records_of client notes.now))) }
+        ensures memory { IsOkUnless result Refusal.OutOfMemory }
+        ensures end { OnErr result
+            ((is_past_end (plus self.old.totals (totals_of (records_of client notes.now))) ≡ true)
+            ⊎ IsSome self.old.kept) }
+        ensures counted { OnOk result
+            (is_past_end (plus self.old.totals (totals_of (records_of client notes.now))) ≡ false) }
+        ensures unchanged { OnErr result ((self.new ≡ self.old) × (share.new ≡ share.old)) }
+    {
+        let more = Totals::of(notes);
+        if self.is_past_end_with(more) {
             return Err(Refusal::OutOfMemory);
         }
-        let one = Totals::of(&Record { client, note });
-        self.audit_ok.add(&mut share.audit_ok, one.audit_ok);
+        if let Some(kept) = &mut self.kept {
+            kept.extend_from_slice(&records_of(*kept.allocator(), client, notes)?)?;
+        }
+        self.audit_ok.add(&mut share.audit_ok, more.audit_ok);
         self.audit_failed
-            .add(&mut share.audit_failed, one.audit_failed);
-        self.alarm_ok.add(&mut share.alarm_ok, one.alarm_ok);
+            .add(&mut share.audit_failed, more.audit_failed);
+        self.alarm_ok.add(&mut share.alarm_ok, more.alarm_ok);
         self.alarm_failed
-            .add(&mut share.alarm_failed, one.alarm_failed);
+            .add(&mut share.alarm_failed, more.alarm_failed);
         Ok(())
     }
 
-    /// Whether a total has come to the end of its numbers.
-    fn is_at_end(&self) -> bool
-        ensures { result ≡ is_at_end self.now.totals }
+    /// Whether a total would come to the end of its numbers with so many more.
+    fn is_past_end_with(&self, more: Totals) -> bool
+        ensures { result ≡ is_past_end (plus self.now.totals more) }
     {
-        let Totals {
-            audit_ok,
-            audit_failed,
-            alarm_ok,
-            alarm_failed,
-        } = self.totals();
-        [audit_ok, audit_failed, alarm_ok, alarm_failed].contains(&u64::MAX)
+        more.audit_ok > u64::MAX - self.audit_ok.total
+            || more.audit_failed > u64::MAX - self.audit_failed.total
+            || more.alarm_ok > u64::MAX - self.alarm_ok.total
+            || more.alarm_failed > u64::MAX - self.alarm_failed.total
     }
 
     /// How many notes there are of each kind.
@@ -187,12 +221,33 @@ impl<J: Books> AuditBook<J> {
         }
     }
 
+    /// Keeps the record of each note from now on, until they are taken.
+    pub fn keep(&mut self, alloc: Global)
+        ensures { self.new ≡ record self.old { kept = Some (kept_records self.old.kept) } }
+    {
+        if self.kept.is_none() {
+            self.kept = Some(Vec::new(alloc));
+        }
+    }
+
+    /// The records that are kept, in the order in which they were noted. None of them is kept any longer.
+    pub fn take(&mut self, alloc: Global) -> Vec<Record>
+        ensures records { result.items ≡ kept_records self.old.kept }
+        ensures taken { self.new ≡ record self.old { kept = none_kept self.old.kept } }
+    {
+        match &mut self.kept {
+            None => Vec::new(alloc),
+            Some(kept) => mem::replace(kept, Vec::new(alloc)),
+        }
+    }
+
     /// Takes a share back, which is spent by it.
     pub fn gather(&mut self, share: Share<J>)
         ensures totals { self.new.totals ≡ self.old.totals }
         ensures given { self.new.given ≡ self.old.given }
         ensures out { self.new.out + 1 ≡ self.old.out }
         ensures gathered { self.new.gathered ≡ plus self.old.gathered share }
+        ensures kept { self.new.kept ≡ self.old.kept }
     {
         let Share {
             audit_ok,
@@ -206,4 +261,15 @@ impl<J: Books> AuditBook<J> {
         self.alarm_failed.gather(alarm_failed);
         self.out -= 1;
     }
+}
+
+/// The records of a client's notes.
+fn records_of(alloc: Global, client: ClientNo, notes: &[Note]) -> Result<Vec<Record>, AllocError>
+    ensures { IfOk result (λ records. records.items ≡ records_of client notes.now) }
+{
+    let mut records = Vec::with_capacity(alloc, notes.len())?;
+    for note in notes {
+        records.push(Record { client, note: *note })?;
+    }
+    Ok(records)
 }

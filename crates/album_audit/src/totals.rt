@@ -1,6 +1,6 @@
 //! The four totals of an audit book.
-ghost use Rattle.std.specs.Prelude.{◌≡◌, ◌∷◌, []};
-ghost use Rattle.album_audit.specs.Totals.{totals_of};
+ghost use Rattle.std.specs.Prelude.{◌≡◌, ◌&&◌, not, filter, length};
+ghost use Rattle.album_audit.specs.Totals.{totals_by_kind};
 
 use album_permits::Note;
 use album_stamps::ClientNo;
@@ -28,16 +28,39 @@ pub struct Totals {
 }
 
 impl Totals {
-    /// One in the total of the record's kind, and none in the others.
-    pub(crate) fn of(noted: &Record) -> Totals
-        ensures { result ≡ totals_of (noted.now ∷ []) }
+    /// How many notes there are of each kind.
+    pub(crate) fn of(notes: &[Note]) -> Totals
+        ensures { result ≡ totals_by_kind notes.now }
     {
-        let Note { alarm, success, .. } = noted.note;
         Totals {
-            audit_ok: u64::from(!alarm && success),
-            audit_failed: u64::from(!alarm && !success),
-            alarm_ok: u64::from(alarm && success),
-            alarm_failed: u64::from(alarm && !success),
+            audit_ok: audits_granted(notes),
+            audit_failed: audits_denied(notes),
+            alarm_ok: alarms_granted(notes),
+            alarm_failed: alarms_denied(notes),
         }
     }
+}
+
+fn audits_granted(notes: &[Note]) -> u64
+    ensures { result ≡ length (filter (λ note. not note.alarm && note.success) notes.now) }
+{
+    notes.iter().filter(|n| !n.alarm && n.success).count() as u64
+}
+
+fn audits_denied(notes: &[Note]) -> u64
+    ensures { result ≡ length (filter (λ note. not note.alarm && not note.success) notes.now) }
+{
+    notes.iter().filter(|n| !n.alarm && !n.success).count() as u64
+}
+
+fn alarms_granted(notes: &[Note]) -> u64
+    ensures { result ≡ length (filter (λ note. note.alarm && note.success) notes.now) }
+{
+    notes.iter().filter(|n| n.alarm && n.success).count() as u64
+}
+
+fn alarms_denied(notes: &[Note]) -> u64
+    ensures { result ≡ length (filter (λ note. note.alarm && not note.success) notes.now) }
+{
+    notes.iter().filter(|n| n.alarm && !n.success).count() as u64
 }

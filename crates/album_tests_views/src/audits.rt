@@ -3,9 +3,10 @@ ghost use Rattle.std.specs.Prelude.{◌≡◌};
 
 use crate::store::item_of;
 use album_access::Mask;
-use album_audit::{AuditBook, Blanks, Books, Share, Totals};
+use album_audit::{AuditBook, Blanks, Books, Record, Share, Totals};
 use album_permits::Note;
 use album_stamps::{ClientNo, Refusal};
+use std::alloc::Global;
 use std::marker::Brand;
 
 /// What is noted of picture/0: whether by an alarm, and whether what was asked was granted.
@@ -78,6 +79,41 @@ fn totals(one: &[Noted], other: &[Noted]) -> Result<Totals, Refusal> {
     totals_in::<Brand>(Blanks::new(), one, other)
 }
 
+/// Whose note it is, by the number of the client, and what is noted.
+type Kept = (u16, Noted);
+
+/// What is kept of a note before and of three after the book is asked to keep records, and then once more.
+fn taken_in<J: Books>(alloc: Global, blanks: Blanks) -> Result<([Kept; 3], usize), Refusal>
+    requires names { blanks ≡ record {
+      audit_ok = J.audit_ok;
+      audit_failed = J.audit_failed;
+      alarm_ok = J.alarm_ok;
+      alarm_failed = J.alarm_failed;
+    } }
+{
+    let mut book = AuditBook::<J>::new(blanks);
+    session_in(&mut book, ClientNo::of(3), &[(true, true)])?;
+    book.keep(alloc);
+    session_in(&mut book, ClientNo::of(1), &READ_AND_DENIED)?;
+    book.keep(alloc);
+    session_in(&mut book, ClientNo::of(2), &[(true, true)])?;
+    let taken = book.take(alloc);
+    let more = book.take(alloc).len();
+    match taken.as_slice() {
+        [first, second, third] => Ok(([kept(first), kept(second), kept(third)], more)),
+        _ => Err(Refusal::BadRequest),
+    }
+}
+
+fn kept(record: &Record) -> Kept {
+    let Record { client, note } = *record;
+    (client.number(), (note.alarm, note.success))
+}
+
+fn taken(alloc: Global) -> Result<([Kept; 3], usize), Refusal> {
+    taken_in::<Brand>(alloc, Blanks::new())
+}
+
 /// What the share after so many is.
 fn share_after<J: Books>(blanks: Blanks, shares: u64) -> Result<(), Refusal>
     requires names { blanks ≡ record {
@@ -118,6 +154,12 @@ fn each_note_counts_in_its_kind(rt: HostRuntime) {
 
     assert_eq!(rt; totals(&READ_AND_DENIED, &[]), Ok(audited));
     assert_eq!(rt; totals(&EACH_KIND, &READ_AND_DENIED), Ok(all));
+}
+
+#[test]
+fn records_are_kept_in_order_until_they_are_taken(rt: HostRuntime) {
+    let kept = [(1, (false, true)), (1, (true, false)), (2, (true, true))];
+    assert_eq!(rt; taken(rt.alloc()), Ok((kept, 0)));
 }
 
 #[test]
