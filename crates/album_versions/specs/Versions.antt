@@ -40,6 +40,13 @@ pub record Adds (old new : VersionsState) (item stamp : ℕ) (value : Value) : T
   pub latest : (i : ℕ) → latest_of new i ≡ latest_of old i
   pub floor : (i : ℕ) → floor_of new i ≡ floor_of old i
 
+-- the item has no version at this stamp; it keeps its other versions, and every other item all of its own
+pub record DropsOne (old new : VersionsState) (item stamp : ℕ) : Type 0 where
+  pub versions : (i t : ℕ) → version_at new i t
+      ≡ (if i == item && t == stamp then None else version_at old i t)
+  pub latest : (i : ℕ) → latest_of new i ≡ latest_of old i
+  pub floor : (i : ℕ) → floor_of new i ≡ floor_of old i
+
 -- no item has a version at this stamp, and each keeps its other versions
 pub record Drops (old new : VersionsState) (stamp : ℕ) : Type 0 where
   pub versions : (i t : ℕ) → version_at new i t ≡ (if t == stamp then None else version_at old i t)
