@@ -15,10 +15,10 @@ mod sweeps;
 mod trims;
 
 use crate::first_values::FirstValues;
-use crate::marks::Mark;
+use crate::marks::{Mark, decided};
 use crate::places::Seat;
 use crate::stored::Stored;
-use crate::votes::Noted;
+use crate::votes::{Noted, let_go};
 use album_calls::{Body, Message, Node, Reply};
 use album_items::{ItemId, ItemValues};
 use album_stamps::{Refusal, Refused, Stamp};
@@ -38,7 +38,8 @@ pub struct Partition {
     /// The items that are placed here, with the values that the service opened with.
     items: FirstValues,
     stored: Stored,
-    /// In the order in which they came; those on a stamp stay once it is decided.
+    /// In the order in which they came, at most one of each partition on each pending stamp: as a
+    /// stamp is decided, those on it are let go.
     votes: Vec<Noted>,
 }
 
@@ -234,7 +235,7 @@ impl Partition {
         }
     }
 
-    /// Keeps what the action adds, and gives its reply.
+    /// Keeps what the action adds, and gives its reply. The votes on a stamp that it decides are let go.
     fn apply(&mut self, action: Action) -> Result<Option<Reply>, AllocError>
         requires follows { IfSome action.mark (CanFollow self.old.marks) }
         requires partition { IsPartition (with_action self.old action) }
@@ -244,6 +245,7 @@ impl Partition {
         ensures wanted { OnErr result ((is_some action.mark || is_some action.vote) ≡ true) }
     {
         let Action { mark, vote, reply } = action;
+        let stamp = decided(&mark);
         match vote {
             None => self.stored.add(mark)?,
             Some(vote) => {
@@ -253,6 +255,7 @@ impl Partition {
                 self.votes.push_reserved(vote);
             }
         }
+        let_go(&mut self.votes, stamp);
         Ok(reply)
     }
 
