@@ -1,11 +1,11 @@
 //! A partition, and what it does with a message.
-ghost use Rattle.std.specs.Prelude.{◌≡◌, ◌≤◌, true, IfOk, IfErr, OnOk, OnErr, IfSome, is_some, ◌||◌, ◌≢◌, IsOk, Some, IsOkUnless, Ok, Err};
+ghost use Rattle.std.specs.Prelude.{◌≡◌, ◌≤◌, true, IfOk, IfErr, OnOk, OnErr, IfSome, is_some, ◌||◌, ◌≢◌, length, IsOk, Some, IsOkUnless, Ok, Err};
 ghost use Rattle.album_stamps.specs.Outcome.{Makes};
 ghost use Rattle.album_partition.specs.Answers.{with_action, action_of, after, answer, reply_to, wants_memory};
-ghost use Rattle.album_partition.specs.Marks.{ArePending, state_of, is_legal, load, latest};
+ghost use Rattle.album_partition.specs.Marks.{ArePending, state_of, is_legal, load, pending_stamps, latest};
 ghost use Rattle.album_partition.specs.Partition.{IsPartition, may_open, opening_state, opened};
 ghost use Rattle.album_partition.specs.Proper.{are_proper_marks};
-ghost use Rattle.album_partition.specs.Stored.{CanFollow};
+ghost use Rattle.album_partition.specs.Stored.{CanFollow, HasVersions};
 ghost use Rattle.album_partition.specs.Sweeps.{swept};
 ghost use Rattle.album_partition.specs.Trims.{trim_mark, trimmed};
 
@@ -14,6 +14,7 @@ mod openings;
 mod sweeps;
 mod trims;
 
+use crate::figures::Figures;
 use crate::first_values::FirstValues;
 use crate::marks::{Mark, decided};
 use crate::places::Seat;
@@ -171,6 +172,21 @@ impl Partition {
         ensures memory { IsOkUnless result Refusal.OutOfMemory }
     {
         Ok(self.stored.pending(self.alloc)?)
+    }
+
+    /// How much it holds, and how many marks it may have.
+    pub fn figures(&self) -> Figures
+        ensures marks { result.marks ≡ length self.now.marks }
+        ensures limit { result.limit ≡ self.now.limit }
+        ensures pending { result.pending ≡ length (pending_stamps self.now.marks) }
+        ensures versions { HasVersions self.now.marks result.versions }
+    {
+        Figures {
+            marks: self.stored.marks().len() as u64,
+            limit: self.limit,
+            pending: self.stored.pending_count() as u64,
+            versions: self.stored.version_count(),
+        }
     }
 
     /// The latest committed stamp of the item.

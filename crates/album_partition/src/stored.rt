@@ -5,9 +5,9 @@ ghost use Rattle.album_stamps.specs.declared.limits.TheConstants.{MAX_MARKS};
 ghost use Rattle.album_items.specs.Openings.{has_single_rows};
 ghost use Rattle.album_versions.specs.Versions.{version_at, floor_of, SameVersions, Adds, Drops};
 ghost use Rattle.album_partition.specs.History.{kept_mark};
-ghost use Rattle.album_partition.specs.Marks.{ArePending, mark_writes, mark_items, state_of, is_legal, load, value_in, version, latest, floor};
+ghost use Rattle.album_partition.specs.Marks.{ArePending, mark_writes, mark_items, state_of, is_legal, load, pending_stamps, value_in, version, latest, floor};
 ghost use Rattle.album_partition.specs.Partition.{read_at};
-ghost use Rattle.album_partition.specs.Stored.{CanFollow, HasAdded, HasCommitted};
+ghost use Rattle.album_partition.specs.Stored.{CanFollow, HasAdded, HasCommitted, HasVersions};
 
 use crate::first_values::shared_copy;
 use crate::history::History;
@@ -94,6 +94,20 @@ impl Stored {
         ensures { result ≡ load self.now }
     {
         self.history.marks().len() as u64 + self.history.pending_count() as u64
+    }
+
+    /// How many stamps are pending.
+    pub fn pending_count(&self) -> usize
+        ensures { result ≡ length (pending_stamps self.now) }
+    {
+        self.history.pending_count()
+    }
+
+    /// How many versions are kept, of all items.
+    pub fn version_count(&self) -> u64
+        ensures { HasVersions self.now result }
+    {
+        self.versions.count()
     }
 
     /// The latest committed stamp of the item.

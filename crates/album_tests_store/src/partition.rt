@@ -4,7 +4,7 @@ use crate::messages::{
     Is, Rows, Step, all_told, client, item_of, rows_of, same, sent, stamp_of, told,
 };
 use album_calls::{Body, Message, Node, Reply, Vote};
-use album_partition::Partition;
+use album_partition::{Figures, Partition};
 use album_stamps::{MAX_MARKS, Refusal, Stamp};
 use album_terminate::StampState;
 use std::alloc::Global;
@@ -321,7 +321,13 @@ fn swept_many_times(rt: HostRuntime) -> Result<(), Fail> {
         settled(&rt, rt.alloc(), &mut partition, counter)?;
     }
 
-    assert_eq!(rt; partition.history().len(), 16);
+    let figures = Figures {
+        marks: 16,
+        limit: 100,
+        pending: 0,
+        versions: 8,
+    };
+    assert_eq!(rt; partition.figures(), figures);
     Ok(())
 }
 

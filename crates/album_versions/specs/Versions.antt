@@ -1,13 +1,15 @@
 -- The versions of items that a partition keeps, and of each item the latest committed stamp and the floor.
-use Rattle.std.specs.Prelude.{◌≡◌, ℕ, List, ◌==◌, ◌&&◌, nat_le, nat_lt, max, Option, Some, None, if◌then◌else◌}
+use Rattle.std.specs.Prelude.{◌≡◌, ℕ, List, ◌==◌, ◌&&◌, nat_le, nat_lt, max, length, Option, Some, None, if◌then◌else◌}
+use Rattle.std.specs.List.{sum_by}
 use Rattle.std.specs.Option.{unwrap_or}
 use Rattle.std.specs.Ordering.{nat_cmp}
-use Rattle.std.specs.Map.{lookup}
+use Rattle.std.specs.Map.{lookup, values_of}
 use Rattle.std.specs.BTreeMap.{is_at}
 use Rattle.album_items.specs.declared.values.Value.{Value}
 use Rattle.album_versions.specs.Rows.{RowState, empty_row, version_in}
 
--- What is kept: items, rising, and of each its row. Read it by `version_at`, `latest_of` and `floor_of` alone.
+-- What is kept: items, rising, and of each its row. Read it by `version_at`, `latest_of`, `floor_of`
+-- and `version_count` alone.
 pub record VersionsState : Type 0 where
   pub rows : List (ℕ × RowState)
 
@@ -26,6 +28,10 @@ latest_of kept item = let row = row_of kept item in row.latest
 -- the item's floor, below which none of its versions is kept: 0 until it is trimmed
 unfoldable pub floor_of : VersionsState → ℕ → ℕ
 floor_of kept item = let row = row_of kept item in row.floor
+
+-- how many versions there are, of all items
+unfoldable pub version_count : VersionsState → ℕ
+version_count kept = sum_by (λ row. length row.versions) (values_of kept.rows)
 
 -- nothing changed: each item has the versions, the latest stamp and the floor that it had
 pub record SameVersions (old new : VersionsState) : Type 0 where

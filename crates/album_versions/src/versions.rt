@@ -1,10 +1,10 @@
 //! The versions of items, and of each item the latest committed stamp and the floor.
-ghost use Rattle.std.specs.Prelude.{◌≡◌, ◌≢◌, ◌<◌, ◌≤◌, ◌↔◌, ◌⊎◌, ℕ, Bool, List, is_some, IsTrue, IsSome, IsNone, IfSome, IfErr, OnOk, OnErr, All, Contains};
+ghost use Rattle.std.specs.Prelude.{◌≡◌, ◌≢◌, ◌<◌, ◌≤◌, ◌↔◌, ◌⊎◌, ◌-◌, ◌^◌, ℕ, min, Bool, List, is_some, IsTrue, IsSome, IsNone, IfSome, IfErr, OnOk, OnErr, All, Contains};
 ghost use Rattle.std.specs.Option.{option_copied};
 ghost use Rattle.album_items.specs.declared.values.Value.{Value as ItemValue};
 ghost use Rattle.album_versions.specs.Best.{best_of, unless_gone};
 ghost use Rattle.album_versions.specs.Rows.{empty_row};
-ghost use Rattle.album_versions.specs.Versions.{VersionsState, version_at, latest_of, floor_of, SameVersions, Adds, DropsOne, Drops, Commits, Trims};
+ghost use Rattle.album_versions.specs.Versions.{VersionsState, version_at, latest_of, floor_of, version_count, SameVersions, Adds, DropsOne, Drops, Commits, Trims};
 
 use crate::rows::Row;
 use album_items::{ItemId, SharedValue};
@@ -116,6 +116,17 @@ impl Versions {
             None => Stamp::zero(),
             Some(row) => row.floor(),
         }
+    }
+
+    /// How many versions there are, of all items. That is 2^64 - 1 at most, which no memory holds.
+    pub fn count(&self) -> u64
+        ensures { result ≡ min (version_count self.now) (2 ^ 64 - 1) }
+    {
+        let mut count: u64 = 0;
+        for row in self.rows.values() {
+            count = count.saturating_add(row.count() as u64);
+        }
+        count
     }
 
     /// The greatest of the stamps at which the item has a version. Where it has none at any of
