@@ -51,7 +51,7 @@ length-push : (marks : List Mark) (mark : Mark) → length (marks ++ mark ∷ []
 length-push marks mark = length-append marks (mark ∷ [])
 
 -- the mark that prepared a stamp stays where it is
-at_push : (marks : List Mark) (mark : Mark) (t n : ℕ) → prepares t mark ≡ false → IsAt marks t n → IsAt (marks ++ mark ∷ []) t n
+pub at_push : (marks : List Mark) (mark : Mark) (t n : ℕ) → prepares t mark ≡ false → IsAt marks t n → IsAt (marks ++ mark ∷ []) t n
 at_push marks mark t n other at =
     record {
       inside = (let more = length-push marks mark in let inside = at.inside in omega arith);

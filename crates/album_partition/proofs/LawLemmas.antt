@@ -1,6 +1,6 @@
 -- What follows of the table of answers. Each lemma that is `pub` is a law's, by its name; all but the last few go
 -- through the ways in which a message can act (`acts_here`).
-use Rattle.std.proofs.Common.{◌≡◌, ◌≢◌, ◌⊎◌, ⊎_elim, inl, inr, ℕ, ◌≤◌, Bool, true, false, ◌==◌, ◌||◌, is_some, List, [], ◌∷◌, ◌++◌, option_map, option_to_list, Option, Some, None, refl, sym, ap, ◌∙◌, subst, if◌then◌else◌}
+use Rattle.std.proofs.Common.{◌≡◌, ◌≢◌, ◌↔◌, ◌⊎◌, ⊎_elim, inl, inr, ℕ, ◌≤◌, Bool, true, false, ◌==◌, ◌||◌, not, is_some, Contains, IfSome, List, [], ◌∷◌, ◌++◌, option_map, option_to_list, Option, Some, None, refl, sym, ap, ◌∙◌, subst, if◌then◌else◌}
 use Rattle.std.specs.List.{list_any}
 use Rattle.std.proofs.lemmas.Bool.Decides.{Decides-eqb}
 use Rattle.std.proofs.lemmas.List.{append-nil}
@@ -31,17 +31,18 @@ use Rattle.album_partition.specs.declared.marks.Mark.{Mark}
 use Rattle.album_partition.specs.declared.marks.Mark.TheVariants.{Prepared, Committed, Discarded, Trimmed}
 use Rattle.album_partition.specs.Answers.{Action, nothing, says, get_by, marks, marks_and_says, mark_by, is_same, prepare_by, commit_by, check_by, on_prepare, on_check, on_vote_of, on_vote, on_status, on_request, on_body, action_of, with_action, after, reply_to, answer}
 use Rattle.album_partition.specs.Laws.{IsTrueOf, IsClash, IsReplyTo, IsLatest, IsBest, IsReadAt, IsValueOf, IsReadOf, IsGoneFor, IsChecked, IsCause}
-use Rattle.album_partition.specs.Marks.{IsPromisedAgainst, is_mark_of, commits, state_of, is_pending, is_full, items_at, version, has_version, committed_stamps, latest}
+use Rattle.album_partition.specs.Marks.{IsPromisedAgainst, is_mark_of, commits, decided, state_of, is_unknown, is_pending, is_full, items_at, version, has_version, committed_stamps, latest}
 use Rattle.album_partition.specs.Partition.{PartitionState, IsPartition, value_at, stamp_for, read_at}
 use Rattle.album_items.specs.Places.{is_placed, lies_at, others_of}
 use Rattle.album_partition.specs.Proper.{is_proper}
-use Rattle.album_partition.specs.Votes.{NotedVote, heard}
+use Rattle.album_partition.specs.Stored.{CanFollow}
+use Rattle.album_partition.specs.Votes.{NotedVote, heard, votes_left, is_on_pending}
 use Rattle.album_partition.proofs.AnswerLemmas.{IsSaid, Acts, idle, said, prepared, committed, refused, voted_committed, voted_never, voted_prepared, acts_here}
 use Rattle.album_partition.proofs.GrowthLemmas.{full_still}
-use Rattle.album_partition.proofs.ListLemmas.{any_from_contains, contains_from_any}
-use Rattle.album_partition.proofs.PartitionLemmas.{same_partition, stays_after}
+use Rattle.album_partition.proofs.ListLemmas.{same_or_not, list_all-contains, any_from_contains, contains_from_any, kept_in, kept_out}
+use Rattle.album_partition.proofs.PartitionLemmas.{same_partition, follow_by, stays_after}
 use Rattle.album_partition.proofs.TrimLemmas.{gone_trimmed, gone_unkept, gone_asks}
-use Rattle.album_partition.proofs.StateLemmas.{state_push_other, unknown_tells, committed_tells, prepared_is_pending, committed_is_committed, discarded_is_discarded}
+use Rattle.album_partition.proofs.StateLemmas.{state_push_other, unknown_tells, committed_tells, is_pending_tells, prepared_is_pending, committed_is_committed, discarded_is_discarded}
 
 -- ---- what a reply means
 
@@ -155,6 +156,59 @@ replies_are_not_answered p m r e = ap (option_map (reply_to p m)) (go (is_part m
 
 pub others_do_nothing : (p : PartitionState) (m : Message) → is_part m.to p.number ≡ false → (after p m ≡ p) × (answer p m ≡ None)
 others_do_nothing p m e = (rw e (same_partition p), rw e refl)
+
+-- ---- which votes are kept
+
+left_is : (stamp : Option ℕ) (votes : List NotedVote) (vote : NotedVote) → Contains (votes_left stamp votes) vote → Contains votes vote
+left_is None votes vote h = h
+left_is (Some t) votes vote h = (kept_in (λ (v : NotedVote). not (v.stamp == t)) votes vote h).1
+
+left_has : (stamp : Option ℕ) (votes : List NotedVote) (vote : NotedVote) → stamp ≢ Some vote.stamp → Contains votes vote
+    → Contains (votes_left stamp votes) vote
+left_has None votes vote other h = h
+left_has (Some t) votes vote other h =
+    kept_out (λ (v : NotedVote). not (v.stamp == t)) votes vote
+    (same_or_not vote.stamp t (λ (e : vote.stamp ≡ t). absurd (other (ap Some (sym e)))) (λ (e : (vote.stamp == t) ≡ false). ap not e)) h
+
+-- a stamp that is decided is pending no more
+decided_is_over : (marks : List Mark) (mark : Option Mark) (t : ℕ) → IfSome mark (CanFollow marks) → decided mark ≡ Some t
+    → state_of (marks ++ option_to_list mark) t ≢ state.Pending
+decided_is_over marks None t may e pending = absurd (cc)
+decided_is_over marks (Some (Prepared s ws is)) t may e pending = absurd (cc)
+decided_is_over marks (Some (Trimmed i)) t may e pending = absurd (cc)
+decided_is_over marks (Some (Committed s)) t may e pending =
+    let same : s ≡ t = cc in
+    let done = subst (λ (u : ℕ). state_of (marks ++ Committed s ∷ []) u ≡ state.Committed) same (committed_is_committed marks s) in
+    absurd (cc)
+decided_is_over marks (Some (Discarded s)) t may e pending =
+    let same : s ≡ t = cc in
+    let gone = subst (λ (u : ℕ). state_of (marks ++ Discarded s ∷ []) u ≡ state.Discarded) same
+    (discarded_is_discarded marks s (uncommitted (list_any (commits s) marks) refl)) in
+    absurd (cc)
+  where
+    uncommitted : (b : Bool) → list_any (commits s) marks ≡ b → list_any (commits s) marks ≡ false
+    uncommitted false f = f
+    uncommitted true f = absurd (let h : state_of marks s ≡ state.Committed = rw f refl in let g : is_unknown (state_of marks s) || is_pending (state_of marks s) ≡ true = may.follows in let wrong = rw h at g in cc)
+
+pub votes_are_kept : (p : PartitionState) (m : Message) (vote : NotedVote) → IsPartition p
+    → Contains (after p m).votes vote
+    ↔ (Contains (p.votes ++ option_to_list (action_of p m).vote) vote × (state_of (after p m).marks vote.stamp ≡ state.Pending))
+votes_are_kept p m vote h = (there, back)
+  where
+    noted : List NotedVote
+    noted = p.votes ++ option_to_list (action_of p m).vote
+
+    there : Contains (after p m).votes vote → Contains noted vote × (state_of (after p m).marks vote.stamp ≡ state.Pending)
+    there kept = (
+      left_is (decided (action_of p m).mark) noted vote kept,
+      is_pending_tells (state_of (after p m).marks vote.stamp)
+          (list_all-contains (is_on_pending (after p m).marks) (after p m).votes vote (stays_after p m h).votes.pending kept),
+    )
+
+    back : Contains noted vote × (state_of (after p m).marks vote.stamp ≡ state.Pending) → Contains (after p m).votes vote
+    back (had, pending) =
+        left_has (decided (action_of p m).mark) noted vote
+        (λ e. decided_is_over p.marks (action_of p m).mark vote.stamp (follow_by p m.from m.body (action_of p m) h (acts_here p m)) e pending) had
 
 -- ---- why a mark is made
 

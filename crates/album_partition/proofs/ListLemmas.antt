@@ -59,7 +59,61 @@ list_all-any {X = X} p q (x ∷ xs) all e =
     go true f e parts h = (x, parts.0, f)
     go false f e parts h = h parts.1 e
 
+pub list_all-two : {X : Type 0} (p q r : X → Bool) → ((x : X) → p x ≡ true → q x ≡ true → r x ≡ true)
+    → (xs : List X) → list_all p xs ≡ true → list_all q xs ≡ true → list_all r xs ≡ true
+list_all-two p q r both [] all every = refl
+list_all-two p q r both (x ∷ xs) all every =
+    let a = and_parts (p x) (list_all p xs) all in
+    let b = and_parts (q x) (list_all q xs) every in
+    and_from (r x) (list_all r xs) (both x a.0 b.0) (list_all-two p q r both xs a.1 b.1)
+
+-- ---- what a filter leaves
+
+pub list_all-filter : {X : Type 0} (p q test : X → Bool) → ((x : X) → test x ≡ true → p x ≡ true → q x ≡ true)
+    → (xs : List X) → list_all p xs ≡ true → list_all q (filter test xs) ≡ true
+list_all-filter p q test more [] all = refl
+list_all-filter p q test more (x ∷ xs) all =
+    let parts = and_parts (p x) (list_all p xs) all in
+    go (test x) refl parts.0 (list_all-filter p q test more xs parts.1)
+  where
+    go : (b : Bool) → test x ≡ b → p x ≡ true → list_all q (filter test xs) ≡ true → list_all q (cond b (x ∷ filter test xs) (filter test xs)) ≡ true
+    go true e here h = and_from (q x) (list_all q (filter test xs)) (more x e here) h
+    go false e here h = h
+
+none_left : {X : Type 0} (p test : X → Bool) (xs : List X) → list_any p xs ≡ false → list_any p (filter test xs) ≡ false
+none_left p test [] e = refl
+none_left p test (x ∷ xs) e =
+    let parts = or_parts (p x) (list_any p xs) e in
+    go (test x) parts.0 (none_left p test xs parts.1)
+  where
+    go : (b : Bool) → p x ≡ false → list_any p (filter test xs) ≡ false → list_any p (cond b (x ∷ filter test xs) (filter test xs)) ≡ false
+    go true f h = rw f h
+    go false f h = h
+
+pub any_before : {X : Type 0} (p test : X → Bool) (xs : List X) → list_any p (filter test xs) ≡ true → list_any p xs ≡ true
+any_before p test xs e = go (list_any p xs) refl
+  where
+    go : (b : Bool) → list_any p xs ≡ b → list_any p xs ≡ true
+    go true f = f
+    go false f = absurd (let none = none_left p test xs f in cc)
+
+pub no_two-filter : {X : Type 0} (clash : X → X → Bool) (test : X → Bool) (xs : List X) → no_two clash xs ≡ true → no_two clash (filter test xs) ≡ true
+no_two-filter clash test [] single = refl
+no_two-filter clash test (x ∷ xs) single =
+    let s = and_parts (not (list_any (clash x) xs)) (no_two clash xs) single in
+    go (test x) (none_left (clash x) test xs (not-true (list_any (clash x) xs) s.0)) (no_two-filter clash test xs s.1)
+  where
+    go : (b : Bool) → list_any (clash x) (filter test xs) ≡ false → no_two clash (filter test xs) ≡ true
+        → no_two clash (cond b (x ∷ filter test xs) (filter test xs)) ≡ true
+    go true f h = rw f h
+    go false f h = h
+
 -- ---- what a list contains
+
+pub list_all-contains : {X : Type 0} (p : X → Bool) (xs : List X) (x : X) → list_all p xs ≡ true → Contains xs x → p x ≡ true
+list_all-contains p [] x all (k, less, at) = absurd (omega arith)
+list_all-contains {X = X} p (y ∷ xs) x all (zero, less, at) = subst (λ (z : X). p z ≡ true) at (and_parts (p y) (list_all p xs) all).0
+list_all-contains p (y ∷ xs) x all (suc k, less, at) = list_all-contains p xs x (and_parts (p y) (list_all p xs) all).1 (k, omega arith, at)
 
 pub any_from_contains : (xs : List ℕ) (t : ℕ) → Contains xs t → list_any (λ x. x == t) xs ≡ true
 any_from_contains [] t (k, less, at) = absurd (omega arith)
@@ -83,21 +137,21 @@ contains_from_any (x ∷ xs) t e = go (x == t) refl e (contains_from_any xs t)
 
 -- ---- what a filter keeps
 
-one_before : (x t : ℕ) (xs : List ℕ) → Contains xs t → Contains (x ∷ xs) t
+one_before : {X : Type 0} (x t : X) (xs : List X) → Contains xs t → Contains (x ∷ xs) t
 one_before x t xs (k, less, at) = (suc k, omega arith, at)
 
-pub kept_in : (test : ℕ → Bool) (xs : List ℕ) (t : ℕ) → Contains (filter test xs) t → (test t ≡ true) × Contains xs t
+pub kept_in : {X : Type 0} (test : X → Bool) (xs : List X) (t : X) → Contains (filter test xs) t → (test t ≡ true) × Contains xs t
 kept_in test [] t (k, less, at) = absurd (omega arith)
-kept_in test (x ∷ xs) t h = go (test x) refl (kept_in test xs t) h
+kept_in {X = X} test (x ∷ xs) t h = go (test x) refl (kept_in test xs t) h
   where
     go : (b : Bool) → test x ≡ b → (Contains (filter test xs) t → (test t ≡ true) × Contains xs t) → Contains (cond b (x ∷ filter test xs) (filter test xs)) t → (test t ≡ true) × Contains (x ∷ xs) t
-    go true e rest (zero, less, at) = (subst (λ (y : ℕ). test y ≡ true) at e, (0, omega arith, at))
+    go true e rest (zero, less, at) = (subst (λ (y : X). test y ≡ true) at e, (0, omega arith, at))
     go true e rest (suc k, less, at) = let h = rest (k, omega arith, at) in (h.0, one_before x t xs h.1)
     go false e rest c = let h = rest c in (h.0, one_before x t xs h.1)
 
-pub kept_out : (test : ℕ → Bool) (xs : List ℕ) (t : ℕ) → test t ≡ true → Contains xs t → Contains (filter test xs) t
+pub kept_out : {X : Type 0} (test : X → Bool) (xs : List X) (t : X) → test t ≡ true → Contains xs t → Contains (filter test xs) t
 kept_out test [] t passes (k, less, at) = absurd (omega arith)
-kept_out test (x ∷ xs) t passes (zero, less, at) = rw (subst (λ (y : ℕ). test y ≡ true) (sym at) passes) (0, omega arith, at)
+kept_out {X = X} test (x ∷ xs) t passes (zero, less, at) = rw (subst (λ (y : X). test y ≡ true) (sym at) passes) (0, omega arith, at)
 kept_out test (x ∷ xs) t passes (suc k, less, at) = go (test x) (kept_out test xs t passes (k, omega arith, at))
   where
     go : (b : Bool) → Contains (filter test xs) t → Contains (cond b (x ∷ filter test xs) (filter test xs)) t

@@ -20,20 +20,20 @@ use Rattle.album_terminate.specs.declared.deciding.StampState.TheVariants as sta
 use Rattle.album_partition.specs.declared.marks.Mark.{Mark}
 use Rattle.album_partition.specs.declared.marks.Mark.TheVariants.{Prepared, Committed, Discarded, Trimmed}
 use Rattle.album_partition.specs.Answers.{Action, mark_by, mark_with, nothing, marks, on_vote_of, on_body, action_of, with_action, after}
-use Rattle.album_partition.specs.Marks.{is_mark_of, prepares, mark_writes, state_of, latest, floor, may_follow, is_full, load, pending_stamps, items_at}
+use Rattle.album_partition.specs.Marks.{is_mark_of, prepares, decided, mark_writes, state_of, latest, floor, may_follow, is_full, load, pending_stamps, items_at}
 use Rattle.album_partition.specs.Partition.{PartitionState, IsPartition, opening_state, opened, may_open}
 use Rattle.album_items.specs.Places.{is_placed, lies_at, others_of, placed_at}
 use Rattle.album_items.specs.Transactions.{are_items}
 use Rattle.album_partition.specs.Proper.{are_rows_of, are_own_writes, is_proper, is_proper_mark}
 use Rattle.album_partition.specs.Stored.{CanFollow}
 use Rattle.album_partition.specs.Trims.{trim_mark, by_mark, on_trim, with_mark, trimmed}
-use Rattle.album_partition.specs.Votes.{NotedVote, has_vote, new_vote, heard, AreVotes}
+use Rattle.album_partition.specs.Votes.{NotedVote, has_vote, new_vote, heard, votes_left, AreVotes}
 use Rattle.album_partition.proofs.AnswerLemmas.{Acts, idle, said, prepared, committed, refused, voted_committed, voted_never, voted_prepared, acts, acts_here}
 use Rattle.album_partition.proofs.LegalLemmas.{is_legal-push}
 use Rattle.album_partition.proofs.ListLemmas.{list_all-push, list_all-any}
 use Rattle.album_partition.proofs.LoadLemmas.{prepared_counts, committed_counts, discarded_counts, refused_counts, trimmed_counts}
-use Rattle.album_partition.proofs.StateLemmas.{committed_is_committed, pending_tells}
-use Rattle.album_partition.proofs.VoteLemmas.{items_stay, votes_with_mark, votes_with_vote, heard_already}
+use Rattle.album_partition.proofs.StateLemmas.{pending_tells}
+use Rattle.album_partition.proofs.VoteLemmas.{votes_with_mark, votes_with_vote, left-push, heard_already}
 
 -- ---- one mark more
 
@@ -90,7 +90,8 @@ fits_trim p i placed room =
     record { follows = refl; room = omega arith; proper = placed }
 
 -- a partition that makes such a mark is one still
-stays_with : (p : PartitionState) (mark : Mark) → IsPartition p → Fits p mark → IsPartition (record p { marks = p.marks ++ mark ∷ [] })
+stays_with : (p : PartitionState) (mark : Mark) → IsPartition p → Fits p mark
+    → IsPartition (record p { marks = p.marks ++ mark ∷ []; votes = votes_left (decided (Some mark)) p.votes })
 stays_with p mark h fits =
     record {
       some = h.some;
@@ -176,31 +177,24 @@ with_votes p votes h are =
     record { some = h.some; few = h.few; here = h.here; limit = h.limit; room = h.room; legal = h.legal; proper = h.proper; votes = are }
 
 -- one that waits for others is noted
-waits : (p : PartitionState) (part t : ℕ) → IsPartition p
+waits : (p : PartitionState) (part t : ℕ) → IsPartition p → state_of p.marks t ≡ state.Pending
     → lies_at part p.parts (items_at p.marks t) ≡ true
     → has_vote p.votes t part ≡ false
     → have_voted (part ∷ heard p.votes t) (others_of p.number p.parts (items_at p.marks t)) ≡ false
     → IsPartition (with_action p (on_vote_of p part t))
-waits p part t h due new not_all =
+waits p part t h pending due new not_all =
     rw (new, not_all) (rw (append-nil p.marks)
     (with_votes p (p.votes ++ record { stamp = t; part = part } ∷ []) h
-    (votes_with_vote p.number p.parts p.marks p.votes (record { stamp = t; part = part }) new due (λ pending. not_all) h.votes)))
+    (votes_with_vote p.number p.parts p.marks p.votes (record { stamp = t; part = part }) new due pending not_all h.votes)))
 
--- the last one commits
+-- the last one commits, and goes with the others
 settles : (p : PartitionState) (part t : ℕ) → IsPartition p → state_of p.marks t ≡ state.Pending
-    → lies_at part p.parts (items_at p.marks t) ≡ true
     → has_vote p.votes t part ≡ false
     → have_voted (part ∷ heard p.votes t) (others_of p.number p.parts (items_at p.marks t)) ≡ true
     → IsPartition (with_action p (on_vote_of p part t))
-settles p part t h pending due new all =
+settles p part t h pending new all =
     let made = stays_with p (Committed t) h (fits_commit p t h (some_stamp p t h pending) pending) in
-    let items : items_at (p.marks ++ Committed t ∷ []) t ≡ items_at p.marks t = items_stay p.marks (Committed t) t (pending_tells _ _ _ pending).2 in
-    rw (new, all)
-    (with_votes (record p { marks = p.marks ++ Committed t ∷ [] }) (p.votes ++ record { stamp = t; part = part } ∷ []) made
-    (votes_with_vote p.number p.parts (p.marks ++ Committed t ∷ []) p.votes (record { stamp = t; part = part }) new
-    (rw items due)
-    (λ (still : state_of (p.marks ++ Committed t ∷ []) t ≡ state.Pending). absurd (let done = committed_is_committed p.marks t in cc))
-    made.votes))
+    rw (new, all) (rw (left-push p.votes t part) made)
 
 with_vote : (p : PartitionState) (part t : ℕ) → IsPartition p → state_of p.marks t ≡ state.Pending
     → lies_at part p.parts (items_at p.marks t) ≡ true
@@ -211,12 +205,13 @@ with_vote p part t h pending due = go (has_vote p.votes t part) (have_voted (par
         → have_voted (part ∷ heard p.votes t) (others_of p.number p.parts (items_at p.marks t)) ≡ b
         → IsPartition (with_action p (on_vote_of p part t))
     go true b e f = subst (λ (action : Action). IsPartition (with_action p action)) (heard_is_nothing p part t h pending e) (unchanged p h)
-    go false false e f = waits p part t h due e f
-    go false true e f = settles p part t h pending due e f
+    go false false e f = waits p part t h pending due e f
+    go false true e f = settles p part t h pending e f
 
 -- ---- a whole message
 
-marked : (p : PartitionState) (mark : Mark) → IsPartition (record p { marks = p.marks ++ mark ∷ [] }) → IsPartition (record p { marks = p.marks ++ mark ∷ []; votes = p.votes ++ [] })
+marked : (p : PartitionState) (mark : Mark) → IsPartition (record p { marks = p.marks ++ mark ∷ []; votes = votes_left (decided (Some mark)) p.votes })
+    → IsPartition (record p { marks = p.marks ++ mark ∷ []; votes = votes_left (decided (Some mark)) (p.votes ++ []) })
 marked p mark h = rw (append-nil p.votes) h
 
 stays_by : (p : PartitionState) (from : Node) (b : Body) (e : Action) → IsPartition p → Acts p from b e → IsPartition (with_action p e)
@@ -246,7 +241,7 @@ stays p from b h = stays_by p from b (on_body p from b) h (acts p from b)
 pub stays_after : (p : PartitionState) (message : Message) → IsPartition p → IsPartition (after p message)
 stays_after p message h = stays_by p message.from message.body (action_of p message) h (acts_here p message)
 
-follow_by : (p : PartitionState) (from : Node) (b : Body) (e : Action) → IsPartition p → Acts p from b e → IfSome e.mark (CanFollow p.marks)
+pub follow_by : (p : PartitionState) (from : Node) (b : Body) (e : Action) → IsPartition p → Acts p from b e → IfSome e.mark (CanFollow p.marks)
 follow_by p from b e h (idle is) = rw is tt
 follow_by p from b e h (said r is true_of) = rw is tt
 follow_by p from b e h (prepared a) =
@@ -284,7 +279,7 @@ opens number parts limit items here may =
       room = omega arith;
       legal = refl;
       proper = refl;
-      votes = record { once = refl; due = refl; open_still = λ t pending voted. absurd (cc) };
+      votes = record { once = refl; due = refl; pending = refl; open_still = λ t pending voted. absurd (cc) };
     }
 
 pub opened_is : (number parts limit : ℕ) (items : List Row) (p : PartitionState) → opened number parts items limit ≡ Ok p → IsPartition p
@@ -350,8 +345,11 @@ pub record CanTrim (p : PartitionState) (a : Action) : Type 0 where
   pub follows : IfSome a.mark (CanFollow p.marks)
   pub stays : IsPartition (with_action p a)
 
-same_votes : (p : PartitionState) (x : Option Mark) → with_mark p x ≡ with_action p (by_mark x)
-same_votes p x = sym (ap (λ (vs : List NotedVote). record (with_mark p x) { votes = vs }) (append-nil p.votes))
+-- a mark that decides nothing lets no vote go
+same_votes : (p : PartitionState) (x : Option Mark) → decided x ≡ None → with_mark p x ≡ with_action p (by_mark x)
+same_votes p x none =
+    let left : votes_left (decided x) (p.votes ++ []) ≡ p.votes = rw none (append-nil p.votes) in
+    sym (ap (λ (vs : List NotedVote). record (with_mark p x) { votes = vs }) left)
 
 pub can_trim : (p : PartitionState) (i : ℕ) (a : Action) → IsPartition p → on_trim p i ≡ Ok a → CanTrim p a
 can_trim p i a h e = go (trim_mark p i) refl e
@@ -364,12 +362,13 @@ can_trim p i a h e = go (trim_mark p i) refl e
         (record {
           follows = tt;
           stays = subst IsPartition
-              (sym (ap (λ (ms : List Mark). record p { marks = ms }) (append-nil p.marks)) ∙ same_votes p None) h;
+              (sym (ap (λ (ms : List Mark). record p { marks = ms }) (append-nil p.marks)) ∙ same_votes p None refl) h;
         })
     go (Ok (Some m)) f g =
         let made : by_mark (Some m) ≡ a = cc in
         let facts = trim_made p i m f in
         let may = subst (λ (n : Mark). IsPartition (record p { marks = p.marks ++ n ∷ [] }) × CanFollow p.marks n)
         (sym facts.0) (trims_by p i h facts.1 facts.2) in
+        let none : decided (Some m) ≡ None = ap (λ (n : Mark). decided (Some n)) facts.0 in
         subst (CanTrim p) made
-        (record { follows = may.1; stays = subst IsPartition (same_votes p (Some m)) may.0 })
+        (record { follows = may.1; stays = subst IsPartition (same_votes p (Some m) none) may.0 })

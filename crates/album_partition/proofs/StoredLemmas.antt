@@ -1,7 +1,7 @@
 -- The versions stay those of the marks as one mark is made or refused: first the rows of a Prepare one by one, then
 -- versions and latest stamps as one mark more is made, then what `Stored::prepare`, `commit` and `discard` need.
 use Rattle.std.proofs.Common.{◌≡◌, ℕ, zero, suc, ◌<◌, ◌≤◌, ◌+◌, ◌⊎◌, inl, inr, Bool, true, false, ◌==◌, ◌&&◌, ◌||◌, not, nat_le, nat_lt, max, is_some, All, List, [], ◌∷◌, ◌++◌, length, take, get_or, Option, Some, None, refl, sym, ap, ◌∙◌, subst, arith, if◌then◌else◌}
-use Rattle.std.specs.List.{list_any, find}
+use Rattle.std.specs.List.{list_any, find, slice_get}
 use Rattle.std.specs.Option.{option_or}
 use Rattle.std.proofs.lemmas.List.{take_more}
 use Rattle.std.proofs.lemmas.Bool.{and_parts, or_parts, not-true, le-leb, lt-leb, leb-false, ltb-true, ltb-false}
@@ -9,15 +9,16 @@ use Rattle.std.proofs.lemmas.Bool.Decides.{Decides-eqb}
 use Rattle.album_items.specs.Openings.{Row, same_item, has_single_rows}
 use Rattle.album_items.specs.declared.values.Value.{Value}
 use Rattle.album_versions.specs.Best.{best_of, unless_gone}
-use Rattle.album_versions.specs.Versions.{VersionsState, version_at, latest_of, floor_of, Adds, Commits, Drops, Trims}
+use Rattle.album_versions.specs.Versions.{VersionsState, version_at, latest_of, floor_of, SameVersions, Adds, Commits, DropsOne, Drops, Trims}
 use Rattle.album_terminate.specs.declared.deciding.StampState.{StampState}
 use Rattle.album_terminate.specs.declared.deciding.StampState.TheVariants as state
 use Rattle.album_partition.specs.declared.marks.Mark.{Mark}
 use Rattle.album_partition.specs.declared.marks.Mark.TheVariants.{Prepared, Committed, Discarded, Trimmed}
-use Rattle.album_partition.specs.History.{kept_by, kept_mark}
-use Rattle.album_partition.specs.Marks.{value_in, prepares, commits, state_of, mark_writes, writes_at, version, has_version, latest, floor, kept_version, has_kept_version, is_unknown, is_pending, may_follow, is_legal}
+use Rattle.album_partition.specs.History.{IsPreparedAt, is_kept, kept_by, kept_mark}
+use Rattle.album_partition.specs.Marks.{value_in, prepares, commits, discards, state_of, mark_writes, writes_at, version, has_version, latest, floor, kept_version, has_kept_version, is_unknown, is_pending, may_follow, is_legal}
 use Rattle.album_partition.specs.Partition.{read_at}
 use Rattle.album_partition.specs.Stored.{HasAdded, HasCommitted, IsStored}
+use Rattle.album_partition.proofs.HistoryLemmas.{at_push}
 use Rattle.album_partition.proofs.LegalLemmas.{is_legal-push}
 use Rattle.album_partition.proofs.ListLemmas.{same_or_not, turned}
 use Rattle.album_partition.proofs.StateLemmas.{or_none, find_push_no, unknown_tells, pending_tells, same_stamp, find_none, is_unknown_tells, is_pending_tells, committed_is_committed}
@@ -40,6 +41,34 @@ other_at n [] k d e less = absurd (omega arith)
 other_at n (r ∷ rows) zero d e less = (or_parts (n == r.0) (list_any (λ row. n == row.0) rows) e).0
 other_at n (r ∷ rows) (suc k) d e less =
     other_at n rows k d (or_parts (n == r.0) (list_any (λ row. n == row.0) rows) e).1 (omega arith)
+
+-- a row more
+some_more : (rows : List Row) (row : Row) (i : ℕ) → is_some (value_in (rows ++ row ∷ []) i) ≡ is_some (value_in rows i) || (i == row.0)
+some_more rows row i = ap is_some (value_in-push rows row i) ∙ go (value_in rows i) ∙ ap (λ b. is_some (value_in rows i) || b) turn
+  where
+    turn : (row.0 == i) ≡ (i == row.0)
+    turn = same_or_not i row.0 (λ (e : i ≡ row.0). rw e refl) (λ (e : (i == row.0) ≡ false). rw (e, turned i row.0 e) refl)
+
+    one : (b : Bool) → is_some (if b then Some row.1 else None) ≡ b
+    one true = refl
+    one false = refl
+
+    go : (v : Option _) → is_some (option_or v (if row.0 == i then Some row.1 else None)) ≡ is_some v || (row.0 == i)
+    go None = one (row.0 == i)
+    go (Some w) = refl
+
+-- what some of the rows have
+some_in : (rows : List Row) (k i : ℕ) → is_some (value_in (take k rows) i) ≡ true → is_some (value_in rows i) ≡ true
+some_in [] zero i e = e
+some_in [] (suc k) i e = e
+some_in (r ∷ rows) zero i e = absurd (cc)
+some_in (r ∷ rows) (suc k) i e = go (r.0 == i) e (some_in rows k i)
+  where
+    go : (b : Bool) → is_some (if b then Some r.1 else value_in (take k rows) i) ≡ true
+        → (is_some (value_in (take k rows) i) ≡ true → is_some (value_in rows i) ≡ true)
+        → is_some (if b then Some r.1 else value_in rows i) ≡ true
+    go true e h = refl
+    go false e h = h e
 
 -- a row is of an item that none before it is of
 pub new_row : (rows : List Row) (k : ℕ) (d : Row)
@@ -118,22 +147,8 @@ committed_more old mid new t rows k row d less at h commits =
       floor = λ i. commits.floor i ∙ h.floor i;
     })
   where
-    some : (i : ℕ) → is_some (value_in (take k rows ++ row ∷ []) i) ≡ is_some (value_in (take k rows) i) || (i == row.0)
-    some i = ap is_some (value_in-push (take k rows) row i) ∙ go (value_in (take k rows) i) ∙ ap (λ b. is_some (value_in (take k rows) i) || b) turn
-      where
-        turn : (row.0 == i) ≡ (i == row.0)
-        turn = same_or_not i row.0 (λ (e : i ≡ row.0). rw e refl) (λ (e : (i == row.0) ≡ false). rw (e, turned i row.0 e) refl)
-
-        one : (b : Bool) → is_some (if b then Some row.1 else None) ≡ b
-        one true = refl
-        one false = refl
-
-        go : (v : Option _) → is_some (option_or v (if row.0 == i then Some row.1 else None)) ≡ is_some v || (row.0 == i)
-        go None = one (row.0 == i)
-        go (Some w) = refl
-
     either : (i : ℕ) → (if i == row.0 then max (if is_some (value_in (take k rows) i) then max (latest_of old i) t else latest_of old i) t else if is_some (value_in (take k rows) i) then max (latest_of old i) t else latest_of old i) ≡ (if is_some (value_in (take k rows ++ row ∷ []) i) then max (latest_of old i) t else latest_of old i)
-    either i = rw (some i) (go (i == row.0) (is_some (value_in (take k rows) i)))
+    either i = rw (some_more (take k rows) row i) (go (i == row.0) (is_some (value_in (take k rows) i)))
       where
         twice : (n : ℕ) → max (max n t) t ≡ max n t
         twice n = omega arith
@@ -154,6 +169,86 @@ commit_next old mid t rows k row d less at h all =
       | inl there ↦ inl (ap is_some (h.versions row.0 t) ∙ there)
       | inr below ↦ inr (subst (λ (n : ℕ). t < n) (sym (h.floor row.0)) below)
     ]
+
+-- ---- one row less
+
+-- the versions at a stamp of the rows' items are gone, and nothing else changed
+pub record HasDropped (old new : VersionsState) (t : ℕ) (rows : List Row) : Type 0 where
+  pub versions : (i s : ℕ) → version_at new i s
+      ≡ (if s == t && is_some (value_in rows i) then None else version_at old i s)
+  pub latest : (i : ℕ) → latest_of new i ≡ latest_of old i
+  pub floor : (i : ℕ) → floor_of new i ≡ floor_of old i
+
+pub dropped_more : (old mid new : VersionsState) (t : ℕ) (rows : List Row) (k : ℕ) (row d : Row) → k < length rows → row ≡ get_or rows k d
+    → HasDropped old mid t (take k rows) → DropsOne mid new row.0 t → HasDropped old new t (take (k + 1) rows)
+dropped_more old mid new t rows k row d less at h drops =
+    subst (HasDropped old new t) (sym (take_more rows k d less ∙ ap (λ (r : Row). take k rows ++ r ∷ []) (sym at)))
+    (record {
+      versions = λ i s. drops.versions i s ∙ ap (λ v. if i == row.0 && s == t then None else v) (h.versions i s) ∙ either i s;
+      latest = λ i. drops.latest i ∙ h.latest i;
+      floor = λ i. drops.floor i ∙ h.floor i;
+    })
+  where
+    either : (i s : ℕ)
+        → (if i == row.0 && s == t then None else if s == t && is_some (value_in (take k rows) i) then None else version_at old i s)
+        ≡ (if s == t && is_some (value_in (take k rows ++ row ∷ []) i) then None else version_at old i s)
+    either i s = rw (some_more (take k rows) row i) (go (i == row.0) (s == t) (is_some (value_in (take k rows) i)))
+      where
+        go : (a b c : Bool) → (if a && b then None else if b && c then None else version_at old i s) ≡ (if b && (c || a) then None else version_at old i s)
+        go true true true = refl
+        go true true false = refl
+        go true false c = refl
+        go false true true = refl
+        go false true false = refl
+        go false false c = refl
+
+pub nothing_dropped : (kept : VersionsState) (t : ℕ) → HasDropped kept kept t []
+nothing_dropped kept t = record { versions = λ i s. same i s (s == t); latest = λ i. refl; floor = λ i. refl }
+  where
+    same : (i s : ℕ) (b : Bool) → version_at kept i s ≡ (if b && false then None else version_at kept i s)
+    same i s true = refl
+    same i s false = refl
+
+-- where no other items had a version at the stamp, none has one now
+pub dropped_all : (old new : VersionsState) (t : ℕ) (rows : List Row)
+    → ((i : ℕ) → is_some (version_at old i t) ≡ true → is_some (value_in rows i) ≡ true) → HasDropped old new t rows → Drops old new t
+dropped_all old new t rows only h =
+    record { versions = λ i s. h.versions i s ∙ same_or_not s t (here i s) (apart i s); latest = h.latest; floor = h.floor }
+  where
+    none : (v : Option Value) (b : Bool) → (is_some v ≡ true → b ≡ true) → (if b then None else v) ≡ None
+    none None true e = refl
+    none None false e = refl
+    none (Some x) true e = refl
+    none (Some x) false e = absurd (let wrong : false ≡ true = e refl in cc)
+
+    here : (i s : ℕ) → s ≡ t → (if s == t && is_some (value_in rows i) then None else version_at old i s) ≡ (if s == t then None else version_at old i s)
+    here i s e = rw (e, same_stamp t) (none (version_at old i t) (is_some (value_in rows i)) (only i))
+
+    apart : (i s : ℕ) → (s == t) ≡ false → (if s == t && is_some (value_in rows i) then None else version_at old i s) ≡ (if s == t then None else version_at old i s)
+    apart i s e = rw e refl
+
+-- what was added at a stamp is of the rows
+pub added_only : (old mid : VersionsState) (t : ℕ) (rows : List Row) → HasAdded old mid t rows
+    → (i : ℕ) → is_some (version_at mid i t) ≡ true → is_some (value_in rows i) ≡ true
+added_only old mid t rows h i some =
+    let there : version_at mid i t ≡ (if nat_le (floor_of old i) t then value_in rows i else None) = h.versions i t ∙ rw (same_stamp t) refl in
+    go (nat_le (floor_of old i) t) (ap is_some (sym there) ∙ some)
+  where
+    go : (b : Bool) → is_some (if b then value_in rows i else None) ≡ true → is_some (value_in rows i) ≡ true
+    go true e = e
+    go false e = absurd (cc)
+
+-- also of the mark that was to tell of them
+pub given_only : (old mid : VersionsState) (t : ℕ) (ws : List Row) (is : List ℕ) (mark : Mark) (rows : List Row) → HasAdded old mid t ws
+    → mark ≡ Prepared t ws is → rows ≡ mark_writes (Some mark) → (i : ℕ) → is_some (version_at mid i t) ≡ true → is_some (value_in rows i) ≡ true
+given_only old mid t ws is mark rows h given told i some =
+    subst (λ (rs : List Row). is_some (value_in rs i) ≡ true) (sym (told ∙ ap (λ (m : Mark). mark_writes (Some m)) given)) (added_only old mid t ws h i some)
+
+-- also where the next row was refused
+pub refused_only : (old mid new : VersionsState) (t : ℕ) (rows : List Row) (k : ℕ) → HasAdded old mid t (take k rows) → SameVersions mid new
+    → (i : ℕ) → is_some (version_at new i t) ≡ true → is_some (value_in rows i) ≡ true
+refused_only old mid new t rows k h same i some =
+    some_in rows k i (added_only old mid t (take k rows) h i (ap is_some (sym (same.versions i t)) ∙ some))
 
 -- every row's item has a value
 pub rows_have : (rows : List Row) → (k : ℕ) (d : Row) → k < length rows → is_some (value_in rows (get_or rows k d).0) ≡ true
@@ -357,8 +452,30 @@ discarded_kept history marks later old new t seen h may made drops =
     uncommitted state.Committed e g = absurd (cc)
     uncommitted state.Discarded e g = absurd (cc)
 
+-- what is kept at a stamp is of the rows that are prepared at it
+pub dropped_rows : (history later : List Mark) (kept : VersionsState) (t n : ℕ) (found : Option ℕ) (rows : List Row) → IsStored history kept
+    → IsPreparedAt history t found → found ≡ Some n → later ≡ history ++ Discarded t ∷ [] → rows ≡ mark_writes (slice_get later n)
+    → (i : ℕ) → is_some (version_at kept i t) ≡ true → is_some (value_in rows i) ≡ true
+dropped_rows history later kept t n found rows h prepared is made told i some =
+    subst (λ (rs : List Row). is_some (value_in rs i) ≡ true) (sym same)
+    (go (nat_le (floor history i) t) (list_any (discards t) history) (ap is_some (sym (h.versions i t)) ∙ some))
+  where
+    here : IsPreparedAt history t (Some n)
+    here = subst (IsPreparedAt history t) is prepared
+
+    same : rows ≡ writes_at history t
+    same =
+        told ∙ ap (λ (ms : List Mark). mark_writes (slice_get ms n)) made
+        ∙ ap mark_writes (sym (at_push history (Discarded t) t n refl here.1).there ∙ find_push_no (prepares t) history (Discarded t) refl)
+
+    go : (a b : Bool) → is_some (if a then (if b then None else value_in (writes_at history t) i) else None) ≡ true
+        → is_some (value_in (writes_at history t) i) ≡ true
+    go true false e = e
+    go true true e = absurd (cc)
+    go false b e = absurd (cc)
+
 -- a stamp that was unknown has no version
-pub unknown_kept : (history marks later : List Mark) (old : VersionsState) (t : ℕ) → history ≡ marks → IsStored history old → may_follow marks (Discarded t) ≡ true → is_unknown (state_of marks t) ≡ true → later ≡ history ++ Discarded t ∷ [] → IsStored later old
+unknown_kept : (history marks later : List Mark) (old : VersionsState) (t : ℕ) → history ≡ marks → IsStored history old → may_follow marks (Discarded t) ≡ true → is_unknown (state_of marks t) ≡ true → later ≡ history ++ Discarded t ∷ [] → IsStored later old
 unknown_kept history marks later old t seen h may unknown made =
     discarded_kept history marks later old old t seen h may made (record { versions = none; latest = λ i. refl; floor = λ i. refl })
   where
@@ -366,6 +483,18 @@ unknown_kept history marks later old t seen h may unknown made =
     none i s = same_or_not s t
         (λ (e : s ≡ t). rw (e, (Decides-eqb t t).1 refl) (fresh_stamp history marks old t [] [] seen h unknown i))
         (λ (e : (s == t) ≡ false). rw e refl)
+
+pub unprepared_kept : (history marks later : List Mark) (old : VersionsState) (t : ℕ) (found : Option ℕ) → history ≡ marks → IsStored history old
+    → may_follow marks (Discarded t) ≡ true → IsPreparedAt history t found → found ≡ None → later ≡ history ++ Discarded t ∷ [] → IsStored later old
+unprepared_kept history marks later old t found seen h may prepared is made =
+    unknown_kept history marks later old t seen h may
+    (go (state_of marks t) (subst (λ (ms : List Mark). is_kept (state_of ms t) ≡ false) seen (subst (IsPreparedAt history t) is prepared)) may) made
+  where
+    go : (s : StampState) → is_kept s ≡ false → is_unknown s || is_pending s ≡ true → is_unknown s ≡ true
+    go state.Unknown e f = refl
+    go state.Pending e f = absurd (cc)
+    go state.Committed e f = absurd (cc)
+    go state.Discarded e f = absurd (cc)
 
 -- ---- what is trimmed
 

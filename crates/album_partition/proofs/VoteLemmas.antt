@@ -1,20 +1,22 @@
--- The votes stay as they have to be, as one mark or one vote more is kept. PartitionLemmas needs `votes_with_mark` and
--- `votes_with_vote`; `Partition::on_vote_of` needs `heard_already`.
-use Rattle.std.proofs.Common.{◌≡◌, ℕ, Bool, true, false, ◌==◌, ◌&&◌, ◌||◌, cond, List, [], ◌∷◌, ◌++◌, map, filter, Option, Some, refl, sym, ap, ◌∙◌, subst}
+-- The votes stay as they have to be, as one mark or one vote more is kept. PartitionLemmas needs `votes_with_mark`,
+-- `votes_with_vote` and `left-push`; `Partition::on_vote_of` needs `heard_already`.
+use Rattle.std.proofs.Common.{◌≡◌, ℕ, Bool, true, false, ◌==◌, ◌&&◌, ◌||◌, not, cond, All, List, [], ◌∷◌, ◌++◌, map, filter, Option, Some, None, refl, sym, ap, ◌∙◌, subst}
 use Rattle.std.specs.List.{list_any, list_all, find}
 use Rattle.std.specs.Option.{option_or}
+use Rattle.std.proofs.lemmas.Bool.{not-true}
 use Rattle.std.proofs.lemmas.Bool.Decides.{Decides-eqb}
+use Rattle.std.proofs.lemmas.List.Elements.{All-filter}
 use Rattle.std.proofs.lemmas.List.{append-nil}
 use Rattle.std.proofs.lemmas.List.Folds.{find-append}
 use Rattle.album_terminate.specs.Deciding.{have_voted}
 use Rattle.album_terminate.specs.declared.deciding.StampState.TheVariants as state
 use Rattle.album_partition.specs.declared.marks.Mark.{Mark}
 use Rattle.album_partition.specs.declared.marks.Mark.TheVariants.{Prepared, Committed, Discarded, Trimmed}
-use Rattle.album_partition.specs.Marks.{is_mark_of, prepares, commits, state_of, is_unknown, is_pending, may_follow, mark_items, items_at}
+use Rattle.album_partition.specs.Marks.{is_mark_of, prepares, decided, state_of, is_pending, may_follow, mark_items, items_at}
 use Rattle.album_items.specs.Places.{lies_at, others_of}
-use Rattle.album_partition.specs.Votes.{NotedVote, has_vote, heard, same_vote, is_due, AreVotes}
-use Rattle.album_partition.proofs.ListLemmas.{no_two-push, list_all-push, list_all-weaker, list_all-any}
-use Rattle.album_partition.proofs.StateLemmas.{any_push, find_push_no, find_none, prepares_no, state_push_other, unknown_tells, is_unknown_tells, committed_is_committed, discarded_is_discarded}
+use Rattle.album_partition.specs.Votes.{NotedVote, has_vote, heard, votes_left, same_vote, is_due, is_on_pending, AreVotes}
+use Rattle.album_partition.proofs.ListLemmas.{same_or_not, turned, no_two-push, no_two-filter, list_all-push, list_all-weaker, list_all-two, list_all-filter, list_all-any, any_before}
+use Rattle.album_partition.proofs.StateLemmas.{any_push, find_push_no, find_none, prepares_no, state_push_other, is_unknown_tells, same_stamp}
 
 -- ---- one mark more
 
@@ -41,47 +43,101 @@ due_is_prepared parts marks vote e = go (list_any (prepares vote.stamp) marks) r
 due-push : (parts : ℕ) (marks : List Mark) (mark : Mark) (vote : NotedVote) → is_due parts marks vote ≡ true → is_due parts (marks ++ mark ∷ []) vote ≡ true
 due-push parts marks mark vote e = rw (items_stay marks mark vote.stamp (due_is_prepared parts marks vote e)) e
 
--- a stamp on which a vote is noted is prepared
-pub voted_is_prepared : (parts : ℕ) (marks : List Mark) (votes : List NotedVote) (t : ℕ) → list_all (is_due parts marks) votes ≡ true → list_any (λ vote. vote.stamp == t) votes ≡ true → list_any (prepares t) marks ≡ true
-voted_is_prepared parts marks votes t due e =
-    let h = list_all-any (is_due parts marks) (λ vote. vote.stamp == t) votes due e in
-    subst (λ (u : ℕ). list_any (prepares u) marks ≡ true) ((Decides-eqb h.0.stamp t).0 h.2) (due_is_prepared parts marks h.0 h.1)
-
--- a mark of the stamp leaves it pending only where it prepares it
-still_pending : (marks : List Mark) (mark : Mark) (t : ℕ) → is_mark_of t mark ≡ true → may_follow marks mark ≡ true
-    → state_of (marks ++ mark ∷ []) t ≡ state.Pending → state_of marks t ≡ state.Unknown
-still_pending marks (Prepared s ws is) t own may e =
-    subst (λ (u : ℕ). state_of marks u ≡ state.Unknown) ((Decides-eqb s t).0 own) (is_unknown_tells (state_of marks s) may)
-still_pending marks (Committed s) t own may e =
-    absurd (let done = subst (λ (u : ℕ). state_of (marks ++ Committed s ∷ []) u ≡ state.Committed) ((Decides-eqb s t).0 own) (committed_is_committed marks s) in cc)
-still_pending marks (Discarded s) t own may e =
-    absurd (let gone = subst (λ (u : ℕ). state_of (marks ++ Discarded s ∷ []) u ≡ state.Discarded) ((Decides-eqb s t).0 own) (discarded_is_discarded marks s (uncommitted (list_any (commits s) marks) refl)) in cc)
-  where
-    uncommitted : (b : Bool) → list_any (commits s) marks ≡ b → list_any (commits s) marks ≡ false
-    uncommitted false f = f
-    uncommitted true f = absurd (let h : state_of marks s ≡ state.Committed = rw f refl in let g : is_unknown (state_of marks s) || is_pending (state_of marks s) ≡ true = may in let wrong = rw h at g in cc)
-still_pending marks (Trimmed i) t own may e = absurd (cc)
-
-pub votes_with_mark : (number parts : ℕ) (marks : List Mark) (votes : List NotedVote) (mark : Mark)
-    → may_follow marks mark ≡ true → AreVotes number parts marks votes → AreVotes number parts (marks ++ mark ∷ []) votes
-votes_with_mark number parts marks votes mark may h =
+-- where no vote is on the mark's stamp, they stay
+votes_past : (number parts : ℕ) (marks : List Mark) (votes : List NotedVote) (mark : Mark)
+    → list_all (λ vote. not (is_mark_of vote.stamp mark)) votes ≡ true → AreVotes number parts marks votes → AreVotes number parts (marks ++ mark ∷ []) votes
+votes_past number parts marks votes mark apart h =
     record {
       once = h.once;
       due = list_all-weaker (is_due parts marks) (is_due parts (marks ++ mark ∷ [])) (due-push parts marks mark) votes h.due;
-      open_still = λ t pending voted. go t (is_mark_of t mark) refl pending voted;
+      pending = list_all-two (λ vote. not (is_mark_of vote.stamp mark)) (is_on_pending marks) (is_on_pending (marks ++ mark ∷ []))
+          (λ vote other pending. ap is_pending (state_push_other marks mark vote.stamp (not-true (is_mark_of vote.stamp mark) other)) ∙ pending)
+          votes apart h.pending;
+      open_still = λ t pending voted. go t (other t voted) pending voted;
     }
   where
-    go : (t : ℕ) (b : Bool) → is_mark_of t mark ≡ b → state_of (marks ++ mark ∷ []) t ≡ state.Pending
+    other : (t : ℕ) → list_any (λ vote. vote.stamp == t) votes ≡ true → is_mark_of t mark ≡ false
+    other t voted =
+        let found = list_all-any (λ vote. not (is_mark_of vote.stamp mark)) (λ vote. vote.stamp == t) votes apart voted in
+        subst (λ (u : ℕ). is_mark_of u mark ≡ false) ((Decides-eqb found.0.stamp t).0 found.2) (not-true (is_mark_of found.0.stamp mark) found.1)
+
+    go : (t : ℕ) → is_mark_of t mark ≡ false → state_of (marks ++ mark ∷ []) t ≡ state.Pending
         → list_any (λ vote. vote.stamp == t) votes ≡ true
         → have_voted (heard votes t) (others_of number parts (items_at (marks ++ mark ∷ []) t)) ≡ false
-    go t true e pending voted =
-        let unknown = still_pending marks mark t e may pending in
-        let none = (unknown_tells _ _ _ unknown).2 in
-        let some = voted_is_prepared parts marks votes t h.due voted in
-        absurd (cc)
-    go t false e pending voted =
+    go t e pending voted =
         let items : items_at (marks ++ mark ∷ []) t ≡ items_at marks t = ap mark_items (find_push_no (prepares t) marks mark (prepares_no mark t e)) in
         rw items (h.open_still t (sym (state_push_other marks mark t e) ∙ pending) voted)
+
+heard_left : (votes : List NotedVote) (t s : ℕ) → (s == t) ≡ false → heard (votes_left (Some t) votes) s ≡ heard votes s
+heard_left [] t s apart = refl
+heard_left (v ∷ votes) t s apart = go (v.stamp == t) refl (heard_left votes t s apart)
+  where
+    left : List NotedVote
+    left = votes_left (Some t) votes
+
+    both : (b : Bool) → heard left s ≡ heard votes s
+        → map (λ u. u.part) (cond b (v ∷ filter (λ u. u.stamp == s) left) (filter (λ u. u.stamp == s) left))
+        ≡ map (λ u. u.part) (cond b (v ∷ filter (λ u. u.stamp == s) votes) (filter (λ u. u.stamp == s) votes))
+    both true h = ap (λ (ps : List ℕ). v.part ∷ ps) h
+    both false h = h
+
+    go : (b : Bool) → (v.stamp == t) ≡ b → heard left s ≡ heard votes s → heard (cond (not b) (v ∷ left) left) s ≡ heard (v ∷ votes) s
+    go true e h =
+        let other : (v.stamp == s) ≡ false = subst (λ (u : ℕ). (u == s) ≡ false) (sym ((Decides-eqb v.stamp t).0 e)) (turned s t apart) in
+        rw other h
+    go false e h = both (v.stamp == s) h
+
+-- those that are left are votes too, and none is on the stamp
+votes_without : (number parts : ℕ) (marks : List Mark) (votes : List NotedVote) (t : ℕ)
+    → AreVotes number parts marks votes → AreVotes number parts marks (votes_left (Some t) votes)
+votes_without number parts marks votes t h =
+    record {
+      once = no_two-filter same_vote (λ vote. not (vote.stamp == t)) votes h.once;
+      due = list_all-filter (is_due parts marks) (is_due parts marks) (λ vote. not (vote.stamp == t)) (λ vote other e. e) votes h.due;
+      pending = list_all-filter (is_on_pending marks) (is_on_pending marks) (λ vote. not (vote.stamp == t)) (λ vote other e. e) votes h.pending;
+      open_still = λ s pending voted. rw (heard_left votes t s (other s voted)) (h.open_still s pending (any_before (λ vote. vote.stamp == s) (λ vote. not (vote.stamp == t)) votes voted));
+    }
+  where
+    other : (s : ℕ) → list_any (λ vote. vote.stamp == s) (votes_left (Some t) votes) ≡ true → (s == t) ≡ false
+    other s voted =
+        let others = list_all-filter (is_due parts marks) (λ vote. not (vote.stamp == t)) (λ vote. not (vote.stamp == t)) (λ vote e due. e) votes h.due in
+        let found = list_all-any (λ vote. not (vote.stamp == t)) (λ vote. vote.stamp == s) (votes_left (Some t) votes) others voted in
+        subst (λ (u : ℕ). (u == t) ≡ false) ((Decides-eqb found.0.stamp s).0 found.2) (not-true (found.0.stamp == t) found.1)
+
+none_on : (number parts : ℕ) (marks : List Mark) (votes : List NotedVote) (t : ℕ) → AreVotes number parts marks votes
+    → list_all (λ vote. not (t == vote.stamp)) (votes_left (Some t) votes) ≡ true
+none_on number parts marks votes t h =
+    list_all-filter (is_due parts marks) (λ vote. not (t == vote.stamp)) (λ vote. not (vote.stamp == t))
+    (λ vote e due. ap not (turned vote.stamp t (not-true (vote.stamp == t) e))) votes h.due
+
+pub votes_with_mark : (number parts : ℕ) (marks : List Mark) (votes : List NotedVote) (mark : Mark)
+    → may_follow marks mark ≡ true → AreVotes number parts marks votes → AreVotes number parts (marks ++ mark ∷ []) (votes_left (decided (Some mark)) votes)
+votes_with_mark number parts marks votes (Prepared t ws is) may h =
+    votes_past number parts marks votes (Prepared t ws is)
+    (list_all-weaker (is_on_pending marks) (λ vote. not (t == vote.stamp)) known votes h.pending) h
+  where
+    known : (vote : NotedVote) → is_on_pending marks vote ≡ true → not (t == vote.stamp) ≡ true
+    known vote pending = same_or_not t vote.stamp
+        (λ (e : t ≡ vote.stamp). absurd (
+        let unknown : state_of marks t ≡ state.Unknown = is_unknown_tells (state_of marks t) may in
+        let there : is_pending (state_of marks t) ≡ true = subst (λ (u : ℕ). is_pending (state_of marks u) ≡ true) (sym e) pending in
+        let wrong = rw unknown at there in
+        cc))
+        (λ (e : (t == vote.stamp) ≡ false). ap not e)
+votes_with_mark number parts marks votes (Committed t) may h =
+    votes_past number parts marks (votes_left (Some t) votes) (Committed t)
+    (none_on number parts marks votes t h) (votes_without number parts marks votes t h)
+votes_with_mark number parts marks votes (Discarded t) may h =
+    votes_past number parts marks (votes_left (Some t) votes) (Discarded t)
+    (none_on number parts marks votes t h) (votes_without number parts marks votes t h)
+votes_with_mark number parts marks votes (Trimmed i) may h =
+    votes_past number parts marks votes (Trimmed i)
+    (list_all-weaker (is_on_pending marks) (λ vote. true) (λ vote pending. refl) votes h.pending) h
+
+-- what holds of all votes holds of those that are left
+pub All-votes_left : (P : NotedVote → Type 0) (stamp : Option ℕ) (votes : List NotedVote) → All P votes → All P (votes_left stamp votes)
+All-votes_left P None votes h = h
+All-votes_left P (Some t) votes h = All-filter (λ (vote : NotedVote). not (vote.stamp == t)) P votes h
 
 -- ---- one vote more
 
@@ -110,12 +166,14 @@ have_voted-push heard (other ∷ others) part =
 pub votes_with_vote : (number parts : ℕ) (marks : List Mark) (votes : List NotedVote) (vote : NotedVote)
     → has_vote votes vote.stamp vote.part ≡ false
     → is_due parts marks vote ≡ true
-    → (state_of marks vote.stamp ≡ state.Pending → have_voted (vote.part ∷ heard votes vote.stamp) (others_of number parts (items_at marks vote.stamp)) ≡ false)
+    → state_of marks vote.stamp ≡ state.Pending
+    → have_voted (vote.part ∷ heard votes vote.stamp) (others_of number parts (items_at marks vote.stamp)) ≡ false
     → AreVotes number parts marks votes → AreVotes number parts marks (votes ++ vote ∷ [])
-votes_with_vote number parts marks votes vote new due waits h =
+votes_with_vote number parts marks votes vote new due on_pending waits h =
     record {
       once = no_two-push same_vote votes vote h.once new;
       due = list_all-push (is_due parts marks) votes vote h.due due;
+      pending = list_all-push (is_on_pending marks) votes vote h.pending (ap is_pending on_pending);
       open_still = λ t pending voted. go t (vote.stamp == t) refl pending (sym (any_push (λ v. v.stamp == t) votes vote) ∙ voted);
     }
   where
@@ -127,8 +185,7 @@ votes_with_vote number parts marks votes vote new due waits h =
         let one : map (λ v. v.part) (filter (λ v. v.stamp == t) (vote ∷ [])) ≡ vote.part ∷ [] = rw e refl in
         ap (λ (ps : List ℕ). have_voted ps (others_of number parts (items_at marks t))) (heard-push votes vote t ∙ ap (λ (ps : List ℕ). heard votes t ++ ps) one)
         ∙ have_voted-push (heard votes t) (others_of number parts (items_at marks t)) vote.part
-        ∙ subst (λ (u : ℕ). have_voted (vote.part ∷ heard votes u) (others_of number parts (items_at marks u)) ≡ false) same
-        (waits (subst (λ (u : ℕ). state_of marks u ≡ state.Pending) (sym same) pending))
+        ∙ subst (λ (u : ℕ). have_voted (vote.part ∷ heard votes u) (others_of number parts (items_at marks u)) ≡ false) same waits
     go t false e pending voted =
         let none : map (λ v. v.part) (filter (λ v. v.stamp == t) (vote ∷ [])) ≡ [] = rw e refl in
         ap (λ (ps : List ℕ). have_voted ps (others_of number parts (items_at marks t))) (heard-push votes vote t ∙ ap (λ (ps : List ℕ). heard votes t ++ ps) none ∙ append-nil (heard votes t))
@@ -137,6 +194,17 @@ votes_with_vote number parts marks votes vote new due waits h =
         other : (a : Bool) → a || (vote.stamp == t) ≡ true → a ≡ true
         other true g = refl
         other false g = absurd (cc)
+
+-- the last vote goes with those before it
+pub left-push : (votes : List NotedVote) (t part : ℕ) → votes_left (Some t) (votes ++ record { stamp = t; part = part } ∷ []) ≡ votes_left (Some t) votes
+left-push [] t part = rw (same_stamp t) refl
+left-push (v ∷ votes) t part = go (not (v.stamp == t)) (left-push votes t part)
+  where
+    go : (b : Bool) → votes_left (Some t) (votes ++ record { stamp = t; part = part } ∷ []) ≡ votes_left (Some t) votes
+        → cond b (v ∷ votes_left (Some t) (votes ++ record { stamp = t; part = part } ∷ [])) (votes_left (Some t) (votes ++ record { stamp = t; part = part } ∷ []))
+        ≡ cond b (v ∷ votes_left (Some t) votes) (votes_left (Some t) votes)
+    go true h = ap (λ (vs : List NotedVote). v ∷ vs) h
+    go false h = h
 
 -- ---- a vote that was heard already
 

@@ -22,11 +22,11 @@ use Rattle.album_terminate.specs.declared.deciding.StampState.{StampState}
 use Rattle.album_terminate.specs.declared.deciding.StampState.TheVariants as state
 use Rattle.album_partition.specs.declared.marks.Mark.{Mark}
 use Rattle.album_partition.specs.declared.marks.Mark.TheVariants as mark
-use Rattle.album_partition.specs.Marks.{state_of, is_pending, is_full, writes_at, items_at}
+use Rattle.album_partition.specs.Marks.{decided, state_of, is_pending, is_full, writes_at, items_at}
 use Rattle.album_partition.specs.Partition.{PartitionState, value_at, read_at}
 use Rattle.album_items.specs.Places.{is_placed, lies_at, others_of}
 use Rattle.album_partition.specs.Proper.{is_proper}
-use Rattle.album_partition.specs.Votes.{NotedVote, new_vote, heard}
+use Rattle.album_partition.specs.Votes.{NotedVote, new_vote, heard, votes_left}
 
 -- what a message does: the mark that it makes, the vote that is noted, and the reply
 pub record Action : Type 0 where
@@ -184,12 +184,12 @@ abbrev pub action_of : PartitionState → Message → Action
 action_of partition message =
     if is_part message.to partition.number then on_body partition message.from message.body else nothing
 
--- the partition once that is done
+-- the partition once that is done: the votes on a stamp go as it is decided
 abbrev pub with_action : PartitionState → Action → PartitionState
 with_action partition action =
     record partition {
       marks = partition.marks ++ option_to_list action.mark;
-      votes = partition.votes ++ option_to_list action.vote;
+      votes = votes_left (decided action.mark) (partition.votes ++ option_to_list action.vote);
     }
 
 abbrev pub after : PartitionState → Message → PartitionState

@@ -45,6 +45,11 @@ is_kept state.Pending = true
 is_kept state.Committed = true
 is_kept state.Discarded = false
 
+-- the mark that prepared a stamp which is pending or committed stands at the index; of any other stamp none is told
+abbrev pub IsPreparedAt : List Mark → ℕ → Option ℕ → Type 0
+IsPreparedAt marks stamp None = is_kept (state_of marks stamp) ≡ false
+IsPreparedAt marks stamp (Some index) = (is_kept (state_of marks stamp) ≡ true) × IsAt marks stamp index
+
 -- the mark that prepared a stamp which is pending or committed
 abbrev pub kept_by : StampState → Option Mark → Option Mark
 kept_by state.Unknown mark = None

@@ -53,6 +53,14 @@ discards stamp (Trimmed item) = false
 abbrev pub decides : ℕ → Mark → Bool
 decides stamp mark = commits stamp mark || discards stamp mark
 
+-- the stamp that the mark decides, if there is a mark that decides one
+abbrev pub decided : Option Mark → Option ℕ
+decided None = None
+decided (Some (Prepared stamp writes items)) = None
+decided (Some (Committed stamp)) = Some stamp
+decided (Some (Discarded stamp)) = Some stamp
+decided (Some (Trimmed item)) = None
+
 -- does it trim the item?
 abbrev pub trims : ℕ → Mark → Bool
 trims item (Prepared stamp writes items) = false

@@ -1,17 +1,17 @@
 //! The marks of a partition, in the order in which they were made.
-ghost use Rattle.std.specs.Prelude.{◌≡◌, ◌<◌, ◌++◌, ◌∷◌, [], true, length, Some, IfOk, OnOk, OnErr};
+ghost use Rattle.std.specs.Prelude.{◌≡◌, ◌<◌, ◌++◌, ◌∷◌, [], true, length, Some, IfOk, IfErr, OnOk, OnErr};
 ghost use Rattle.std.specs.List.{slice_get};
 ghost use Rattle.std.specs.Option.{option_copied};
 ghost use Rattle.album_stamps.specs.declared.limits.TheConstants.{MAX_MARKS};
 ghost use Rattle.album_partition.specs.Marks.{ArePending, mark_writes, mark_items, state_of, may_follow, is_legal, pending_stamps};
-ghost use Rattle.album_partition.specs.History.{IsAt, Stands, WillStand, kept_mark};
+ghost use Rattle.album_partition.specs.History.{IsAt, IsPreparedAt, Stands, WillStand, kept_mark};
 
 use crate::marks::Mark;
 use crate::standings::{Standing, Standings};
 use album_items::{ItemId, Value};
 use album_stamps::Stamp;
 use album_terminate::StampState;
-use std::alloc::{AllocError, Global};
+use std::alloc::{AllocError, AllocFailed, Global};
 use std::marker::Model;
 
 /// What a mark changes beside the list: how its stamp stands once it is made, and how many are
@@ -105,6 +105,28 @@ impl History {
         }
     }
 
+    /// At which index the stamp was prepared, where it is pending or committed.
+    pub fn prepared_at(&self, stamp: Stamp) -> Option<usize>
+        ensures { IsPreparedAt self.now stamp result }
+    {
+        match self.standing(stamp) {
+            None => None,
+            Some(Standing::Pending(index)) => Some(index),
+            Some(Standing::Committed(index)) => Some(index),
+            Some(Standing::Discarded) => None,
+        }
+    }
+
+    /// What the mark at the index prepares.
+    pub fn writes_at(&self, index: usize) -> &[(ItemId, Value)]
+        ensures { result.now ≡ mark_writes (slice_get self.now index) }
+    {
+        match mark_at(&self.marks, index) {
+            None => &[],
+            Some(mark) => mark.writes(),
+        }
+    }
+
     /// The mark that prepared the stamp, where it is pending or committed.
     fn prepared(&self, stamp: Stamp) -> Option<&Mark>
         ensures { option_copied result ≡ kept_mark self.now stamp }
@@ -117,12 +139,13 @@ impl History {
         }
     }
 
-    /// Makes a mark, which may follow those before it.
-    pub fn add(&mut self, mark: Mark) -> Result<(), AllocError>
+    /// Makes a mark, which may follow those before it. Where memory is refused it is handed back.
+    pub fn add(&mut self, mark: Mark) -> Result<(), AllocFailed<Mark>>
         requires follows { may_follow self.old mark ≡ true }
         requires room { length self.old < MAX_MARKS }
         ensures ok { OnOk result (self.new ≡ self.old ++ mark ∷ []) }
         ensures err { OnErr result (self.new ≡ self.old) }
+        ensures given { IfErr result (λ failed. failed.value ≡ mark) }
     {
         match self.change(&mark) {
             None => self.push(mark),
@@ -131,27 +154,35 @@ impl History {
     }
 
     /// Makes a mark that changes how no stamp stands.
-    fn push(&mut self, mark: Mark) -> Result<(), AllocError>
+    fn push(&mut self, mark: Mark) -> Result<(), AllocFailed<Mark>>
         requires follows { may_follow self.old mark ≡ true }
         requires change { WillStand self.old mark None }
         ensures ok { OnOk result (self.new ≡ self.old ++ mark ∷ []) }
         ensures err { OnErr result (self.new ≡ self.old) }
+        ensures given { IfErr result (λ failed. failed.value ≡ mark) }
     {
-        self.marks.reserve(1)?;
+        if self.marks.reserve(1).is_err() {
+            return Err(AllocFailed { value: mark });
+        }
         self.marks.push_reserved(mark);
         Ok(())
     }
 
     /// Makes a mark that changes how its stamp stands.
-    fn push_with(&mut self, mark: Mark, change: Change) -> Result<(), AllocError>
+    fn push_with(&mut self, mark: Mark, change: Change) -> Result<(), AllocFailed<Mark>>
         requires follows { may_follow self.old mark ≡ true }
         requires change { WillStand self.old mark (Some change) }
         ensures ok { OnOk result (self.new ≡ self.old ++ mark ∷ []) }
         ensures err { OnErr result (self.new ≡ self.old) }
+        ensures given { IfErr result (λ failed. failed.value ≡ mark) }
     {
         // Room first: once the stamp stands as after the mark, nothing may fail.
-        self.marks.reserve(1)?;
-        self.standings.set(change.stamp, change.standing)?;
+        if self.marks.reserve(1).is_err() {
+            return Err(AllocFailed { value: mark });
+        }
+        if let Err(_) = self.standings.set(change.stamp, change.standing) {
+            return Err(AllocFailed { value: mark });
+        }
         self.pending = change.pending;
         self.marks.push_reserved(mark);
         Ok(())

@@ -19,11 +19,11 @@ ghost use Rattle.album_partition.specs.declared.marks.Mark.{Mark};
 ghost use Rattle.album_partition.specs.declared.marks.Mark.TheVariants as Made;
 ghost use Rattle.album_partition.specs.Answers.{says, on_prepare, on_check, action_of, after, answer};
 ghost use Rattle.album_partition.specs.Laws.{IsTrueOf, IsClash, IsReplyTo, IsReadOf, IsGoneFor, IsCause};
-ghost use Rattle.album_partition.specs.Marks.{IsPromisedAgainst, prepares, commits, discards, decides, trims, state_of, value_in, version, latest, floor, has_kept_version, may_follow, is_legal, load, is_full};
+ghost use Rattle.album_partition.specs.Marks.{IsPromisedAgainst, prepares, commits, discards, decides, decided, trims, state_of, value_in, version, latest, floor, has_kept_version, may_follow, is_legal, load, is_full};
 ghost use Rattle.album_partition.specs.Partition.{PartitionState, IsPartition, opened, read_at};
 ghost use Rattle.album_partition.specs.Proper.{is_proper};
 ghost use Rattle.album_partition.specs.Trims.{trimmed};
-ghost use Rattle.album_partition.specs.Votes.{NotedVote};
+ghost use Rattle.album_partition.specs.Votes.{NotedVote, votes_left};
 
 /// A law: what a history never holds. Each mark may follow those before it, so a stamp is prepared
 /// and decided at most once, is committed only where it was prepared, and is not prepared once it
@@ -81,7 +81,8 @@ pub fn promises_against_are_kept()
 {}
 
 /// A law: a partition is one as it opens, and stays one whatever message comes and whatever is
-/// trimmed. A message adds at most one mark and at most one vote, at the end.
+/// trimmed. A message adds at most one mark and at most one vote, at the end. A mark that decides a
+/// stamp lets exactly the votes on it go: so a vote is kept as long as its stamp is pending.
 pub fn partitions_stay_partitions()
     ensures opened { (number parts limit : ℕ) (items : List Row) (partition : PartitionState)
         → opened number parts items limit ≡ Ok partition → IsPartition partition }
@@ -90,7 +91,12 @@ pub fn partitions_stay_partitions()
     ensures marks { (partition : PartitionState) (message : Message)
         → (after partition message).marks ≡ partition.marks ++ option_to_list (action_of partition message).mark }
     ensures votes { (partition : PartitionState) (message : Message)
-        → (after partition message).votes ≡ partition.votes ++ option_to_list (action_of partition message).vote }
+        → (after partition message).votes ≡ votes_left (decided (action_of partition message).mark)
+        (partition.votes ++ option_to_list (action_of partition message).vote) }
+    ensures kept { (partition : PartitionState) (message : Message) (vote : NotedVote) → IsPartition partition
+        → Contains (after partition message).votes vote
+        ↔ (Contains (partition.votes ++ option_to_list (action_of partition message).vote) vote
+        × (state_of (after partition message).marks vote.stamp ≡ StampState.Pending)) }
     ensures trimmed { (old new : PartitionState) (item : ℕ)
         → IsPartition old → trimmed old item ≡ Ok new → IsPartition new }
 {}

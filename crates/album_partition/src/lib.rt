@@ -10,6 +10,7 @@
 //! `partition/answers`; then what they stand on, `stored` and `history`; and `laws` last.
 #![tactic(auto)]
 
+mod figures;
 mod first_values;
 mod history;
 mod laws;
@@ -21,6 +22,7 @@ mod standings;
 mod stored;
 mod votes;
 
+pub use figures::Figures;
 pub use laws::{
     full_has_its_cause, full_stays, gets_read_what_is_kept, gets_read_what_is_written,
     histories_are_orderly, histories_only_grow, marks_have_their_causes,

@@ -1,6 +1,6 @@
 //! The entries of a partition's history.
 ghost use Rattle.std.specs.Prelude.{◌≡◌, Some, IfOk};
-ghost use Rattle.album_partition.specs.Marks.{mark_stamp, mark_writes, mark_items};
+ghost use Rattle.album_partition.specs.Marks.{mark_stamp, decided, mark_writes, mark_items};
 
 use album_items::{ItemId, ItemValues, Items, Value};
 use album_stamps::Stamp;
@@ -67,6 +67,17 @@ impl Mark {
             Mark::Prepared(_, _, items) => items.as_slice(),
             Mark::Committed(_) | Mark::Discarded(_) | Mark::Trimmed(_) => &[],
         }
+    }
+}
+
+/// The stamp that the mark decides, if there is a mark that decides one.
+pub(crate) fn decided(mark: &Option<Mark>) -> Option<Stamp>
+    ensures { result ≡ decided mark.now }
+{
+    match mark {
+        Some(Mark::Committed(stamp)) => Some(*stamp),
+        Some(Mark::Discarded(stamp)) => Some(*stamp),
+        Some(Mark::Prepared(_, _, _)) | Some(Mark::Trimmed(_)) | None => None,
     }
 }
 

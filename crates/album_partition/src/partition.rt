@@ -1,11 +1,11 @@
 //! A partition, and what it does with a message.
-ghost use Rattle.std.specs.Prelude.{◌≡◌, ◌≤◌, true, IfOk, IfErr, OnOk, OnErr, IfSome, is_some, ◌||◌, ◌≢◌, IsOk, Some, IsOkUnless, Ok, Err};
+ghost use Rattle.std.specs.Prelude.{◌≡◌, ◌≤◌, true, IfOk, IfErr, OnOk, OnErr, IfSome, is_some, ◌||◌, ◌≢◌, length, IsOk, Some, IsOkUnless, Ok, Err};
 ghost use Rattle.album_stamps.specs.Outcome.{Makes};
 ghost use Rattle.album_partition.specs.Answers.{with_action, action_of, after, answer, reply_to, wants_memory};
-ghost use Rattle.album_partition.specs.Marks.{ArePending, state_of, is_legal, load, latest};
+ghost use Rattle.album_partition.specs.Marks.{ArePending, state_of, is_legal, load, pending_stamps, latest};
 ghost use Rattle.album_partition.specs.Partition.{IsPartition, may_open, opening_state, opened};
 ghost use Rattle.album_partition.specs.Proper.{are_proper_marks};
-ghost use Rattle.album_partition.specs.Stored.{CanFollow};
+ghost use Rattle.album_partition.specs.Stored.{CanFollow, HasVersions};
 ghost use Rattle.album_partition.specs.Sweeps.{swept};
 ghost use Rattle.album_partition.specs.Trims.{trim_mark, trimmed};
 
@@ -14,11 +14,12 @@ mod openings;
 mod sweeps;
 mod trims;
 
+use crate::figures::Figures;
 use crate::first_values::FirstValues;
-use crate::marks::Mark;
+use crate::marks::{Mark, decided};
 use crate::places::Seat;
 use crate::stored::Stored;
-use crate::votes::Noted;
+use crate::votes::{Noted, let_go};
 use album_calls::{Body, Message, Node, Reply};
 use album_items::{ItemId, ItemValues};
 use album_stamps::{Refusal, Refused, Stamp};
@@ -38,7 +39,8 @@ pub struct Partition {
     /// The items that are placed here, with the values that the service opened with.
     items: FirstValues,
     stored: Stored,
-    /// In the order in which they came; those on a stamp stay once it is decided.
+    /// In the order in which they came, at most one of each partition on each pending stamp: as a
+    /// stamp is decided, those on it are let go.
     votes: Vec<Noted>,
 }
 
@@ -172,6 +174,21 @@ impl Partition {
         Ok(self.stored.pending(self.alloc)?)
     }
 
+    /// How much it holds, and how many marks it may have.
+    pub fn figures(&self) -> Figures
+        ensures marks { result.marks ≡ length self.now.marks }
+        ensures limit { result.limit ≡ self.now.limit }
+        ensures pending { result.pending ≡ length (pending_stamps self.now.marks) }
+        ensures versions { HasVersions self.now.marks result.versions }
+    {
+        Figures {
+            marks: self.stored.marks().len() as u64,
+            limit: self.limit,
+            pending: self.stored.pending_count() as u64,
+            versions: self.stored.version_count(),
+        }
+    }
+
     /// The latest committed stamp of the item.
     pub fn latest(&self, item: ItemId) -> Stamp
         ensures { result ≡ latest self.now.marks item }
@@ -234,7 +251,7 @@ impl Partition {
         }
     }
 
-    /// Keeps what the action adds, and gives its reply.
+    /// Keeps what the action adds, and gives its reply. The votes on a stamp that it decides are let go.
     fn apply(&mut self, action: Action) -> Result<Option<Reply>, AllocError>
         requires follows { IfSome action.mark (CanFollow self.old.marks) }
         requires partition { IsPartition (with_action self.old action) }
@@ -244,6 +261,7 @@ impl Partition {
         ensures wanted { OnErr result ((is_some action.mark || is_some action.vote) ≡ true) }
     {
         let Action { mark, vote, reply } = action;
+        let stamp = decided(&mark);
         match vote {
             None => self.stored.add(mark)?,
             Some(vote) => {
@@ -253,6 +271,7 @@ impl Partition {
                 self.votes.push_reserved(vote);
             }
         }
+        let_go(&mut self.votes, stamp);
         Ok(reply)
     }
 

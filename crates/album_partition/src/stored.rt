@@ -3,11 +3,11 @@ ghost use Rattle.std.specs.Prelude.{◌≡◌, ◌<◌, ◌≤◌, ◌⊎◌, �
 ghost use Rattle.std.specs.Option.{option_copied};
 ghost use Rattle.album_stamps.specs.declared.limits.TheConstants.{MAX_MARKS};
 ghost use Rattle.album_items.specs.Openings.{has_single_rows};
-ghost use Rattle.album_versions.specs.Versions.{version_at, floor_of, SameVersions, Adds};
+ghost use Rattle.album_versions.specs.Versions.{version_at, floor_of, SameVersions, Adds, Drops};
 ghost use Rattle.album_partition.specs.History.{kept_mark};
-ghost use Rattle.album_partition.specs.Marks.{ArePending, mark_writes, mark_items, state_of, is_unknown, is_legal, load, version, latest, floor};
+ghost use Rattle.album_partition.specs.Marks.{ArePending, mark_writes, mark_items, state_of, is_legal, load, pending_stamps, value_in, version, latest, floor};
 ghost use Rattle.album_partition.specs.Partition.{read_at};
-ghost use Rattle.album_partition.specs.Stored.{CanFollow, HasAdded, HasCommitted};
+ghost use Rattle.album_partition.specs.Stored.{CanFollow, HasAdded, HasCommitted, HasVersions};
 
 use crate::first_values::shared_copy;
 use crate::history::History;
@@ -96,6 +96,20 @@ impl Stored {
         self.history.marks().len() as u64 + self.history.pending_count() as u64
     }
 
+    /// How many stamps are pending.
+    pub fn pending_count(&self) -> usize
+        ensures { result ≡ length (pending_stamps self.now) }
+    {
+        self.history.pending_count()
+    }
+
+    /// How many versions are kept, of all items.
+    pub fn version_count(&self) -> u64
+        ensures { HasVersions self.now result }
+    {
+        self.versions.count()
+    }
+
     /// The latest committed stamp of the item.
     pub fn latest(&self, item: ItemId) -> Stamp
         ensures { result ≡ latest self.now item }
@@ -164,9 +178,9 @@ impl Stored {
     {
         // Before the mark, which takes the writes: the stamp is unknown, so its versions can go again.
         add_rows(self.alloc, &mut self.versions, stamp, writes.as_slice())?;
-        if let Err(error) = self.history.add(Mark::Prepared(stamp, writes, items)) {
-            self.versions.drop_stamp(stamp);
-            return Err(error);
+        if let Err(failed) = self.history.add(Mark::Prepared(stamp, writes, items)) {
+            drop_rows(&mut self.versions, stamp, failed.value.writes());
+            return Err(AllocError);
         }
         Ok(())
     }
@@ -187,19 +201,14 @@ impl Stored {
         ensures ok { OnOk result (self.new ≡ self.old ++ Mark.Discarded stamp ∷ []) }
         ensures err { OnErr result (self.new ≡ self.old) }
     {
-        let was_unknown = self.is_unknown(stamp);
+        // Where it was prepared, before the mark: of a stamp that is discarded that isn't kept.
+        let prepared = self.history.prepared_at(stamp);
         self.history.add(Mark::Discarded(stamp))?;
-        // A stamp that was unknown has no version, and the items need not be gone over for it.
-        if !was_unknown {
-            self.versions.drop_stamp(stamp);
+        // A stamp that was unknown has no version.
+        if let Some(index) = prepared {
+            drop_rows(&mut self.versions, stamp, self.history.writes_at(index));
         }
         Ok(())
-    }
-
-    fn is_unknown(&self, stamp: Stamp) -> bool
-        ensures { result ≡ is_unknown (state_of self.now stamp) }
-    {
-        self.state(stamp) == StampState::Unknown
     }
 
     fn trim(&mut self, item: ItemId) -> Result<(), AllocError>
@@ -228,7 +237,7 @@ fn add_rows(
 {
     for row in rows {
         if let Err(error) = add_row(alloc, versions, stamp, row) {
-            versions.drop_stamp(stamp);
+            drop_rows(versions, stamp, rows);
             return Err(error);
         }
     }
@@ -249,6 +258,16 @@ fn add_row(
     match versions.add(row.0, stamp, value) {
         Ok(()) => Ok(()),
         Err(_) => Err(AllocError),
+    }
+}
+
+/// Drops the versions at a stamp, which are of no other items than the rows.
+fn drop_rows(versions: &mut Versions, stamp: Stamp, rows: &[(ItemId, Value)])
+    requires { (i : ℕ) → IsSome (version_at versions.old i stamp) → IsSome (value_in rows.now i) }
+    ensures { Drops versions.old versions.new stamp }
+{
+    for row in rows {
+        versions.drop_stamp(row.0, stamp);
     }
 }
 

@@ -3,9 +3,10 @@
 use crate::messages::{
     Is, Rows, Step, all_told, client, item_of, rows_of, same, sent, stamp_of, told,
 };
-use album_calls::{Message, Node};
-use album_partition::Partition;
-use album_stamps::{MAX_MARKS, Refusal};
+use album_calls::{Body, Message, Node, Reply, Vote};
+use album_partition::{Figures, Partition};
+use album_stamps::{MAX_MARKS, Refusal, Stamp};
+use album_terminate::StampState;
 use std::alloc::Global;
 use std::process::Abort;
 use std::test::Fail;
@@ -274,6 +275,60 @@ fn what_is_kept(rt: HostRuntime) -> Result<(), Fail> {
     let partition = prepared(rt.alloc())?;
     let text = kept(rt.alloc(), &partition, "list/1");
     same(&rt, text, "Pending 1 [65537] 0")
+}
+
+/// The items of a transaction with one at each of the three partitions.
+const THREE: &[&str] = &["list/0", "list/1", "list/2"];
+
+/// Who votes Prepared on a stamp, and how it stands then.
+const VOTES: &[(u16, StampState)] = &[
+    (1, StampState::Pending),
+    (1, StampState::Pending),
+    (2, StampState::Committed),
+    (1, StampState::Committed),
+];
+
+/// How the stamp stands once this partition has voted Prepared on it.
+fn voted(partition: &mut Partition, part: u16, stamp: Stamp) -> Result<StampState, Refusal> {
+    let vote = Body::Reply(Reply::Status(stamp, Vote::Prepared));
+    let message = Message::new(Node::Part(part), Node::Part(0), 0, vote);
+    let _reply = partition.receive(&message)?;
+    Ok(partition.state(stamp))
+}
+
+/// The stamp of the counter is prepared, and settled by these votes alone.
+fn settled(
+    rt: &impl Abort,
+    alloc: Global,
+    partition: &mut Partition,
+    counter: u64,
+) -> Result<(), Fail> {
+    let stamp = counter.wrapping_mul(65536).wrapping_add(1);
+    taken(alloc, partition, Step::Prepare(stamp, LIST_1, THREE))?;
+    for (part, expected) in VOTES {
+        let state = voted(partition, *part, stamp_of(stamp)?)?;
+        assert_eq!(rt; state, *expected, "{part} at {stamp}");
+    }
+    Ok(())
+}
+
+/// Votes on stamps that were settled before don't count: each of many waits for the same ones.
+#[test]
+fn swept_many_times(rt: HostRuntime) -> Result<(), Fail> {
+    let mut partition = opened(rt.alloc(), 100)?;
+
+    for counter in 1..=8 {
+        settled(&rt, rt.alloc(), &mut partition, counter)?;
+    }
+
+    let figures = Figures {
+        marks: 16,
+        limit: 100,
+        pending: 0,
+        versions: 8,
+    };
+    assert_eq!(rt; partition.figures(), figures);
+    Ok(())
 }
 
 /// Why a partition of this number, of so many, does not open.

@@ -58,7 +58,7 @@ fn act(alloc: Global, versions: &mut Versions, item: ItemId, step: Step) -> Resu
         Step::Add(value) => add(alloc, versions, item, stamp(value)?, value),
         Step::Commit(value) => commit(versions, item, stamp(value)?),
         Step::Drop(value) => {
-            versions.drop_stamp(stamp(value)?);
+            versions.drop_stamp(item, stamp(value)?);
             Ok(())
         }
         Step::Trim => {

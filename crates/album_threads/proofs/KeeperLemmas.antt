@@ -20,7 +20,7 @@ use Rattle.album_calls.specs.declared.requests.Request.TheVariants.{Prepare, Com
 use Rattle.album_calls.specs.declared.replies.Reply.TheVariants as reply
 use Rattle.album_partition.specs.Answers.{Action, nothing, on_body, action_of, after}
 use Rattle.album_partition.specs.Laws.{IsCause}
-use Rattle.album_partition.specs.Marks.{prepares, items_at, may_follow, is_legal, load}
+use Rattle.album_partition.specs.Marks.{prepares, decided, items_at, may_follow, is_legal, load}
 use Rattle.album_partition.specs.Partition.{PartitionState}
 use Rattle.album_partition.specs.Votes.{NotedVote, has_vote, new_vote, heard}
 use Rattle.album_partition.specs.declared.marks.Mark.{Mark}
@@ -29,6 +29,7 @@ use Rattle.album_partition.proofs.AnswerLemmas.{Acts, idle, said, prepared, comm
 use Rattle.album_partition.proofs.LegalLemmas.{follows}
 use Rattle.album_partition.proofs.LawLemmas.{marks_are_caused}
 use Rattle.album_partition.proofs.StateLemmas.{unknown_tells, pending_tells}
+use Rattle.album_partition.proofs.VoteLemmas.{All-votes_left}
 use Rattle.album_passes.specs.Cuts.{Cut, prefix_at, IsBacked, IsSound, Extends}
 use Rattle.album_passes.specs.Changes.{marked_cut}
 use Rattle.album_passes.proofs.ClosedLemmas.{committed_tells, discarded_tells, proper_within, discarded_backs, votes_back}
@@ -171,11 +172,13 @@ shown_more c d x votes h =
     All-weaker (λ (v : NotedVote). list_any (prepares v.stamp) (prefix_at c v.part) ≡ true) (λ (v : NotedVote). list_any (prepares v.stamp) (prefix_at d v.part) ≡ true)
     (λ v e. any_more (prepares v.stamp) (prefix_at c v.part) (prefix_at d v.part) (x.prefixes v.part) e) votes h
 
--- after a message, the votes that were noted and the one that the message tells are shown
+-- after a message, what is left of the votes that were noted and the one that the message tells is shown
 pub votes_shown : (c : Cut) (p : PartitionState) (m : Message) → Shows c m → AreShown c p.votes → AreShown c (after p m).votes
 votes_shown c p m h votes =
-    All-append (λ (v : NotedVote). list_any (prepares v.stamp) (prefix_at c v.part) ≡ true) p.votes (option_to_list (action_of p m).vote)
-    votes (vote_shown c p m h (action_of p m).vote refl)
+    All-votes_left (λ (v : NotedVote). list_any (prepares v.stamp) (prefix_at c v.part) ≡ true) (decided (action_of p m).mark)
+    (p.votes ++ option_to_list (action_of p m).vote)
+    (All-append (λ (v : NotedVote). list_any (prepares v.stamp) (prefix_at c v.part) ≡ true) p.votes (option_to_list (action_of p m).vote)
+    votes (vote_shown c p m h (action_of p m).vote refl))
 
 -- ---- one mark more
 

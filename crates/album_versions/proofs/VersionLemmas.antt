@@ -1,17 +1,16 @@
 -- What a change of the rows leaves to be seen of each item: for the methods of `Versions`.
-use Rattle.std.proofs.Common.{◌≡◌, ℕ, ◌<◌, ◌≤◌, List, [], ◌∷◌, Bool, true, false, not, ◌==◌, ◌&&◌, nat_le, nat_lt, max, if◌then◌else◌, Option, Some, None, is_some, IsSome, option_map, refl, sym, ap, subst, map, filter, All, ◌⊎◌, inl, inr, ⊎_elim, arith}
+use Rattle.std.proofs.Common.{◌≡◌, ℕ, ◌<◌, ◌≤◌, List, [], ◌∷◌, Bool, true, false, not, ◌==◌, ◌&&◌, nat_le, nat_lt, max, if◌then◌else◌, Option, Some, None, is_some, IsSome, refl, sym, ap, subst, filter, All, ◌⊎◌, inl, inr, ⊎_elim, arith}
 use Rattle.std.specs.Option.{unwrap_or}
 use Rattle.std.specs.Ordering.{nat_cmp}
 use Rattle.std.specs.Map.{lookup}
 use Rattle.std.specs.BTreeMap.{BTreeMap, is_at, get, insert_entry, Updates, WritesThrough}
 use Rattle.std.proofs.lemmas.Bool.{eqb-true, cases_lt}
 use Rattle.std.proofs.lemmas.Bool.Decides.{nat_tests}
-use Rattle.std.proofs.lemmas.Map.Made.{lookup-map_values}
 use Rattle.album_items.specs.declared.values.Value.{Value}
 use Rattle.album_versions.specs.declared.rows.Version.{Version}
 use Rattle.album_versions.specs.Best.{best_of, unless_gone}
 use Rattle.album_versions.specs.Rows.{RowState, empty_row, version_in}
-use Rattle.album_versions.specs.Versions.{VersionsState, row_of, version_at, latest_of, floor_of, SameVersions, Adds, Drops, Commits, Trims}
+use Rattle.album_versions.specs.Versions.{VersionsState, row_of, version_at, latest_of, floor_of, SameVersions, Adds, DropsOne, Commits, Trims}
 use Rattle.album_versions.proofs.RowLemmas.{version_in-low, version_in-without, version_in-from}
 use Rattle.album_versions.proofs.Greatest.{best_of-none}
 
@@ -98,23 +97,29 @@ same_from old new item puts = record {
     row_is i = rw (puts i) (by_item (λ i b. (if b then row_of old item else row_of old i) ≡ row_of old i) item refl (λ i. refl) i)
 
 -- the row without its version at the stamp
-abbrev pub dropped : ℕ → RowState → RowState
+abbrev dropped : ℕ → RowState → RowState
 dropped stamp row = record row { versions = filter (λ v. not (v.stamp == stamp)) row.versions }
 
-pub drops_from : (rows new : List (ℕ × RowState)) (stamp : ℕ) → new ≡ map (λ e. (e.0, dropped stamp e.1)) rows → Drops (record { rows = rows }) (record { rows = new }) stamp
+pub drops_from : (old new : VersionsState) (item stamp : ℕ) → Puts old new item (dropped stamp (row_of old item)) → DropsOne old new item stamp
 unfolding version_at latest_of floor_of
-drops_from rows new stamp mapped = record {
-  versions = λ i t. rw (row_is i) (version_in-without (row_of (record { rows = rows }) i).versions stamp t);
-  latest = λ i. rw (row_is i, latest_of) refl;
-  floor = λ i. rw (row_is i, floor_of) refl;
+drops_from old new item stamp puts = record {
+  versions = λ i t. rw (puts i) (by_item (λ i b. version_in (if b then dropped stamp (row_of old item) else row_of old i).versions t ≡ (if b && t == stamp then None else version_in (row_of old i).versions t)) item (version_in-without (row_of old item).versions stamp t) (λ i. refl) i);
+  latest = λ i. rw (puts i, latest_of) (by_item (λ i b. (if b then dropped stamp (row_of old item) else row_of old i).latest ≡ (row_of old i).latest) item refl (λ i. refl) i);
+  floor = λ i. rw (puts i, floor_of) (by_item (λ i b. (if b then dropped stamp (row_of old item) else row_of old i).floor ≡ (row_of old i).floor) item refl (λ i. refl) i);
+}
+
+-- an item without a row has nothing to drop
+pub drops_nothing : (kept : VersionsState) (item stamp : ℕ) → row_of kept item ≡ empty_row → DropsOne kept kept item stamp
+unfolding version_at latest_of floor_of
+drops_nothing kept item stamp empty = record {
+  versions = λ i t. by_item (λ i b. version_in (row_of kept i).versions t ≡ (if b && t == stamp then None else version_in (row_of kept i).versions t)) item (rw empty (either (t == stamp))) (λ i. refl) i;
+  latest = λ i. refl;
+  floor = λ i. refl;
 }
   where
-    go : (o : Option RowState) → unwrap_or (option_map (dropped stamp) o) empty_row ≡ dropped stamp (unwrap_or o empty_row)
-    go None = refl
-    go (Some row) = refl
-
-    row_is : (i : ℕ) → row_of (record { rows = new }) i ≡ dropped stamp (row_of (record { rows = rows }) i)
-    row_is i = rw (mapped, lookup-map_values (dropped stamp) (is_at (nat_cmp i)) rows) (go (lookup (is_at (nat_cmp i)) rows))
+    either : (b : Bool) → None ≡ (if b then (let v : Option Value = None in v) else None)
+    either true = refl
+    either false = refl
 
 -- where none is below the floor, what is found is not
 pub found_high : (vs : List Version) (floor : ℕ) → All (λ v. floor ≤ v.stamp) vs → (t : ℕ) → IsSome (version_in vs t) → floor ≤ t
@@ -137,6 +142,10 @@ committed m n item stamp row new found raised writes =
 pub trimmed : (m n : BTreeMap ℕ RowState) (item : ℕ) (row new : RowState) → get nat_cmp m item ≡ Some row → new ≡ record row { floor = row.latest; versions = filter (λ v. nat_le row.latest v.stamp) row.versions } → WritesThrough nat_cmp (nat_cmp item) m new n → Trims (record { rows = m.entries }) (record { rows = n.entries }) item
 trimmed m n item row new found raised writes =
     trims_from _ _ item (rw (there m item row found, ← raised) (puts_from_writes m n item row new found writes))
+
+pub dropped_one : (m n : BTreeMap ℕ RowState) (item stamp : ℕ) (row new : RowState) → get nat_cmp m item ≡ Some row → new ≡ dropped stamp row → WritesThrough nat_cmp (nat_cmp item) m new n → DropsOne (record { rows = m.entries }) (record { rows = n.entries }) item stamp
+dropped_one m n item stamp row new found without writes =
+    drops_from _ _ item stamp (rw (there m item row found, ← without) (puts_from_writes m n item row new found writes))
 
 -- an item that has a version, or a floor above 0, has a row
 pub commits_nowhere : (m : BTreeMap ℕ RowState) (item stamp : ℕ) → get nat_cmp m item ≡ None → IsSome (version_at (record { rows = m.entries }) item stamp) ⊎ (stamp < floor_of (record { rows = m.entries }) item) → ⊥
@@ -168,6 +177,9 @@ unchanged_by m entries item o row given new inserted found empty is same =
     same_from _ _ item (rw (← (lent m item o row given found empty is), ← same) (puts_from_insert m.entries entries item new inserted))
 
 -- ---- what the item's row tells of it
+pub dropped_nowhere : (m : BTreeMap ℕ RowState) (item stamp : ℕ) → get nat_cmp m item ≡ None → DropsOne (record { rows = m.entries }) (record { rows = m.entries }) item stamp
+dropped_nowhere m item stamp none = drops_nothing _ item stamp (rw none refl)
+
 pub trimmed_nowhere : (m : BTreeMap ℕ RowState) (item : ℕ) → get nat_cmp m item ≡ None → Trims (record { rows = m.entries }) (record { rows = m.entries }) item
 trimmed_nowhere m item none = trims_nothing _ item (rw none refl)
 

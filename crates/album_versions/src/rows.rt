@@ -64,6 +64,13 @@ impl Row {
         self.floor
     }
 
+    /// How many versions there are.
+    pub fn count(&self) -> usize
+        ensures { result ≡ length self.now.versions }
+    {
+        self.versions.len()
+    }
+
     /// The value of the version at the stamp.
     pub fn value(&self, stamp: Stamp) -> Option<&SharedValue>
         ensures { option_copied result ≡ version_in self.now.versions stamp }

@@ -1,10 +1,10 @@
 //! The versions of items, and of each item the latest committed stamp and the floor.
-ghost use Rattle.std.specs.Prelude.{◌≡◌, ◌≢◌, ◌<◌, ◌≤◌, ◌↔◌, ◌⊎◌, ℕ, Bool, List, is_some, IsTrue, IsSome, IsNone, IfSome, IfErr, OnOk, OnErr, All, Contains};
+ghost use Rattle.std.specs.Prelude.{◌≡◌, ◌≢◌, ◌<◌, ◌≤◌, ◌↔◌, ◌⊎◌, ◌-◌, ◌^◌, ℕ, min, Bool, List, is_some, IsTrue, IsSome, IsNone, IfSome, IfErr, OnOk, OnErr, All, Contains};
 ghost use Rattle.std.specs.Option.{option_copied};
 ghost use Rattle.album_items.specs.declared.values.Value.{Value as ItemValue};
 ghost use Rattle.album_versions.specs.Best.{best_of, unless_gone};
 ghost use Rattle.album_versions.specs.Rows.{empty_row};
-ghost use Rattle.album_versions.specs.Versions.{VersionsState, version_at, latest_of, floor_of, SameVersions, Adds, Drops, Commits, Trims};
+ghost use Rattle.album_versions.specs.Versions.{VersionsState, version_at, latest_of, floor_of, version_count, SameVersions, Adds, DropsOne, Drops, Commits, Trims};
 
 use crate::rows::Row;
 use album_items::{ItemId, SharedValue};
@@ -64,15 +64,13 @@ impl Versions {
         add_in(&mut self.rows, Row::new(self.alloc), item, stamp, value)
     }
 
-    /// Every version at the stamp goes, of every item. What was committed stays the latest.
-    pub fn drop_stamp(&mut self, stamp: Stamp)
-        ensures { Drops self.old self.new stamp }
+    /// The item's version at the stamp goes, if there is one. What was committed stays the latest.
+    pub fn drop_stamp(&mut self, item: ItemId, stamp: Stamp)
+        ensures { DropsOne self.old self.new item stamp }
     {
-        // No row goes. Of a loop over `values_mut` no contract says what it leaves.
-        self.rows.retain(|_, row| {
+        if let Some(row) = self.rows.get_mut(&item) {
             row.drop_stamp(stamp);
-            true
-        });
+        }
     }
 
     /// The item's version at the stamp is committed: the item's latest stamp is raised to the
@@ -118,6 +116,17 @@ impl Versions {
             None => Stamp::zero(),
             Some(row) => row.floor(),
         }
+    }
+
+    /// How many versions there are, of all items. That is 2^64 - 1 at most, which no memory holds.
+    pub fn count(&self) -> u64
+        ensures { result ≡ min (version_count self.now) (2 ^ 64 - 1) }
+    {
+        let mut count: u64 = 0;
+        for row in self.rows.values() {
+            count = count.saturating_add(row.count() as u64);
+        }
+        count
     }
 
     /// The greatest of the stamps at which the item has a version. Where it has none at any of
@@ -205,13 +214,18 @@ pub fn latest_never_falls()
 {}
 
 /// A law: what was added is found, unless it is below the floor, where nothing changes. What was
-/// dropped is not found. Where no item had a version at the stamp, to add one and to drop the stamp
-/// leaves what there was.
+/// dropped is not found. Where the item had no version at the stamp, to add one and to drop it leaves
+/// what there was. Where no item had one, so does to drop the whole stamp.
 pub fn dropped_as_if_never_added()
     ensures found { (old new : VersionsState) (item stamp : ℕ) (value : ItemValue)
         → floor_of old item ≤ stamp → Adds old new item stamp value → version_at new item stamp ≡ Some value }
     ensures not_kept { (old new : VersionsState) (item stamp : ℕ) (value : ItemValue)
         → stamp < floor_of old item → Adds old new item stamp value → SameVersions old new }
+    ensures one_gone { (old new : VersionsState) (item stamp : ℕ) → DropsOne old new item stamp
+        → version_at new item stamp ≡ None }
+    ensures one_undone { (old mid new : VersionsState) (item stamp : ℕ) (value : ItemValue)
+        → version_at old item stamp ≡ None
+        → Adds old mid item stamp value → DropsOne mid new item stamp → SameVersions old new }
     ensures gone { (old new : VersionsState) (stamp i : ℕ) → Drops old new stamp
         → version_at new i stamp ≡ None }
     ensures undone { (old mid new : VersionsState) (item stamp : ℕ) (value : ItemValue)
@@ -245,6 +259,8 @@ pub fn floor_stays_low()
     ensures add { (old new : VersionsState) (item stamp i : ℕ) (value : ItemValue) → floor_of old i ≤ latest_of old i
         → Adds old new item stamp value
         → (floor_of new i ≤ latest_of new i) × (floor_of old i ≤ floor_of new i) }
+    ensures drop_one { (old new : VersionsState) (item stamp i : ℕ) → floor_of old i ≤ latest_of old i
+        → DropsOne old new item stamp → (floor_of new i ≤ latest_of new i) × (floor_of old i ≤ floor_of new i) }
     ensures drop { (old new : VersionsState) (stamp i : ℕ) → floor_of old i ≤ latest_of old i
         → Drops old new stamp → (floor_of new i ≤ latest_of new i) × (floor_of old i ≤ floor_of new i) }
     ensures commit { (old new : VersionsState) (item stamp i : ℕ) → floor_of old i ≤ latest_of old i

@@ -27,7 +27,7 @@ use Rattle.album_partition.specs.Answers.{action_of, after, answer, reply_to}
 use Rattle.album_partition.specs.Sweeps.{sent_by}
 use Rattle.album_partition.specs.Trims.{with_mark}
 use Rattle.album_partition.specs.Partition.{PartitionState, IsPartition, stamp_for}
-use Rattle.album_partition.specs.Marks.{prepares, commits, discards, state_of, is_pending, is_full, load, is_legal, has_version, latest, floor, version, value_in, items_at, mark_items, IsPromisedAgainst}
+use Rattle.album_partition.specs.Marks.{prepares, commits, discards, decided, state_of, is_pending, is_full, load, is_legal, has_version, latest, floor, version, value_in, items_at, mark_items, IsPromisedAgainst}
 use Rattle.album_items.specs.Places.{is_placed, others_of}
 use Rattle.album_partition.proofs.PartitionLemmas.{stays_after, trims_by}
 use Rattle.album_partition.proofs.LoadLemmas.{committed_counts, discarded_counts}
@@ -49,7 +49,7 @@ use Rattle.album_permits.specs.declared.events.Event.TheVariants as event
 use Rattle.album_world.specs.Committing.{history}
 use Rattle.album_world.proofs.ListLemmas.{in_cases, in_map, in_nil, in_one, find_push, set_same, set_other, none_some, some_same, same_or_not, any_in, in_any, any_more, true_or_false}
 use Rattle.album_world.proofs.MarkLemmas.{IsPreparedIn, prepared_in, commits_is, discards_is, wrote, wrote_more, version_is, some_is, is_some_of, best_least, best_is, latest_least, latest_is, stamp_for_best}
-use Rattle.album_world.proofs.PlaceLemmas.{other_item}
+use Rattle.album_world.proofs.PlaceLemmas.{other_item, left_noted}
 use Rattle.album_world.proofs.Invariant.{IsKept, IsPlaced, IsPlacedAt, IsPrepareOf, IsSettled, IsAgainst, IsFine, IsTagged, IsSound, GetsWith, TellsWith, IsAsked, IsAnswered, HasBegun, FirstRound, SecondRound, IsCollectedStamp, IsFetching, IsRound, IsWriting, HasPrepared, HasCommitted, IsDoing}
 use Rattle.album_world.proofs.GrowthLemmas.{Grows, any_grows, tells_more, prepared_grows, fine_grows, tagged_grows, begun_grows, first_round_grows, second_round_grows, founds_grows, stamp_grows, has_fresh_grows, read_grows, answer_grows, drawn_grows, sound_grows, settled_grows, against_grows, prepare_grows}
 use Rattle.album_world.proofs.WroteLemmas.{apart}
@@ -159,6 +159,10 @@ second_now o w k c began r ts f i l =
         (f.stamps s d))
         h
 
+-- where no vote is noted
+no_more : (votes : List NotedVote) (n : NotedVote) → In n votes → In n (votes ++ [])
+no_more votes n l = subst (λ (a : List NotedVote). In n a) (sym (append-nil votes)) l
+
 -- a message that partition p sends; its reply to a reader is what p reads for it
 pub record IsSaid (o : Opening) (w next : World) (p : ℕ) (n : Message) : Type 1 where
   pub to : Node
@@ -174,7 +178,7 @@ pub record IsSaid (o : Opening) (w next : World) (p : ℕ) (n : Message) : Type 
 module _ (o : Opening) (w : World) (k : IsKept o w) (p : ℕ) (h : PartitionState)
     (got : slice_get w.now.partitions p ≡ Some h) (h' : PartitionState) (x : Option Mark) (y : Option NotedVote)
     (placed : IsPlaced o p h') (marks : h'.marks ≡ h.marks ++ option_to_list x)
-    (votes : h'.votes ≡ h.votes ++ option_to_list y)
+    (votes : (n : NotedVote) → In n h'.votes → In n (h.votes ++ option_to_list y))
     (marked : IsMarked o w p h.marks x) (noted : (n : NotedVote) → y ≡ Some n
     → IsPreparedIn (history w n.part) n.stamp) (sent : List Message) where
   abbrev next : World
@@ -383,7 +387,7 @@ module _ (o : Opening) (w : World) (k : IsKept o w) (p : ℕ) (h : PartitionStat
       (λ i. k.noted p h got n i)
       (λ i. noted n (in_option y i))
       (in_cases h.votes (option_to_list y)
-      (subst (λ (a : List NotedVote). In n a) votes
+      (votes n
       (subst (λ (a : PartitionState). In n a.votes) (some_same (sym e ∙ c.1)) l))))
       (λ (c : slice_get next.now.partitions q ≡ slice_get w.now.partitions q). k.noted q z (sym c ∙ e) n l)
       (part_cases q))
@@ -521,8 +525,9 @@ part_kept o some w k p m sent to h got =
     let d = k.placed p h got in
     let d' = placed_after o p h m d in
     let replies = option_to_list (answer h m) in
-    let g = grows o w k p h got (after h m) e.mark e.vote d' refl refl f.marked f.noted replies in
-    at_part_kept o w k p h got (after h m) e.mark e.vote d' refl refl f.marked f.noted replies
+    let noted = left_noted (decided e.mark) (h.votes ++ option_to_list e.vote) in
+    let g = grows o w k p h got (after h m) e.mark e.vote d' refl noted f.marked f.noted replies in
+    at_part_kept o w k p h got (after h m) e.mark e.vote d' refl noted f.marked f.noted replies
     (λ n l.
     let r = in_answer h m n e.reply l in
     record {
@@ -533,7 +538,7 @@ part_kept o some w k p m sent to h got =
           record { from = Part z; to = m.from; tag = m.tag; body = body.Reply r.0 } in a) d.number;
       tagged = k.from m sent;
       fine = f.replied (changed w (AtPart p (after h m) replies)) g
-          (here_now o w k p h got (after h m) e.mark e.vote d' refl refl f.marked f.noted replies) r.0 r.1;
+          (here_now o w k p h got (after h m) e.mark e.vote d' refl noted f.marked f.noted replies) r.0 r.1;
       tells = λ c ts P from asked now. f.tells P
           (λ i ss q d. subst (λ (z : List ℕ). P i (stamp_for h.marks i z))
           (sym (subst (GetsWith ts) q (asked.at m sent from refl)))
@@ -555,11 +560,11 @@ sweep_kept o w k p t h got = go (is_pending (state_of h.marks t)) refl
 
     sends : (sent : List Message) → ((n : Message) → In n sent → IsSaid o w (changed w (AtPart p h sent)) p n)
         → IsKept o (changed w (AtPart p h sent))
-    sends sent said = at_part_kept o w k p h got h None None d (sym (append-nil _)) (sym (append-nil _)) no_mark
+    sends sent said = at_part_kept o w k p h got h None None d (sym (append-nil _)) (no_more h.votes) no_mark
         (λ n e. none_some e) sent said
 
     grown : (sent : List Message) → Grows o w (changed w (AtPart p h sent))
-    grown sent = grows o w k p h got h None None d (sym (append-nil _)) (sym (append-nil _)) no_mark
+    grown sent = grows o w k p h got h None None d (sym (append-nil _)) (no_more h.votes) no_mark
         (λ n e. none_some e) sent
 
     part_apart : {q c : ℕ} {R : Type 0} → Part q ≡ ToClient c → R
@@ -637,7 +642,7 @@ trim_kept o w k p i h got = go (is_placed h.number h.parts i) refl (floor h.mark
     makes x marked is =
         at_part_kept o w k p h got (with_mark h x) x None
         (record { number = d.number; parts = d.parts; limit = d.limit; values = d.values; is = is })
-        refl (sym (append-nil _)) marked (λ n e. none_some e) [] (λ n l. absurd (in_nil l))
+        refl (no_more h.votes) marked (λ n e. none_some e) [] (λ n l. absurd (in_nil l))
 
     nothing_made : IsPartition (with_mark h None)
     nothing_made = subst IsPartition

@@ -1,11 +1,11 @@
 -- Where items are placed, what writes have for them, who voted, and the stamps of answers.
-use Rattle.std.proofs.Common.{◌≡◌, ℕ, ◌<◌, ◌+◌, Bool, true, false, cond, not, eqb, ◌==◌, nat_lt, List, [], ◌∷◌, filter, Some, ◌⊎◌, inl, inr, ⊎_elim, sym, ap, ◌∙◌, subst, refl, arith, true≢false, eqb-true, eq-eqb, mod-lt, if◌then◌else◌}
+use Rattle.std.proofs.Common.{◌≡◌, ℕ, ◌<◌, ◌+◌, Bool, true, false, cond, not, eqb, ◌==◌, nat_lt, List, [], ◌∷◌, filter, Option, Some, None, ◌⊎◌, inl, inr, ⊎_elim, sym, ap, ◌∙◌, subst, refl, arith, true≢false, eqb-true, eq-eqb, mod-lt, if◌then◌else◌}
 use Rattle.std.specs.List.{list_any, range_with_len}
 use Rattle.album_items.specs.ItemIds.{place_of, number_of, kind_of}
 use Rattle.album_items.specs.Openings.{Row}
 use Rattle.album_items.specs.declared.values.Value.{Value}
 use Rattle.album_terminate.specs.Deciding.{have_voted}
-use Rattle.album_partition.specs.Votes.{NotedVote, heard}
+use Rattle.album_partition.specs.Votes.{NotedVote, heard, votes_left}
 use Rattle.album_partition.specs.Marks.{value_in}
 use Rattle.album_items.specs.Places.{lies_at, is_other, others_of, places_of, rows_placed_at}
 use Rattle.album_reader.specs.Answers.{ReadVersion}
@@ -108,6 +108,11 @@ pub record IsNoted (votes : List NotedVote) (t q : ℕ) : Type 0 where
   pub noted : In by votes
   pub stamp : by.stamp ≡ t
   pub part : by.part ≡ q
+
+-- those that are left were noted
+pub left_noted : (stamp : Option ℕ) (votes : List NotedVote) (n : NotedVote) → In n (votes_left stamp votes) → In n votes
+left_noted None votes n l = l
+left_noted (Some t) votes n l = (in_filter (λ (vote : NotedVote). not (vote.stamp == t)) n votes l).0
 
 heard_is : (votes : List NotedVote) (t q : ℕ) → In q (heard votes t) → IsNoted votes t q
 heard_is votes t q h =

@@ -80,7 +80,7 @@ module _ (o : Opening) (is : IsOpening o) where
           room = omega (arith, is.low);
           legal = refl;
           proper = refl;
-          votes = record { once = refl; due = refl; open_still = λ t pending voted. absurd (true≢false (sym voted)) };
+          votes = record { once = refl; due = refl; pending = refl; open_still = λ t pending voted. absurd (true≢false (sym voted)) };
         };
       })
 
