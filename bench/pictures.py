@@ -31,12 +31,13 @@ def other_group(n, step):
     return 1 + (n + 4 * step) % (INNER - 1)
 
 
-def entries(n, bit=2):
-    """The list of a number. Who asks may read, title and set lists, by the last entry but one."""
+def entries(n, bit=2, is_audited=False):
+    """The list of a number. Who asks may read, title and set lists, by the last entry but one. Another may audit it."""
     return [["allow", "OWNER@", 2032127, 0], ["deny", "ANONYMOUS@", 2032127, 0],
             ["deny", f"{other_group(n, 0)}@groups", 65536, 64], ["allow", f"{other_group(n, 1)}@groups", bit, 64],
             ["allow", "GROUP@", 131, 0], ["deny", f"{other_group(n, 2)}@groups", 524288, 64],
-            ["allow", "0@groups", 262401, 64], ["allow", "EVERYONE@", 128, 0]]
+            ["allow", "0@groups", 262401, 64], ["allow", "EVERYONE@", 128, 0],
+            *([["audit", "EVERYONE@", 1, 16]] if is_audited else [])]
 
 
 def heads():
@@ -50,8 +51,8 @@ def line(made):
     return json.dumps(made, separators=(",", ":"), sort_keys=True) + "\n"
 
 
-def opening(parts):
-    """The lines of the opening of a service."""
+def opening(parts, is_audited=False):
+    """The lines of the opening of a service, in which each picture that is read may be noted."""
     yield line({"open": {"limit": 1000000, "parts": parts}})
     for kind, n, head in heads():
         if kind == "picture":
@@ -62,7 +63,7 @@ def opening(parts):
             users, groups = members(n)
             head.update(members=users + [f"{group}@groups" for group in groups])
         yield line({"item": f"{kind}/{n}", "value": head})
-        yield line({"item": f"list/{head['list']}", "value": {"entries": entries(head["list"])}})
+        yield line({"item": f"list/{head['list']}", "value": {"entries": entries(head["list"], 2, is_audited)}})
     yield line({"begin": True})
 
 

@@ -6,8 +6,8 @@ import socket
 import subprocess
 import time
 
-from crowds import NOTHING_NOTED, TRIP
-from serving import SECONDS, Connection, Service, free_port, joined, want, wrong_of
+from crowds import NOTHING_NOTED, TRIP, at_once
+from serving import SECONDS, Connection, Differs, Service, free_port, joined, want, wrong_of
 from talks import ONE_PIECE
 
 OPENING = joined(TRIP)
@@ -108,6 +108,45 @@ def errors_that_nobody_reads(program):
         want(0, service.run.wait(SECONDS), "the status")
 
 
+def writes_until_it_ends(service, client):
+    """Titles the picture thirty times, or until the connection is closed. Nothing is waited for in vain: each line that
+    is sent is answered, or the connection ends."""
+    try:
+        connection = Connection(service.port, ONE_PIECE)
+    except ConnectionRefusedError:
+        return
+    try:
+        lines = [HELLO] + [{"ask": {"do": "retitle", "object": "picture/0", "title": f"{client}, {n}"}} for n in range(30)]
+        for line in lines:
+            connection.send(json.dumps(line).encode() + b"\n")
+            answer = connection.answer()
+            if not answer:
+                return
+            json.loads(answer)
+    except (ConnectionResetError, BrokenPipeError):
+        return
+    finally:
+        connection.close()
+
+
+def memory_that_runs_out(program):
+    """With so few megabytes some connections aren't served, or a partition's thread ends. No connection hangs, and the
+    service has ended by itself, with the fault, or serves on."""
+    for megabytes in (40, 64, 96, 160):
+        try:
+            with Service(program, OPENING, 65535, memory=megabytes << 20) as service:
+                at_once(*[(writes_until_it_ends, service, client) for client in range(12)])
+                status = service.run.poll()
+                if status is None:
+                    writes_until_it_ends(service, 12)
+                else:
+                    want(1, status, "the status")
+        except Differs as error:
+            # It had no memory to begin with.
+            if "the first line" not in str(error):
+                raise
+
+
 def refused_on_standard_error(program):
     """A refused opening is named with its line, from 1, and a port that somebody has with its number."""
     header, picture, begin = TRIP[0], TRIP[1], TRIP[-1]
@@ -133,6 +172,7 @@ FACTS = {
     "no more than are counted until the end of its input": no_more_than_counted_until_the_end,
     "a connection that says nothing for too long": nothing_said_for_too_long,
     "errors that nobody reads": errors_that_nobody_reads,
+    "memory runs out": memory_that_runs_out,
     "what is refused is named on standard error": refused_on_standard_error,
 }
 

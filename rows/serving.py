@@ -29,12 +29,18 @@ def free_port():
 
 class Service:
     """A running service, which is killed where it is left before its end. It may have further words on its command
-    line, an input that doesn't end with the opening, so many files at most, and a file for what it says."""
+    line, an input that doesn't end with the opening, so many files and bytes of memory at most, and a file for what it
+    says."""
 
-    def __init__(self, program, opening, conns, *words, goes_on=False, files=None, errors=None):
+    def __init__(self, program, opening, conns, *words, goes_on=False, files=None, memory=None, errors=None):
         self.port = free_port()
         self.errors = tempfile.TemporaryFile() if errors is None else errors
-        limit = (lambda: resource.setrlimit(resource.RLIMIT_NOFILE, (files, files))) if files else None
+
+        def limit():
+            for what, most in ((resource.RLIMIT_NOFILE, files), (resource.RLIMIT_AS, memory)):
+                if most is not None:
+                    resource.setrlimit(what, (most, most))
+
         with tempfile.TemporaryFile() as lines:
             lines.write(opening)
             lines.seek(0)

@@ -8,12 +8,13 @@ use crate::texts::{
     ABOUT, JUDGE_ABOUT, JUDGE_HELP, NO_TEXT, REPLAY_ABOUT, REPLAY_HELP, SERVE_ABOUT, SERVE_HELP,
 };
 use album_server::{
-    Admins, Fault, Refusal, Served, Serving, judge, replay, serve_beside, serve_for, serve_until,
+    Admins, AuditFile, Fault, Refusal, Served, Serving, judge, replay, serve_beside, serve_for,
+    serve_until,
 };
 use clap::error::ErrorKind;
 use clap::{Arg, ArgAction, ArgMatches, Command, Error, value_parser};
 use std::alloc::{AllocError, Global};
-use std::fs::File;
+use std::fs::{File, OpenOptions};
 use std::io::{Read, Write};
 use std::net::{Net, TcpListener, TcpStream};
 use std::process::ExitCode;
@@ -106,7 +107,9 @@ fn serve_command<'a>(alloc: Global) -> Result<Command<'a>, AllocError> {
         .arg(idle_arg(alloc))?
         .arg(until_eof_arg(alloc))?
         .arg(opening_arg(alloc))?
-        .arg(admin_arg(alloc))
+        .arg(admin_arg(alloc))?
+        .arg(stats_arg(alloc))?
+        .arg(audit_arg(alloc))
 }
 
 fn port_arg<'a>(alloc: Global) -> Arg<'a> {
@@ -155,6 +158,21 @@ fn admin_arg<'a>(alloc: Global) -> Arg<'a> {
             "Who may sweep, trim and ask what is pending, in the place of everyone; may be given again",
         )
         .action(ArgAction::Append)
+}
+
+fn stats_arg<'a>(alloc: Global) -> Arg<'a> {
+    Arg::new(alloc, "stats")
+        .long("stats")
+        .value_name("SECONDS")
+        .help("How often the figures of the service are told on standard error")
+        .value_parser(value_parser!(u32).range(1..))
+}
+
+fn audit_arg<'a>(alloc: Global) -> Arg<'a> {
+    Arg::new(alloc, "audit")
+        .long("audit")
+        .value_name("FILE")
+        .help("A file to which each note is appended, before its request is answered")
 }
 
 /// Answers the lines of each file that is named, to its end, or else those of the reader.
@@ -230,23 +248,49 @@ where
         .and_then(|m| m.get_one::<u16>("conns"))
         .unwrap_or(u16::MAX);
     let idle = matches.and_then(|m| m.get_one::<u32>("idle")).unwrap_or(0);
+    let stats = matches.and_then(|m| m.get_one::<u32>("stats")).unwrap_or(0);
     let serving = Serving {
         port,
         conns,
         turns: TURNS,
         idle,
+        stats,
         admins,
     };
     let until_eof = matches.is_some_and(|m| m.get_flag("until-eof"));
+    let audit = audit_file(&rt, alloc, matches)?;
     match matches.and_then(|m| m.get_str("opening")) {
-        None if until_eof => serve_until(rt, alloc, reader, writer, serving),
-        None => serve_for(rt, alloc, &mut reader, writer, serving),
+        None if until_eof => serve_until(rt, alloc, reader, writer, serving, audit),
+        None => serve_for(rt, alloc, &mut reader, writer, serving, audit),
         Some(path) => {
             let mut opening = open(&rt, path)?;
             if until_eof {
-                return serve_beside(rt, alloc, &mut opening, reader, writer, serving);
+                return serve_beside(rt, alloc, &mut opening, reader, writer, serving, audit);
             }
-            serve_for(rt, alloc, &mut opening, writer, serving)
+            serve_for(rt, alloc, &mut opening, writer, serving, audit)
+        }
+    }
+}
+
+/// The audit file that the command line names, made where there is none. Why it can't be written is told on standard
+/// error.
+fn audit_file<T: Files<File = File> + Eprint>(
+    rt: &T,
+    alloc: Global,
+    matches: Option<&ArgMatches<'_>>,
+) -> Result<Option<AuditFile<File>>, Fault> {
+    let Some(path) = matches.and_then(|m| m.get_str("audit")) else {
+        return Ok(None);
+    };
+    let opened = OpenOptions::new().append(true).create(true).open(rt, path);
+    match opened {
+        Ok(file) => Ok(Some(AuditFile {
+            path: String::from_str(alloc, path).map_err(|_| Fault::Memory)?,
+            file,
+        })),
+        Err(error) => {
+            let _ = eprintln!(rt; "album: {path}: {error}");
+            Err(Fault::Writing)
         }
     }
 }

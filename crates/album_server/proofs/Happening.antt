@@ -1,5 +1,5 @@
--- What an event makes of a world, and what is printed of it. For `happen`, `deliver`, `deliver_range` and `run`.
-use Rattle.std.proofs.Common.{◌≡◌, ◌≢◌, ◌⊎◌, ◌+◌, ◌-◌, ◌≤◌, ◌<◌, suc, ℕ, List, [], ◌∷◌, ◌++◌, Bool, true, false, ◌==◌, map, Option, Result, Ok, Err, inl, inr, refl, sym, ap, ◌∙◌, subst, append_assoc, append-nil, take-append-drop, drop, arith}
+-- What an event makes of a world, and what is printed of it. For `run_event`, `deliver`, `deliver_range` and `run`.
+use Rattle.std.proofs.Common.{◌≡◌, ◌≢◌, ◌⊎◌, ◌+◌, ◌-◌, ◌≤◌, ◌<◌, suc, ℕ, List, [], ◌∷◌, ◌++◌, Bool, true, false, not, ◌||◌, ◌==◌, map, Option, Result, Ok, Err, inl, inr, refl, sym, ap, ◌∙◌, subst, append_assoc, append-nil, take-append-drop, drop, arith}
 use Rattle.std.specs.Io.KnownBytes.{Appends}
 use Rattle.std.specs.List.{range_with_len}
 use Rattle.std.proofs.lemmas.List.FromFn.{map-range_with_len_more, take-map-range_with_len}
@@ -20,7 +20,7 @@ use Rattle.album_wire.specs.EventLine.{deliveries}
 use Rattle.album_lines.specs.Output.{refusal_line}
 use Rattle.album_lines.specs.Lines.{Line}
 use Rattle.album_wire.specs.declared.event_shape.Spelled.{Spelled}
-use Rattle.album_server.specs.Replay.{Happens, Delivers, Spells, Runs, IsTold, event_line_read, told_text, event_text, delivery_text, delivered}
+use Rattle.album_server.specs.Replay.{Happens, Delivers, Spells, Runs, IsPrinted, event_line_read, outputs_text, event_text, delivery_text, text_in, delivered}
 use Rattle.album_server.specs.Stages.{Leads, MayLead, with_past}
 use Rattle.album_judge.specs.declared.fault.Fault.{Fault}
 use Rattle.album_judge.specs.Writes.{Writes, IsPrefixOf, LeavesOf}
@@ -52,21 +52,21 @@ leads_left Goes old new past whole h fault a b w =
 abbrev world_of : Now → Past → World
 world_of now past = record { now = now; past = past }
 
--- it is done, and told
-pub told_so : (text_of : Bool → Now → Result Change Refusal → List ℕ)
+-- it is done, and its outputs are written
+pub done_written : (text_of : Bool → Now → Result Change Refusal → List ℕ)
     → ((trace : Bool) (now : Now) (change : Change)
-    → text_of trace now (Ok change) ≡ told_text trace (now_after now change) (outs_of now change))
+    → text_of trace now (Ok change) ≡ outputs_text trace (now_after now change) (outs_of now change))
     → (terms : Terms) (trace : Bool) (old new : WorldState) (event : Event) (outs : List Out) (past : Past)
     → IsDone terms old.kept event new.kept outs
-    → Leads (λ before. Happens text_of terms trace before event) old new past (told_text trace new.kept outs)
-told_so text_of says terms trace old new event outs past done =
+    → Leads (λ before. Happens text_of terms trace before event) old new past (outputs_text trace new.kept outs)
+done_written text_of says terms trace old new event outs past done =
     let world = world_of old.kept past in
     let then : Past = past_after old.kept (requested world event).past done.change in
     let next : world_of new.kept then ≡ happens terms world event =
     ap (λ now. world_of now then) done.kept ∙ ap (changed_by world event) (sym done.is) in
-    let text : told_text trace new.kept outs ≡ text_of trace old.kept (change_of terms old.kept event) =
-    ap (λ now. told_text trace now outs) done.kept
-    ∙ ap (told_text trace (now_after old.kept done.change)) done.outputs
+    let text : outputs_text trace new.kept outs ≡ text_of trace old.kept (change_of terms old.kept event) =
+    ap (λ now. outputs_text trace now outs) done.kept
+    ∙ ap (outputs_text trace (now_after old.kept done.change)) done.outputs
     ∙ sym (says trace old.kept done.change)
     ∙ ap (text_of trace old.kept) (sym done.is) in
     (then, inl (next, text))
@@ -130,8 +130,8 @@ pub event_left : (text_of : Bool → Now → Result Change Refusal → List ℕ)
     → Writes (LeavesOf fault (MayLead (λ before. Happens text_of terms trace before event) old past)) a b
 event_left text_of terms trace event = leads_left (λ before. Happens text_of terms trace before event)
 
--- its number tells it
-pub is_memory : (e : Refusal) → (number_of e == number_of OutOfMemory) ≡ true → e ≡ OutOfMemory
+-- its number says it
+is_memory : (e : Refusal) → (number_of e == number_of OutOfMemory) ≡ true → e ≡ OutOfMemory
 is_memory OutOfMemory is = refl
 is_memory BadLine is = cc
 is_memory BadRequest is = cc
@@ -156,7 +156,7 @@ is_memory Closed is = cc
 is_memory BadOpening is = cc
 is_memory NoSuchPart is = cc
 
-pub not_memory : (e : Refusal) → (number_of e == number_of OutOfMemory) ≡ false → e ≢ OutOfMemory
+not_memory : (e : Refusal) → (number_of e == number_of OutOfMemory) ≡ false → e ≢ OutOfMemory
 not_memory e is memory =
     let same : (number_of e == number_of OutOfMemory) ≡ true =
     ap (λ r. number_of r == number_of OutOfMemory) memory in
@@ -164,11 +164,11 @@ not_memory e is memory =
     cc
 
 -- either way, of a refused event its refusal is printed
-pub refused_told : (terms : Terms) (trace : Bool) (old new : WorldState) (event : Event) (e : Refusal) (past : Past)
+refusal_written : (terms : Terms) (trace : Bool) (old new : WorldState) (event : Event) (e : Refusal) (past : Past)
     → (e ≢ OutOfMemory → change_of terms old.kept event ≡ Err e)
     → new ≡ old
     → Leads (λ before. Happens event_text terms trace before event) old new past (refusal_line e)
-refused_told terms trace old new event e past why same = go (memory_or_not e)
+refusal_written terms trace old new event e past why same = go (memory_or_not e)
   where
     go : (e ≡ OutOfMemory) ⊎ (e ≢ OutOfMemory)
         → Leads (λ before. Happens event_text terms trace before event) old new past (refusal_line e)
@@ -177,21 +177,45 @@ refused_told terms trace old new event e past why same = go (memory_or_not e)
         (refused_for_memory event_text terms trace old new event past same)
     go (inr is) = refused_so event_text terms trace old new event e past (why is) same
 
--- the same, as it is told of one in a range
-pub memory_told : (terms : Terms) (trace : Bool) (old new : WorldState) (event : Event) (e : Refusal) (past : Past)
+-- the same, as it is printed of one in a range
+memory_written : (terms : Terms) (trace : Bool) (old new : WorldState) (event : Event) (e : Refusal) (past : Past)
     → e ≡ OutOfMemory
     → new ≡ old
     → Leads (λ before. Happens delivery_text terms trace before event) old new past (refusal_line e)
-memory_told terms trace old new event e past is same =
+memory_written terms trace old new event e past is same =
     subst (λ r. Leads (λ before. Happens delivery_text terms trace before event) old new past (refusal_line r)) (sym is)
     (refused_for_memory delivery_text terms trace old new event past same)
 
-pub not_told : (terms : Terms) (trace : Bool) (old new : WorldState) (event : Event) (e : Refusal) (past : Past)
+not_printed : (terms : Terms) (trace : Bool) (old new : WorldState) (event : Event) (e : Refusal) (past : Past)
     → change_of terms old.kept event ≡ Err e
     → new ≡ old
     → Leads (λ before. Happens delivery_text terms trace before event) old new past []
-not_told terms trace old new event e past is same =
+not_printed terms trace old new event e past is same =
     refused_so delivery_text terms trace old new event e past is same
+
+-- of an event alone, or of one in a range
+pub outputs_in : (b trace : Bool) (now : Now) (change : Change)
+    → text_in b trace now (Ok change) ≡ outputs_text trace (now_after now change) (outs_of now change)
+outputs_in false trace now change = refl
+outputs_in true trace now change = refl
+
+pub refusal_in : (b : Bool) (terms : Terms) (trace : Bool) (old new : WorldState) (event : Event) (e : Refusal) (past : Past)
+    → (not b || number_of e == number_of OutOfMemory) ≡ true
+    → (e ≢ OutOfMemory → change_of terms old.kept event ≡ Err e)
+    → new ≡ old
+    → Leads (λ before. Happens (text_in b) terms trace before event) old new past (refusal_line e)
+refusal_in false terms trace old new event e past is why same = refusal_written terms trace old new event e past why same
+refusal_in true terms trace old new event e past is why same =
+    memory_written terms trace old new event e past (is_memory e is) same
+
+pub nothing_in : (b : Bool) (terms : Terms) (trace : Bool) (old new : WorldState) (event : Event) (e : Refusal) (past : Past)
+    → (not b || number_of e == number_of OutOfMemory) ≡ false
+    → (e ≢ OutOfMemory → change_of terms old.kept event ≡ Err e)
+    → new ≡ old
+    → Leads (λ before. Happens (text_in b) terms trace before event) old new past []
+nothing_in false terms trace old new event e past is why same = cc
+nothing_in true terms trace old new event e past is why same =
+    not_printed terms trace old new event e past (why (not_memory e is)) same
 
 -- ---- a range
 
@@ -349,47 +373,47 @@ range_so_far terms trace first number last high low old mid a b so_far past =
 line_goes : (terms : Terms) (trace : Bool) (line : Line) (events : Spelled) (world next : World) (text : List ℕ)
     → event_line_read line ≡ Ok events
     → Spells terms trace world events next text
-    → IsTold terms trace line world next text
+    → IsPrinted terms trace line world next text
 line_goes terms trace line events world next text is h =
     inl (subst (λ read. Runs terms trace world read next text) (sym is) h)
 
--- the events that it spells are told
-pub line_told : (terms : Terms) (trace : Bool) (line : Line) (events : Spelled) (old new : WorldState) (past : Past)
+-- the outputs of the events that it spells are written
+pub line_done : (terms : Terms) (trace : Bool) (line : Line) (events : Spelled) (old new : WorldState) (past : Past)
     → event_line_read line ≡ Ok events
     → (a b : Option (List ℕ))
     → Writes (Leads (λ before next text. Spells terms trace before events next text) old new past) a b
-    → Writes (Leads (IsTold terms trace line) old new past) a b
-line_told terms trace line events old new past is a b w =
+    → Writes (Leads (IsPrinted terms trace line) old new past) a b
+line_done terms trace line events old new past is a b w =
     (w.0, (w.1.0, line_goes terms trace line events (with_past old past) (with_past new w.1.0) w.0 is w.1.1), w.2)
 
 pub line_left : (terms : Terms) (trace : Bool) (line : Line) (events : Spelled) (old : WorldState) (past : Past)
     → event_line_read line ≡ Ok events
     → (fault : Fault) (a b : Option (List ℕ))
     → Writes (LeavesOf fault (MayLead (λ before next text. Spells terms trace before events next text) old past)) a b
-    → Writes (LeavesOf fault (MayLead (IsTold terms trace line) old past)) a b
+    → Writes (LeavesOf fault (MayLead (IsPrinted terms trace line) old past)) a b
 line_left terms trace line events old past is fault a b w =
     writes_left (MayLead (λ before next text. Spells terms trace before events next text) old past)
-    (MayLead (IsTold terms trace line) old past)
+    (MayLead (IsPrinted terms trace line) old past)
     (λ text h. (h.0, line_goes terms trace line events (with_past old past) h.0 text is h.1)) fault a b w
 
 -- it is refused
 pub line_refused : (terms : Terms) (trace : Bool) (line : Line) (e : Refusal) (world : WorldState) (past : Past)
     → (e ≢ OutOfMemory → event_line_read line ≡ Err e)
-    → Leads (IsTold terms trace line) world world past (refusal_line e)
+    → Leads (IsPrinted terms trace line) world world past (refusal_line e)
 line_refused terms trace line e world past why = go (memory_or_not e)
   where
-    go : (e ≡ OutOfMemory) ⊎ (e ≢ OutOfMemory) → Leads (IsTold terms trace line) world world past (refusal_line e)
+    go : (e ≡ OutOfMemory) ⊎ (e ≢ OutOfMemory) → Leads (IsPrinted terms trace line) world world past (refusal_line e)
     go (inl is) = (past, inr (refl, ap refusal_line is))
     go (inr is) =
         (past, inl (subst (λ read. Runs terms trace (with_past world past) read (with_past world past) (refusal_line e)) (sym (why is)) (refl, refl)))
 
 pub line_written : (terms : Terms) (trace : Bool) (line : Line) (world : WorldState) (past : Past) (whole : List ℕ)
-    → Leads (IsTold terms trace line) world world past whole
-    → (a b : Option (List ℕ)) → Appends a b whole → Writes (Leads (IsTold terms trace line) world world past) a b
-line_written terms trace line world = leads_writes (IsTold terms trace line) world world
+    → Leads (IsPrinted terms trace line) world world past whole
+    → (a b : Option (List ℕ)) → Appends a b whole → Writes (Leads (IsPrinted terms trace line) world world past) a b
+line_written terms trace line world = leads_writes (IsPrinted terms trace line) world world
 
 pub line_begun : (terms : Terms) (trace : Bool) (line : Line) (world : WorldState) (past : Past) (whole : List ℕ)
-    → Leads (IsTold terms trace line) world world past whole
+    → Leads (IsPrinted terms trace line) world world past whole
     → (fault : Fault) (a b : Option (List ℕ)) → Writes (LeavesOf fault (λ text. text ≡ whole)) a b
-    → Writes (LeavesOf fault (MayLead (IsTold terms trace line) world past)) a b
-line_begun terms trace line world = leads_left (IsTold terms trace line) world world
+    → Writes (LeavesOf fault (MayLead (IsPrinted terms trace line) world past)) a b
+line_begun terms trace line world = leads_left (IsPrinted terms trace line) world world

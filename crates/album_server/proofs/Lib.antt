@@ -1,7 +1,7 @@
 pub mod Replaying
 pub mod OnLiterals
 pub mod Leaving
-pub mod Telling
+pub mod OutputTexts
 pub mod Happening
 pub mod Standing
 pub mod ReplayTurns

@@ -20,7 +20,7 @@ use Rattle.album_world.specs.Seen.{IsInPast}
 use Rattle.album_permits.specs.declared.events.Event.{Event}
 use Rattle.album_permits.specs.declared.outs.Out.{Out}
 use Rattle.album_permits.specs.declared.outs.Out.TheVariants as out
-use Rattle.album_world.proofs.StoryLemmas.{run_more, in_past_told}
+use Rattle.album_world.proofs.StoryLemmas.{run_more, in_past_outputs}
 use Rattle.album_world.proofs.AnsweredLemmas.{answers_are_to_requests}
 use Rattle.album_world.proofs.PromiseLemmas.{rulings_hold, writes_are_granted, views_are_read_atomic, views_are_fresh, outcomes_are_true, busy_has_its_cause}
 use Rattle.album_world.proofs.ListLemmas.{In, contains, within, in_cases, in_nil, in_uncons, in_map}
@@ -33,8 +33,8 @@ use Rattle.album_wire.specs.declared.event_shape.Spelled.TheVariants as spelled
 use Rattle.album_wire.specs.declared.opening_line.OpeningLine.{OpeningLine}
 use Rattle.album_wire.specs.declared.opening_line.OpeningLine.TheVariants as line
 use Rattle.album_wire.specs.declared.opening_shape.Header.{Header}
-use Rattle.album_server.specs.Replay.{Stage, Unopened, BeingOpened, Running, Over, Step, refused, silently, opening_of, first_line, later_line, opened_by, message_shown, event_text, delivery_text, Happens, Delivers, Runs, opening_line_read, event_line_read, IsOpened, IsTold, IsRun, Takes, IsStep, Replays, IsReplay, end_text}
-use Rattle.album_server.specs.Promise.{opening_said, item_said, SpellsOpening, events_read, events_spelled, AreAmong, Spell, IsSpelledBy, AllHold, IsOf, Printed, Refused, Told, text_of, IsRight, IsAsPromised}
+use Rattle.album_server.specs.Replay.{Stage, Unopened, BeingOpened, Running, Over, Step, refused, silently, opening_of, first_line, later_line, opened_by, message_shown, event_text, delivery_text, Happens, Delivers, Runs, opening_line_read, event_line_read, IsOpened, IsPrinted, IsRun, Takes, IsStep, Replays, IsReplay, end_text}
+use Rattle.album_server.specs.Promise.{opening_said, item_said, SpellsOpening, events_read, events_spelled, AreAmong, Spell, IsSpelledBy, AllHold, IsOf, Printed, Refused, Output, text_of, IsRight, IsAsPromised}
 use Rattle.album_server.specs.Promise.AreAmong.{nothing, taken, left}
 use Rattle.album_judge.specs.Writes.{Writes}
 
@@ -87,12 +87,12 @@ refused_part input r = record {
   right = λ part i. ⊎_elim (λ (e : part ≡ Refused r). subst (IsRight input) (sym e) tt) (λ j. in_nil j) (in_uncons i);
 }
 
-text_map : (outs : List Out) (of : Out → Printed) (line_of : Out → List ℕ) → ((told : Out) → text_of (of told) ≡ line_of told)
+text_map : (outs : List Out) (of : Out → Printed) (line_of : Out → List ℕ) → ((output : Out) → text_of (of output) ≡ line_of output)
     → flat_map line_of outs ≡ flat_map text_of (map of outs)
 text_map [] of line_of same = refl
-text_map (told ∷ outs) of line_of same =
-    ap (λ (z : List ℕ). z ++ flat_map line_of outs) (sym (same told))
-    ∙ ap (λ (z : List ℕ). text_of (of told) ++ z) (text_map outs of line_of same)
+text_map (output ∷ outs) of line_of same =
+    ap (λ (z : List ℕ). z ++ flat_map line_of outs) (sym (same output))
+    ∙ ap (λ (z : List ℕ). text_of (of output) ++ z) (text_map outs of line_of same)
 
 -- ---- a world that is spelled
 
@@ -107,7 +107,7 @@ all_hold o es is = record {
   answers_are_to_requests = answers_are_to_requests o es is;
 }
 
-is_of : (w : World) (outs : List Out) → IsInPast w outs → (told : Out) → Contains outs told → IsOf w told
+is_of : (w : World) (outs : List Out) → IsInPast w outs → (output : Out) → Contains outs output → IsOf w output
 is_of w outs h (out.Sent n) i = tt
 is_of w outs h (out.Noted c n) i = h.notes c n i
 is_of w outs h (out.Answered c a) i = (h.requests c a i, h.answers c a i)
@@ -115,21 +115,21 @@ is_of w outs h (out.Answered c a) i = (h.requests c a i, h.answers c a i)
 -- lines that have been read, of an input, and what the first of them spell
 module _ (input lines later first others : List Line) (before : input ≡ lines ++ later) (split : lines ≡ first ++ others)
     (o : Opening) (opens : SpellsOpening first o) where
-  -- what the event tells is told of the world after it
+  -- the outputs of the event are of the world after it
   event_parts : (es all : List Event) (e : Event) (trace : Bool) → AreAmong (es ++ e ∷ []) (events_spelled others)
       → (ch : Change) → change_of (terms_of o) (run_of o es).now e ≡ Ok ch
-      → Parts input (flat_map (λ told. out_line told
-      (message_shown trace (now_after (run_of o es).now ch) told)) (outs_of (run_of o es).now ch))
+      → Parts input (flat_map (λ output. out_line output
+      (message_shown trace (now_after (run_of o es).now ch) output)) (outs_of (run_of o es).now ch))
   event_parts es all e trace among ch is =
       let w = run_of o es in
       let outs = outs_of w.now ch in
-      let shown : Out → Option Message = λ told. message_shown trace (now_after w.now ch) told in
-      let of : Out → Printed = λ told. Told lines o (es ++ e ∷ []) told (shown told) in
+      let shown : Out → Option Message = λ output. message_shown trace (now_after w.now ch) output in
+      let of : Out → Printed = λ output. Output lines o (es ++ e ∷ []) output (shown output) in
       let past : IsInPast (run_of o (es ++ e ∷ [])) outs = subst (IsInPast (run_of o (es ++ e ∷ [])))
-      (ap (outs_by w.now) is) (in_past_told o es opens.passes e) in
+      (ap (outs_by w.now) is) (in_past_outputs o es opens.passes e) in
       record {
         parts = map of outs;
-        whole = text_map outs of (λ told. out_line told (shown told)) (λ told. refl);
+        whole = text_map outs of (λ output. out_line output (shown output)) (λ output. refl);
         right = λ part i.
             let d = in_map of outs i in
             subst (IsRight input) (sym d.2)
@@ -151,8 +151,8 @@ module _ (input lines later first others : List Line) (before : input ≡ lines 
 
   module _ (text_by : Bool → Now → Result Change Refusal → List ℕ)
       (says : (trace : Bool) (now : Now) (ch : Change)
-      → text_by trace now (Ok ch) ≡ flat_map (λ told. out_line told
-      (message_shown trace (now_after now ch) told)) (outs_of now ch))
+      → text_by trace now (Ok ch) ≡ flat_map (λ output. out_line output
+      (message_shown trace (now_after now ch) output)) (outs_of now ch))
       (refuses : (trace : Bool) (now : Now) (r : Refusal) → Parts input (text_by trace now (Err r))) where
     happens_parts : (es all rest : List Event) (e : Event) (trace : Bool) → AreAmong es all
         → events_spelled others ≡ (all ++ e ∷ []) ++ rest → (next : World) (text : List ℕ)
@@ -412,10 +412,10 @@ module _ (input done : List Line) (l : Line) (later : List Line) (before : input
         parts = subst (Parts input) (sym h.1) (refused_part input r);
       }
 
-      told_on : (next : World) (text : List ℕ) → IsTold (terms_of o) trace l (run_of o es) next text
+      printed_on : (next : World) (text : List ℕ) → IsPrinted (terms_of o) trace l (run_of o es) next text
           → IsRunOn (terms_of o) next text
-      told_on next text (inl h) = runs_on (event_line_read l) refl next text h
-      told_on next text (inr h) = record {
+      printed_on next text (inl h) = runs_on (event_line_read l) refl next text h
+      printed_on next text (inr h) = record {
         stands = still_now (terms_of o) refl next h.0;
         parts = subst (Parts input) (sym h.1) (refused_part input OutOfMemory);
       }
@@ -423,10 +423,10 @@ module _ (input done : List Line) (l : Line) (later : List Line) (before : input
     run_taken : (terms : Terms) (trace : Bool) (world : World) → RunsIt done terms world → (step : Step)
         → IsRun terms trace world l step → IsTaken input now_done step
     run_taken terms trace world h step r =
-        let told : IsTold (terms_of h.opening) trace l (run_of h.opening h.events) r.world_then step.text =
-        subst (λ (t : Terms). IsTold t trace l (run_of h.opening h.events) r.world_then step.text) h.of
-        (subst (λ (w : World). IsTold terms trace l w r.world_then step.text) h.now r.told) in
-        let on = told_on h.opening h.events h.spelled trace r.world_then step.text told in
+        let printed : IsPrinted (terms_of h.opening) trace l (run_of h.opening h.events) r.world_then step.text =
+        subst (λ (t : Terms). IsPrinted t trace l (run_of h.opening h.events) r.world_then step.text) h.of
+        (subst (λ (w : World). IsPrinted terms trace l w r.world_then step.text) h.now r.printed) in
+        let on = printed_on h.opening h.events h.spelled trace r.world_then step.text printed in
         record {
           stands = subst (StandsBy now_done) (sym r.runs)
               (subst (λ (t : Terms). RunsIt now_done t r.world_then) (sym h.of) on.stands);

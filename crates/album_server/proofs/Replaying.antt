@@ -39,7 +39,7 @@ takes (BeingOpened header rows) line = inl refl
 takes (Running terms trace world) line = record {
   world_then = (line_run terms trace world (event_line_read line)).0;
   runs = refl;
-  told = inl (runs terms trace world (event_line_read line));
+  printed = inl (runs terms trace world (event_line_read line));
 }
 takes Over line = refl
 

@@ -19,7 +19,7 @@ use Rattle.album_judge.specs.declared.fault.Fault.TheVariants.{Reading, Writing,
 use Rattle.album_server.specs.declared.openings.SoFar.{SoFar}
 use Rattle.album_server.specs.declared.engines.replay.stages.Stage.{Stage as Kept}
 use Rattle.album_server.specs.declared.engines.replay.stages.Stage.TheVariants as kept
-use Rattle.album_server.specs.Replay.{Stage, Running, Over, Step, IsStep, IsOpened, IsRun, IsTold, Takes, Prints, Replays, begun, opened_by, refused, silently, end_text, replayed}
+use Rattle.album_server.specs.Replay.{Stage, Running, Over, Step, IsStep, IsOpened, IsRun, IsPrinted, Takes, Prints, Replays, begun, opened_by, refused, silently, end_text, replayed}
 use Rattle.album_server.specs.Stages.{GoesOn, Opens, Steps, Replayed, Ends, IsLeftAmid, IsLeftAtEnd, Leads, MayLead, is_over, no_past, stage_of, step_by, with_past}
 use Rattle.album_judge.specs.Writes.{Writes, IsPrefixOf, LeavesOf}
 use Rattle.album_server.proofs.Happening.{memory_or_not}
@@ -238,7 +238,7 @@ module _ (old : Stage) (line : Line) (says : Step) (opening : (step : Step) → 
 module _ (trace : Bool) (old : WorldState) (past : Past) (line : Line) (is : is_blank line ≡ false) where
   pub events_taken : (new : WorldState) (a b : Option (List ℕ))
       → new.terms ≡ old.terms
-      → Writes (Leads (IsTold old.terms trace line) old new past) a b
+      → Writes (Leads (IsPrinted old.terms trace line) old new past) a b
       → Writes (Steps (kept.Running trace old) past line (kept.Running trace new)) a b
   events_taken new a b same w =
       let next = stage_of (kept.Running trace new) w.1.0 in
@@ -247,20 +247,20 @@ module _ (trace : Bool) (old : WorldState) (past : Past) (line : Line) (is : is_
       record {
         world_then = with_past new w.1.0;
         runs = ap (λ terms. Running terms trace (with_past new w.1.0)) same;
-        told = w.1.1;
+        printed = w.1.1;
       } in
       (w.0, (w.1.0, not_skipped (stage_of (kept.Running trace old) past) line step is run), w.2)
 
   pub events_left : (fault : Fault) (a b : Option (List ℕ))
-      → Writes (LeavesOf fault (MayLead (IsTold old.terms trace line) old past)) a b
+      → Writes (LeavesOf fault (MayLead (IsPrinted old.terms trace line) old past)) a b
       → Writes (LeavesOf fault (Prints (stage_of (kept.Running trace old) past) line)) a b
   events_left fault a b w =
-      writes_left (MayLead (IsTold old.terms trace line) old past) (Prints (stage_of (kept.Running trace old) past) line)
+      writes_left (MayLead (IsPrinted old.terms trace line) old past) (Prints (stage_of (kept.Running trace old) past) line)
       (λ text h.
       let next = Running old.terms trace h.0 in
       let step = step_from next text in
       let run : IsRun old.terms trace (with_past old past) line step =
-      record { world_then = h.0; runs = refl; told = h.1 } in
+      record { world_then = h.0; runs = refl; printed = h.1 } in
       (next, not_skipped (stage_of (kept.Running trace old) past) line step is run))
       fault a b w
 

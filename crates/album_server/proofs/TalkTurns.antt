@@ -1,4 +1,4 @@
--- The loop of the engine of connections: what was read so far, and what was told for it. For `converse`; `HasTalked` is its
+-- The loop of the engine of connections: what was read so far, and what was written for it. For `converse`; `HasTalked` is its
 -- invariant.
 use Rattle.std.proofs.Common.{◌≡◌, ◌≢◌, ◌≤◌, ◌<◌, ◌+◌, ℕ, List, [], length, Option, Some, IfSome, refl}
 use Rattle.std.specs.Io.KnownBytes.{Consumes, IsAtEnd, Keeps}

@@ -18,7 +18,7 @@ use Rattle.album_judge.proofs.Answering.{goes_on}
 use Rattle.album_judge.proofs.Texts.{up_to_next, with_others, writes_weaker, writes_both}
 
 module _ (limit : ℕ) (policy : Policy) (admins : Admins) where
-  -- any line can be told that memory ran out
+  -- any line can be answered that memory ran out
   by_memory : (b : Bool) (old : Talker) (line : Line)
       → (text : List ℕ) × MatchBool b ((old ≡ old) × (text ≡ []))
       (Hears limit policy admins old.who old line old text ⊎ ((old ≡ old) × (text ≡ refusal_line OutOfMemory)))
@@ -61,8 +61,8 @@ module _ (limit : ℕ) (policy : Policy) (admins : Admins) where
   module _ {X : Type 0} (f : X → Line) (xs : List X) (i : ℕ) (x : X) (inside : i < length xs) (is : x ≡ get_or xs i x)
       (old between new : Talker) (text : List ℕ) (a b c : Option (List ℕ))
       (so_far : Writes (Talks limit policy admins old (map f (take i xs)) between) a b)
-      (told : TalksOnce limit policy admins between (f x) new text) where
-    -- the next is told
+      (answered : TalksOnce limit policy admins between (f x) new text) where
+    -- the next is answered
     pub lines_next : Appends b c text → Writes (Talks limit policy admins old (map f (take (i + 1) xs)) new) a c
     lines_next written =
         let both : (y z : List ℕ) → Talks limit policy admins old (map f (take i xs)) between y → z ≡ text
@@ -70,7 +70,7 @@ module _ (limit : ℕ) (policy : Policy) (admins : Admins) where
         λ y z g e.
         subst (λ ls. Talks limit policy admins old ls new (y ++ z)) (sym (up_to_next f xs i x inside is))
         (talks_append old between new _ _ y z g
-        (subst (Talks limit policy admins between (f x ∷ []) new) (sym e) (one_talk between new (f x) text told))) in
+        (subst (Talks limit policy admins between (f x ∷ []) new) (sym e) (one_talk between new (f x) text answered))) in
         writes_both _ (λ z. z ≡ text) _ both a b c so_far (text, refl, written)
 
     -- its answer is cut short
@@ -81,7 +81,7 @@ module _ (limit : ℕ) (policy : Policy) (admins : Admins) where
         → IsCutShort (λ whole. whole ≡ text) z
         → IsCutShort (MayTalk limit policy admins bound old (map f xs)) (y ++ z) =
         λ y z g s.
-        let one = subst (Talks limit policy admins between (f x ∷ []) new) (sym s.2) (one_talk between new (f x) text told) in
+        let one = subst (Talks limit policy admins between (f x ∷ []) new) (sym s.2) (one_talk between new (f x) text answered) in
         let first = talks_append old between new _ _ y (z ++ s.0) g one in
         let later = some_talk new (map f (drop (i + 1) xs)) in
         let all = talks_append old new new _ _ (y ++ (z ++ s.0)) later.0 first later.1 in
@@ -106,3 +106,7 @@ module _ (limit : ℕ) (policy : Policy) (admins : Admins) where
       writes_weaker _ _
       (λ text h. (map f (take i xs), map f (drop i xs), later, with_others f xs i, (between, h, on)))
       a b so_far
+
+-- nothing of a text is written
+pub none_written : (text : List ℕ) (a : Option (List ℕ)) → text ≢ [] → Writes (IsCutShort (λ whole. whole ≡ text)) a a
+none_written text a some = ([], (text, some, refl), Appends-nil a)

@@ -1,7 +1,7 @@
 -- What is promised of all that `replay` prints.
 --
 -- The first lines of an input spell an opening, and the others events. Whatever is printed is either a refusal, or it
--- tells something of the world that opened so, once events of the lines before it, in their order, have happened there.
+-- is an output of the world that opened so, once events of the lines before it, in their order, have happened there.
 -- (An event that memory ran out on, or on whose line it did, is left out, and so are those that come later in the same
 -- line.) On that world, and of its whole past, all promises hold; and each line that is printed as an answer is the one
 -- answer to the last request that its client made there.
@@ -86,7 +86,7 @@ pub record IsSpelledBy (lines : List Line) (terms : Terms) (world : World) : Typ
   pub terms_are : terms ≡ terms_of opening
   pub is : world ≡ run_of opening events
 
--- ---- what is told
+-- ---- what is printed
 
 -- all promises hold of a world that opened so
 pub record AllHold (opening : Opening) (world : World) : Type 0 where
@@ -105,28 +105,28 @@ IsOf world (out.Noted client note) = IsNoteKept world client note
 IsOf world (out.Answered client answer) =
     IsAnsweredLast world client answer × Contains world.past.answers (past_answer world.past.reads client answer)
 
--- a part of what is printed: a refusal, or something told once these lines are read, of the world that opened so and in
+-- a part of what is printed: a refusal, or an output, once these lines are read, of the world that opened so and in
 -- which these events have happened, with the message of it in a trace
 pub data Printed : Type 0 where
   Refused : Refusal → Printed
-  Told : List Line → Opening → List Event → Out → Option Message → Printed
+  Output : List Line → Opening → List Event → Out → Option Message → Printed
 
 -- its text
 abbrev pub text_of : Printed → List ℕ
 text_of (Refused refusal) = refusal_line refusal
-text_of (Told lines opening events told shown) = out_line told shown
+text_of (Output lines opening events output shown) = out_line output shown
 
--- what is told is told of the world that the lines before it spell, and all promises hold there
-pub record IsToldOf (input lines : List Line) (opening : Opening) (events : List Event) (told : Out) : Type 0 where
+-- the output is of the world that the lines before it spell, and all promises hold there
+pub record IsOutputOf (input lines : List Line) (opening : Opening) (events : List Event) (output : Out) : Type 0 where
   pub later : List Line
   pub before : input ≡ lines ++ later
   pub spelled : Spell lines opening events
   pub hold : AllHold opening (run_of opening events)
-  pub is : IsOf (run_of opening events) told
+  pub is : IsOf (run_of opening events) output
 
 abbrev pub IsRight : List Line → Printed → Type 0
 IsRight input (Refused refusal) = Unit {0}
-IsRight input (Told lines opening events told shown) = IsToldOf input lines opening events told
+IsRight input (Output lines opening events output shown) = IsOutputOf input lines opening events output
 
 -- ---- the promise
 

@@ -1,5 +1,5 @@
 -- The text of a replay: what is printed of the lines of an opening, and of the events that the lines behind it spell.
-use Rattle.std.specs.Prelude.{◌≡◌, ◌≢◌, ◌⊎◌, List, [], ◌∷◌, ◌++◌, ℕ, Bool, if◌then◌else◌, MatchBool, Option, Some, None, Result, Ok, Err}
+use Rattle.std.specs.Prelude.{◌≡◌, ◌≢◌, ◌⊎◌, List, [], ◌∷◌, ◌++◌, ℕ, Bool, true, false, if◌then◌else◌, MatchBool, Option, Some, None, Result, Ok, Err}
 use Rattle.std.specs.List.{flat_map}
 use Rattle.album_stamps.specs.declared.refusals.Refusal.{Refusal}
 use Rattle.album_stamps.specs.declared.refusals.Refusal.TheVariants.{OutOfMemory, BadLine, BadRequest, BadOpening}
@@ -84,19 +84,24 @@ message_shown trace now (out.Sent number) = if trace then message_of now.message
 message_shown trace now (out.Noted client note) = None
 message_shown trace now (out.Answered client answer) = None
 
--- the lines of what was told, with the messages that are there now
-abbrev pub told_text : Bool → Now → List Out → List ℕ
-told_text trace now outs = flat_map (λ told. out_line told (message_shown trace now told)) outs
+-- the lines of outputs, with the messages that are there now
+abbrev pub outputs_text : Bool → Now → List Out → List ℕ
+outputs_text trace now outs = flat_map (λ output. out_line output (message_shown trace now output)) outs
 
--- of an event what it tells, or its refusal
+-- of an event its outputs, or its refusal
 abbrev pub event_text : Bool → Now → Result Change Refusal → List ℕ
-event_text trace now (Ok change) = told_text trace (now_after now change) (outs_of now change)
+event_text trace now (Ok change) = outputs_text trace (now_after now change) (outs_of now change)
 event_text trace now (Err refusal) = refusal_line refusal
 
--- of a delivery in a range what it tells; that there is no such message, for which alone it is refused, is not printed
+-- of a delivery in a range its outputs; that there is no such message, for which alone it is refused, is not printed
 abbrev pub delivery_text : Bool → Now → Result Change Refusal → List ℕ
-delivery_text trace now (Ok change) = told_text trace (now_after now change) (outs_of now change)
+delivery_text trace now (Ok change) = outputs_text trace (now_after now change) (outs_of now change)
 delivery_text trace now (Err refusal) = []
+
+-- the one or the other: whether it is one of a range
+abbrev pub text_in : Bool → Bool → Now → Result Change Refusal → List ℕ
+text_in false = event_text
+text_in true = delivery_text
 
 -- An event happens, and its text is printed. Where memory runs out on it, that is printed, and nothing has happened.
 abbrev pub Happens : (Bool → Now → Result Change Refusal → List ℕ)
@@ -141,8 +146,8 @@ abbrev pub IsOpened : Step → Step → Type 0
 IsOpened says step = (step ≡ says) ⊎ (step ≡ refused OutOfMemory)
 
 -- the line's events run, unless memory runs out on the line
-abbrev pub IsTold : Terms → Bool → Line → World → World → List ℕ → Type 0
-IsTold terms trace line world next text =
+abbrev pub IsPrinted : Terms → Bool → Line → World → World → List ℕ → Type 0
+IsPrinted terms trace line world next text =
     Runs terms trace world (event_line_read line) next text
     ⊎ ((next ≡ world) × (text ≡ refusal_line OutOfMemory))
 
@@ -150,7 +155,7 @@ IsTold terms trace line world next text =
 pub record IsRun (terms : Terms) (trace : Bool) (world : World) (line : Line) (step : Step) : Type 0 where
   pub world_then : World
   pub runs : step.next ≡ Running terms trace world_then
-  pub told : IsTold terms trace line world world_then step.text
+  pub printed : IsPrinted terms trace line world world_then step.text
 
 -- what comes of a line that isn't blank
 abbrev pub Takes : Stage → Line → Step → Type 0

@@ -28,13 +28,13 @@ use Rattle.album_wire.specs.declared.talk_line.TalkLine.TheVariants as line
 use Rattle.album_server.specs.Admins.{permitted}
 use Rattle.album_server.specs.declared.admins.Admins.{Admins}
 
--- ---- what a session tells to a line
+-- ---- what a session answers to a line
 
 -- of an ask: the answer, on what it rests; or it is refused by its check, or no reply comes, and then nothing was drawn
 -- or announced
-abbrev pub TellsAsk : ℕ → Policy → Principal → Ask → SessionState → SessionState → Result Answer Refusal → Type 0
-TellsAsk limit policy who ask old new (Ok answer) = RestsOn limit policy who ask old new answer
-TellsAsk limit policy who ask old new (Err why) =
+abbrev pub AnswersAsk : ℕ → Policy → Principal → Ask → SessionState → SessionState → Result Answer Refusal → Type 0
+AnswersAsk limit policy who ask old new (Ok answer) = RestsOn limit policy who ask old new answer
+AnswersAsk limit policy who ask old new (Err why) =
     ((refusal_of ask who ≡ Some why) ⊎ IsClosedOrOutOfMemory why) × DrawsNothing old new
 
 -- there is no partition of this number
@@ -43,9 +43,9 @@ pub record IsNowhere (session : SessionState) (part : ℕ) (why : Refusal) : Typ
   pub past : session.cut.parts ≤ part
 
 -- the stamps that are pending at a partition
-abbrev pub TellsPending : ℕ → SessionState → SessionState → Result (List ℕ) Refusal → Type 0
-TellsPending part old new (Ok stamps) = ArePending (prefix_at new.cut part) stamps
-TellsPending part old new (Err why) = IsNowhere old part why ⊎ IsClosedOrOutOfMemory why
+abbrev pub AnswersPending : ℕ → SessionState → SessionState → Result (List ℕ) Refusal → Type 0
+AnswersPending part old new (Ok stamps) = ArePending (prefix_at new.cut part) stamps
+AnswersPending part old new (Err why) = IsNowhere old part why ⊎ IsClosedOrOutOfMemory why
 
 -- the stamp is not pending there
 pub record IsUnprepared (session : SessionState) (part stamp : ℕ) (why : Refusal) : Type 0 where
@@ -53,9 +53,9 @@ pub record IsUnprepared (session : SessionState) (part stamp : ℕ) (why : Refus
   pub other : state_of (prefix_at session.cut part) stamp ≢ state.Pending
 
 -- of a sweep: the stamp is pending at the partition, and the others are asked how it stands
-abbrev pub TellsSwept : ℕ → ℕ → SessionState → SessionState → Result Unit Refusal → Type 0
-TellsSwept part stamp old new (Ok done) = state_of (prefix_at new.cut part) stamp ≡ state.Pending
-TellsSwept part stamp old new (Err why) =
+abbrev pub AnswersSweep : ℕ → ℕ → SessionState → SessionState → Result Unit Refusal → Type 0
+AnswersSweep part stamp old new (Ok done) = state_of (prefix_at new.cut part) stamp ≡ state.Pending
+AnswersSweep part stamp old new (Err why) =
     IsNowhere old part why ⊎ (IsUnprepared new part stamp why ⊎ IsClosedOrOutOfMemory why)
 
 -- no version of the item is kept at the partition that is below its latest stamp, nor below that which the session knew
@@ -63,12 +63,12 @@ pub record IsTrimmed (part item : ℕ) (old new : SessionState) : Type 0 where
   pub latest_kept : floor (prefix_at new.cut part) item ≡ latest (prefix_at new.cut part) item
   pub known : latest (prefix_at old.cut part) item ≤ floor (prefix_at new.cut part) item
 
-abbrev pub TellsTrimmed : ℕ → ℕ → ℕ → SessionState → SessionState → Result Unit Refusal → Type 0
-TellsTrimmed limit part item old new (Ok done) = IsTrimmed part item old new
-TellsTrimmed limit part item old new (Err why) =
+abbrev pub AnswersTrim : ℕ → ℕ → ℕ → SessionState → SessionState → Result Unit Refusal → Type 0
+AnswersTrim limit part item old new (Ok done) = IsTrimmed part item old new
+AnswersTrim limit part item old new (Err why) =
     IsNowhere old part why ⊎ (IsUntrimmed limit new.cut part item why ⊎ IsClosedOrOutOfMemory why)
 
--- ---- the text of what is told, or of why nothing is
+-- ---- the text of an answer, or of a refusal
 
 abbrev pub asked_text : (client : ℕ) → Result Answer Refusal → List ℕ
 asked_text client (Ok answer) = out_line (out.Answered client answer) None
@@ -86,35 +86,35 @@ done_text said (Err why) = refusal_line why
 
 abbrev pub IsAsked : ℕ → Policy → Principal → Ask → SessionState → SessionState → List ℕ → Type 0
 IsAsked limit policy who ask old new text =
-    (told : Result Answer Refusal)
-    × TellsAsk limit policy who ask old new told
-    × (text ≡ asked_text old.client told)
+    (answer : Result Answer Refusal)
+    × AnswersAsk limit policy who ask old new answer
+    × (text ≡ asked_text old.client answer)
 
 -- for an ask alone something is noted, drawn or announced
-abbrev pub IsPendingTold : ℕ → SessionState → SessionState → List ℕ → Type 0
-IsPendingTold part old new text =
-    (told : Result (List ℕ) Refusal)
-    × TellsPending part old new told
-    × (text ≡ pending_text told)
+abbrev pub IsPendingAnswered : ℕ → SessionState → SessionState → List ℕ → Type 0
+IsPendingAnswered part old new text =
+    (answer : Result (List ℕ) Refusal)
+    × AnswersPending part old new answer
+    × (text ≡ pending_text answer)
     × AddsNothing old new
 
 abbrev pub IsSweptFor : ℕ → ℕ → SessionState → SessionState → List ℕ → Type 0
 IsSweptFor part stamp old new text =
-    (told : Result Unit Refusal)
-    × TellsSwept part stamp old new told
-    × (text ≡ done_text says.Swept told)
+    (answer : Result Unit Refusal)
+    × AnswersSweep part stamp old new answer
+    × (text ≡ done_text says.Swept answer)
     × AddsNothing old new
 
 abbrev pub IsTrimmedFor : ℕ → ℕ → ℕ → SessionState → SessionState → List ℕ → Type 0
 IsTrimmedFor limit part item old new text =
-    (told : Result Unit Refusal)
-    × TellsTrimmed limit part item old new told
-    × (text ≡ done_text says.Trimmed told)
+    (answer : Result Unit Refusal)
+    × AnswersTrim limit part item old new answer
+    × (text ≡ done_text says.Trimmed answer)
     × AddsNothing old new
 
 abbrev pub AnswersTalk : ℕ → Policy → Principal → TalkLine → SessionState → SessionState → List ℕ → Type 0
 AnswersTalk limit policy who (line.Ask ask) old new text = IsAsked limit policy who ask old new text
-AnswersTalk limit policy who (line.Pending part) old new text = IsPendingTold part old new text
+AnswersTalk limit policy who (line.Pending part) old new text = IsPendingAnswered part old new text
 AnswersTalk limit policy who (line.Sweep part stamp) old new text = IsSweptFor part stamp old new text
 AnswersTalk limit policy who (line.Trim part item) old new text = IsTrimmedFor limit part item old new text
 
@@ -141,7 +141,7 @@ talk_line_read (Some bytes) = talk_line_of bytes
 abbrev pub talk_line_heard : Admins → Principal → Line → Result TalkLine Refusal
 talk_line_heard admins who line = talk_line_read line >>= permitted admins who
 
--- the first line says who talks, and is told the client's number
+-- the first line says who talks, and is answered the client's number
 abbrev pub Greets : Talker → Result Principal Refusal → Talker → List ℕ → Type 0
 Greets old (Ok who) new text =
     (new ≡ record { who = Some who; session = old.session })
@@ -165,7 +165,7 @@ Hears limit policy admins None old line new text = Greets old (hello_line_read l
 Hears limit policy admins (Some who) old line new text =
     Attends limit policy who old (talk_line_heard admins who line) new text
 
--- A blank line is skipped. On another memory may run out; then that is told, and nothing has happened.
+-- A blank line is skipped. On another memory may run out; then that is answered, and nothing has happened.
 abbrev pub TalksOnce : ℕ → Policy → Admins → Talker → Line → Talker → List ℕ → Type 0
 TalksOnce limit policy admins old line new text =
     MatchBool (is_blank line) ((new ≡ old) × (text ≡ []))
@@ -173,7 +173,7 @@ TalksOnce limit policy admins old line new text =
 
 -- ---- the whole talk
 
--- the lines are told one after another, and this is written
+-- the lines are answered one after another, and this is written
 abbrev pub Talks : ℕ → Policy → Admins → Talker → List Line → Talker → List ℕ → Type 0
 Talks limit policy admins old [] new text = (new ≡ old) × (text ≡ [])
 Talks limit policy admins old (line ∷ lines) new text =

@@ -1,7 +1,7 @@
 -- The opening of the worked replays: one picture in one album, over three partitions.
 use Rattle.std.specs.Prelude.{List, ◌++◌, ℕ, codes}
 
--- bo may read both; of the picture's list the first entry is given, and whether each message is told
+-- bo may read both; of the picture's list the first entry is given, and whether each message is printed
 abbrev pub trip_opened : (trace entry : List ℕ) → List ℕ
 trip_opened trace entry =
     codes "{\"open\":{\"limit\":1000,\"parts\":3,\"trace\":" ++ trace ++ codes "}}\n"

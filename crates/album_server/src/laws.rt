@@ -28,7 +28,7 @@ pub fn replays_go_on()
     ensures over { (lines : List Line) → Replays Over lines Over [] }
 {}
 
-/// A law: what is printed of an input keeps the promise. Each part of it is a refusal, or is told of the world that the
+/// A law: what is printed of an input keeps the promise. Each part of it is a refusal, or an output of the world that the
 /// lines before it spell; on that world all promises hold, and what is printed as an answer is the one answer to its
 /// client's last request.
 pub fn what_replay_prints()
@@ -49,7 +49,7 @@ pub fn worked_replays()
     ensures no_header { replay_text (codes "{\"begin\":true}\n{\"deliver\":1}\n")
         ≡ codes "{\"name\":\"BadRequest\",\"refused\":3}\n" }
 
-    // A range tells nothing of a message that is not there, and the input ends in the middle of a line.
+    // A range prints nothing of a message that is not there, and the input ends in the middle of a line.
     ensures no_such_message { replay_text
         (codes "{\"open\":{\"parts\":1}}\n{\"begin\":true}\n{\"deliver\":[1,9]}\n{\"deliver\":9}\n{\"deliver\":")
         ≡ codes "{\"name\":\"NoSuchMessage\",\"refused\":14}\n{\"name\":\"BadLine\",\"refused\":2}\n" }

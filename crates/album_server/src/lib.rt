@@ -7,8 +7,9 @@
 //! Read `engines/replay` first: `Stage` takes a line (`replay/stages`), and a line's events run (`replay/events`).
 //! specs/Replay.antt has the text of a replay, specs/Promise.antt what is promised of it, and `laws` what holds of
 //! both. Then `engines/converse`, the engine of a connection, with specs/Talk.antt; and `engines/serve`, which opens a
-//! service and gives each connection a thread (`serve/accepting`, `serve/connections`). The engine of judge lines is
-//! `album_judge`'s, and is passed on here.
+//! service and gives each connection a thread (`serve/accepting`, `serve/connections`), writes its notes to a file
+//! (`serve/audit`) and prints its figures (`serve/watch`). The engine of judge lines is `album_judge`'s, and is passed on
+//! here.
 #![tactic(auto)]
 
 // What the lines of an opening say. Both a replay and a service begin with them.
@@ -16,6 +17,9 @@ mod openings;
 
 // Who may say what over a connection.
 mod admins;
+
+// Where a service writes what was noted.
+mod journal;
 
 // The engines.
 mod engines;
@@ -28,7 +32,10 @@ pub use album_judge::{Fault, judge, one_judgement};
 pub use album_stamps::Refusal;
 pub use engines::converse::{converse, converse_with};
 pub use engines::replay::replay;
-pub use engines::serve::{Host, Served, Serving, serve, serve_beside, serve_for, serve_until};
+pub use engines::serve::{
+    AuditFile, Host, Served, Serving, serve, serve_beside, serve_for, serve_until,
+};
+pub use journal::{Journal, NoJournal};
 pub use laws::{
     a_replay_runs_what_its_lines_spell, replays_are_computed, replays_go_on, what_replay_prints,
     worked_replays,

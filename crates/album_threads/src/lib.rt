@@ -14,6 +14,7 @@
 // What a service is opened with, and the service: its threads, its sessions, its totals.
 mod breakage;
 mod gate;
+mod gauge;
 mod opened;
 mod service;
 mod service_names;
@@ -34,9 +35,11 @@ mod mailbox;
 // What holds of the answers.
 mod laws;
 
+pub use album_partition::Figures;
 pub use control::{Control, ControlAnswer, ControlReply, ControlRequest};
 pub use envelopes::{ReplyEnvelope, RequestEnvelope};
 pub use gate::{Gate, Open};
+pub use gauge::Gauge;
 pub use laws::grounds_stay;
 pub use opened::Opened;
 pub use owned_session::OwnedSession;

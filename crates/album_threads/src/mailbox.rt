@@ -3,6 +3,7 @@ use crate::breakage::Breakage;
 use crate::control::{ControlReply, ControlRequest};
 use crate::envelopes::{ReplyEnvelope, RequestEnvelope};
 use crate::service_names::ServiceNames;
+use album_partition::Figures;
 use crossbeam_channel::{Receiver, RecvTimeoutError, Sender};
 use std::alloc::Global;
 use std::collections::VecDeque;
@@ -37,6 +38,8 @@ pub(crate) enum PartitionMail<J: ServiceNames> {
     Envelopes(Vec<RequestEnvelope<J>>),
     /// A control request of a session.
     ControlRequest(Box<ControlRequest<J>, Global>),
+    /// Asks for the figures of the partition, which are sent here.
+    Figures(Sender<Figures>),
     /// The session of this number is over.
     Forget(u16),
     /// The service closes.

@@ -8,6 +8,7 @@ ghost use Rattle.album_threads.specs.Opened.{opened_as};
 
 use crate::breakage::Breakage;
 use crate::gate::Gate;
+use crate::gauge::Gauge;
 use crate::mailbox::PartitionMail;
 use crate::opened::Opened;
 use crate::partition::start::start_all;
@@ -214,6 +215,21 @@ impl<J: ServiceNames> Service<J> {
     /// The totals of the audit book so far.
     pub fn totals<R: Wait>(&self, rt: &R) -> Totals {
         self.book.lock(rt).totals()
+    }
+
+    /// What of the service another thread may look at.
+    ///
+    /// # Errors
+    ///
+    /// `OutOfMemory`.
+    pub fn gauge(&self) -> Result<Gauge<J>, Refusal>
+        ensures memory { IsOkUnless result Refusal.OutOfMemory }
+    {
+        Ok(Gauge {
+            alloc: self.alloc,
+            mailboxes: copies_of(self.alloc, &self.mailboxes)?,
+            book: Arc::try_clone(&self.book)?,
+        })
     }
 }
 

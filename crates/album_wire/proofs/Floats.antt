@@ -1,5 +1,6 @@
 -- No line that is written has a float. For `write_out`: `no_float_in_note`, `no_float_in_answer` and
--- `no_float_in_message`; for `write_talk`: `no_float_in_talk`.
+-- `no_float_in_message`; for `write_talk`: `no_float_in_talk`; for `write_record`: `no_float_in_record`; for
+-- `write_figures`: `no_float_in_figures`.
 use Rattle.std.proofs.Common.{◌≡◌, ℕ, List, [], ◌∷◌, map, false, Some, None, Option, refl}
 use Rattle.serde_json.specs.Data.{Data}
 use Rattle.serde_json.specs.Written.{has_float, items_have_float}
@@ -15,6 +16,7 @@ use Rattle.album_items.specs.declared.values.Value.{Value}
 use Rattle.album_items.specs.declared.values.Value.TheVariants as value
 use Rattle.album_lists.specs.declared.lists.Ace.{Ace}
 use Rattle.album_lists.specs.declared.whos.Member.{Member}
+use Rattle.album_eval.specs.declared.facts.Principal.{Principal}
 use Rattle.album_eval.specs.declared.verdicts.Verdict.{Verdict}
 use Rattle.album_eval.specs.declared.verdicts.Verdict.TheVariants as verdict
 use Rattle.album_listing.specs.declared.reasons.Reason.{Reason}
@@ -27,8 +29,12 @@ use Rattle.album_permits.specs.declared.answers.Answer.TheVariants as answer
 use Rattle.album_lines.specs.Spelling.{whole_data}
 use Rattle.album_wire.specs.ValueJson.{item_json, entry_json, member_json, home_json, value_json}
 use Rattle.album_wire.specs.MessageJson.{write_json, request_json, reply_json, message_json}
+use Rattle.album_wire.specs.RecordJson.{record_json}
 use Rattle.album_wire.specs.OutJson.{note_json, row_json, at_json, reason_json, served_json, answer_json}
 use Rattle.album_wire.specs.TalkJson.{talk_json}
+use Rattle.album_wire.specs.FiguresJson.{marks_json, figures_json}
+use Rattle.album_wire.specs.declared.figures_json.ServiceFigures.{ServiceFigures}
+use Rattle.album_partition.specs.declared.figures.Figures.{Figures}
 use Rattle.album_wire.specs.declared.message_json.Envelope.{Envelope}
 use Rattle.album_wire.specs.declared.talk_json.TalkOut.{TalkOut}
 use Rattle.album_wire.specs.declared.talk_json.TalkOut.TheVariants as talk
@@ -85,6 +91,9 @@ no_float_in_message number m = go m.body
     go (body.Request r) = in_request _ r
     go (body.Reply r) = in_reply _ r
 
+pub no_float_in_record : (client : ℕ) (who : Principal) (note : Note) → has_float (record_json client who note) ≡ false
+no_float_in_record client who note = refl
+
 pub no_float_in_note : (client : ℕ) (note : Note) → has_float (note_json client note) ≡ false
 no_float_in_note client note = refl
 
@@ -122,3 +131,14 @@ no_float_in_talk talk.Swept = refl
 no_float_in_talk talk.Trimmed = refl
 no_float_in_talk (talk.Serving port) = refl
 no_float_in_talk (talk.Totals audits alarms) = refl
+
+in_marks : (part : Figures) → has_float (marks_json part) ≡ false
+in_marks part = refl
+
+pub no_float_in_figures : (figures : ServiceFigures) → has_float (figures_json figures) ≡ false
+no_float_in_figures figures =
+    rw (
+        in_list marks_json in_marks figures.parts.items,
+        in_list (λ part. whole_data part.pending) (λ part. refl) figures.parts.items,
+        in_list (λ part. whole_data part.versions) (λ part. refl) figures.parts.items,
+    ) refl

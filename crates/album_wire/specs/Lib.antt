@@ -16,4 +16,6 @@ pub mod TalkLine
 pub mod ValueJson
 pub mod MessageJson
 pub mod OutJson
+pub mod RecordJson
 pub mod TalkJson
+pub mod FiguresJson

@@ -118,7 +118,7 @@ fn totals_json(alloc: Global, audits: Counted, alarms: Counted) -> Result<Value,
 }
 
 /// [those that succeeded, those that failed]
-fn counted_json(alloc: Global, counted: Counted) -> Result<Value, AllocError>
+pub(crate) fn counted_json(alloc: Global, counted: Counted) -> Result<Value, AllocError>
     ensures { IfOk result (λ v. view v ≡ counted_json counted) }
 {
     json!(in alloc; [counted.succeeded, counted.failed])

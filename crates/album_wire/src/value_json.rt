@@ -172,7 +172,8 @@ fn who_text(alloc: Global, who: &Who) -> Result<String, AllocError>
     }
 }
 
-fn owner_text(alloc: Global, name: &Name) -> Result<String, AllocError>
+/// An owner.
+pub(crate) fn owner_text(alloc: Global, name: &Name) -> Result<String, AllocError>
     ensures { IfOk result (λ text. string_bytes text ≡ owner_text name.now) }
 {
     let name = name.as_str();

@@ -1,19 +1,21 @@
 //! The engine of a connection: read a piece, answer the lines that end in it, each at once, and at the end the last
 //! line.
 ghost use Rattle.std.specs.Prelude.{◌≡◌, map, Err, OnOk, OnErr, IfErr, IfSome};
-ghost use Rattle.std.specs.Io.KnownBytes.{IsAtEnd};
+ghost use Rattle.std.specs.Io.KnownBytes.{Appends, IsAtEnd};
 ghost use Rattle.album_threads.specs.Asks.{IsOn};
 ghost use Rattle.album_lines.specs.Lines.{lines_of, last, said};
 ghost use Rattle.album_server.specs.Talk.{IsTalk, MayTalk, Talks, stranger};
-ghost use Rattle.album_judge.specs.Writes.{HasRead, Writes, Exchanges, IsPrefixOf, IsLeftBy, IsEndedBy};
+ghost use Rattle.album_judge.specs.Writes.{HasRead, Writes, Exchanges, IsPrefixOf, IsCutShort, IsLeftBy, IsEndedBy};
 
 mod answers;
 
 use crate::admins::Admins;
 use crate::engines::converse::answers::answer;
+use crate::journal::{Journal, NoJournal};
 use album_eval::Principal;
 use album_judge::{Fault, PIECE, write_text};
 use album_lines::{LineIn, Lines};
+use album_stamps::ClientNo;
 use album_threads::{ServiceNames, Session};
 use json::Scratch;
 use std::alloc::Global;
@@ -21,7 +23,7 @@ use std::io::{Read, Write};
 use std::sync::Wait;
 use std::time;
 
-/// Answers each line that is read by one line, in order, by what the session is told, before the next line is looked
+/// Answers each line that is read by one line, in order, by what the session answers, before the next line is looked
 /// into; a line of spaces, tabs and carriage returns alone is skipped. The first line has to say who talks.
 ///
 /// # Errors
@@ -64,21 +66,22 @@ pub fn converse<J: ServiceNames, T: Wait + time::Clock, R: Read, W: Write>(
     ensures none { turns ≡ 0 → result ≡ Err Fault.Reading }
     ensures unread { turns ≡ 0 → R.remaining reader.new ≡ R.remaining reader.old }
 {
-    converse_with(rt, alloc, reader, writer, session, &Admins::Anyone, turns)
+    converse_with(rt, alloc, reader, writer, session, &Admins::Anyone, &NoJournal, turns)
 }
 
-/// The same, where who talks may only ask, unless it is one of the admins.
+/// The same, where who talks may only ask, unless it is one of the admins. The journal is settled before each answer.
 ///
 /// # Errors
 ///
 /// As `converse`.
-pub fn converse_with<J: ServiceNames, T: Wait + time::Clock, R: Read, W: Write>(
+pub fn converse_with<J: ServiceNames, T: Wait + time::Clock, R: Read, W: Write, A: Journal>(
     rt: &T,
     alloc: Global,
     reader: &mut R,
     writer: &mut W,
     session: &mut Session<J>,
     admins: &Admins,
+    journal: &A,
     turns: u64,
 ) -> Result<(), Fault>
     // Without a fault all was read, and just the talk of its lines is written, in which the session went on.
@@ -125,6 +128,7 @@ pub fn converse_with<J: ServiceNames, T: Wait + time::Clock, R: Read, W: Write>(
                 &mut scratch,
                 session,
                 admins,
+                journal,
                 &mut who,
                 lines,
                 writer,
@@ -137,6 +141,7 @@ pub fn converse_with<J: ServiceNames, T: Wait + time::Clock, R: Read, W: Write>(
             &mut scratch,
             session,
             admins,
+            journal,
             &mut who,
             &ended,
             writer,
@@ -146,12 +151,13 @@ pub fn converse_with<J: ServiceNames, T: Wait + time::Clock, R: Read, W: Write>(
 }
 
 /// Answers the last line, where the input does not end in a newline.
-fn finish<J: ServiceNames, T: Wait + time::Clock, W: Write>(
+fn finish<J: ServiceNames, T: Wait + time::Clock, W: Write, A: Journal>(
     rt: &T,
     alloc: Global,
     scratch: &mut Scratch,
     session: &mut Session<J>,
     admins: &Admins,
+    journal: &A,
     who: &mut Option<Principal>,
     lines: Lines,
     writer: &mut W,
@@ -170,17 +176,18 @@ fn finish<J: ServiceNames, T: Wait + time::Clock, W: Write>(
     session.has_granted_writes();
     match lines.end() {
         None => Ok(()),
-        Some(line) => answer_lines(rt, alloc, scratch, session, admins, who, &[line], writer),
+        Some(line) => answer_lines(rt, alloc, scratch, session, admins, journal, who, &[line], writer),
     }
 }
 
 /// Answers the lines, one after another.
-fn answer_lines<J: ServiceNames, T: Wait + time::Clock, W: Write>(
+fn answer_lines<J: ServiceNames, T: Wait + time::Clock, W: Write, A: Journal>(
     rt: &T,
     alloc: Global,
     scratch: &mut Scratch,
     session: &mut Session<J>,
     admins: &Admins,
+    journal: &A,
     who: &mut Option<Principal>,
     lines: &[LineIn],
     writer: &mut W,
@@ -196,9 +203,31 @@ fn answer_lines<J: ServiceNames, T: Wait + time::Clock, W: Write>(
     ensures on { IsOn session.old session.new }
 {
     session.has_granted_writes();
+    let client = session.client();
     for line in lines {
         let text = answer(rt, alloc, scratch, session, admins, who, line)?;
-        write_text(writer, &text)?;
+        write_settled(journal, client, who.as_ref(), writer, &text)?;
     }
     Ok(())
+}
+
+/// Writes the text of an answer, once the journal is settled. For a line that is skipped nothing is done.
+#[tactic(auto, using(crate::proofs::Talking::none_written))]
+fn write_settled<A: Journal, W: Write>(
+    journal: &A,
+    client: ClientNo,
+    who: Option<&Principal>,
+    writer: &mut W,
+    text: &[u8],
+) -> Result<(), Fault>
+    ensures ok { OnOk result (Appends (W.contents writer.old) (W.contents writer.new) text.now) }
+    ensures err { OnErr result
+        (Writes (IsCutShort (λ whole. whole ≡ text.now)) (W.contents writer.old) (W.contents writer.new)) }
+    ensures fault { IfErr result (λ fault. fault ≡ Fault.Writing) }
+{
+    if text.is_empty() {
+        return Ok(());
+    }
+    journal.settle(client, who)?;
+    write_text(writer, text)
 }

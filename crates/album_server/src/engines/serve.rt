@@ -3,30 +3,36 @@ ghost use Rattle.std.specs.Prelude.{◌≡◌};
 ghost use Rattle.album_threads.specs.Opened.{opened_as};
 
 mod accepting;
+mod audit;
 mod connections;
-mod faults;
+mod notices;
+mod opening;
+mod waker;
+mod watch;
 
 use crate::admins::Admins;
 use crate::engines::serve::accepting::{Limits, accept_all};
+use crate::engines::serve::audit::AuditJournal;
 use crate::engines::serve::connections::Connections;
-use crate::engines::serve::faults::Teller;
-use crate::openings::{SoFar, first_line, later_line, opening_of};
+use crate::engines::serve::notices::{Notice, Printer};
+use crate::engines::serve::opening::{Unopened, read_opening};
+use crate::engines::serve::waker::{Waker, local};
+use crate::engines::serve::watch::watch;
 use album_audit::Totals;
-use album_items::Opening;
 use album_judge::{Fault, PIECE, write_refused, write_text};
-use album_lines::{LineIn, Lines};
-use album_stamps::Refusal;
-use album_threads::{Open, Opened, Service, ServiceNames};
+use album_threads::{Opened, Service, ServiceNames};
 use album_wire::{Counted, TalkOut, write_talk};
-use json::Scratch;
+use crossbeam_channel::{Sender, unbounded};
 use std::alloc::Global;
 use std::io::{Read, Write};
 use std::marker::Brand;
-use std::net::{IpAddr, Ipv4Addr, Net, SocketAddr, TcpListener, TcpStream};
+use std::net::{Net, TcpListener, TcpStream};
 use std::sync::Wait;
 use std::thread::Threads;
 use std::time::Duration;
 use std::{thread, time};
+
+pub use crate::engines::serve::audit::AuditFile;
 
 /// How `serve` ends, where there was no fault.
 #[derive(Clone, Copy, Debug)]
@@ -50,6 +56,8 @@ pub struct Serving {
     pub turns: u64,
     /// A connection that says nothing for so many seconds ends, by the fault `Reading`. 0 is no limit.
     pub idle: u32,
+    /// Each so many seconds the figures of the service are printed on standard error. 0 is never.
+    pub stats: u32,
     /// Who may sweep, trim and ask what is pending.
     pub admins: Admins,
 }
@@ -80,7 +88,7 @@ where
 
 /// Opens a service by the lines that are read, listens at the port of 127.0.0.1, gives each of so many connections a
 /// thread and a session, and then writes the totals of the audit book. What is wrong with an opening, by its line, and
-/// why a port can't be had is told on standard error, as are the faults of connections.
+/// why a port can't be had is printed on standard error, as are the faults of connections.
 ///
 /// # Errors
 ///
@@ -100,71 +108,76 @@ pub fn serve<T: Host, R: Read, W: Write>(
         conns,
         turns,
         idle: 0,
+        stats: 0,
         admins: Admins::Anyone,
     };
-    serve_for(rt, alloc, reader, writer, serving)
+    serve_for::<T, R, W, Vec<u8>>(rt, alloc, reader, writer, serving, None)
 }
 
-/// The same, with a limit for connections that say nothing.
+/// The same, as `serving` says. Each note is appended to the audit file, if there is one, before its request is answered.
 ///
 /// # Errors
 ///
-/// As `serve`.
-pub fn serve_for<T: Host, R: Read, W: Write>(
+/// As `serve`; also `Writing`, where a note can't be written to the audit file. Then nothing is answered any more, and
+/// the reason is printed on standard error.
+pub fn serve_for<T: Host, R: Read, W: Write, A: Write + Send + Drop>(
     rt: T,
     alloc: Global,
     reader: &mut R,
     writer: &mut W,
     serving: Serving,
+    audit: Option<AuditFile<A>>,
 ) -> Result<Served, Fault> {
     let (opened, listener) = match begin(&rt, alloc, reader, writer, &serving)? {
         Ok(begun) => begun,
         Err(served) => return Ok(served),
     };
-    serve_opened::<T, &[u8], W>(rt, alloc, opened, &listener, None, writer, serving)
+    serve_opened::<T, &[u8], W, A>(rt, alloc, opened, &listener, None, writer, serving, audit)
 }
 
 /// The same, to the end of the input behind the opening: then no connection begins any more, and each line that has
-/// come is answered still. Connections beyond the last that counts are told `Closed` until then.
+/// come is answered still. Connections beyond the last that counts are answered `Closed` until then.
 ///
 /// # Errors
 ///
-/// As `serve`.
-pub fn serve_until<T: Host, R: Read + Send + Drop, W: Write>(
+/// As `serve_for`.
+pub fn serve_until<T: Host, R: Read + Send + Drop, W: Write, A: Write + Send + Drop>(
     rt: T,
     alloc: Global,
     mut reader: R,
     writer: &mut W,
     serving: Serving,
+    audit: Option<AuditFile<A>>,
 ) -> Result<Served, Fault> {
     let (opened, listener) = match begin(&rt, alloc, &mut reader, writer, &serving)? {
         Ok(begun) => begun,
         Err(served) => return Ok(served),
     };
-    serve_opened(rt, alloc, opened, &listener, Some(reader), writer, serving)
+    serve_opened(rt, alloc, opened, &listener, Some(reader), writer, serving, audit)
 }
 
 /// The same, where the opening is read by itself, and the input beside it has nothing but its end.
 ///
 /// # Errors
 ///
-/// As `serve`.
-pub fn serve_beside<T: Host, O: Read, R: Read + Send + Drop, W: Write>(
+/// As `serve_for`.
+pub fn serve_beside<T: Host, O: Read, R: Read + Send + Drop, W: Write, A: Write + Send + Drop>(
     rt: T,
     alloc: Global,
     opening: &mut O,
     input: R,
     writer: &mut W,
     serving: Serving,
+    audit: Option<AuditFile<A>>,
 ) -> Result<Served, Fault> {
     let (opened, listener) = match begin(&rt, alloc, opening, writer, &serving)? {
         Ok(begun) => begun,
         Err(served) => return Ok(served),
     };
-    serve_opened(rt, alloc, opened, &listener, Some(input), writer, serving)
+    serve_opened(rt, alloc, opened, &listener, Some(input), writer, serving, audit)
 }
 
-/// The opening is read and opened, and the port is had; or else it is told why not.
+/// The opening is read and opened, and the port is had; or else it is answered why not.
 fn begin<T, R: Read, W: Write>(
     rt: &T,
     alloc: Global,
@@ -191,8 +204,7 @@ where
             return Ok(Err(Served::Refused));
         }
     };
-    let address = SocketAddr::new(IpAddr::V4(Ipv4Addr::new(127, 0, 0, 1)), serving.port);
-    match TcpListener::bind(rt, address) {
+    match TcpListener::bind(rt, local(serving.port)) {
         Ok(listener) => Ok(Ok((opened, listener))),
         Err(error) => {
             let _ = eprintln!(rt; "album: port {}: {error}", serving.port);
@@ -201,92 +213,8 @@ where
     }
 }
 
-/// Why an opening is refused, and in which of its lines, from 1.
-#[derive(Clone, Copy)]
-struct Unopened {
-    line: u64,
-    why: Refusal,
-}
-
-/// The opening that is read.
-fn read_opening<R: Read>(
-    alloc: Global,
-    reader: &mut R,
-    turns: u64,
-) -> Result<Result<Opening, Unopened>, Fault> {
-    let mut lines = Lines::new(alloc);
-    let mut scratch = Scratch::new(alloc);
-    let mut so_far = None;
-    let mut line = 0;
-    let mut piece = [0u8; PIECE];
-    for _turn in 0..turns {
-        let Ok(len) = reader.read(&mut piece) else {
-            return Err(Fault::Reading);
-        };
-        if len == 0 {
-            let last = last_taken(alloc, &mut scratch, so_far, lines, &mut line);
-            return Ok(last.map_err(|why| Unopened { line, why }));
-        }
-        let ended = lines.feed(&piece[..len])?;
-        match take_all(alloc, &mut scratch, so_far, &ended, &mut line) {
-            Ok(Some(SoFar::Whole(header, rows))) => return Ok(Ok(opening_of(header, rows))),
-            Ok(more) => so_far = more,
-            Err(why) => return Ok(Err(Unopened { line, why })),
-        }
-    }
-    Err(Fault::Reading)
-}
-
-/// Takes lines up to the one with which the opening is whole. `number` is that of the line taken last.
-fn take_all(
-    alloc: Global,
-    scratch: &mut Scratch,
-    mut so_far: Option<SoFar>,
-    lines: &[LineIn],
-    number: &mut u64,
-) -> Result<Option<SoFar>, Refusal> {
-    for line in lines {
-        if let Some(SoFar::Whole(header, rows)) = so_far {
-            return Ok(Some(SoFar::Whole(header, rows)));
-        }
-        *number = number.saturating_add(1);
-        if !line.is_blank() {
-            so_far = match so_far {
-                None => Some(first_line(alloc, scratch, line)?),
-                Some(SoFar::More(header, rows)) => {
-                    Some(later_line(alloc, scratch, header, rows, line)?)
-                }
-                Some(SoFar::Whole(header, rows)) => Some(SoFar::Whole(header, rows)),
-            };
-        }
-    }
-    Ok(so_far)
-}
-
-/// The opening, with what the input ends in. `number` is that of the line taken last, or of the one that is missing.
-fn last_taken(
-    alloc: Global,
-    scratch: &mut Scratch,
-    so_far: Option<SoFar>,
-    lines: Lines,
-    number: &mut u64,
-) -> Result<Opening, Refusal> {
-    let so_far = match lines.end() {
-        None => so_far,
-        Some(line) => take_all(alloc, scratch, so_far, &[line], number)?,
-    };
-    match so_far {
-        Some(SoFar::Whole(header, rows)) => Ok(opening_of(header, rows)),
-        Some(SoFar::More(..)) | None => {
-            // It is the line that is missing.
-            *number = number.saturating_add(1);
-            Err(Refusal::BadOpening)
-        }
-    }
-}
-
 /// Serves what was opened, under names of its own.
-fn serve_opened<T, R, W>(
+fn serve_opened<T, R, W, A>(
     rt: T,
     alloc: Global,
     opened: Opened,
@@ -294,17 +222,19 @@ fn serve_opened<T, R, W>(
     input: Option<R>,
     writer: &mut W,
     serving: Serving,
+    audit: Option<AuditFile<A>>,
 ) -> Result<Served, Fault>
 where
-    T: Threads + Wait + time::Clock + Eprint + Copy + Send + Sync + 'static,
+    T: Host,
     R: Read + Send + Drop,
     W: Write,
+    A: Write + Send + Drop,
 {
-    serve_at::<Brand, T, R, W>(rt, alloc, opened, listener, input, writer, serving)?;
+    serve_at::<Brand, T, R, W, A>(rt, alloc, opened, listener, input, writer, serving, audit)?;
     Ok(Served::Done)
 }
 
-fn serve_at<J, T, R, W>(
+fn serve_at<J, T, R, W, A>(
     rt: T,
     alloc: Global,
     opened: Opened,
@@ -312,71 +242,91 @@ fn serve_at<J, T, R, W>(
     input: Option<R>,
     writer: &mut W,
     serving: Serving,
+    audit: Option<AuditFile<A>>,
 ) -> Result<(), Fault>
 where
     J: ServiceNames + Send + Sync + 'static,
-    T: Threads + Wait + time::Clock + Eprint + Copy + Send + Sync + 'static,
+    T: Host,
     R: Read + Send + Drop,
     W: Write,
+    A: Write + Send + Drop,
     requires named { opened ≡ opened_as J.table J.terms J.policy J.audit_ok J.audit_failed J.alarm_ok J.alarm_failed }
 {
-    let (teller, faults) = Teller::open(rt, alloc)?;
-    let service = Service::<J>::open(rt, alloc, opened, Open)?;
+    let (printer, notices) = Printer::open(rt, alloc)?;
+    let waker = Waker::new(rt, serving.port);
+    let service = Service::<J>::open(rt, alloc, opened, waker)?;
+    let done = match print(alloc, &TalkOut::Serving(serving.port), writer) {
+        Ok(()) => attend_all(rt, alloc, &service, listener, input, serving, audit, notices),
+        Err(fault) => Err(fault),
+    };
+    let is_broken = service.is_broken();
+    let totals = service.close(&rt);
+    printer.close(&rt);
+    done?;
+    if is_broken {
+        return Err(Fault::Memory);
+    }
+    print(alloc, &totals_out(totals), writer)
+}
+
+/// Serves the connections. Meanwhile it watches the figures, and reads the input to its end, if there is one.
+///
+/// # Errors
+///
+/// `Memory`; `Writing`, where a note can't be written.
+fn attend_all<J, T, R, A>(
+    rt: T,
+    alloc: Global,
+    service: &Service<J>,
+    listener: &TcpListener,
+    input: Option<R>,
+    serving: Serving,
+    audit: Option<AuditFile<A>>,
+    notices: Sender<Notice>,
+) -> Result<(), Fault>
+where
+    J: ServiceNames + Send + Sync,
+    T: Host,
+    R: Read + Send + Drop,
+    A: Write + Send + Drop,
+{
     let Serving {
         port,
         conns,
         turns,
         idle,
+        stats,
         admins,
     } = serving;
     let limits = Limits {
         conns,
         turns,
         idle: idle_of(idle),
-        until_told: input.is_some(),
+        until_closed: input.is_some(),
     };
-    let told = tell(alloc, &TalkOut::Serving(port), writer);
-    let connections = Connections::new(alloc, faults, admins);
-    if told.is_ok() {
-        attend_all(rt, alloc, &service, listener, &connections, input, limits);
-    }
-    // Nobody tells a fault any more.
-    drop(connections);
-    let is_broken = service.is_broken();
-    let totals = service.close(&rt);
-    told?;
-    if is_broken {
-        return Err(Fault::Memory);
-    }
-    tell(alloc, &totals_out(totals), writer)?;
-    teller.close(&rt);
-    Ok(())
-}
-
-/// Serves the connections, and meanwhile reads the input to its end, if there is one.
-fn attend_all<J, T, R>(
-    rt: T,
-    alloc: Global,
-    service: &Service<J>,
-    listener: &TcpListener,
-    connections: &Connections,
-    input: Option<R>,
-    limits: Limits,
-)
-where
-    J: ServiceNames + Send + Sync,
-    T: Threads + Wait + time::Clock + Copy + Send + Sync,
-    R: Read + Send + Drop,
-{
+    let connections = Connections::new(alloc, notices, port, conns, admins);
+    let connections = &connections;
+    // The watch ends once `end` is let go.
+    let (end, ended) = unbounded(alloc).map_err(|_| Fault::Memory)?;
+    let gauge = service.gauge()?;
+    let gauge = &gauge;
+    let journal = AuditJournal::new(rt, alloc, gauge, connections, audit);
     thread::scope(thread::scope_env(), &rt, |scope| {
+        // Where a thread can't be had, nothing is watched.
+        let _ = scope.spawn(move || watch(&rt, alloc, gauge, connections, stats, &ended));
         if let Some(reader) = input {
-            let reads = scope.spawn(move || read_to_end(&rt, reader, connections, limits.turns));
+            let reads = scope.spawn(move || read_to_end(&rt, reader, connections, turns));
             if reads.is_err() {
                 connections.close(&rt);
             }
         }
-        accept_all(rt, alloc, scope, service, listener, connections, limits);
+        accept_all(rt, alloc, scope, service, listener, connections, &journal, limits);
+        drop(end);
     });
+    if journal.has_failed() {
+        return Err(Fault::Writing);
+    }
+    Ok(())
 }
 
 /// So many seconds, or no limit.
@@ -388,7 +338,7 @@ fn idle_of(seconds: u32) -> Option<Duration> {
 }
 
 /// Reads to the end, and closes the connections then, or where reading fails.
-fn read_to_end<T: Wait, R: Read + Drop>(
+fn read_to_end<T: Host, R: Read + Drop>(
     rt: &T,
     mut reader: R,
     connections: &Connections,
@@ -404,7 +354,7 @@ fn read_to_end<T: Wait, R: Read + Drop>(
     connections.close(rt);
 }
 
-fn tell<W: Write>(alloc: Global, out: &TalkOut, writer: &mut W) -> Result<(), Fault> {
+fn print<W: Write>(alloc: Global, out: &TalkOut, writer: &mut W) -> Result<(), Fault> {
     let text = write_talk(alloc, out)?;
     write_text(writer, &text)?;
     writer.flush().map_err(|_| Fault::Writing)

@@ -1,6 +1,7 @@
 //! A partition, with the owner of its history.
 ghost use Rattle.std.specs.Prelude.{◌≡◌, ◌≢◌, ◌<◌, ℕ, length, map, All, option_map, None, Ok, Err, IfOk, IfErr, IfSome, OnOk, OnErr, IsOkUnless};
 ghost use Rattle.album_partition.specs.Answers.{after, answer};
+ghost use Rattle.album_partition.specs.Marks.{pending_stamps};
 ghost use Rattle.album_partition.specs.Sweeps.{swept};
 ghost use Rattle.album_passes.specs.Cuts.{Extends, IsSound, prefix_at};
 ghost use Rattle.album_threads.specs.Controls.{Answers, AnswersPending, AnswersTrimmed};
@@ -12,7 +13,7 @@ use crate::envelopes::{ReplyEnvelope, RequestEnvelope};
 use crate::service_names::ServiceNames;
 use album_calls::{Message, Stamps};
 use album_items::ItemId;
-use album_partition::Partition;
+use album_partition::{Figures, Partition};
 use album_passes::{Desk, Owner, Pass};
 use album_stamps::{Refusal, Stamp};
 use std::alloc::Global;
@@ -89,6 +90,15 @@ impl<J: ServiceNames> PartitionKeeper<J> {
                 Ok(Some(ReplyEnvelope::new(message, reply, pass)))
             }
         }
+    }
+
+    /// How much the partition has.
+    pub(crate) fn figures(&self) -> Figures
+        ensures marks { result.marks ≡ length self.now.partition.marks }
+        ensures limit { result.limit ≡ self.now.partition.limit }
+        ensures pending { result.pending ≡ length (pending_stamps self.now.partition.marks) }
+    {
+        self.partition.figures()
     }
 
     /// Takes in all that the pass has seen.

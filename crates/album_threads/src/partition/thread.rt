@@ -197,6 +197,8 @@ impl<J: ServiceNames> PartitionLoop<J> {
             PartitionMail::Leave => return Ok(false),
             PartitionMail::Register(client, end) => self.outbox.register(client, end)?,
             PartitionMail::Forget(client) => self.outbox.forget(client),
+            // Who asks does without them, where there is no memory to send them.
+            PartitionMail::Figures(end) => drop(end.send(rt, self.keeper.figures())),
             PartitionMail::ControlRequest(request) => {
                 self.inquire(rt, alloc, desk, Box::into_inner(request))?;
             }

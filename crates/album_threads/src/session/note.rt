@@ -1,5 +1,5 @@
 //! What a session notes in the audit book.
-ghost use Rattle.std.specs.Prelude.{◌≡◌, ◌≢◌, [], ◌∷◌, OnOk, OnErr, IsOkUnless};
+ghost use Rattle.std.specs.Prelude.{◌≡◌, ◌≢◌, [], OnOk, OnErr, IsOkUnless};
 ghost use Rattle.album_threads.specs.Asks.{AreShared};
 
 use crate::service_names::ServiceNames;
@@ -10,38 +10,26 @@ use album_stamps::Refusal;
 use std::sync::Wait;
 
 impl<J: ServiceNames> Session<J> {
-    /// Adds the notes to the audit book. They count in the session's share.
+    /// Adds the notes to the audit book, together. They count in the session's share.
     ///
     /// # Errors
     ///
-    /// `OutOfMemory`.
+    /// `OutOfMemory`. None of them is noted then.
     pub(crate) fn note_all<R: Wait>(&mut self, rt: &R, notes: &[Note]) -> Result<(), Refusal>
         ensures shared { OnOk result (AreShared self.old.client self.old.share self.new.share notes.now) }
         ensures some { OnErr result (notes.now ≢ []) }
         ensures memory { IsOkUnless result Refusal.OutOfMemory }
+        ensures unchanged { OnErr result (self.new ≡ self.old) }
         ensures client { self.new.client ≡ self.old.client }
         ensures counter { self.new.counter ≡ self.old.counter }
         ensures cut { self.new.cut ≡ self.old.cut }
     {
-        for note in notes {
-            self.note(rt, *note)?;
+        if notes.is_empty() {
+            return Ok(());
         }
-        Ok(())
-    }
-
-    /// Adds the note.
-    ///
-    /// # Errors
-    ///
-    /// `OutOfMemory`.
-    fn note<R: Wait>(&mut self, rt: &R, note: Note) -> Result<(), Refusal>
-        ensures shared { OnOk result (AreShared self.old.client self.old.share self.new.share (note ∷ [])) }
-        ensures memory { IsOkUnless result Refusal.OutOfMemory }
-        ensures client { self.new.client ≡ self.old.client }
-        ensures counter { self.new.counter ≡ self.old.counter }
-        ensures cut { self.new.cut ≡ self.old.cut }
-    {
         let client = self.channel.client();
-        self.book.lock(rt).note(&mut self.share, client, note)
+        self.book
+            .lock(rt)
+            .note_all(&mut self.share, client, notes)
     }
 }

@@ -1,11 +1,11 @@
-//! The answer to a line of a connection: what the session is told, or why it is refused.
+//! The answer to a line of a connection: what the session answers, or why it is refused.
 ghost use Rattle.std.specs.Prelude.{◌≡◌, ◌⊎◌, IfOk, Some};
 ghost use Rattle.album_stamps.specs.declared.refusals.Refusal.TheVariants.{OutOfMemory};
 ghost use Rattle.album_stamps.specs.Outcome.{Gives};
 ghost use Rattle.album_threads.specs.Asks.{IsOn};
 ghost use Rattle.album_lines.specs.Lines.{said};
 ghost use Rattle.album_lines.specs.Output.{refusal_line};
-ghost use Rattle.album_server.specs.Talk.{AnswersTalk, Attends, Greets, IsAsked, IsPendingTold, IsSweptFor, IsTrimmedFor, TalksOnce, hello_line_read, talk_line_heard};
+ghost use Rattle.album_server.specs.Talk.{AnswersTalk, Attends, Greets, IsAsked, IsPendingAnswered, IsSweptFor, IsTrimmedFor, TalksOnce, hello_line_read, talk_line_heard};
 
 use crate::admins::Admins;
 use album_eval::Principal;
@@ -25,7 +25,7 @@ use std::time;
 ///
 /// # Errors
 ///
-/// `OutOfMemory`, where there is none for the text of what was told.
+/// `OutOfMemory`, where there is none for the text of the answer.
 pub(crate) fn answer<J: ServiceNames, T: Wait + time::Clock>(
     rt: &T,
     alloc: Global,
@@ -35,7 +35,7 @@ pub(crate) fn answer<J: ServiceNames, T: Wait + time::Clock>(
     who: &mut Option<Principal>,
     line: &LineIn,
 ) -> Result<Vec<u8>, Refusal>
-    ensures told { IfOk result (λ text. TalksOnce J.terms.limit J.policy admins.now
+    ensures answered { IfOk result (λ text. TalksOnce J.terms.limit J.policy admins.now
         (record { who = who.old; session = session.old }) (said line.now)
         (record { who = who.new; session = session.new }) text.items) }
     ensures on { IsOn session.old session.new }
@@ -116,7 +116,7 @@ fn talk_line(
     admins.permit(principal, said)
 }
 
-/// The text of what the session is told to the line.
+/// The text of what the session answers to the line.
 fn carry_out<J: ServiceNames, T: Wait + time::Clock>(
     rt: &T,
     alloc: Global,
@@ -130,7 +130,7 @@ fn carry_out<J: ServiceNames, T: Wait + time::Clock>(
 {
     match line {
         TalkLine::Ask(ask) => carry_out_ask(rt, alloc, session, principal, ask),
-        TalkLine::Pending(part) => tell_pending(rt, alloc, session, part),
+        TalkLine::Pending(part) => pending(rt, alloc, session, part),
         TalkLine::Sweep(part, stamp) => sweep(rt, alloc, session, part, stamp),
         TalkLine::Trim(part, item) => trim(rt, alloc, session, part, item),
     }
@@ -154,13 +154,13 @@ fn carry_out_ask<J: ServiceNames, T: Wait + time::Clock>(
 }
 
 #[tactic(auto, unfolding(album_wire::specs::TalkJson::talk_text))]
-fn tell_pending<J: ServiceNames, T: Wait + time::Clock>(
+fn pending<J: ServiceNames, T: Wait + time::Clock>(
     rt: &T,
     alloc: Global,
     session: &mut Session<J>,
     part: u16,
 ) -> Result<Vec<u8>, Refusal>
-    ensures answers { IfOk result (λ text. IsPendingTold part session.old session.new text.items) }
+    ensures answers { IfOk result (λ text. IsPendingAnswered part session.old session.new text.items) }
     ensures on { IsOn session.old session.new }
 {
     match session.pending(rt, part) {

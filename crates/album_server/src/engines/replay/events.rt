@@ -1,5 +1,5 @@
-//! The events of a line: they happen one after another, and what each tells is written before the next.
-ghost use Rattle.std.specs.Prelude.{◌≡◌, ◌==◌, IfErr, OnOk};
+//! The events of a line: they run one after another, and the outputs of each are written before the next.
+ghost use Rattle.std.specs.Prelude.{◌≡◌, ◌==◌, ◌||◌, not, true, IfErr, OnOk};
 ghost use Rattle.std.specs.Option.{option_copied};
 ghost use Rattle.std.specs.Io.KnownBytes.{Appends};
 ghost use Rattle.album_stamps.specs.Outcome.{Gives};
@@ -8,7 +8,7 @@ ghost use Rattle.album_world.specs.Past.{Past};
 ghost use Rattle.album_wire.specs.EventLine.{deliveries};
 ghost use Rattle.album_lines.specs.Lines.{said};
 ghost use Rattle.album_wire.specs.OutJson.{out_line};
-ghost use Rattle.album_server.specs.Replay.{Happens, Delivers, Spells, IsTold, delivery_text, event_text, event_line_read, message_shown, told_text};
+ghost use Rattle.album_server.specs.Replay.{Happens, Delivers, Spells, IsPrinted, delivery_text, text_in, event_line_read, message_shown, outputs_text};
 ghost use Rattle.album_server.specs.Stages.{Leads, MayLead};
 ghost use Rattle.album_judge.specs.Writes.{Writes, LeavesOf};
 
@@ -23,7 +23,7 @@ use json::Scratch;
 use std::alloc::Global;
 use std::io::Write;
 
-/// Lets the events of a line happen, and writes what they tell; or the line's refusal, where it has one.
+/// Runs the events of a line, and writes their outputs; or the line's refusal, where it has one.
 pub(crate) fn run<W: Write>(
     alloc: Global,
     scratch: &mut Scratch,
@@ -33,10 +33,10 @@ pub(crate) fn run<W: Write>(
     writer: &mut W,
 ) -> Result<(), Fault>
     ensures ok { OnOk result ((past : Past) → Writes
-        (Leads (IsTold world.old.terms trace (said line.now)) world.old world.new past)
+        (Leads (IsPrinted world.old.terms trace (said line.now)) world.old world.new past)
         (W.contents writer.old) (W.contents writer.new)) }
     ensures fault { IfErr result (λ fault. (past : Past) → Writes
-        (LeavesOf fault (MayLead (IsTold world.old.terms trace (said line.now)) world.old past))
+        (LeavesOf fault (MayLead (IsPrinted world.old.terms trace (said line.now)) world.old past))
         (W.contents writer.old) (W.contents writer.new)) }
     ensures terms { world.new.terms ≡ world.old.terms }
 {
@@ -69,31 +69,45 @@ fn run_events<W: Write>(
     ensures terms { world.new.terms ≡ world.old.terms }
 {
     match events {
-        Spelled::One(event) => happen(alloc, trace, world, &event, writer),
+        Spelled::One(event) => run_event(alloc, trace, false, world, &event, writer),
         Spelled::Range(first, last) => deliver_range(alloc, trace, world, first, last, writer),
     }
 }
 
-/// Lets the event happen, and writes what it tells, or why it is refused.
-fn happen<W: Write>(
+/// Runs the event, and writes its outputs, or why it is refused. Of one in a range that is written only for memory.
+fn run_event<W: Write>(
     alloc: Global,
     trace: bool,
+    in_range: bool,
     world: &mut World,
     event: &Event,
     writer: &mut W,
 ) -> Result<(), Fault>
     ensures ok { OnOk result ((past : Past) → Writes
-        (Leads (λ before. Happens event_text world.old.terms trace before event.now) world.old world.new past)
+        (Leads (λ before. Happens (text_in in_range) world.old.terms trace before event.now) world.old world.new past)
         (W.contents writer.old) (W.contents writer.new)) }
     ensures fault { IfErr result (λ fault. (past : Past) → Writes
-        (LeavesOf fault (MayLead (λ before. Happens event_text world.old.terms trace before event.now) world.old past))
+        (LeavesOf fault
+        (MayLead (λ before. Happens (text_in in_range) world.old.terms trace before event.now) world.old past))
         (W.contents writer.old) (W.contents writer.new)) }
     ensures terms { world.new.terms ≡ world.old.terms }
 {
     match world.step(event) {
         Ok(outs) => write_outs(alloc, trace, world, &outs, writer),
-        Err(refusal) => write_refused(alloc, refusal, writer),
+        Err(refusal) => {
+            if is_printed(in_range, refusal) {
+                return write_refused(alloc, refusal, writer);
+            }
+            Ok(())
+        }
     }
+}
+
+/// Whether the refusal of an event is written.
+fn is_printed(in_range: bool, refusal: Refusal) -> bool
+    ensures { result ≡ (not in_range || number_of refusal == number_of Refusal.OutOfMemory) }
+{
+    !in_range || refusal.number() == Refusal::OutOfMemory.number()
 }
 
 /// Gives the messages of the range to whom they are sent.
@@ -141,44 +155,10 @@ fn deliver<W: Write>(
         (W.contents writer.old) (W.contents writer.new)) }
     ensures terms { world.new.terms ≡ world.old.terms }
 {
-    happen_in_range(alloc, trace, world, &Event::Deliver(number), writer)
+    run_event(alloc, trace, true, world, &Event::Deliver(number), writer)
 }
 
-/// Lets the event happen, as one of a range: that it is refused is written only for memory.
-fn happen_in_range<W: Write>(
-    alloc: Global,
-    trace: bool,
-    world: &mut World,
-    event: &Event,
-    writer: &mut W,
-) -> Result<(), Fault>
-    ensures ok { OnOk result ((past : Past) → Writes
-        (Leads (λ before. Happens delivery_text world.old.terms trace before event.now) world.old world.new past)
-        (W.contents writer.old) (W.contents writer.new)) }
-    ensures fault { IfErr result (λ fault. (past : Past) → Writes
-        (LeavesOf fault
-        (MayLead (λ before. Happens delivery_text world.old.terms trace before event.now) world.old past))
-        (W.contents writer.old) (W.contents writer.new)) }
-    ensures terms { world.new.terms ≡ world.old.terms }
-{
-    match world.step(event) {
-        Ok(outs) => write_outs(alloc, trace, world, &outs, writer),
-        Err(refusal) => {
-            if is_for_memory(refusal) {
-                return write_refused(alloc, refusal, writer);
-            }
-            Ok(())
-        }
-    }
-}
-
-fn is_for_memory(refusal: Refusal) -> bool
-    ensures { result ≡ (number_of refusal == number_of Refusal.OutOfMemory) }
-{
-    refusal.number() == Refusal::OutOfMemory.number()
-}
-
-/// Writes what was told, line by line.
+/// Writes the outputs, line by line.
 fn write_outs<W: Write>(
     alloc: Global,
     trace: bool,
@@ -187,18 +167,18 @@ fn write_outs<W: Write>(
     writer: &mut W,
 ) -> Result<(), Fault>
     ensures ok { OnOk result (Appends (W.contents writer.old) (W.contents writer.new)
-        (told_text trace world.now.kept outs.now)) }
+        (outputs_text trace world.now.kept outs.now)) }
     ensures fault { IfErr result (λ fault. Writes
-        (LeavesOf fault (λ whole. whole ≡ told_text trace world.now.kept outs.now))
+        (LeavesOf fault (λ whole. whole ≡ outputs_text trace world.now.kept outs.now))
         (W.contents writer.old) (W.contents writer.new)) }
 {
     for out in outs {
-        write_told(alloc, trace, world, out, writer)?;
+        write_outputs(alloc, trace, world, out, writer)?;
     }
     Ok(())
 }
 
-fn write_told<W: Write>(
+fn write_outputs<W: Write>(
     alloc: Global,
     trace: bool,
     world: &World,

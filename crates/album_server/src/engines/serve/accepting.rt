@@ -1,13 +1,15 @@
-//! The connections that come: each is given a session and a thread, or is told why not.
-use crate::engines::serve::connections::{Connections, OwnedSession, attend};
+//! The connections that come: each is given a session and a thread, or the reason why not.
+use crate::engines::serve::Host;
+use crate::engines::serve::audit::AuditJournal;
+use crate::engines::serve::connections::{Connections, attend};
 use album_judge::write_refused;
 use album_stamps::Refusal;
-use album_threads::{Service, ServiceNames};
+use album_threads::{OwnedSession, Service, ServiceNames};
 use std::alloc::Global;
-use std::io::ErrorKind;
+use std::io::{ErrorKind, Write};
 use std::net::{TcpListener, TcpStream};
 use std::sync::{Arc, Wait};
-use std::thread::{Scope, Threads};
+use std::thread::Scope;
 use std::time::Duration;
 use std::{thread, time};
 
@@ -26,8 +28,8 @@ pub(crate) struct Limits {
     pub turns: u64,
     /// How long one may say nothing.
     pub idle: Option<Duration>,
-    /// Whether the service ends once it is told to, and not before.
-    pub until_told: bool,
+    /// Whether the service ends once its connections are closed, and not before.
+    pub until_closed: bool,
 }
 
 /// How many connections were counted, and how many had ended as one last failed to come.
@@ -37,42 +39,44 @@ struct Count {
     failed_at: Option<u64>,
 }
 
-/// Accepts connections until all that are counted have ended, or the service was told to end.
-pub(crate) fn accept_all<'s, J, T, E>(
+/// Accepts connections until all that are counted have ended, or they are closed.
+pub(crate) fn accept_all<'s, 'a, J, T, A, E>(
     rt: T,
     alloc: Global,
     scope: &'s Scope<'s, E>,
     service: &Service<J>,
     listener: &TcpListener,
     connections: &'s Connections,
+    journal: &'s AuditJournal<'a, J, T, A>,
     limits: Limits,
 )
 where
     J: ServiceNames + Send + Sync + 's,
-    T: Threads + Wait + time::Clock + Copy + Send + Sync + 's,
+    T: Host,
+    A: Write + Send + Drop + 's,
 {
     let mut count = Count {
         counted: 0,
         failed_at: None,
     };
-    if limits.until_told {
+    if limits.until_closed {
         let _ = listener.set_nonblocking(true);
     }
     for _ in rt.forever() {
         let is_closed = is_closed(&rt, service, connections);
         let is_full = is_closed || count.counted >= limits.conns;
         if is_full {
-            if connections.have_ended() && (is_closed || !limits.until_told) {
+            if connections.have_ended() && (is_closed || !limits.until_closed) {
                 return;
             }
-            // Those beyond the last are told so while the others are served.
+            // Those beyond the last are refused while the others are served.
             let _ = listener.set_nonblocking(true);
         }
         match listener.accept() {
             Ok((stream, _from)) if is_full => turn_away(alloc, &stream, Refusal::Closed),
             Ok((stream, _from)) => {
                 count.counted = count.counted.saturating_add(1);
-                welcome(rt, alloc, scope, service, connections, limits, stream);
+                welcome(rt, alloc, scope, service, connections, journal, limits, stream);
             }
             Err(error) if error.kind() == ErrorKind::WouldBlock => nap(&rt),
             Err(_) => count.fail(&rt, connections),
@@ -82,7 +86,7 @@ where
 }
 
 /// Whether no connection begins any more. So it is once a partition's thread has ended for want of memory.
-fn is_closed<J: ServiceNames, T: Wait>(
+fn is_closed<J: ServiceNames, T: Host>(
     rt: &T,
     service: &Service<J>,
     connections: &Connections,
@@ -115,25 +119,27 @@ fn nap<T: time::Clock>(rt: &T) {
     thread::sleep(rt, Duration::from_millis(NAP));
 }
 
-/// Tells a connection why it is not served, and closes it.
+/// Answers a connection why it is not served, and closes it.
 fn turn_away(alloc: Global, stream: &TcpStream, why: Refusal) {
     let mut to = stream;
     let _ = write_refused(alloc, why, &mut to);
 }
 
-/// Gives a connection a session and a thread, or tells it why it has none.
-fn welcome<'s, J, T, E>(
+/// Gives a connection a session and a thread, or answers why it has none.
+fn welcome<'s, 'a, J, T, A, E>(
     rt: T,
     alloc: Global,
     scope: &'s Scope<'s, E>,
     service: &Service<J>,
     connections: &'s Connections,
+    journal: &'s AuditJournal<'a, J, T, A>,
     limits: Limits,
     stream: TcpStream,
 )
 where
     J: ServiceNames + Send + Sync + 's,
-    T: Threads + Wait + time::Clock + Copy + Send + Sync + 's,
+    T: Host,
+    A: Write + Send + Drop + 's,
 {
     let _ = stream.set_read_timeout(limits.idle);
     let Ok(stream) = Arc::new(alloc, stream) else {
@@ -145,6 +151,7 @@ where
         scope,
         service,
         connections,
+        journal,
         limits.turns,
         &stream,
     ) {
@@ -153,27 +160,26 @@ where
 }
 
 /// The same, or why not.
-fn begin<'s, J, T, E>(
+fn begin<'s, 'a, J, T, A, E>(
     rt: T,
     alloc: Global,
     scope: &'s Scope<'s, E>,
     service: &Service<J>,
     connections: &'s Connections,
+    journal: &'s AuditJournal<'a, J, T, A>,
     turns: u64,
     stream: &Arc<TcpStream, Global>,
 ) -> Result<(), Refusal>
 where
     J: ServiceNames + Send + Sync + 's,
-    T: Threads + Wait + time::Clock + Copy + Send + Sync + 's,
+    T: Host,
+    A: Write + Send + Drop + 's,
 {
     let own = Arc::try_clone(stream)?;
-    let guest = OwnedSession {
-        rt,
-        session: service.session(&rt)?,
-    };
+    let guest = OwnedSession::begin(&rt, service)?;
     let client = guest.session.client();
     connections.begin(&rt, client, stream)?;
-    let thread = scope.spawn(move || attend(alloc, connections, guest, &own, turns));
+    let thread = scope.spawn(move || attend(alloc, connections, journal, guest, &own, turns));
     if thread.is_err() {
         connections.end(&rt, client);
         return Err(Refusal::OutOfMemory);

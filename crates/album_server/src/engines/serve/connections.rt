@@ -1,16 +1,19 @@
 //! The connections of a service that are open. Each has a session and a thread of its own.
 use crate::admins::Admins;
 use crate::engines::converse::converse_with;
-use album_judge::Fault;
+use crate::engines::serve::Host;
+use crate::engines::serve::audit::AuditJournal;
+use crate::engines::serve::notices::Notice;
+use crate::engines::serve::waker::wake;
 use album_stamps::{ClientNo, Refusal};
-use album_threads::{ServiceNames, Session};
+use album_threads::{OwnedSession, ServiceNames};
 use crossbeam_channel::Sender;
 use std::alloc::Global;
 use std::collections::BTreeMap;
+use std::io::Write;
 use std::net::{Shutdown, TcpStream};
 use std::sync::atomic::{AtomicU64, Ordering};
 use std::sync::{Arc, Mutex, Wait};
-use std::time;
 
 /// The streams of the connections that are open, by the numbers of their sessions.
 #[derive(Drop)]
@@ -24,26 +27,37 @@ struct Streams {
 #[derive(Drop)]
 pub(crate) struct Connections {
     streams: Mutex<Streams>,
-    /// How many have begun, and how many of them have ended.
+    /// The port at which the service listens.
+    port: u16,
+    /// How many have begun, how many of them have ended, and how many may begin.
     begun: AtomicU64,
     ended: AtomicU64,
-    /// Takes the faults by which they end.
-    faults: Sender<Fault>,
+    most: u16,
+    /// Takes what is to be printed on standard error.
+    notices: Sender<Notice>,
     /// Who may do more than ask.
     admins: Admins,
 }
 
 impl Connections {
     /// None is open yet.
-    pub(crate) fn new(alloc: Global, faults: Sender<Fault>, admins: Admins) -> Connections {
+    pub(crate) fn new(
+        alloc: Global,
+        notices: Sender<Notice>,
+        port: u16,
+        most: u16,
+        admins: Admins,
+    ) -> Connections {
         Connections {
             streams: Mutex::new(Streams {
                 open: BTreeMap::new(alloc),
                 is_closed: false,
             }),
+            port,
             begun: AtomicU64::new(0),
             ended: AtomicU64::new(0),
-            faults,
+            most,
+            notices,
             admins,
         }
     }
@@ -76,6 +90,16 @@ impl Connections {
         self.ended.fetch_add(1, Ordering::SeqCst);
     }
 
+    /// How many have begun.
+    pub(crate) fn begun(&self) -> u64 {
+        self.begun.load(Ordering::SeqCst)
+    }
+
+    /// How many may begin.
+    pub(crate) fn most(&self) -> u64 {
+        u64::from(self.most)
+    }
+
     /// How many have ended.
     pub(crate) fn ended(&self) -> u64 {
         self.ended.load(Ordering::SeqCst)
@@ -83,16 +107,37 @@ impl Connections {
 
     /// Whether each that has begun has ended.
     pub(crate) fn have_ended(&self) -> bool {
-        self.ended() == self.begun.load(Ordering::SeqCst)
+        self.ended() == self.begun()
     }
 
     /// No connection begins any more, and those that are open are read to the end of what has come: each line that is
-    /// there is answered still.
-    pub(crate) fn close<T: Wait>(&self, rt: &T) {
+    /// there is answered still. The thread that accepts is woken.
+    pub(crate) fn close<T: Host>(&self, rt: &T) {
+        if self.begin_to_close(rt) {
+            wake(rt, self.port);
+        }
+    }
+
+    /// The same, but for waking. Returns whether they weren't closed before.
+    fn begin_to_close<T: Wait>(&self, rt: &T) -> bool {
         let mut streams = self.streams.lock(rt);
-        streams.is_closed = true;
         for (_, stream) in &streams.open {
             let _ = stream.shutdown(Shutdown::Read);
+        }
+        let is_first = !streams.is_closed;
+        streams.is_closed = true;
+        is_first
+    }
+
+    /// Has it printed on standard error, some time.
+    pub(crate) fn notify<T: Wait>(&self, rt: &T, notice: Notice) {
+        let _ = self.notices.send(rt, notice);
+    }
+
+    /// The same, where nothing waits to be printed.
+    pub(crate) fn notify_if_read<T: Wait>(&self, rt: &T, notice: Notice) {
+        if self.notices.is_empty() {
+            self.notify(rt, notice);
         }
     }
 
@@ -102,30 +147,19 @@ impl Connections {
     }
 }
 
-/// A session of a connection, which ends where it is let go.
-pub(crate) struct OwnedSession<J: ServiceNames, T: Wait + Copy> {
-    pub(crate) rt: T,
-    pub(crate) session: Session<J>,
-}
-
-impl<J: ServiceNames, T: Wait + Copy> Drop for OwnedSession<J, T> {
-    fn drop(self) {
-        let OwnedSession { rt, session } = self;
-        session.end(&rt);
-    }
-}
-
-/// Answers the lines of a connection, to its end.
-pub(crate) fn attend<J, T>(
+/// Answers the lines of a connection, to its end. Where a note can't be written, no connection is answered any more.
+pub(crate) fn attend<'a, J, T, A>(
     alloc: Global,
     connections: &Connections,
+    journal: &AuditJournal<'a, J, T, A>,
     mut guest: OwnedSession<J, T>,
     stream: &Arc<TcpStream, Global>,
     turns: u64,
 )
 where
     J: ServiceNames + Send + Sync,
-    T: Wait + time::Clock + Copy + Send + Sync,
+    T: Host,
+    A: Write + Drop,
 {
     let _ = stream.set_nodelay(true);
     let (rt, client) = (guest.rt, guest.session.client());
@@ -137,11 +171,13 @@ where
         &mut to,
         &mut guest.session,
         &connections.admins,
+        journal,
         turns,
     );
     if let Err(fault) = done {
-        let _ = connections.faults.send(&rt, fault);
+        connections.notify(&rt, Notice::Fault(fault));
     }
+    journal.forget(client);
     drop(guest);
     connections.end(&rt, client);
 }

@@ -6,16 +6,16 @@ use Rattle.album_server.proofs.engines.converse.answer_lines.Goals as goal
 
 pub loop-line-init : goal.loop-line-init
 loop-line-init g c = record {
-  told = lines_begin g.J.ServiceNames.terms.limit g.J.ServiceNames.policy c.args.admins.now _ (g.W.Write.contents c.args.writer.now);
+  written = lines_begin g.J.ServiceNames.terms.limit g.J.ServiceNames.policy c.args.admins.now _ (g.W.Write.contents c.args.writer.now);
   on = on_self c.args.session.now c.has_granted_writes.ensures.sound;
 }
 
 pub loop-line-preserved : goal.loop-line-preserved
 loop-line-preserved g c = record {
-  told =
+  written =
       lines_next g.J.ServiceNames.terms.limit g.J.ServiceNames.policy c.args.admins.now said c.args.lines.now c.loop-line.line-index c.line-item.result
-      c.loop-line-test.true c.line-item.is _ _ _ _ _ _ _ c.loop-line.invariant.told c.in_ok-text.ensures.told
-      (rw c.deref.ensures.value at c.in_ok-write_text.ensures.ok);
+      c.loop-line-test.true c.line-item.is _ _ _ _ _ _ _ c.loop-line.invariant.written c.in_ok-text.ensures.written
+      (rw c.deref.ensures.value at c.in_ok-write_settled.ensures.ok);
   on = on_trans _ _ _ c.loop-line.invariant.on c.in_ok-text.ensures.on;
 }
 
@@ -25,20 +25,20 @@ returns-in_err-text-clause-fault g c =
     let p = err_from_is_err_and c.from_residual.result c.from_residual.ensures.1 in
     rw (p.1, p.2)
     (lines_unanswered g.J.ServiceNames.terms.limit g.J.ServiceNames.policy c.args.admins.now said c.args.lines.now c.loop-line.line-index
-    c.loop-line-test.true _ _ _ _ c.loop-line.invariant.told _ c.answer.ensures.on)
+    c.loop-line-test.true _ _ _ _ c.loop-line.invariant.written _ c.answer.ensures.on)
 
 pub returns-in_err-text-clause-on : goal.returns-in_err-text-clause-on
 returns-in_err-text-clause-on g c = on_trans _ _ _ c.loop-line.invariant.on c.answer.ensures.on
 
 -- it is not written
-pub returns-in_err-write_text-clause-fault : goal.returns-in_err-write_text-clause-fault
-returns-in_err-write_text-clause-fault g c =
+pub returns-in_err-write_settled-clause-fault : goal.returns-in_err-write_settled-clause-fault
+returns-in_err-write_settled-clause-fault g c =
     let p =
-    err_from_is_err_and c.from_residual-in_err-write_text.result c.from_residual-in_err-write_text.ensures.1 in
-    rw (p.1, p.2, c.in_err-write_text.ensures.fault)
+    err_from_is_err_and c.from_residual-in_err-write_settled.result c.from_residual-in_err-write_settled.ensures.1 in
+    rw (p.1, p.2, c.in_err-write_settled.ensures.fault)
     (lines_cut g.J.ServiceNames.terms.limit g.J.ServiceNames.policy c.args.admins.now said c.args.lines.now c.loop-line.line-index c.line-item.result
-    c.loop-line-test.true c.line-item.is _ _ _ _ _ _ _ c.loop-line.invariant.told c.in_ok-text.ensures.told _
-    (on_self _ c.in_ok-text.ensures.on.sound) (rw c.deref.ensures.value at c.in_err-write_text.ensures.err))
+    c.loop-line-test.true c.line-item.is _ _ _ _ _ _ _ c.loop-line.invariant.written c.in_ok-text.ensures.written _
+    (on_self _ c.in_ok-text.ensures.on.sound) (rw c.deref.ensures.value at c.in_err-write_settled.ensures.err))
 
-pub returns-in_err-write_text-clause-on : goal.returns-in_err-write_text-clause-on
-returns-in_err-write_text-clause-on g c = on_trans _ _ _ c.loop-line.invariant.on c.in_ok-text.ensures.on
+pub returns-in_err-write_settled-clause-on : goal.returns-in_err-write_settled-clause-on
+returns-in_err-write_settled-clause-on g c = on_trans _ _ _ c.loop-line.invariant.on c.in_ok-text.ensures.on

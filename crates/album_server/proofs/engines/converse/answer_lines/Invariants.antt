@@ -7,7 +7,7 @@ use Rattle.album_server.proofs.engines.converse.answer_lines.Given as goal
 
 abbrev pub invariant-loop-line : goal.invariant-loop-line
 invariant-loop-line g l = record {
-  told : Writes (Talks g.J.ServiceNames.terms.limit g.J.ServiceNames.policy l.admins
+  written : Writes (Talks g.J.ServiceNames.terms.limit g.J.ServiceNames.policy l.admins
       (record { who = l.initial.who; session = l.initial.session }) (map said (take l.line-index l.lines))
       (record { who = l.who; session = l.session }))
       (g.W.Write.contents l.initial.writer) (g.W.Write.contents l.writer);

@@ -11,7 +11,7 @@ invariant-loop-number g l = record {
   low : l.first ≤ l.number;
   high : l.number ≤ l.last;
   terms : l.world.terms ≡ l.initial.world.terms;
-  told :
+  written :
       (past : Past)
       → Writes (Leads (λ before. Delivers l.initial.world.terms l.trace before (before_number l.first l.number)) l.initial.world l.world past)
       (g.W.Write.contents l.initial.writer) (g.W.Write.contents l.writer);

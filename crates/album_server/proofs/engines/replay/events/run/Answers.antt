@@ -1,13 +1,13 @@
 use Rattle.std.proofs.lemmas.Result.{IfErr-weaker, on_ok_weaker}
 use Rattle.album_lines.specs.Lines.{said}
-use Rattle.album_server.proofs.Happening.{line_told, line_left, line_refused, line_written, line_begun}
+use Rattle.album_server.proofs.Happening.{line_done, line_left, line_refused, line_written, line_begun}
 use Rattle.album_server.proofs.engines.replay.events.run.Goals as goal
 
 -- the events that it spells
 pub returns-in-Ok-clause-ok : goal.returns-in-Ok-clause-ok
 returns-in-Ok-clause-ok g c =
     on_ok_weaker c.run_events.result
-    (λ w past. line_told c.args.world.now.terms c.args.trace (said c.args.line.now) c.in-Ok.events c.args.world.now c.run_events.new.world past c.in-Ok.ensures _ _ (w past))
+    (λ w past. line_done c.args.world.now.terms c.args.trace (said c.args.line.now) c.in-Ok.events c.args.world.now c.run_events.new.world past c.in-Ok.ensures _ _ (w past))
     c.run_events.ensures.ok
 
 pub returns-in-Ok-clause-fault : goal.returns-in-Ok-clause-fault

@@ -1,0 +1,166 @@
+//! The audit file of a service: each note is written to it before its request is answered.
+use crate::engines::serve::Host;
+use crate::engines::serve::connections::Connections;
+use crate::engines::serve::notices::Notice;
+use crate::journal::Journal;
+use album_audit::Record;
+use album_eval::Principal;
+use album_judge::Fault;
+use album_stamps::{ClientNo, Refusal};
+use album_threads::{Gauge, ServiceNames};
+use album_wire::write_record;
+use std::alloc::Global;
+use std::collections::BTreeMap;
+use std::io;
+use std::io::Write;
+use std::sync::atomic::{AtomicBool, Ordering};
+use std::sync::Mutex;
+
+/// A file to which notes are appended, and its path.
+#[derive(Drop)]
+pub struct AuditFile<A: Drop> {
+    pub path: String,
+    pub file: A,
+}
+
+/// The file, and who talks over each connection.
+#[derive(Drop)]
+struct Log<A: Drop> {
+    to: AuditFile<A>,
+    /// By the numbers of their sessions.
+    named: BTreeMap<u16, Principal>,
+}
+
+/// Writes the notes of a service to its audit file, if it has one.
+#[derive(Drop)]
+pub(crate) struct AuditJournal<'a, J: ServiceNames, T: Host, A: Drop> {
+    rt: T,
+    alloc: Global,
+    gauge: &'a Gauge<J>,
+    connections: &'a Connections,
+    log: Option<Mutex<Log<A>>>,
+    /// Whether a note could not be written. Nothing is answered any more then.
+    has_failed: AtomicBool,
+}
+
+/// Why a note isn't written.
+enum Unwritten {
+    Memory,
+    File(io::Error),
+}
+
+impl<'a, J: ServiceNames, T: Host, A: Write + Drop> AuditJournal<'a, J, T, A> {
+    /// Has the service keep its records from now on, if there is a file.
+    pub(crate) fn new(
+        rt: T,
+        alloc: Global,
+        gauge: &'a Gauge<J>,
+        connections: &'a Connections,
+        file: Option<AuditFile<A>>,
+    ) -> AuditJournal<'a, J, T, A> {
+        if file.is_some() {
+            gauge.keep_records(&rt);
+        }
+        let log = file.map(|to| {
+            Mutex::new(Log {
+                to,
+                named: BTreeMap::new(alloc),
+            })
+        });
+        AuditJournal {
+            rt,
+            alloc,
+            gauge,
+            connections,
+            log,
+            has_failed: AtomicBool::new(false),
+        }
+    }
+
+    /// Whether a note could not be written.
+    pub(crate) fn has_failed(&self) -> bool {
+        self.has_failed.load(Ordering::SeqCst)
+    }
+
+    /// The client's connection has ended. What was noted of it is written still.
+    pub(crate) fn forget(&self, client: ClientNo) {
+        let _ = self.settle(client, None);
+        if let Some(log) = &self.log {
+            let who = log.lock(&self.rt).named.remove(&client.number());
+            drop(who);
+        }
+    }
+
+    /// Reports why a note isn't written, and closes the connections.
+    fn fail(&self, path: &str, why: Unwritten) {
+        self.has_failed.store(true, Ordering::SeqCst);
+        let text = match why {
+            Unwritten::Memory => format!(in self.alloc; "{path}: {}", Fault::Memory),
+            Unwritten::File(error) => format!(in self.alloc; "{path}: {error}"),
+        };
+        if let Ok(text) = text {
+            self.connections.notify(&self.rt, Notice::Warning(text));
+        }
+        self.connections.close(&self.rt);
+    }
+}
+
+impl<'a, J: ServiceNames, T: Host, A: Write + Drop> Journal for AuditJournal<'a, J, T, A> {
+    /// Whoever is first at the file writes what others have noted too: records are written in the order of the book.
+    fn settle(&self, client: ClientNo, who: Option<&Principal>) -> Result<(), Fault> {
+        let Some(log) = &self.log else {
+            return Ok(());
+        };
+        let mut log = log.lock(&self.rt);
+        if self.has_failed() {
+            return Err(Fault::Writing);
+        }
+        let records = self.gauge.take_records(&self.rt);
+        match log.write(self.alloc, client, who, &records) {
+            Ok(()) => Ok(()),
+            Err(why) => {
+                self.fail(log.to.path.as_str(), why);
+                Err(Fault::Writing)
+            }
+        }
+    }
+}
+
+impl<A: Write + Drop> Log<A> {
+    /// Writes the records, each with who asked.
+    fn write(
+        &mut self,
+        alloc: Global,
+        client: ClientNo,
+        who: Option<&Principal>,
+        records: &[Record],
+    ) -> Result<(), Unwritten> {
+        self.name(client, who).map_err(|_| Unwritten::Memory)?;
+        for record in records {
+            self.append(alloc, *record)?;
+        }
+        Ok(())
+    }
+
+    /// The client is this principal from its first line on.
+    fn name(&mut self, client: ClientNo, who: Option<&Principal>) -> Result<(), Refusal> {
+        let number = client.number();
+        if let Some(who) = who
+            && !self.named.contains_key(&number)
+        {
+            let _ = self.named.insert(number, who.copy()?)?;
+        }
+        Ok(())
+    }
+
+    fn append(&mut self, alloc: Global, record: Record) -> Result<(), Unwritten> {
+        let Record { client, note } = record;
+        // Who has asked has said before who it is, and that was answered.
+        let who = self
+            .named
+            .get(&client.number())
+            .unwrap_or(&Principal::Anonymous);
+        let line = write_record(alloc, client, who, note).map_err(|_| Unwritten::Memory)?;
+        self.to.file.write_all(&line).map_err(Unwritten::File)
+    }
+}

@@ -1,0 +1,28 @@
+//! Where a service writes what was noted.
+ghost use Rattle.std.specs.Prelude.{◌≡◌, IfErr};
+
+use album_eval::Principal;
+use album_judge::Fault;
+use album_stamps::ClientNo;
+
+/// Writes what was noted before it is answered.
+pub trait Journal {
+    /// Writes all that was noted and isn't written yet. An answer to this client is written next: what was noted of its
+    /// request is noted by now. Who talks is known from its first line on.
+    ///
+    /// # Errors
+    ///
+    /// `Writing`. The answer isn't written then.
+    fn settle(&self, client: ClientNo, who: Option<&Principal>) -> Result<(), Fault>
+        ensures fault { IfErr result (λ fault. fault ≡ Fault.Writing) };
+}
+
+/// Nothing that was noted is written.
+#[derive(Debug, Drop)]
+pub struct NoJournal;
+
+impl Journal for NoJournal {
+    fn settle(&self, _client: ClientNo, _who: Option<&Principal>) -> Result<(), Fault> {
+        Ok(())
+    }
+}

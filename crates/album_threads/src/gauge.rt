@@ -1,0 +1,62 @@
+//! What those who run a service look at: how much its partitions have, and what is noted.
+use crate::mailbox::PartitionMail;
+use crate::service_names::ServiceNames;
+use album_audit::{AuditBook, Record, Totals};
+use album_partition::Figures;
+use album_stamps::Refusal;
+use crossbeam_channel::{SendError, Sender, unbounded};
+use std::alloc::Global;
+use std::sync::{Arc, Mutex, Wait};
+
+/// The mailboxes of a service's partitions, and its audit book. Threads may share it.
+#[derive(Drop)]
+pub struct Gauge<J: ServiceNames> {
+    pub(crate) alloc: Global,
+    /// Of the partitions, in order.
+    pub(crate) mailboxes: Vec<Sender<PartitionMail<J>>>,
+    pub(crate) book: Arc<Mutex<AuditBook<J>>, Global>,
+}
+
+impl<J: ServiceNames> Gauge<J> {
+    /// How much each partition has, in the order of their numbers.
+    ///
+    /// # Errors
+    ///
+    /// `OutOfMemory`; `Closed`, where a partition's thread has ended, or had no memory to answer.
+    pub fn figures<R: Wait>(&self, rt: &R) -> Result<Vec<Figures>, Refusal> {
+        let mut figures = Vec::with_capacity(self.alloc, self.mailboxes.len())?;
+        for mailbox in &self.mailboxes {
+            figures.push(figures_at(rt, self.alloc, mailbox)?)?;
+        }
+        Ok(figures)
+    }
+
+    /// The totals of the audit book so far.
+    pub fn totals<R: Wait>(&self, rt: &R) -> Totals {
+        self.book.lock(rt).totals()
+    }
+
+    /// Has the audit book keep the record of each note from now on, until they are taken.
+    pub fn keep_records<R: Wait>(&self, rt: &R) {
+        self.book.lock(rt).keep(self.alloc);
+    }
+
+    /// The records that the audit book keeps, in the order in which they were noted. It keeps none of them any longer.
+    pub fn take_records<R: Wait>(&self, rt: &R) -> Vec<Record> {
+        self.book.lock(rt).take(self.alloc)
+    }
+}
+
+/// How much the partition of this mailbox has.
+fn figures_at<J: ServiceNames, R: Wait>(
+    rt: &R,
+    alloc: Global,
+    mailbox: &Sender<PartitionMail<J>>,
+) -> Result<Figures, Refusal> {
+    let (end, from) = unbounded(alloc)?;
+    match mailbox.send(rt, PartitionMail::Figures(end)) {
+        Ok(()) => from.recv(rt).map_err(|_| Refusal::Closed),
+        Err(SendError::Disconnected(_)) => Err(Refusal::Closed),
+        Err(SendError::OutOfMemory(_)) => Err(Refusal::OutOfMemory),
+    }
+}

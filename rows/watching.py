@@ -1,0 +1,151 @@
+"""What those who run `album serve` see of it: the notes in its audit file, its figures and its warnings."""
+import json
+import os
+import subprocess
+import tempfile
+import time
+
+from options import READ, opening, talker
+from serving import SECONDS, Service, free_port, want, wrong_of
+
+# Reads are audited, and those of eve's, which are denied, raise an alarm too.
+AUDITED = opening([["deny", "eve@users", 1, 0], ["allow", "EVERYONE@", 257, 0], ["audit", "EVERYONE@", 1, 48],
+                   ["alarm", "eve@users", 1, 32]])
+OWNED = [["allow", "OWNER@", 2032127, 0]]
+
+
+def note(client, who, entry, success, alarm=False):
+    """A line of an audit file."""
+    truth = {True: "true", False: "false"}
+    return (f'{{"alarm":{truth[alarm]},"audit":{entry},"client":{client},"mask":1,"object":"picture/0",'
+            f'"success":{truth[success]},"who":"{who}"}}\n')
+
+
+def text_of(path):
+    with open(path, encoding="utf-8") as file:
+        return file.read()
+
+
+def notes_in_a_file(program, folder):
+    """As a request is answered its notes are in the file, with who asked, after those of before; a file is gone on
+    with. The totals are their counts."""
+    path = os.path.join(folder, "notes")
+    lines = ""
+    for _ in range(2):
+        with Service(program, AUDITED, 3, "--audit", path) as service:
+            bo, eve, nobody = (talker(service, who) for who in ("bo@users", "eve@users", "ANONYMOUS@"))
+            for reader, answer, notes in (
+                    (bo, "served", note(1, "bo@users", 2, True)),
+                    (eve, "denied", note(2, "eve@users", 2, False) + note(2, "eve@users", 3, False, alarm=True)),
+                    (nobody, "served", note(3, "ANONYMOUS@", 2, True)), (bo, "served", note(1, "bo@users", 2, True))):
+                want(answer, reader.ask(READ)["answer"], "an answer")
+                lines += notes
+                want(lines, text_of(path), "the file")
+            for connection in (bo, eve, nobody):
+                connection.finish()
+            service.end(b'{"alarms":[0,1],"audits":[3,1]}\n', [b""])
+
+
+def notes_of_many(program, folder):
+    """Four connections at once: each note is in the file by when its request is answered, and none is lost or doubled."""
+    path = os.path.join(folder, "notes")
+    with Service(program, AUDITED, 4, "--audit", path) as service:
+        connections = [talker(service, f"user{n}@users") for n in range(4)]
+        for turn in range(25):
+            for connection in connections:
+                connection.send(json.dumps(READ).encode() + b"\n")
+            for n, connection in enumerate(connections):
+                want("served", json.loads(connection.answer())["answer"], "an answer")
+                mine = text_of(path).count(note(n + 1, f"user{n}@users", 2, True))
+                want(turn + 1, mine, "how many notes of it are there")
+        for connection in connections:
+            connection.finish()
+        service.end(b'{"alarms":[0,0],"audits":[100,0]}\n', [b""])
+
+
+def a_note_that_cannot_be_written(program, _folder):
+    """What is to be noted and can't be is not answered. All connections are closed, and the service ends."""
+    with Service(program, AUDITED, 65535, "--audit", "/dev/full") as service:
+        silent, reader = talker(service, "amy@users"), talker(service, "bo@users")
+        reader.send(json.dumps(READ).encode() + b"\n")
+        for connection in (reader, silent):
+            want(b"", connection.answer(), "what is answered")
+            connection.close()
+        want(b"", service.run.stdout.read(), "what is printed")
+        want(1, service.run.wait(SECONDS), "the status")
+        service.errors.seek(0)
+        want(b"album: /dev/full: No space left on device (os error 28)\nalbum: writing failed\nalbum: writing failed\n",
+             service.errors.read(), "standard error")
+
+
+def an_audit_file_that_cannot_be_had(program, folder):
+    """It is named with the reason, and nothing is served."""
+    path = os.path.join(folder, "none", "notes")
+    done = subprocess.run([program, "serve", str(free_port()), "--audit", path], input=AUDITED, capture_output=True,
+                          timeout=SECONDS)
+    said = f"album: {path}: No such file or directory (os error 2)\nalbum: writing failed\n".encode()
+    want((1, b"", said), (done.returncode, done.stdout, done.stderr), "the run")
+
+
+def said_by(service, line):
+    """What is on standard error once the line is there."""
+    for _ in range(10 * SECONDS):
+        service.errors.seek(0)
+        lines = service.errors.read().decode().splitlines()
+        if line in lines:
+            return lines
+        time.sleep(0.1)
+    want([line], lines[-2:], "the end of standard error")
+
+
+def figures(program, _folder):
+    """A retitle makes two marks and a version. One of two connections has ended."""
+    with Service(program, opening(OWNED), 7, "--stats", "1") as service:
+        said_by(service, '{"alarms":[0,0],"audits":[0,0],"connections":[0,0,7],"marks":[[0,1000]],"pending":[0],'
+                         '"versions":[0]}')
+        talker(service, "bo@users").finish()
+        amy = talker(service, "amy@users")
+        want("committed", amy.ask({"ask": {"do": "retitle", "object": "picture/0", "title": "Bay"}})["answer"], "it")
+        said_by(service, '{"alarms":[0,0],"audits":[0,0],"connections":[1,2,7],"marks":[[2,1000]],"pending":[0],'
+                         '"versions":[1]}')
+        amy.finish()
+
+
+def warnings(program, _folder):
+    """It warns once as nine tenths of a partition's marks are made, and again of nothing else."""
+    with Service(program, opening(OWNED, limit=100), 7, "--stats", "1") as service:
+        amy = talker(service, "amy@users")
+        for turn in range(45):
+            asked = {"ask": {"do": "retitle", "object": "picture/0", "title": str(turn)}}
+            want("committed", amy.ask(asked)["answer"], "a retitle")
+        said_by(service, "album: partition 0: 90 of 100 marks")
+        time.sleep(2.5)
+        warned = [line for line in said_by(service, "album: partition 0: 90 of 100 marks") if line.startswith("album")]
+        want(["album: partition 0: 90 of 100 marks"], warned, "the warnings")
+        amy.finish()
+
+
+FACTS = {
+    "notes in a file": notes_in_a_file,
+    "notes of many connections": notes_of_many,
+    "a note that can't be written": a_note_that_cannot_be_written,
+    "an audit file that can't be had": an_audit_file_that_cannot_be_had,
+    "figures each second": figures,
+    "a warning before the marks are spent": warnings,
+}
+
+
+def hold(program, fact):
+    """Holds it in a folder of its own."""
+    with tempfile.TemporaryDirectory() as folder:
+        fact(program, folder)
+
+
+def held(program, fact):
+    return wrong_of(hold, program, fact)
+
+
+def checks():
+    """Each row: its name, how it is run on a program, and what it is."""
+    for name, fact in FACTS.items():
+        yield f"watching: {name}", held, fact
