@@ -269,7 +269,10 @@ fn records_of(alloc: Global, client: ClientNo, notes: &[Note]) -> Result<Vec<Rec
 {
     let mut records = Vec::with_capacity(alloc, notes.len())?;
     for note in notes {
-        records.push(Record { client, note: *note })?;
+        records.push(Record {
+            client,
+            note: *note,
+        })?;
     }
     Ok(records)
 }

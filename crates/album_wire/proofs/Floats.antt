@@ -138,7 +138,7 @@ in_marks part = refl
 pub no_float_in_figures : (figures : ServiceFigures) → has_float (figures_json figures) ≡ false
 no_float_in_figures figures =
     rw (
-        in_list marks_json in_marks figures.parts.items,
-        in_list (λ part. whole_data part.pending) (λ part. refl) figures.parts.items,
-        in_list (λ part. whole_data part.versions) (λ part. refl) figures.parts.items,
+      in_list marks_json in_marks figures.parts.items,
+      in_list (λ part. whole_data part.pending) (λ part. refl) figures.parts.items,
+      in_list (λ part. whole_data part.versions) (λ part. refl) figures.parts.items,
     ) refl

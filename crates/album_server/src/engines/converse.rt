@@ -66,7 +66,16 @@ pub fn converse<J: ServiceNames, T: Wait + time::Clock, R: Read, W: Write>(
     ensures none { turns ≡ 0 → result ≡ Err Fault.Reading }
     ensures unread { turns ≡ 0 → R.remaining reader.new ≡ R.remaining reader.old }
 {
-    converse_with(rt, alloc, reader, writer, session, &Admins::Anyone, &NoJournal, turns)
+    converse_with(
+        rt,
+        alloc,
+        reader,
+        writer,
+        session,
+        &Admins::Anyone,
+        &NoJournal,
+        turns,
+    )
 }
 
 /// The same, where who talks may only ask, unless it is one of the admins. The journal is settled before each answer.
@@ -176,7 +185,17 @@ fn finish<J: ServiceNames, T: Wait + time::Clock, W: Write, A: Journal>(
     session.has_granted_writes();
     match lines.end() {
         None => Ok(()),
-        Some(line) => answer_lines(rt, alloc, scratch, session, admins, journal, who, &[line], writer),
+        Some(line) => answer_lines(
+            rt,
+            alloc,
+            scratch,
+            session,
+            admins,
+            journal,
+            who,
+            &[line],
+            writer,
+        ),
     }
 }
 

@@ -12,6 +12,7 @@ mod watch;
 
 use crate::admins::Admins;
 use crate::engines::serve::accepting::{Limits, accept_all};
+pub use crate::engines::serve::audit::AuditFile;
 use crate::engines::serve::audit::AuditJournal;
 use crate::engines::serve::connections::Connections;
 use crate::engines::serve::notices::{Notice, Printer};
@@ -31,8 +32,6 @@ use std::sync::Wait;
 use std::thread::Threads;
 use std::time::Duration;
 use std::{thread, time};
-
-pub use crate::engines::serve::audit::AuditFile;
 
 /// How `serve` ends, where there was no fault.
 #[derive(Clone, Copy, Debug)]
@@ -153,7 +152,16 @@ pub fn serve_until<T: Host, R: Read + Send + Drop, W: Write, A: Write + Send + D
         Ok(begun) => begun,
         Err(served) => return Ok(served),
     };
-    serve_opened(rt, alloc, opened, &listener, Some(reader), writer, serving, audit)
+    serve_opened(
+        rt,
+        alloc,
+        opened,
+        &listener,
+        Some(reader),
+        writer,
+        serving,
+        audit,
+    )
 }
 
 /// The same, where the opening is read by itself, and the input beside it has nothing but its end.
@@ -174,7 +182,16 @@ pub fn serve_beside<T: Host, O: Read, R: Read + Send + Drop, W: Write, A: Write 
         Ok(begun) => begun,
         Err(served) => return Ok(served),
     };
-    serve_opened(rt, alloc, opened, &listener, Some(input), writer, serving, audit)
+    serve_opened(
+        rt,
+        alloc,
+        opened,
+        &listener,
+        Some(input),
+        writer,
+        serving,
+        audit,
+    )
 }
 
 /// The opening is read and opened, and the port is had; or else it is answered why not.
@@ -256,7 +273,9 @@ where
     let waker = Waker::new(rt, serving.port);
     let service = Service::<J>::open(rt, alloc, opened, waker)?;
     let done = match print(alloc, &TalkOut::Serving(serving.port), writer) {
-        Ok(()) => attend_all(rt, alloc, &service, listener, input, serving, audit, notices),
+        Ok(()) => attend_all(
+            rt, alloc, &service, listener, input, serving, audit, notices,
+        ),
         Err(fault) => Err(fault),
     };
     let is_broken = service.is_broken();
@@ -320,7 +339,16 @@ where
                 connections.close(&rt);
             }
         }
-        accept_all(rt, alloc, scope, service, listener, connections, &journal, limits);
+        accept_all(
+            rt,
+            alloc,
+            scope,
+            service,
+            listener,
+            connections,
+            &journal,
+            limits,
+        );
         drop(end);
     });
     if journal.has_failed() {

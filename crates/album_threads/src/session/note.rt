@@ -28,8 +28,6 @@ impl<J: ServiceNames> Session<J> {
             return Ok(());
         }
         let client = self.channel.client();
-        self.book
-            .lock(rt)
-            .note_all(&mut self.share, client, notes)
+        self.book.lock(rt).note_all(&mut self.share, client, notes)
     }
 }

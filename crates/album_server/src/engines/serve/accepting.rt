@@ -76,7 +76,16 @@ where
             Ok((stream, _from)) if is_full => turn_away(alloc, &stream, Refusal::Closed),
             Ok((stream, _from)) => {
                 count.counted = count.counted.saturating_add(1);
-                welcome(rt, alloc, scope, service, connections, journal, limits, stream);
+                welcome(
+                    rt,
+                    alloc,
+                    scope,
+                    service,
+                    connections,
+                    journal,
+                    limits,
+                    stream,
+                );
             }
             Err(error) if error.kind() == ErrorKind::WouldBlock => nap(&rt),
             Err(_) => count.fail(&rt, connections),
