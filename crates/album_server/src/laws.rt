@@ -28,9 +28,9 @@ pub fn replays_go_on()
     ensures over { (lines : List Line) → Replays Over lines Over [] }
 {}
 
-/// A law: what is printed of an input keeps the promise. Each part of it is a refusal, or an output of the world that the
-/// lines before it spell; on that world all promises hold, and what is printed as an answer is the one answer to its
-/// client's last request.
+/// A law: what is printed of an input keeps the promise. Each part of it is a refusal, or an output of the world that
+/// the lines before it spell; on that world all promises hold, and what is printed as an answer is the one answer to
+/// its client's last request.
 pub fn what_replay_prints()
     ensures { (input text : List ℕ) → IsReplay input text → IsAsPromised input text }
 {}

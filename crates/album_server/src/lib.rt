@@ -8,8 +8,8 @@
 //! specs/Replay.antt has the text of a replay, specs/Promise.antt what is promised of it, and `laws` what holds of
 //! both. Then `engines/converse`, the engine of a connection, with specs/Talk.antt; and `engines/serve`, which opens a
 //! service and gives each connection a thread (`serve/accepting`, `serve/connections`), writes its notes to a file
-//! (`serve/audit`) and prints its figures (`serve/watch`). The engine of judge lines is `album_judge`'s, and is passed on
-//! here.
+//! (`serve/audit`) and prints its figures (`serve/watch`). The engine of judge lines is `album_judge`'s, and is passed
+//! on here.
 #![tactic(auto)]
 
 // What the lines of an opening say. Both a replay and a service begin with them.

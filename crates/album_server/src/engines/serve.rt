@@ -113,7 +113,8 @@ pub fn serve<T: Host, R: Read, W: Write>(
     serve_for::<T, R, W, Vec<u8>>(rt, alloc, reader, writer, serving, None)
 }
 
-/// The same, as `serving` says. Each note is appended to the audit file, if there is one, before its request is answered.
+/// The same, as `serving` says. Each note is appended to the audit file, if there is one, before its request is
+/// answered.
 ///
 /// # Errors
 ///
