@@ -14,7 +14,7 @@ pub loop-line-preserved : goal.loop-line-preserved
 loop-line-preserved g c = record {
   written =
       lines_next g.J.ServiceNames.terms.limit g.J.ServiceNames.policy c.args.admins.now said c.args.lines.now c.loop-line.line-index c.line-item.result
-      c.loop-line-test.true c.line-item.is _ _ _ _ _ _ _ c.loop-line.invariant.written c.in_ok-text.ensures.written
+      c.loop-line-test.true c.line-item.is _ _ _ _ _ _ _ c.loop-line.invariant.written c.in_ok-text.ensures.answered
       (rw c.deref.ensures.value at c.in_ok-write_settled.ensures.ok);
   on = on_trans _ _ _ c.loop-line.invariant.on c.in_ok-text.ensures.on;
 }
@@ -37,7 +37,7 @@ returns-in_err-write_settled-clause-fault g c =
     err_from_is_err_and c.from_residual-in_err-write_settled.result c.from_residual-in_err-write_settled.ensures.1 in
     rw (p.1, p.2, c.in_err-write_settled.ensures.fault)
     (lines_cut g.J.ServiceNames.terms.limit g.J.ServiceNames.policy c.args.admins.now said c.args.lines.now c.loop-line.line-index c.line-item.result
-    c.loop-line-test.true c.line-item.is _ _ _ _ _ _ _ c.loop-line.invariant.written c.in_ok-text.ensures.written _
+    c.loop-line-test.true c.line-item.is _ _ _ _ _ _ _ c.loop-line.invariant.written c.in_ok-text.ensures.answered _
     (on_self _ c.in_ok-text.ensures.on.sound) (rw c.deref.ensures.value at c.in_err-write_settled.ensures.err))
 
 pub returns-in_err-write_settled-clause-on : goal.returns-in_err-write_settled-clause-on

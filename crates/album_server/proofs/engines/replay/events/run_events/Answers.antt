@@ -1,10 +1,10 @@
 use Rattle.album_server.proofs.engines.replay.events.run_events.Goals as goal
 
 pub returns-in-One-clause-ok : goal.returns-in-One-clause-ok
-returns-in-One-clause-ok g c = rw c.in-One.is c.happen.ensures.ok
+returns-in-One-clause-ok g c = rw c.in-One.is c.run_event.ensures.ok
 
 pub returns-in-One-clause-fault : goal.returns-in-One-clause-fault
-returns-in-One-clause-fault g c = rw c.in-One.is c.happen.ensures.fault
+returns-in-One-clause-fault g c = rw c.in-One.is c.run_event.ensures.fault
 
 pub returns-in-Range-clause-ok : goal.returns-in-Range-clause-ok
 returns-in-Range-clause-ok g c = rw c.in-Range.is c.deliver_range.ensures.ok
