@@ -2,8 +2,10 @@
 //! the events that its lines spell bring about in a store, and `album serve` runs a store for who connects to a port.
 #![tactic(auto)]
 
+mod explaining;
 mod texts;
 
+use crate::explaining::{explain_command, explain_lines, flags_command, mask_command, tell_bits};
 use crate::texts::{
     ABOUT, JUDGE_ABOUT, JUDGE_HELP, NO_TEXT, REPLAY_ABOUT, REPLAY_HELP, SERVE_ABOUT, SERVE_HELP,
 };
@@ -23,7 +25,7 @@ use std::thread::Threads;
 use std::{env, fs, io, time};
 
 /// How many reads a run may make.
-const TURNS: u64 = 4_294_967_296;
+pub(crate) const TURNS: u64 = 4_294_967_296;
 
 fn main(rt: HostRuntime) -> ExitCode {
     let args = match env::args(&rt) {
@@ -46,6 +48,11 @@ fn main(rt: HostRuntime) -> ExitCode {
             &rt,
             replay_lines(&rt, rt.alloc(), &mut rt.stdin(), &mut rt.stdout(), &matches),
         ),
+        Some("explain") => {
+            explain_lines(&rt, rt.alloc(), &mut rt.stdin(), &mut rt.stdout(), &matches)
+        }
+        Some("mask") => tell_bits(&rt, rt.alloc(), &mut rt.stdout(), &matches, "mask"),
+        Some("flags") => tell_bits(&rt, rt.alloc(), &mut rt.stdout(), &matches, "flags"),
         Some("serve") => match admins(rt.alloc(), &matches) {
             Err(why) => refuse_admins(&rt, why),
             Ok(admins) => served(
@@ -84,7 +91,10 @@ fn command<'a>(alloc: Global) -> Result<Command<'a>, AllocError> {
         .subcommand_required(true)
         .subcommand(judge)?
         .subcommand(replay)?
-        .subcommand(serve_command(alloc)?)
+        .subcommand(serve_command(alloc)?)?
+        .subcommand(explain_command(alloc, questions_arg(alloc))?)?
+        .subcommand(mask_command(alloc)?)?
+        .subcommand(flags_command(alloc)?)
 }
 
 fn questions_arg<'a>(alloc: Global) -> Arg<'a> {
@@ -195,7 +205,7 @@ fn replay_lines<T: Files + Eprint, R: Read, W: Write>(
 }
 
 /// The file at the path, to be read. Why it can't be is told on standard error.
-fn open<T: Files + Eprint>(rt: &T, path: &str) -> Result<T::File, Fault> {
+pub(crate) fn open<T: Files + Eprint>(rt: &T, path: &str) -> Result<T::File, Fault> {
     fs::open(rt, path).map_err(|error| {
         let _ = eprintln!(rt; "album: {path}: {error}");
         Fault::Reading
@@ -281,7 +291,7 @@ fn served(rt: &impl Eprint, outcome: Result<Served, Fault>) -> ExitCode {
 }
 
 /// The status of a run, with its fault on standard error. Nothing can be done where that fails too.
-fn status(rt: &impl Eprint, outcome: Result<(), Fault>) -> ExitCode {
+pub(crate) fn status(rt: &impl Eprint, outcome: Result<(), Fault>) -> ExitCode {
     match outcome {
         Ok(()) => ExitCode::SUCCESS,
         Err(fault) => {

@@ -1,0 +1,4 @@
+pub mod Adding
+pub mod Joining
+pub mod Judging
+pub mod Rows
