@@ -3,14 +3,14 @@
 #![tactic(auto)]
 
 mod explaining;
+mod replaying;
 mod texts;
 
 use crate::explaining::{explain_command, explain_lines, flags_command, mask_command, tell_bits};
-use crate::texts::{
-    ABOUT, JUDGE_ABOUT, JUDGE_HELP, NO_TEXT, REPLAY_ABOUT, REPLAY_HELP, SERVE_ABOUT, SERVE_HELP,
-};
+use crate::replaying::{replay_command, replay_lines};
+use crate::texts::{ABOUT, JUDGE_ABOUT, JUDGE_HELP, NO_TEXT, SERVE_ABOUT, SERVE_HELP};
 use album_server::{
-    Admins, Fault, Refusal, Served, Serving, judge, replay, serve_beside, serve_for, serve_until,
+    Admins, Fault, Refusal, Served, Serving, judge, serve_beside, serve_for, serve_until,
 };
 use clap::error::ErrorKind;
 use clap::{Arg, ArgAction, ArgMatches, Command, Error, value_parser};
@@ -26,6 +26,9 @@ use std::{env, fs, io, time};
 
 /// How many reads a run may make.
 pub(crate) const TURNS: u64 = 4_294_967_296;
+
+/// The program's version. Which commit it was built of it doesn't know.
+const VERSION: &str = "0.1.0";
 
 fn main(rt: HostRuntime) -> ExitCode {
     let args = match env::args(&rt) {
@@ -44,10 +47,9 @@ fn main(rt: HostRuntime) -> ExitCode {
             &rt,
             judge_lines(&rt, rt.alloc(), &mut rt.stdin(), &mut rt.stdout(), &matches),
         ),
-        Some("replay") => status(
-            &rt,
-            replay_lines(&rt, rt.alloc(), &mut rt.stdin(), &mut rt.stdout(), &matches),
-        ),
+        Some("replay") => {
+            replay_lines(&rt, rt.alloc(), &mut rt.stdin(), &mut rt.stdout(), &matches)
+        }
         Some("explain") => {
             explain_lines(&rt, rt.alloc(), &mut rt.stdin(), &mut rt.stdout(), &matches)
         }
@@ -82,15 +84,12 @@ fn command<'a>(alloc: Global) -> Result<Command<'a>, AllocError> {
         .about(JUDGE_ABOUT)
         .after_help(JUDGE_HELP)
         .arg(questions_arg(alloc))?;
-    let replay = Command::new(alloc, "replay")
-        .about(REPLAY_ABOUT)
-        .after_help(REPLAY_HELP)
-        .arg(script_arg(alloc))?;
     Command::new(alloc, "album")
         .about(ABOUT)
+        .version(VERSION)
         .subcommand_required(true)
         .subcommand(judge)?
-        .subcommand(replay)?
+        .subcommand(replay_command(alloc)?)?
         .subcommand(serve_command(alloc)?)?
         .subcommand(explain_command(alloc, questions_arg(alloc))?)?
         .subcommand(mask_command(alloc)?)?
@@ -101,10 +100,6 @@ fn questions_arg<'a>(alloc: Global) -> Arg<'a> {
     Arg::new(alloc, "FILE")
         .help("Files of questions, in the place of standard input")
         .num_args(0..)
-}
-
-fn script_arg<'a>(alloc: Global) -> Arg<'a> {
-    Arg::new(alloc, "FILE").help("A file with the script, in the place of standard input")
 }
 
 fn serve_command<'a>(alloc: Global) -> Result<Command<'a>, AllocError> {
@@ -183,23 +178,6 @@ fn judge_lines<T: Files + Eprint, R: Read, W: Write>(
                 judge(alloc, &mut open(rt, path)?, writer, TURNS)?;
             }
         }
-    }
-    writer.flush().map_err(|_| Fault::Writing)
-}
-
-/// Replays the lines of the file that is named, or else those of the reader, to their end or to the refusal of their
-/// opening.
-fn replay_lines<T: Files + Eprint, R: Read, W: Write>(
-    rt: &T,
-    alloc: Global,
-    reader: &mut R,
-    writer: &mut W,
-    matches: &ArgMatches<'_>,
-) -> Result<(), Fault> {
-    let named = matches.subcommand_matches("replay");
-    match named.and_then(|m| m.get_str("FILE")) {
-        None => replay(alloc, reader, writer, TURNS)?,
-        Some(path) => replay(alloc, &mut open(rt, path)?, writer, TURNS)?,
     }
     writer.flush().map_err(|_| Fault::Writing)
 }

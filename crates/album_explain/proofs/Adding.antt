@@ -103,41 +103,41 @@ module _ (case : Case) (entries : List Ace) (bit : ℕ) where
   unfolding decision
   from_denial i = go (is_given case bit) (first_mention case bit entries)
     where
-      at : (k : ℕ) (b : Bool) → is_denied_at entries k ≡ b → cond b (DeniedBy k) (AllowedBy k) ≡ DeniedBy i → (k ≡ i) × (is_denied_at entries i ≡ true)
-      at k true is e = let same : k ≡ i = cc in (same, ap (is_denied_at entries) (sym same) ∙ is)
-      at k false is e = absurd (cc)
+      by_entry : (k : ℕ) (b : Bool) → is_denied_at entries k ≡ b → cond b (DeniedBy k) (AllowedBy k) ≡ DeniedBy i → (k ≡ i) × (is_denied_at entries i ≡ true)
+      by_entry k true is e = let same : k ≡ i = cc in (same, ap (is_denied_at entries) (sym same) ∙ is)
+      by_entry k false is e = absurd (cc)
 
       go : (b : Bool) (o : Option ℕ) → cond b Given (decision_by entries o) ≡ DeniedBy i → (b ≡ false) × (o ≡ Some i) × (is_denied_at entries i ≡ true)
       go true o e = absurd (cc)
       go false None e = absurd (cc)
-      go false (Some k) e = let there = at k (is_denied_at entries k) refl e in (refl, ap (λ (n : ℕ). Some n) there.0, there.1)
+      go false (Some k) e = let there = by_entry k (is_denied_at entries k) refl e in (refl, ap (λ (n : ℕ). Some n) there.0, there.1)
 
   from_end : decision case entries bit ≡ DeniedAtEnd → (is_given case bit ≡ false) × (first_mention case bit entries ≡ None)
   unfolding decision
   from_end = go (is_given case bit) (first_mention case bit entries)
     where
-      at : (k : ℕ) (b : Bool) → cond b (DeniedBy k) (AllowedBy k) ≡ DeniedAtEnd → ⊥
-      at k true e = cc
-      at k false e = cc
+      by_entry : (k : ℕ) (b : Bool) → cond b (DeniedBy k) (AllowedBy k) ≡ DeniedAtEnd → ⊥
+      by_entry k true e = cc
+      by_entry k false e = cc
 
       go : (b : Bool) (o : Option ℕ) → cond b Given (decision_by entries o) ≡ DeniedAtEnd → (b ≡ false) × (o ≡ None)
       go true o e = absurd (cc)
       go false None e = (refl, refl)
-      go false (Some k) e = absurd (at k (is_denied_at entries k) e)
+      go false (Some k) e = absurd (by_entry k (is_denied_at entries k) e)
 
   from_allowance : allows (decision case entries bit) ≡ true
       → (is_given case bit ≡ true) ⊎ ((i : ℕ) × (first_mention case bit entries ≡ Some i) × (is_denied_at entries i ≡ false))
   unfolding decision
   from_allowance = go (is_given case bit) (first_mention case bit entries)
     where
-      at : (k : ℕ) (b : Bool) → is_denied_at entries k ≡ b → allows (cond b (DeniedBy k) (AllowedBy k)) ≡ true → is_denied_at entries k ≡ false
-      at k true is e = absurd (cc)
-      at k false is e = is
+      by_entry : (k : ℕ) (b : Bool) → is_denied_at entries k ≡ b → allows (cond b (DeniedBy k) (AllowedBy k)) ≡ true → is_denied_at entries k ≡ false
+      by_entry k true is e = absurd (cc)
+      by_entry k false is e = is
 
       go : (b : Bool) (o : Option ℕ) → allows (cond b Given (decision_by entries o)) ≡ true → (b ≡ true) ⊎ ((i : ℕ) × (o ≡ Some i) × (is_denied_at entries i ≡ false))
       go true o e = inl refl
       go false None e = absurd (cc)
-      go false (Some k) e = inr (k, refl, at k (is_denied_at entries k) refl e)
+      go false (Some k) e = inr (k, refl, by_entry k (is_denied_at entries k) refl e)
 
 -- ---- what is asked
 
@@ -163,12 +163,24 @@ denies_from case entries mask i h =
 
 -- ---- the law
 
+allowed_bit : (case : Case) (entries : List Ace) (bit : ℕ) → is_given case bit ≡ false
+    → (o : Option ℕ) → first_mention case bit entries ≡ o → IsSomeAnd o (IsSortAt Allowed entries)
+    → allows (decision case entries bit) ≡ true
+allowed_bit case entries bit given None first there = absurd there
+allowed_bit case entries bit given (Some i) first there =
+    ap allows (allowance_decides case entries bit i given first (there_allowed entries i there))
+
+bit_allowed : (case : Case) (entries : List Ace) (bit : ℕ) → is_given case bit ≡ false
+    → (is_given case bit ≡ true) ⊎ ((i : ℕ) × (first_mention case bit entries ≡ Some i) × (is_denied_at entries i ≡ false))
+    → IsAllowed case entries bit
+bit_allowed case entries bit given (inl is) = absurd (both_ways (is_given case bit) given is)
+bit_allowed case entries bit given (inr p) =
+    let there = allowed_there case bit entries p.0 p.1 p.2 in
+    let first = p.1 in
+    rw first there
+
 pub adds_up : (case : Case) (entries : List Ace) (mask : Mask) (v : Verdict) → IsVerdict case entries mask v → AddsUp (decision case entries) mask v
-adds_up case entries mask verdict.Granted h = λ bit has. (elim (cases_Bool (is_given case bit)) [ inl given ↦ ap allows (given_decides case entries bit given) | inr given ↦ asked bit given (first_mention case bit entries) refl (h bit (asked_from case mask bit has given)) ])
-  where
-    asked : (bit : ℕ) → is_given case bit ≡ false → (o : Option ℕ) → first_mention case bit entries ≡ o → IsSomeAnd o (IsSortAt Allowed entries) → allows (decision case entries bit) ≡ true
-    asked bit given None first there = absurd there
-    asked bit given (Some i) first there = ap allows (allowance_decides case entries bit i given first (there_allowed entries i there))
+adds_up case entries mask verdict.Granted h = λ bit has. (elim (cases_Bool (is_given case bit)) [ inl given ↦ ap allows (given_decides case entries bit given) | inr given ↦ allowed_bit case entries bit given (first_mention case bit entries) refl (h bit (asked_from case mask bit has given)) ])
 adds_up case entries mask (verdict.DeniedBy i) h =
     (has_denied case entries mask i h.0, λ k d. h.1 k (denies_from case entries mask k d))
 adds_up case entries mask verdict.DeniedAtEnd h =
@@ -176,11 +188,7 @@ adds_up case entries mask verdict.DeniedAtEnd h =
     (λ k d. h.0 k (denies_from case entries mask k d), h.1, parts.0, end_decides case entries h.1 parts.1 h.3)
 
 pub only_verdict : (case : Case) (entries : List Ace) (mask : Mask) (v : Verdict) → AddsUp (decision case entries) mask v → IsVerdict case entries mask v
-only_verdict case entries mask verdict.Granted h = λ bit asked. (let parts = asked_parts case mask bit asked in allowed bit parts.1 (from_allowance case entries bit (h bit parts.0)))
-  where
-    allowed : (bit : ℕ) → is_given case bit ≡ false → (is_given case bit ≡ true) ⊎ ((i : ℕ) × (first_mention case bit entries ≡ Some i) × (is_denied_at entries i ≡ false)) → IsAllowed case entries bit
-    allowed bit given (inl is) = absurd (both_ways (is_given case bit) given is)
-    allowed bit given (inr p) = let there = allowed_there case bit entries p.0 p.1 p.2 in let first = p.1 in rw first there
+only_verdict case entries mask verdict.Granted h = λ bit asked. (let parts = asked_parts case mask bit asked in bit_allowed case entries bit parts.1 (from_allowance case entries bit (h bit parts.0)))
 only_verdict case entries mask (verdict.DeniedBy i) h =
     (denies_from case entries mask i h.0, λ k d. h.1 k (has_denied case entries mask k d))
 only_verdict case entries mask verdict.DeniedAtEnd h =

@@ -8,10 +8,10 @@ use Rattle.album_judge.specs.Judge.{read_of}
 use Rattle.album_judge.specs.declared.fault.Fault.TheVariants.{Memory}
 use Rattle.album_judge.specs.Writes.{Gains, IsLeftBy}
 use Rattle.album_judge.proofs.Texts.{up_to_next, with_others}
-use Rattle.album_judge.proofs.Answering.{Answering, Are, Joins, GoesOn}
+use Rattle.album_judge.proofs.Answering.{Are, Joins, GoesOn}
 use Rattle.album_explain.specs.declared.explaining.Progress.{Progress}
 use Rattle.album_explain.specs.Telling.{refused_json}
-use Rattle.album_explain.specs.Explain.{IsReply, at_start, after, Explains, ExplainsOn, ExplainsTo}
+use Rattle.album_explain.specs.Explain.{IsReply, IsExplanation, at_start, after, Explains, ExplainsOn, ExplainsTo}
 
 pub explains_append : (xs ys : List Line) (p q r : Progress) (a b : List ℕ)
     → Explains p xs q a → Explains q ys r b → Explains p (xs ++ ys) r (a ++ b)
@@ -43,7 +43,7 @@ explanations_go_on p lines later text h =
 -- ---- what joins
 
 -- the explanations from the first line, that come so far
-abbrev pub So : Progress → Answering
+abbrev pub So : Progress → List Line → List ℕ → Type 0
 So q lines text = Explains at_start lines q text
 
 pub are_so : (q : Progress) → Are (So q) (ExplainsOn at_start)
@@ -84,13 +84,22 @@ unexplained_at f xs i p q text h g =
 
 -- ---- one line
 
+unexplained : (p : Progress) (line : Line) (text : List ℕ) → true ≡ is_blank line → text ≡ [] → IsExplanation p.next line false text
+unexplained p line text blank none =
+    subst (λ (b : Bool). MatchBool b ((false ≡ false) × (text ≡ [])) (IsReply p.next (read_of line) false text ⊎ IsReply p.next (Err OutOfMemory) false text)) blank (refl, none)
+
+explained : (p : Progress) (line : Line) (r : Bool) (text : List ℕ) → false ≡ is_blank line
+    → IsReply p.next (read_of line) r text ⊎ IsReply p.next (Err OutOfMemory) r text
+    → IsExplanation p.next line r text
+explained p line r text some reply =
+    subst (λ (b : Bool). MatchBool b ((r ≡ false) × (text ≡ [])) (IsReply p.next (read_of line) r text ⊎ IsReply p.next (Err OutOfMemory) r text)) some reply
+
 -- a blank line has no explanation
 pub blank_gained : (p q : Progress) (line : Line) (old : List ℕ)
     → true ≡ is_blank line → q ≡ after p false
     → Gains (Explains p (line ∷ []) q) old old
 blank_gained p q line old blank on =
-    let nothing = subst (λ (b : Bool). MatchBool b ((false ≡ false) × ([] {A = ℕ} ≡ [])) (IsReply p.next (read_of line) false [] ⊎ IsReply p.next (Err OutOfMemory) false [])) blank (refl, refl) in
-    ([], (false, [], [], nothing, (on, refl), refl), sym (append-nil old))
+    ([], (false, [], [], unexplained p line [] blank refl, (on, refl), refl), sym (append-nil old))
 
 -- another has one
 pub told_gained : (p q : Progress) (line : Line) (r : Bool) (old new text : List ℕ)
@@ -99,5 +108,4 @@ pub told_gained : (p q : Progress) (line : Line) (r : Bool) (old new text : List
     → q ≡ after p r → new ≡ old ++ text
     → Gains (Explains p (line ∷ []) q) old new
 told_gained p q line r old new text some reply on added =
-    let told = subst (λ (b : Bool). MatchBool b ((r ≡ false) × (text ≡ [])) (IsReply p.next (read_of line) r text ⊎ IsReply p.next (Err OutOfMemory) r text)) some reply in
-    (text, (r, text, [], told, (on, refl), sym (append-nil text)), added)
+    (text, (r, text, [], explained p line r text some reply, (on, refl), sym (append-nil text)), added)

@@ -28,23 +28,27 @@ Place = List ℕ × Option ℕ
 abbrev pub place_of : Found → Place
 place_of found = (string_bytes found.at, found.value)
 
--- a line of this number is refused; where, is told if it is known
-abbrev pub refused_json : ℕ → Refusal → Option Place → Data
-refused_json number refusal None = object (
-    member (codes "line") (whole_data number) (
-    member (codes "name") (string (name_of refusal)) (
-    member (codes "refused") (whole_data (number_of refusal)) no_members)))
-refused_json number refusal (Some (at, None)) = object (
+-- a line of this number is refused at this place
+abbrev pub refused_at : ℕ → Refusal → List ℕ → Option ℕ → Data
+refused_at number refusal at None = object (
     member (codes "at") (string at) (
     member (codes "line") (whole_data number) (
     member (codes "name") (string (name_of refusal)) (
     member (codes "refused") (whole_data (number_of refusal)) no_members))))
-refused_json number refusal (Some (at, Some value)) = object (
+refused_at number refusal at (Some value) = object (
     member (codes "at") (string at) (
     member (codes "line") (whole_data number) (
     member (codes "name") (string (name_of refusal)) (
     member (codes "refused") (whole_data (number_of refusal)) (
     member (codes "value") (whole_data value) no_members)))))
+
+-- the same, where the place is told if it is known
+abbrev pub refused_json : ℕ → Refusal → Option Place → Data
+refused_json number refusal None = object (
+    member (codes "line") (whole_data number) (
+    member (codes "name") (string (name_of refusal)) (
+    member (codes "refused") (whole_data (number_of refusal)) no_members)))
+refused_json number refusal (Some place) = refused_at number refusal place.0 place.1
 
 -- ---- a verdict
 

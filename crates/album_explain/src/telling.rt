@@ -27,6 +27,7 @@ pub struct BitRow {
 }
 
 /// The line of a refusal: its number, where it is, the refusal's name and number, and the number that stands there.
+#[tactic(auto, using(crate::proofs::Floats::no_float_in_refused))]
 pub(crate) fn write_refused(
     alloc: Global,
     number: u64,
@@ -91,6 +92,7 @@ fn bit_of(mask: Mask) -> u32
 }
 
 /// The line of a verdict: how each bit was decided, and the line's number.
+#[tactic(auto, using(crate::proofs::Floats::no_float_in_told))]
 pub(crate) fn write_told(
     alloc: Global,
     number: u64,
