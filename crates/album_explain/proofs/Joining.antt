@@ -1,7 +1,9 @@
 -- The texts that explain lines. For `explain_lines`, and for the turns of `explain`.
-use Rattle.std.proofs.Common.{◌≡◌, ◌≢◌, ◌⊎◌, ℕ, ◌+◌, ◌<◌, List, [], ◌∷◌, ◌++◌, length, take, drop, map, get_or, Bool, true, false, None, Err, MatchBool, inr, refl, sym, ap, ◌∙◌, subst, append_assoc, append-nil, length-drop, arith}
+use Rattle.std.proofs.Common.{◌≡◌, ◌≢◌, ◌⊎◌, ℕ, ◌+◌, ◌<◌, List, [], ◌∷◌, ◌++◌, length, take, drop, map, get_or, Bool, true, false, Option, None, Result, Ok, Err, IsOkAnd, MatchBool, inr, refl, sym, ap, ◌∙◌, subst, append_assoc, append-nil, length-drop, arith}
 use Rattle.std.proofs.lemmas.List.{length-map}
+use Rattle.album_stamps.specs.declared.refusals.Refusal.{Refusal}
 use Rattle.album_stamps.specs.declared.refusals.Refusal.TheVariants.{OutOfMemory}
+use Rattle.album_lines.specs.JudgeLine.{Question}
 use Rattle.album_lines.specs.Lines.{Line, is_blank}
 use Rattle.album_lines.specs.Output.{line_text}
 use Rattle.album_judge.specs.Judge.{read_of}
@@ -10,8 +12,8 @@ use Rattle.album_judge.specs.Writes.{Gains, IsLeftBy}
 use Rattle.album_judge.proofs.Texts.{up_to_next, with_others}
 use Rattle.album_judge.proofs.Answering.{Are, Joins, GoesOn}
 use Rattle.album_explain.specs.declared.explaining.Progress.{Progress}
-use Rattle.album_explain.specs.Telling.{refused_json}
-use Rattle.album_explain.specs.Explain.{IsReply, IsExplanation, at_start, after, Explains, ExplainsOn, ExplainsTo}
+use Rattle.album_explain.specs.Telling.{Place, refused_json}
+use Rattle.album_explain.specs.Explain.{IsTold, IsReply, IsExplanation, at_start, after, Explains, ExplainsOn, ExplainsTo}
 
 pub explains_append : (xs ys : List Line) (p q r : Progress) (a b : List ℕ)
     → Explains p xs q a → Explains q ys r b → Explains p (xs ++ ys) r (a ++ b)
@@ -109,3 +111,17 @@ pub told_gained : (p q : Progress) (line : Line) (r : Bool) (old new text : List
     → Gains (Explains p (line ∷ []) q) old new
 told_gained p q line r old new text some reply on added =
     (text, (r, text, [], explained p line r text some reply, (on, refl), sym (append-nil text)), added)
+
+-- ---- what was read
+
+pub told_replies : (number : ℕ) (read : Result Question Refusal) (text : List ℕ)
+    → IsOkAnd read (λ q. IsTold number q text)
+    → IsReply number read false text
+told_replies number (Ok q) text h = (refl, h)
+told_replies number (Err e) text h = absurd h
+
+pub refusal_replies : (number : ℕ) (read : Result Question Refusal) (e : Refusal) (text : List ℕ) (place : Option Place)
+    → read ≡ Err e → text ≡ line_text (refused_json number e place)
+    → IsReply number read true text
+refusal_replies number read e text place is line =
+    subst (λ (r : Result Question Refusal). IsReply number r true text) (sym is) (refl, (place, line))
