@@ -8,7 +8,8 @@ use Rattle.album_lines.specs.Lines.{Line, is_blank}
 use Rattle.album_lines.specs.Output.{line_text}
 use Rattle.album_judge.specs.Judge.{read_of}
 use Rattle.album_judge.specs.declared.fault.Fault.TheVariants.{Memory}
-use Rattle.album_judge.specs.Writes.{Gains, IsLeftBy}
+use Rattle.std.proofs.KnownBytes.{Appends-nil}
+use Rattle.album_judge.specs.Writes.{Gains, Writes, IsLeftBy}
 use Rattle.album_judge.proofs.Texts.{up_to_next, with_others}
 use Rattle.album_judge.proofs.Answering.{Are, Joins, GoesOn}
 use Rattle.album_explain.specs.declared.explaining.Progress.{Progress}
@@ -125,3 +126,18 @@ pub refusal_replies : (number : ℕ) (read : Result Question Refusal) (e : Refus
     → IsReply number read true text
 refusal_replies number read e text place is line =
     subst (λ (r : Result Question Refusal). IsReply number r true text) (sym is) (refl, (place, line))
+
+-- ---- the last line
+
+-- it is explained
+pub finishes : (p q : Progress) (lines ls : List Line) (a b : Option (List ℕ))
+    → ls ≡ lines → Writes (Explains p ls q) a b
+    → Writes (ExplainsTo p q.has_refused lines) a b
+finishes p q lines ls a b is w = (w.0, (q.next, subst (λ (l : List Line). Explains p l q w.0) is w.1), w.2)
+
+-- there is none
+pub nothing_finishes : (p : Progress) (lines : List Line) (a : Option (List ℕ))
+    → [] ≡ lines
+    → Writes (ExplainsTo p p.has_refused lines) a a
+nothing_finishes p lines a none =
+    ([], (p.next, subst (λ (l : List Line). Explains p l p []) none (refl, refl)), Appends-nil a)

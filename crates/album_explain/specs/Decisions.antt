@@ -33,8 +33,8 @@ allows DeniedAtEnd = false
 abbrev pub HasDenied : (ℕ → Decision) → Mask → ℕ → Type 0
 HasDenied decided mask i = (bit : ℕ) × (has_bit mask bit ≡ true) × (decided bit ≡ DeniedBy i)
 
--- What the decisions on the bits of a mask add up to. Granted: each is allowed. DeniedBy: the least index of an entry that
--- denies one. DeniedAtEnd: no entry denies one, and one is denied at the end.
+-- What the decisions on the bits of a mask add up to. Granted: each is allowed. DeniedBy: the least index of an entry
+-- that denies one. DeniedAtEnd: no entry denies one, and one is denied at the end.
 abbrev pub AddsUp : (ℕ → Decision) → Mask → Verdict → Type 0
 AddsUp decided mask verdict.Granted = (bit : ℕ) → has_bit mask bit ≡ true → allows (decided bit) ≡ true
 AddsUp decided mask (verdict.DeniedBy i) =

@@ -104,10 +104,13 @@ fn finish<W: Write>(
     ensures fault { IfErr result (λ fault.
         Writes (IsLeftBy fault (ExplainsOn progress) (last lines)) (W.contents writer.old) (W.contents writer.new)) }
 {
-    if let Some(line) = lines.end() {
-        explain_lines(alloc, scratch, &mut progress, writer, &[line])?;
+    match lines.end() {
+        None => Ok(progress.has_refused),
+        Some(line) => {
+            explain_lines(alloc, scratch, &mut progress, writer, &[line])?;
+            Ok(progress.has_refused)
+        }
     }
-    Ok(progress.has_refused)
 }
 
 /// Explains the lines, in their order, and writes the explanations all at once. Reading is no fault of it.
@@ -174,7 +177,7 @@ fn explanation(
         }
         Err(refusal) => {
             let found = find(alloc, scratch, line)?;
-            let text = write_refused(alloc, number, refusal, found)?;
+            let text = write_refused(alloc, number, refusal, found.as_ref())?;
             Ok((text, true))
         }
     }

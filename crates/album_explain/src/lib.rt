@@ -1,7 +1,7 @@
 //! The engine that explains judge lines: where each refusal is, and by which entry each bit was decided.
 //!
-//! What comes in: a reader and a writer, as for `album_judge`. What goes out: of each line that is read, a line with its
-//! number; or a fault, before which a prefix of these lines was written. The refusals and the verdicts are those of
+//! What comes in: a reader and a writer, as for `album_judge`. What goes out: of each line that is read, a line with
+//! its number; or a fault, before which a prefix of these lines was written. The refusals and the verdicts are those of
 //! `album_judge`. What the bits of masks and flags are called comes out too, and what is called so goes in.
 //!
 //! Read `explaining` first: `explain` reads, and `told` tells one line. Then `decisions`, how each bit is decided, with

@@ -1,5 +1,5 @@
-//! What the bits of masks and flags are called. The names stand in the tables of `album_access`; an album's lowest three
-//! bits have names of their own, which stand here.
+//! What the bits of masks and flags are called. The names stand in the tables of `album_access`; an album's lowest
+//! three bits have names of their own, which stand here.
 ghost use Rattle.std.specs.Prelude.{◌≡◌, ◌==◌, map, filter, IfOk};
 ghost use Rattle.serde_json.specs.View.{view};
 ghost use Rattle.album_access.specs.Bits.{mask_bits, flag_bits};

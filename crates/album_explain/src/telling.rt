@@ -5,7 +5,7 @@ ghost use Rattle.serde_json.specs.Written.{has_float};
 ghost use Rattle.album_lines.specs.Output.{line_text};
 ghost use Rattle.album_eval.specs.Matching.{case_of};
 ghost use Rattle.album_explain.specs.Names.{bit_name};
-ghost use Rattle.album_explain.specs.Telling.{place_of, refused_json, decision_word, decision_at_json, bit_json, bits_json, told_json, bit_row, bit_rows, bit_of};
+ghost use Rattle.album_explain.specs.Telling.{place_of, refused_at, refused_json, decision_word, decision_at_json, bit_json, bits_json, told_json, bit_row, bit_rows, bit_of};
 ghost use Rattle.album_access.specs.Bits.{mask_bits};
 
 use crate::decisions::{Decision, decide, has_bit};
@@ -32,9 +32,10 @@ pub(crate) fn write_refused(
     alloc: Global,
     number: u64,
     refusal: Refusal,
-    found: Option<Found>,
+    found: Option<&Found>,
 ) -> Result<Vec<u8>, AllocError>
-    ensures { IfOk result (λ text. text.items ≡ line_text (refused_json number refusal (option_map place_of found))) }
+    ensures { IfOk result (λ text.
+        text.items ≡ line_text (refused_json number refusal (option_map (λ f. place_of f.now) found.entry))) }
 {
     let value = refused_json(alloc, number, refusal, found)?;
     line(alloc, &value)
@@ -44,15 +45,36 @@ fn refused_json(
     alloc: Global,
     number: u64,
     refusal: Refusal,
-    found: Option<Found>,
+    found: Option<&Found>,
 ) -> Result<Value, AllocError>
-    ensures { IfOk result (λ v. view v ≡ refused_json number refusal (option_map place_of found)) }
+    ensures { IfOk result (λ v.
+        view v ≡ refused_json number refusal (option_map (λ f. place_of f.now) found.entry)) }
 {
-    let (name, refused) = (refusal.name(), refusal.number());
-    let Some(Found { at, value }) = found else {
-        return json!(in alloc; {"line": number, "name": name, "refused": refused});
-    };
-    let at = at.as_str();
+    match found {
+        None => refused_somewhere(alloc, number, refusal),
+        Some(found) => refused_at(alloc, number, refusal, found.at.as_str(), found.value),
+    }
+}
+
+fn refused_somewhere(alloc: Global, number: u64, refusal: Refusal) -> Result<Value, AllocError>
+    ensures { IfOk result (λ v. view v ≡ refused_json number refusal None) }
+{
+    let name = refusal.name();
+    let refused = refusal.number();
+    json!(in alloc; {"line": number, "name": name, "refused": refused})
+}
+
+fn refused_at(
+    alloc: Global,
+    number: u64,
+    refusal: Refusal,
+    at: &str,
+    value: Option<u64>,
+) -> Result<Value, AllocError>
+    ensures { IfOk result (λ v. view v ≡ refused_at number refusal at.now value) }
+{
+    let name = refusal.name();
+    let refused = refusal.number();
     match value {
         None => json!(in alloc; {"at": at, "line": number, "name": name, "refused": refused}),
         Some(value) => {

@@ -1,4 +1,4 @@
-//! What stands around a replay's script: a reader that asks for a trace, and a watch for the first line that is refused.
+//! What stands around a replay's script: a reader that asks for a trace, and a watch for the first refused line.
 //!
 //! What comes in: a script's reader, and the writer of what is told. What goes out: a reader of the same script but for
 //! its first line (`traced`); or a reader and a writer that go together, and know which line was refused (`strict`).

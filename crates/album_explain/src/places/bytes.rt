@@ -1,5 +1,5 @@
-//! The byte from which on a line is no JSON: the first of the token that can't stand where it stands, or behind the last
-//! byte where more would have to come.
+//! The byte from which on a line is no JSON: the first of the token that can't stand where it stands, or behind the
+//! last byte where more would have to come.
 ghost use Rattle.std.specs.Prelude.{length};
 
 use album_lines::data;
