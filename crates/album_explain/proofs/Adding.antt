@@ -15,9 +15,8 @@ use Rattle.album_eval.specs.Matching.{Case, is_match}
 use Rattle.album_eval.specs.Policies.{is_given}
 use Rattle.album_eval.specs.Verdict.{is_asked, allows_or_denies, mentions, first_mention, IsSortAt, Denies, IsAllowed, IsVerdict, denies, is_denied_at}
 use Rattle.album_eval.proofs.Asking.{at_mention, within_mention}
-use Rattle.album_explain.specs.declared.decisions.Decision.{Decision}
 use Rattle.album_explain.specs.declared.decisions.Decision.TheVariants.{Given, AllowedBy, DeniedBy, DeniedAtEnd}
-use Rattle.album_explain.specs.Decisions.{decision_by, decision_at, decision, allows, HasDenied, AddsUp}
+use Rattle.album_explain.specs.Decisions.{decision_by, decision, allows, HasDenied, AddsUp}
 
 -- ---- what stands at an index
 

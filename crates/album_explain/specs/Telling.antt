@@ -1,7 +1,7 @@
 -- The lines that explain.
 use Rattle.std.specs.Prelude.{ℕ, List, [], ◌∷◌, codes, map, filter, string_bytes, Bool, Option, Some, None}
 use Rattle.std.specs.Int.{w32, trailing_zeros}
-use Rattle.serde_json.specs.Data.{Data, string, object, Members, no_members, member}
+use Rattle.serde_json.specs.Data.{Data, string, object, no_members, member}
 use Rattle.album_stamps.specs.declared.refusals.Refusal.{Refusal}
 use Rattle.album_stamps.specs.Refusals.{name_of, number_of}
 use Rattle.album_access.specs.Bits.{mask_table, has_bit}

@@ -2,7 +2,7 @@ use Rattle.std.proofs.Common.{◌≡◌, ◌≢◌, ◌≤◌, [], length, take,
 use Rattle.std.proofs.lemmas.List.{length-take}
 use Rattle.std.proofs.lemmas.Result.{IfErr-weaker, IfOk-weaker, err_from_is_err_and}
 use Rattle.album_judge.specs.declared.engines.judge.TheConstants.{PIECE}
-use Rattle.album_judge.proofs.Turns.{begins, reading_ends, reading_fails, has_read_more, prefix_so_far, turn_done, turn_left, turn_uncut, prefix_of_turn, last_done, last_left, prefix_of_last}
+use Rattle.album_judge.proofs.Turns.{has_read_more, prefix_so_far, turn_done, turn_left, turn_uncut, prefix_of_turn, last_done, last_left, prefix_of_last}
 use Rattle.album_explain.specs.Explain.{at_start, Explains, ExplainsOn, ExplainsTo}
 use Rattle.album_explain.proofs.Joining.{So, are_so, join_so, join_on, join_to, explanations_go_on}
 use Rattle.album_explain.proofs.explaining.explain.Goals as goal
