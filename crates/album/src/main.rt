@@ -2,14 +2,15 @@
 //! the events that its lines spell bring about in a store, and `album serve` runs a store for who connects to a port.
 #![tactic(auto)]
 
+mod explaining;
+mod replaying;
 mod texts;
 
-use crate::texts::{
-    ABOUT, JUDGE_ABOUT, JUDGE_HELP, NO_TEXT, REPLAY_ABOUT, REPLAY_HELP, SERVE_ABOUT, SERVE_HELP,
-};
+use crate::explaining::{explain_command, explain_lines, flags_command, mask_command, tell_bits};
+use crate::replaying::{replay_command, replay_lines};
+use crate::texts::{ABOUT, JUDGE_ABOUT, JUDGE_HELP, NO_TEXT, SERVE_ABOUT, SERVE_HELP};
 use album_server::{
-    Admins, AuditFile, Fault, Refusal, Served, Serving, judge, replay, serve_beside, serve_for,
-    serve_until,
+    Admins, AuditFile, Fault, Refusal, Served, Serving, judge, serve_beside, serve_for, serve_until,
 };
 use clap::error::ErrorKind;
 use clap::{Arg, ArgAction, ArgMatches, Command, Error, value_parser};
@@ -24,7 +25,10 @@ use std::thread::Threads;
 use std::{env, fs, io, time};
 
 /// How many reads a run may make.
-const TURNS: u64 = 4_294_967_296;
+pub(crate) const TURNS: u64 = 4_294_967_296;
+
+/// The program's version. Which commit it was built of it doesn't know.
+const VERSION: &str = "0.1.0";
 
 fn main(rt: HostRuntime) -> ExitCode {
     let args = match env::args(&rt) {
@@ -43,10 +47,14 @@ fn main(rt: HostRuntime) -> ExitCode {
             &rt,
             judge_lines(&rt, rt.alloc(), &mut rt.stdin(), &mut rt.stdout(), &matches),
         ),
-        Some("replay") => status(
-            &rt,
-            replay_lines(&rt, rt.alloc(), &mut rt.stdin(), &mut rt.stdout(), &matches),
-        ),
+        Some("replay") => {
+            replay_lines(&rt, rt.alloc(), &mut rt.stdin(), &mut rt.stdout(), &matches)
+        }
+        Some("explain") => {
+            explain_lines(&rt, rt.alloc(), &mut rt.stdin(), &mut rt.stdout(), &matches)
+        }
+        Some("mask") => tell_bits(&rt, rt.alloc(), &mut rt.stdout(), &matches, "mask"),
+        Some("flags") => tell_bits(&rt, rt.alloc(), &mut rt.stdout(), &matches, "flags"),
         Some("serve") => match admins(rt.alloc(), &matches) {
             Err(why) => refuse_admins(&rt, why),
             Ok(admins) => served(
@@ -76,26 +84,22 @@ fn command<'a>(alloc: Global) -> Result<Command<'a>, AllocError> {
         .about(JUDGE_ABOUT)
         .after_help(JUDGE_HELP)
         .arg(questions_arg(alloc))?;
-    let replay = Command::new(alloc, "replay")
-        .about(REPLAY_ABOUT)
-        .after_help(REPLAY_HELP)
-        .arg(script_arg(alloc))?;
     Command::new(alloc, "album")
         .about(ABOUT)
+        .version(VERSION)
         .subcommand_required(true)
         .subcommand(judge)?
-        .subcommand(replay)?
-        .subcommand(serve_command(alloc)?)
+        .subcommand(replay_command(alloc)?)?
+        .subcommand(serve_command(alloc)?)?
+        .subcommand(explain_command(alloc, questions_arg(alloc))?)?
+        .subcommand(mask_command(alloc)?)?
+        .subcommand(flags_command(alloc)?)
 }
 
 fn questions_arg<'a>(alloc: Global) -> Arg<'a> {
     Arg::new(alloc, "FILE")
         .help("Files of questions, in the place of standard input")
         .num_args(0..)
-}
-
-fn script_arg<'a>(alloc: Global) -> Arg<'a> {
-    Arg::new(alloc, "FILE").help("A file with the script, in the place of standard input")
 }
 
 fn serve_command<'a>(alloc: Global) -> Result<Command<'a>, AllocError> {
@@ -195,25 +199,8 @@ fn judge_lines<T: Files + Eprint, R: Read, W: Write>(
     writer.flush().map_err(|_| Fault::Writing)
 }
 
-/// Replays the lines of the file that is named, or else those of the reader, to their end or to the refusal of their
-/// opening.
-fn replay_lines<T: Files + Eprint, R: Read, W: Write>(
-    rt: &T,
-    alloc: Global,
-    reader: &mut R,
-    writer: &mut W,
-    matches: &ArgMatches<'_>,
-) -> Result<(), Fault> {
-    let named = matches.subcommand_matches("replay");
-    match named.and_then(|m| m.get_str("FILE")) {
-        None => replay(alloc, reader, writer, TURNS)?,
-        Some(path) => replay(alloc, &mut open(rt, path)?, writer, TURNS)?,
-    }
-    writer.flush().map_err(|_| Fault::Writing)
-}
-
 /// The file at the path, to be read. Why it can't be is told on standard error.
-fn open<T: Files + Eprint>(rt: &T, path: &str) -> Result<T::File, Fault> {
+pub(crate) fn open<T: Files + Eprint>(rt: &T, path: &str) -> Result<T::File, Fault> {
     fs::open(rt, path).map_err(|error| {
         let _ = eprintln!(rt; "album: {path}: {error}");
         Fault::Reading
@@ -325,7 +312,7 @@ fn served(rt: &impl Eprint, outcome: Result<Served, Fault>) -> ExitCode {
 }
 
 /// The status of a run, with its fault on standard error. Nothing can be done where that fails too.
-fn status(rt: &impl Eprint, outcome: Result<(), Fault>) -> ExitCode {
+pub(crate) fn status(rt: &impl Eprint, outcome: Result<(), Fault>) -> ExitCode {
     match outcome {
         Ok(()) => ExitCode::SUCCESS,
         Err(fault) => {

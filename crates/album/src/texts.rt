@@ -91,6 +91,39 @@ in its first line who asks, and is answered a line for each line:
   {"name":"NotPrepared","refused":17}
   {"answer":"trimmed"}"#;
 
+pub(crate) const EXPLAIN_ABOUT: &str =
+    "Tells of each line where it is refused, or by which entry each bit is decided";
+
+pub(crate) const EXPLAIN_HELP: &str =
+    r#"The lines are those of `album judge`. Each that isn't blank is explained by one line, with its number:
+
+  {"at":"entries[1].mask","line":3,"name":"BadMask","refused":5,"value":512}
+  {"answer":"denied","at":1,"bits":[["READ_DATA","allowed",0],["WRITE_DATA","denied",1]],"line":4}
+
+  at       of a refusal the part of the line that fails its test, or the byte from which on it is no JSON;
+           of a verdict the index of the entry that denies, from 0, or "end"
+  bits     what is asked, each with how and by which entry it is decided: an index, "end", or "owner",
+           whom policy 2 gives it
+  value    the number that stands at the place, if one does
+
+The status is 1 where a line is refused. The lines of each FILE are explained in turn, in the place of
+standard input, and counted from 1 in each."#;
+
+pub(crate) const MASK_ABOUT: &str =
+    "Tells the number of a mask's names, or the names of its number";
+
+pub(crate) const FLAGS_ABOUT: &str =
+    "Tells the number of the names of an entry's flags, or the names of their number";
+
+pub(crate) const NAMES_HELP: &str = r#"As in
+
+  $ album mask READ_DATA,WRITE_ACL
+  {"mask":262145}
+  $ album flags 3
+  {"flags":3,"names":["FILE_INHERIT","DIRECTORY_INHERIT"]}
+
+docs/FORMATS.md has all names."#;
+
 pub(crate) const NO_TEXT: &str = r#"error: invalid UTF-8 was detected in one or more arguments
 
 Usage: album <COMMAND>

@@ -10,7 +10,7 @@ use Rattle.album_judge.specs.declared.fault.Fault.{Fault}
 use Rattle.album_judge.specs.declared.fault.Fault.TheVariants.{Writing, Memory}
 use Rattle.album_judge.specs.Judge.{Answers, IsAnswer, IsReply, read_of}
 use Rattle.album_judge.specs.Writes.{Gains, Writes, IsPrefixOf, IsCutShort, IsLeftBy}
-use Rattle.album_judge.proofs.Answering.{GoesOn, goes_on}
+use Rattle.album_judge.proofs.Answering.{Answering, GoesOn, goes_on}
 
 -- ---- lists of lines
 
@@ -98,24 +98,24 @@ writes_this P text written a b c from is h w =
     (text, h, subst (λ t. Appends a c t) is (subst (λ o. Appends o c written) from w))
 
 -- it is not written whole: a prefix of answers, cut short
-pub not_all_written : (lines : List Line) (text written : List ℕ) (a b c : Option (List ℕ))
+pub not_all_written : (A : Answering) (lines : List Line) (text written : List ℕ) (a b c : Option (List ℕ))
     → b ≡ a → written ≡ text
-    → IsPrefixOf (Answers lines) text
+    → IsPrefixOf (A lines) text
     → Writes (IsCutShort (λ whole. whole ≡ written)) b c
-    → Writes (IsLeftBy Writing Answers lines) a c
-not_all_written lines text written a b c from is begin w =
+    → Writes (IsLeftBy Writing A lines) a c
+not_all_written A lines text written a b c from is begin w =
     let p = subst (λ o. Writes (IsCutShort (λ whole. whole ≡ written)) o c) from w in
     let whole : text ++ begin.0 ≡ p.0 ++ (p.1.0 ++ begin.0) =
     ap (λ t. t ++ begin.0) (sym (p.1.2 ∙ is)) ∙ append_assoc p.0 p.1.0 begin.0 in
-    (p.0, (p.1.0 ++ begin.0, goes_on p.1.0 begin.0 p.1.1, subst (Answers lines) whole begin.1), p.2)
+    (p.0, (p.1.0 ++ begin.0, goes_on p.1.0 begin.0 p.1.1, subst (A lines) whole begin.1), p.2)
 
-pub all_are_prefix : (lines : List Line) (text : List ℕ) → Answers lines text → IsPrefixOf (Answers lines) text
-all_are_prefix lines text all = ([], subst (Answers lines) (sym (append-nil text)) all)
+pub all_are_prefix : (A : Answering) (lines : List Line) (text : List ℕ) → A lines text → IsPrefixOf (A lines) text
+all_are_prefix A lines text all = ([], subst (A lines) (sym (append-nil text)) all)
 
 -- a fault of writing leaves them so
-pub left_by_writing : (r : Result Unit Fault) (lines : List Line) (a c : Option (List ℕ))
-    → OnErr r (Writes (IsLeftBy Writing Answers lines) a c)
+pub left_by_writing : (A : Answering) (r : Result Unit Fault) (lines : List Line) (a c : Option (List ℕ))
+    → OnErr r (Writes (IsLeftBy Writing A lines) a c)
     → IfErr r (λ fault. fault ≡ Writing)
-    → IfErr r (λ fault. Writes (IsLeftBy fault Answers lines) a c)
-left_by_writing (Ok u) lines a c left is = is
-left_by_writing (Err fault) lines a c left is = subst (λ f. Writes (IsLeftBy f Answers lines) a c) (sym is) left
+    → IfErr r (λ fault. Writes (IsLeftBy fault A lines) a c)
+left_by_writing A (Ok u) lines a c left is = is
+left_by_writing A (Err fault) lines a c left is = subst (λ f. Writes (IsLeftBy f A lines) a c) (sym is) left

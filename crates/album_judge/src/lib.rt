@@ -16,6 +16,6 @@ mod engines;
 mod fault;
 mod writing;
 
-pub use engines::judge::{PIECE, judge, one_judgement};
+pub use engines::judge::{PIECE, group_map, judge, one_judgement};
 pub use fault::Fault;
 pub use writing::{write_refused, write_text};

@@ -178,7 +178,11 @@ fn verdict(alloc: Global, line: JudgeLine) -> Result<Verdict, Refusal>
 }
 
 /// The groups by their numbers, moved. They come last first, so of two with one number the first would count.
-fn group_map(
+///
+/// # Errors
+///
+/// `AllocError`, where there is no memory for the map.
+pub fn group_map(
     alloc: Global,
     mut groups: Vec<Group>,
 ) -> Result<BTreeMap<u64, Vec<Member>>, AllocError>

@@ -32,7 +32,7 @@ returns-in_err-write_text-clause-fault g c =
     let written = rw c.in_default.ensures.err at c.deref.ensures.value in
     let begin = left_is_prefix Answers answers_go_on Memory _ _ left in
     rw (p.1, p.2, c.in_err-write_text.ensures.fault)
-    (not_all_written _ _ _ _ _ _ c.loop-line.invariant.unwritten written begin c.in_err-write_text.ensures.err)
+    (not_all_written Answers _ _ _ _ _ _ c.loop-line.invariant.unwritten written begin c.in_err-write_text.ensures.err)
 
 -- all are answered
 pub returns-clause-ok : goal.returns-clause-ok
@@ -47,6 +47,6 @@ returns-clause-fault g c =
     let all = subst (λ ls. Answers (map said ls) c.loop-line.text.items) (take_all c.loop-line.line-index c.args.lines.now c.loop-line-test.false) c.loop-line.invariant.answered in
     let left =
     on_err_weaker c.write_text-2.result
-    (λ w. not_all_written _ _ _ _ _ _ c.loop-line.invariant.unwritten c.deref-2.ensures.value (all_are_prefix _ _ all) w)
+    (λ w. not_all_written Answers _ _ _ _ _ _ c.loop-line.invariant.unwritten c.deref-2.ensures.value (all_are_prefix Answers _ _ all) w)
     c.write_text-2.ensures.err in
-    left_by_writing c.write_text-2.result _ _ _ left c.write_text-2.ensures.fault
+    left_by_writing Answers c.write_text-2.result _ _ _ left c.write_text-2.ensures.fault

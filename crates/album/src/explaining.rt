@@ -1,0 +1,116 @@
+//! The subcommands that explain: `explain judge`, and `mask` and `flags`, which give names for numbers and back.
+
+use crate::texts::{EXPLAIN_ABOUT, EXPLAIN_HELP, FLAGS_ABOUT, JUDGE_ABOUT, MASK_ABOUT, NAMES_HELP};
+use crate::{TURNS, open, status};
+use album_explain::{explain, write_flags, write_mask};
+use album_server::{Fault, Refusal};
+use clap::{Arg, ArgMatches, Command};
+use std::alloc::{AllocError, Global};
+use std::io::{Read, Write};
+use std::process::ExitCode;
+use std::rt::Files;
+
+pub(crate) fn explain_command<'a>(
+    alloc: Global,
+    files: Arg<'a>,
+) -> Result<Command<'a>, AllocError> {
+    let judge = Command::new(alloc, "judge")
+        .about(JUDGE_ABOUT)
+        .after_help(EXPLAIN_HELP)
+        .arg(files)?;
+    Command::new(alloc, "explain")
+        .about(EXPLAIN_ABOUT)
+        .subcommand_required(true)
+        .subcommand(judge)
+}
+
+pub(crate) fn mask_command<'a>(alloc: Global) -> Result<Command<'a>, AllocError> {
+    bits_command(alloc, "mask", MASK_ABOUT)
+}
+
+pub(crate) fn flags_command<'a>(alloc: Global) -> Result<Command<'a>, AllocError> {
+    bits_command(alloc, "flags", FLAGS_ABOUT)
+}
+
+fn bits_command<'a>(
+    alloc: Global,
+    name: &'static str,
+    about: &'static str,
+) -> Result<Command<'a>, AllocError> {
+    let bits = Arg::new(alloc, "NAMES|NUMBER")
+        .help("Names with commas between them, or a number")
+        .required(true);
+    Command::new(alloc, name)
+        .about(about)
+        .after_help(NAMES_HELP)
+        .arg(bits)
+}
+
+/// Explains the lines of each file that is named, or else those of the reader. The status is 1 where one is refused.
+pub(crate) fn explain_lines<T: Files + Eprint, R: Read, W: Write>(
+    rt: &T,
+    alloc: Global,
+    reader: &mut R,
+    writer: &mut W,
+    matches: &ArgMatches<'_>,
+) -> ExitCode {
+    match explained(rt, alloc, reader, writer, matches) {
+        Ok(false) => ExitCode::SUCCESS,
+        Ok(true) => ExitCode::from(1),
+        Err(fault) => status(rt, Err(fault)),
+    }
+}
+
+/// Whether a line was refused.
+fn explained<T: Files + Eprint, R: Read, W: Write>(
+    rt: &T,
+    alloc: Global,
+    reader: &mut R,
+    writer: &mut W,
+    matches: &ArgMatches<'_>,
+) -> Result<bool, Fault> {
+    let named = matches
+        .subcommand_matches("explain")
+        .and_then(|m| m.subcommand_matches("judge"));
+    let mut has_refused = false;
+    match named.and_then(|m| m.get_strs("FILE")) {
+        None => has_refused = explain(alloc, reader, writer, TURNS)?,
+        Some(paths) => {
+            for path in paths {
+                let refused = explain(alloc, &mut open(rt, path)?, writer, TURNS)?;
+                has_refused = has_refused || refused;
+            }
+        }
+    }
+    writer.flush().map_err(|_| Fault::Writing)?;
+    Ok(has_refused)
+}
+
+/// Prints what the names, or the number, of `mask` or `flags` are.
+pub(crate) fn tell_bits<T: Eprint, W: Write>(
+    rt: &T,
+    alloc: Global,
+    writer: &mut W,
+    matches: &ArgMatches<'_>,
+    command: &str,
+) -> ExitCode {
+    let named = matches.subcommand_matches(command);
+    let word = named.and_then(|m| m.get_str("NAMES|NUMBER")).unwrap_or("");
+    let line = match command {
+        "mask" => write_mask(alloc, word),
+        _ => write_flags(alloc, word),
+    };
+    match line {
+        Ok(line) => status(rt, written(writer, &line)),
+        Err(Refusal::OutOfMemory) => status(rt, Err(Fault::Memory)),
+        Err(why) => {
+            let _ = eprintln!(rt; "error: invalid value '{word}' for '<NAMES|NUMBER>': {why}");
+            ExitCode::from(2)
+        }
+    }
+}
+
+fn written<W: Write>(writer: &mut W, line: &[u8]) -> Result<(), Fault> {
+    writer.write_all(line).map_err(|_| Fault::Writing)?;
+    writer.flush().map_err(|_| Fault::Writing)
+}

@@ -1,0 +1,4 @@
+pub mod Names
+pub mod Decisions
+pub mod Telling
+pub mod Explain

@@ -1,0 +1,89 @@
+//! The byte from which on a line is no JSON: the first of the token that can't stand where it stands, or behind the
+//! last byte where more would have to come.
+ghost use Rattle.std.specs.Prelude.{length};
+
+use album_lines::data;
+use json::{Reader, Scratch, Token};
+use std::alloc::{AllocError, Global};
+use std::str;
+
+/// How deep brackets may be nested.
+const DEEPEST: usize = 127;
+
+/// What may come next, by the brackets that are open and what came last.
+#[derive(Drop)]
+struct Place {
+    /// Of each open bracket whether it is an object's.
+    objects: Vec<bool>,
+    /// Whether a key came last, whose value has to follow.
+    has_key: bool,
+    /// Whether the one value is whole.
+    is_whole: bool,
+}
+
+/// The index of the byte, from 0, of a text that is no line's JSON.
+pub(crate) fn bad_byte(alloc: Global, bytes: &[u8]) -> Result<usize, AllocError> {
+    let text = match str::from_utf8(bytes) {
+        Ok(text) => text,
+        Err(error) => return Ok(error.valid_up_to()),
+    };
+    let mut scratch = Scratch::new(alloc);
+    let mut numerals = Scratch::new(alloc);
+    let mut reader = Reader::new(text, &mut scratch)?;
+    let mut place = Place {
+        objects: Vec::new(alloc),
+        has_key: false,
+        is_whole: false,
+    };
+    let mut at = reader.offset();
+    while let Some(token) = reader.next() {
+        if !is_in_range(alloc, &mut numerals, &token) || !place.take(&token)? {
+            return Ok(at);
+        }
+        at = reader.offset();
+    }
+    Ok(bytes.len())
+}
+
+/// Whether the token is no number that is out of range.
+fn is_in_range(alloc: Global, scratch: &mut Scratch, token: &Token<'_>) -> bool {
+    match token {
+        Token::Number(numeral) => data(alloc, scratch, numeral.as_bytes()).is_ok(),
+        _ => true,
+    }
+}
+
+impl Place {
+    /// Goes on behind the token, if it may stand here.
+    fn take(&mut self, token: &Token<'_>) -> Result<bool, AllocError> {
+        let is_in_object = self.objects.last().copied();
+        match token {
+            Token::Bad => return Ok(false),
+            Token::Key(_) => {
+                let may = is_in_object == Some(true) && !self.has_key;
+                self.has_key = true;
+                return Ok(may);
+            }
+            Token::EndObject | Token::EndArray => {
+                let is_object = matches!(token, Token::EndObject);
+                if is_in_object != Some(is_object) || self.has_key {
+                    return Ok(false);
+                }
+                let _ = self.objects.pop();
+            }
+            _ => {
+                if self.is_whole || (is_in_object == Some(true) && !self.has_key) {
+                    return Ok(false);
+                }
+                if matches!(token, Token::BeginObject | Token::BeginArray) {
+                    self.has_key = false;
+                    self.objects.push(matches!(token, Token::BeginObject))?;
+                    return Ok(self.objects.len() <= DEEPEST);
+                }
+            }
+        }
+        self.has_key = false;
+        self.is_whole = self.objects.is_empty();
+        Ok(true)
+    }
+}

@@ -1,0 +1,198 @@
+//! The lines that are written: {"answer", "at", "bits", "line"}, {"at", "line", "name", "refused", "value"}.
+ghost use Rattle.std.specs.Prelude.{◌≡◌, ◌++◌, ◌<◌, false, map, IfOk, Some, None, option_map, string_bytes};
+ghost use Rattle.serde_json.specs.View.{view};
+ghost use Rattle.serde_json.specs.Written.{has_float};
+ghost use Rattle.album_lines.specs.Output.{line_text};
+ghost use Rattle.album_eval.specs.Matching.{case_of};
+ghost use Rattle.album_explain.specs.Names.{bit_name};
+ghost use Rattle.album_explain.specs.Telling.{place_of, refused_at, refused_json, decision_word, decision_at_json, bit_json, bits_json, told_json, bit_row, bit_rows, bit_of};
+ghost use Rattle.album_access.specs.Bits.{mask_bits};
+
+use crate::decisions::{Decision, decide, has_bit};
+use crate::names::bit_name;
+use crate::places::Found;
+use album_access::Mask;
+use album_eval::{Facts, Verdict};
+use album_lists::{AccessList, Holder};
+use album_stamps::Refusal;
+use bitflags::Flags;
+use serde_json::{Value, json};
+use std::alloc::{AllocError, Global};
+
+/// A bit that is asked, and how it is decided.
+#[derive(Clone, Copy, Debug)]
+pub struct BitRow {
+    pub name: &'static str,
+    pub decision: Decision,
+}
+
+/// The line of a refusal: its number, where it is, the refusal's name and number, and the number that stands there.
+#[tactic(auto, using(crate::proofs::Floats::no_float_in_refused))]
+pub(crate) fn write_refused(
+    alloc: Global,
+    number: u64,
+    refusal: Refusal,
+    found: Option<&Found>,
+) -> Result<Vec<u8>, AllocError>
+    ensures { IfOk result (λ text.
+        text.items ≡ line_text (refused_json number refusal (option_map (λ f. place_of f.now) found.entry))) }
+{
+    let value = refused_json(alloc, number, refusal, found)?;
+    line(alloc, &value)
+}
+
+fn refused_json(
+    alloc: Global,
+    number: u64,
+    refusal: Refusal,
+    found: Option<&Found>,
+) -> Result<Value, AllocError>
+    ensures { IfOk result (λ v.
+        view v ≡ refused_json number refusal (option_map (λ f. place_of f.now) found.entry)) }
+{
+    match found {
+        None => refused_somewhere(alloc, number, refusal),
+        Some(found) => refused_at(alloc, number, refusal, found.at.as_str(), found.value),
+    }
+}
+
+fn refused_somewhere(alloc: Global, number: u64, refusal: Refusal) -> Result<Value, AllocError>
+    ensures { IfOk result (λ v. view v ≡ refused_json number refusal None) }
+{
+    let name = refusal.name();
+    let refused = refusal.number();
+    json!(in alloc; {"line": number, "name": name, "refused": refused})
+}
+
+fn refused_at(
+    alloc: Global,
+    number: u64,
+    refusal: Refusal,
+    at: &str,
+    value: Option<u64>,
+) -> Result<Value, AllocError>
+    ensures { IfOk result (λ v. view v ≡ refused_at number refusal at.now value) }
+{
+    let name = refusal.name();
+    let refused = refusal.number();
+    match value {
+        None => json!(in alloc; {"at": at, "line": number, "name": name, "refused": refused}),
+        Some(value) => {
+            json!(in alloc; {"at": at, "line": number, "name": name, "refused": refused, "value": value})
+        }
+    }
+}
+
+/// The bits of the mask that have a name, rising, each with its decision.
+pub(crate) fn bit_rows(
+    alloc: Global,
+    list: &AccessList,
+    facts: &Facts,
+    holder: Holder,
+    mask: Mask,
+) -> Result<Vec<BitRow>, AllocError>
+    ensures { IfOk result (λ rows. map bit_row rows.items ≡ bit_rows (case_of facts.now) list.now holder mask) }
+{
+    let mut rows = Vec::new(alloc);
+    for flag in Mask::flags() {
+        let bit = bit_of(flag.value);
+        if has_bit(mask, bit) {
+            let name = bit_name(holder, flag);
+            let decision = decide(list, facts, bit);
+            rows.push(BitRow { name, decision })?;
+        }
+    }
+    Ok(rows)
+}
+
+/// The number of the bit that the mask is.
+fn bit_of(mask: Mask) -> u32
+    ensures number { result ≡ bit_of (mask_bits mask) }
+    ensures small { result < 64 }
+{
+    mask.bits().trailing_zeros()
+}
+
+/// The line of a verdict: how each bit was decided, and the line's number.
+#[tactic(auto, using(crate::proofs::Floats::no_float_in_told))]
+pub(crate) fn write_told(
+    alloc: Global,
+    number: u64,
+    verdict: Verdict,
+    rows: &[BitRow],
+) -> Result<Vec<u8>, AllocError>
+    ensures { IfOk result (λ text. text.items ≡ line_text (told_json number verdict (map bit_row rows.now))) }
+{
+    let value = told_json(alloc, number, verdict, rows)?;
+    line(alloc, &value)
+}
+
+fn told_json(
+    alloc: Global,
+    number: u64,
+    verdict: Verdict,
+    rows: &[BitRow],
+) -> Result<Value, AllocError>
+    ensures { IfOk result (λ v. view v ≡ told_json number verdict (map bit_row rows.now)) }
+{
+    let bits = bits_json(alloc, rows)?;
+    match verdict {
+        Verdict::Granted => json!(in alloc; {"answer": "granted", "bits": bits, "line": number}),
+        Verdict::DeniedBy(index) => {
+            json!(in alloc; {"answer": "denied", "at": index, "bits": bits, "line": number})
+        }
+        Verdict::DeniedAtEnd => {
+            json!(in alloc; {"answer": "denied", "at": "end", "bits": bits, "line": number})
+        }
+    }
+}
+
+fn bits_json(alloc: Global, rows: &[BitRow]) -> Result<Value, AllocError>
+    ensures { IfOk result (λ v. view v ≡ bits_json (map bit_row rows.now)) }
+{
+    let mut values = Vec::with_capacity(alloc, rows.len())?;
+    for row in rows {
+        values.push(bit_json(alloc, *row)?)?;
+    }
+    Ok(Value::from(values))
+}
+
+/// [name, word, at]
+fn bit_json(alloc: Global, row: BitRow) -> Result<Value, AllocError>
+    ensures { IfOk result (λ v. view v ≡ bit_json (bit_row row)) }
+{
+    let name = row.name;
+    let word = decision_word(row.decision);
+    let at = decision_at(alloc, row.decision)?;
+    json!(in alloc; [name, word, at])
+}
+
+fn decision_word(decision: Decision) -> &'static str
+    ensures { result.now ≡ decision_word decision }
+{
+    match decision {
+        Decision::Given | Decision::AllowedBy(_) => "allowed",
+        Decision::DeniedBy(_) | Decision::DeniedAtEnd => "denied",
+    }
+}
+
+/// The index of the entry that decides, or the owner, whom the policy gives the bit, or the list's end.
+fn decision_at(alloc: Global, decision: Decision) -> Result<Value, AllocError>
+    ensures { IfOk result (λ v. view v ≡ decision_at_json decision) }
+{
+    match decision {
+        Decision::Given => Value::try_from_str(alloc, "owner"),
+        Decision::AllowedBy(index) | Decision::DeniedBy(index) => Ok(Value::from(index)),
+        Decision::DeniedAtEnd => Value::try_from_str(alloc, "end"),
+    }
+}
+
+/// The line of a value that has no float.
+pub(crate) fn line(alloc: Global, value: &Value) -> Result<Vec<u8>, AllocError>
+    requires { has_float (view value.now) ≡ false }
+    ensures { IfOk result (λ bytes. bytes.items ≡ line_text (view value.now)) }
+{
+    let mut bytes = value.to_vec(alloc)?;
+    bytes.push(b'\n')?;
+    Ok(bytes)
+}

@@ -1,0 +1,134 @@
+//! A replay that ends at the first line that is refused. Its reader gives one line at a time, so what is told in
+//! between is told of that line; its writer looks for a refusal, and then the reader is at its end.
+use std::cell::Cell;
+use std::io;
+use std::io::{Read, Write};
+
+/// How many bytes a read may give.
+const PIECE: usize = 4096;
+
+/// How the text of a refusal begins, and of no other output.
+const REFUSAL: &[u8] = b"{\"name\":";
+
+/// What the reader and the writer know of each other.
+#[derive(Drop)]
+pub struct Watch {
+    /// The number of the line that was given last, from 1.
+    line: Cell<u64>,
+    has_refused: Cell<bool>,
+}
+
+impl Watch {
+    /// Nothing is given yet.
+    pub fn new() -> Watch {
+        Watch {
+            line: Cell::new(0),
+            has_refused: Cell::new(false),
+        }
+    }
+
+    /// The number of the line that was refused, if one was: it is one past the last where the end was refused.
+    pub fn refused(&self) -> Option<u64> {
+        if self.has_refused.get() {
+            Some(self.line.get())
+        } else {
+            None
+        }
+    }
+}
+
+/// A reader that gives at most one line a read, and none once one was refused.
+#[derive(Drop)]
+pub struct Asked<'a, R> {
+    watch: &'a Watch,
+    reader: &'a mut R,
+    piece: [u8; PIECE],
+    given: usize,
+    len: usize,
+    /// Whether the next byte begins a line.
+    is_new: bool,
+}
+
+impl<'a, R: Read> Asked<'a, R> {
+    /// The lines of this reader.
+    pub fn new(watch: &'a Watch, reader: &'a mut R) -> Asked<'a, R> {
+        Asked {
+            watch,
+            reader,
+            piece: [0; PIECE],
+            given: 0,
+            len: 0,
+            is_new: true,
+        }
+    }
+}
+
+impl<R: Read> Read for Asked<'_, R> {
+    fn read(&mut self, buf: &mut [u8]) -> io::Result<usize> {
+        if self.watch.has_refused.get() {
+            return Ok(0);
+        }
+        if self.given >= self.len {
+            self.len = self.reader.read(&mut self.piece)?;
+            self.given = 0;
+        }
+        if self.is_new {
+            // (past the last line its number is one more)
+            self.watch.line.set(self.watch.line.get().saturating_add(1));
+            self.is_new = false;
+        }
+        let rest = part(&self.piece, self.given, self.len);
+        let line = match rest.iter().position(|byte| *byte == b'\n') {
+            Some(at) => part(rest, 0, at.saturating_add(1)),
+            None => rest,
+        };
+        let len = line.len().min(buf.len());
+        buf[..len].copy_from_slice(&line[..len]);
+        self.is_new = len > 0 && line[len - 1] == b'\n';
+        self.given = self.given.saturating_add(len);
+        Ok(len)
+    }
+}
+
+/// The bytes from an index to another, as far as there are.
+fn part(text: &[u8], start: usize, end: usize) -> &[u8] {
+    match text.get(start..end) {
+        Some(part) => part,
+        None => &[],
+    }
+}
+
+/// A writer that looks for a refusal.
+#[derive(Drop)]
+pub struct Told<'a, W> {
+    watch: &'a Watch,
+    writer: &'a mut W,
+    /// Whether the next byte begins a line.
+    is_new: bool,
+}
+
+impl<'a, W: Write> Told<'a, W> {
+    /// What is told to this writer.
+    pub fn new(watch: &'a Watch, writer: &'a mut W) -> Told<'a, W> {
+        Told {
+            watch,
+            writer,
+            is_new: true,
+        }
+    }
+}
+
+impl<W: Write> Write for Told<'_, W> {
+    fn write(&mut self, buf: &[u8]) -> io::Result<usize> {
+        if self.is_new && buf.starts_with(REFUSAL) {
+            self.watch.has_refused.set(true);
+        }
+        let len = self.writer.write(buf)?;
+        self.is_new = len > 0 && len <= buf.len() && buf[len - 1] == b'\n';
+        Ok(len)
+    }
+
+    fn flush(&mut self) -> io::Result<()> {
+        self.writer.flush()
+    }
+}
