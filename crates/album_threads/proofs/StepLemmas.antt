@@ -1,6 +1,6 @@
 -- What comes of a reply to a session's client, by the phase that it is in: `moved_on`. `Session::goes_on` cites what
 -- follows of it. `Session::gives` cites `taken_so`.
-use Rattle.std.proofs.Common.{◌≡◌, ℕ, ◌≤◌, List, [], Option, Some, None, Result, Ok, Err, IfOk, refl, sym, ap, ◌∙◌, subst, arith}
+use Rattle.std.proofs.Common.{◌≡◌, ℕ, ◌≤◌, true, false, List, [], Option, Some, None, Result, Ok, Err, IfOk, refl, sym, ap, ◌∙◌, subst, arith}
 use Rattle.std.specs.Option.{unwrap_or}
 use Rattle.std.specs.Prelude.{IsOkAnd, IfSome, IfNone, OnErr}
 use Rattle.album_calls.specs.declared.messages.Message.{Message}

@@ -1,6 +1,6 @@
 -- What a hinted read asks for, and what comes of it.
-use Rattle.std.specs.Prelude.{◌==◌, ◌||◌, ℕ, Bool, true, false, List, [], ◌∷◌, Option, Some, None}
-use Rattle.std.specs.List.{list_all, list_any, filter_map}
+use Rattle.std.specs.Prelude.{◌==◌, ◌||◌, ℕ, Bool, true, false, List, [], ◌∷◌, map, Option, Some, None}
+use Rattle.std.specs.List.{list_all, list_any}
 use Rattle.album_calls.specs.declared.messages.Body.{Body}
 use Rattle.album_calls.specs.declared.messages.Body.TheVariants as body
 use Rattle.album_calls.specs.declared.messages.Message.{Message}
@@ -15,20 +15,20 @@ are_among items others = list_all (λ item. list_any (λ other. item == other) o
 
 -- ---- what messages ask for
 
--- the item of a Get
-abbrev pub item_got : Request → Option ℕ
-item_got (Prepare stamp writes items) = None
-item_got (Commit stamp) = None
-item_got (Get item stamps) = Some item
-item_got (Check stamp) = None
+-- the item of a Get, and of another message the first of all items
+abbrev pub item_got : Request → ℕ
+item_got (Prepare stamp writes items) = 0
+item_got (Commit stamp) = 0
+item_got (Get item stamps) = item
+item_got (Check stamp) = 0
 
-abbrev pub item_asked : Body → Option ℕ
+abbrev pub item_asked : Body → ℕ
 item_asked (body.Request request) = item_got request
-item_asked (body.Reply reply) = None
+item_asked (body.Reply reply) = 0
 
--- the items of the Gets among the messages
+-- the items that the messages of a read ask for
 abbrev pub items_asked : List Message → List ℕ
-items_asked messages = filter_map (λ message. item_asked message.body) messages
+items_asked messages = map (λ message. item_asked message.body) messages
 
 -- a Get without stamps, which asks for the latest version
 abbrev pub gets_latest : Request → Bool

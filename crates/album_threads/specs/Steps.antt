@@ -50,9 +50,9 @@ pub record IsStill (session now : SessionState) : Type 0 where
 
 -- the ask is under way since it began at this session, by a hint or not
 abbrev pub IsBegunFor : Policy → Principal → Ask → SessionState → Bool → SessionState → Asked × Phase → Type 0
-IsBegunFor policy principal ask session hinted now (asked, phase) =
+IsBegunFor policy principal ask session hinted now started =
     IsUnderWay policy (record { principal = principal; ask = ask; session = session; hinted = hinted }) now
-    asked.begun.cut asked.sent.items phase
+    started.0.begun.cut started.0.sent.items started.1
 
 -- the client begins to read items for the ask, and its objects are among them
 pub record IsBegunWith (policy : Policy) (principal : Principal) (ask : Ask) (session : SessionState) (transition : Transition)

@@ -62,9 +62,33 @@ impl<J: ServiceNames> Session<J> {
         self.channel.is_sound();
         ask.check(principal)?;
         let topic = Topic::of(&ask);
-        if let Some(answer) = self.tries(rt, principal, &ask, &topic)? {
-            return Ok(answer);
+        match self.tries(rt, principal, &ask, &topic)? {
+            Some(answer) => Ok(answer),
+            None => self.asks_by_objects(rt, principal, ask, topic),
         }
+    }
+
+    /// Asks with a read of the objects at first.
+    ///
+    /// # Errors
+    ///
+    /// `Closed` or `OutOfMemory`.
+    fn asks_by_objects<R: Wait + time::Clock>(
+        &mut self,
+        rt: &R,
+        principal: &Principal,
+        ask: Ask,
+        topic: Topic,
+    ) -> Result<Answer, Refusal>
+        requires taken { refusal_of ask principal.now ≡ None }
+        ensures rests { (session : SessionState) → IsStill session self.old
+            → IfOk result (RestsOn J.terms.limit J.policy principal.now ask session self.new) }
+        ensures refused { IfErr result IsClosedOrOutOfMemory }
+        ensures unbegun { (session : SessionState) → IsStill session self.old
+            → OnErr result (DrawsNothing session self.new) }
+        ensures on { IsOn self.old self.new }
+    {
+        self.channel.is_sound();
         let (asked, phase) = self.begins(rt, principal, ask)?;
         let course = Course::plain(topic);
         match self.drives(rt, asked, phase, &course)? {

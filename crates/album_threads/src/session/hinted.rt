@@ -18,7 +18,7 @@ use crate::session::step::cut_off;
 use album_calls::{Body, Message, Request};
 use album_client::{Phase, Transition};
 use album_eval::Principal;
-use album_items::{ItemId, Items};
+use album_items::{ItemId, Items, Kind};
 use album_permits::Answer;
 use album_stamps::{Refusal, Stamp};
 use album_views::{Ask, Viewing};
@@ -227,20 +227,20 @@ fn is_among(item: ItemId, others: &[ItemId]) -> bool
     others.iter().any(|other| item.is(*other))
 }
 
-/// The items of the Gets among the messages.
+/// The items that the messages of a read ask for.
 fn items_asked(alloc: Global, sent: &[Message]) -> Result<Items, AllocError>
     ensures { IfOk result (λ items. items ≡ items_asked sent.now) }
 {
-    let items = sent.iter().filter_map(|message| item_asked(message.body())).collect(alloc)?;
+    let items = sent.iter().map(|message| item_asked(message.body())).collect(alloc)?;
     Ok(Items::of(items))
 }
 
-/// The item of a Get.
-fn item_asked(body: &Body) -> Option<ItemId>
+/// The item of a Get; of another message the first of all items.
+fn item_asked(body: &Body) -> ItemId
     ensures { result ≡ item_asked body.now }
 {
     match body {
-        Body::Request(Request::Get(item, _)) => Some(*item),
-        Body::Request(_) | Body::Reply(_) => None,
+        Body::Request(Request::Get(item, _)) => *item,
+        Body::Request(_) | Body::Reply(_) => ItemId::new(Kind::Picture, 0),
     }
 }

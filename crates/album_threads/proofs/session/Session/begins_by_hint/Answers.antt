@@ -9,10 +9,10 @@ pub starts-requires : goal.starts-requires
 starts-requires g c =
     let policy = g.J.ServiceNames.policy in
     let now = c.args.self.now in
-    let begun = c.in_some-transition.ensures in
+    let begun = c.in_ok-transition.ensures in
     record {
       shown = shown_first policy true c.args.principal.now c.args.ask.now now now (terms_in policy now) (client_step_in now) begun.tag begun.items
-          c.in_some-transition.transition begun.is;
+          c.in_ok-transition.transition begun.is;
     }
 
 pub returns-in-Ok-clause-way : goal.returns-in-Ok-clause-way
@@ -21,8 +21,8 @@ returns-in-Ok-clause-way g c =
     let now = c.args.self.now in
     let who = c.args.principal.now in
     let ask = c.args.ask.now in
-    let transition = c.in_some-transition.transition in
-    let begun = c.in_some-transition.ensures in
+    let transition = c.in_ok-transition.transition in
+    let begun = c.in_ok-transition.ensures in
     let sound = subst (λ (s : SessionState). IsSound s.cut) c.self.view_is c.is_sound.ensures in
     started_way policy who ask now true now c.starts.new.self now.cut transition c.starts.ensures.same refl
     (λ proper.

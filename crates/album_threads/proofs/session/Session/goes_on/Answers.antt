@@ -29,8 +29,8 @@ returns-in-Err-clause-unbegun g c = λ outset by w.
     c.given_up.result w.way w.heard c.stamp-stamp.result c.stamp-stamp.ensures c.given_up.ensures.unbegun
 
 -- the hint was in vain
-pub returns-in-if-is_in_vain-clause-way : goal.returns-in-if-is_in_vain-clause-way
-returns-in-if-is_in_vain-clause-way g c = λ outset by w.
+pub returns-then-is_in_vain-clause-way : goal.returns-then-is_in_vain-clause-way
+returns-then-is_in_vain-clause-way g c = λ outset by w.
     let parts = and_parts _ _ (sym c.is_in_vain.ensures ∙ c.if-is_in_vain.true) in
     let both = and_parts _ _ (sym c.tries-tries.ensures ∙ parts.0) in
     tried_so g.J.ServiceNames.policy outset w.before c.args.self.now c.args.asked.begun.cut c.args.asked.sent.items c.args.phase w.way w.heard
@@ -39,7 +39,7 @@ returns-in-if-is_in_vain-clause-way g c = λ outset by w.
 -- what was asked can be asked for again
 pub remembers-requires : goal.remembers-requires
 remembers-requires g c = record {
-  readable = λ reads. let w = c.requires.way.1.1 in
+  readable = λ reads. let w = c.requires.way.2 in
       asked_readable g.J.ServiceNames.policy c.requires.way.0 w.before c.args.asked.begun.cut c.args.asked.sent.items c.args.phase w.way
       (sym c.is_reading-reads.ensures.reads ∙ reads);
 }
@@ -81,14 +81,14 @@ returns-in-Answers-clause-on g c =
 -- it goes on
 pub sends-requires : goal.sends-requires
 sends-requires g c =
-    let w = c.requires.way.1.1 in
+    let w = c.requires.way.2 in
     let o = c.in_ok-answer.ensures in
     let turned = subst (IsReaction c.in-Ok.transition.client.phase c.in-Ok.transition.sent.items c.in-Ok.transition.answer) c.in-Sends.is o.reaction in
     let led = led_on g.J.ServiceNames.terms.limit g.J.ServiceNames.policy c.requires.way.0 w.before c.args.self.now c.takes_over.new.self c.args.asked.begun.cut
     c.args.asked.sent.items c.args.phase c.in-Ok.transition w.heard c.in-Ok.ensures.taken c.takes_over.ensures.client c.takes_over.ensures.cut o.counter
     w.way c.in-Ok.ensures.proper o.shared o.spent
     (view_by c.requires.way.0 c.args.course.now.hinted c.is_reading-reads.result c.tries-tries.result c.is_in_vain.result c.args.phase
-    c.in-Ok.transition c.requires.way.1.0 c.is_reading-reads.ensures.reads c.tries-tries.ensures c.is_in_vain.ensures c.if-is_in_vain.false) in
+    c.in-Ok.transition c.requires.way.1 c.is_reading-reads.ensures.reads c.tries-tries.ensures c.is_in_vain.ensures c.if-is_in_vain.false) in
     record {
       free = subst (IsFree g.J.ServiceNames.policy c.takes_over.new.self) (sym turned.2)
           (free_of g.J.ServiceNames.terms.limit g.J.ServiceNames.policy c.requires.way.0 c.takes_over.new.self c.args.asked.begun.cut c.args.asked.sent.items c.in-Ok.transition turned.0 led);
