@@ -30,9 +30,30 @@ impl ClientStep {
             (record { viewing = record { ask = ask; reads = 0 }; principal = principal }) (objects_of ask))) }
         ensures memory { IsOkUnless result Refusal.OutOfMemory }
     {
-        check_tag(tag)?;
         let (viewing, objects) = Viewing::start(self.alloc, ask)?;
-        self.begin_read(tag, PendingAsk::of(viewing, principal), objects)
+        self.ask_for(tag, principal, viewing, objects)
+    }
+
+    /// Begins an ask that the principal may ask, with a read of these items.
+    ///
+    /// # Errors
+    ///
+    /// `OutOfMemory`.
+    pub fn ask_for(
+        self,
+        tag: u64,
+        principal: Principal,
+        viewing: Viewing,
+        items: Items,
+    ) -> Result<Transition, Refusal>
+        requires taken { refusal_of viewing.ask principal ≡ None }
+        requires readable { AreReadable items }
+        ensures transition { IfOk result (IsMoved (read_begins self.terms (client_of self) tag
+            (record { viewing = viewing; principal = principal }) items)) }
+        ensures memory { IsOkUnless result Refusal.OutOfMemory }
+    {
+        check_tag(tag)?;
+        self.begin_read(tag, PendingAsk::of(viewing, principal), items)
     }
 
     /// Begins a read of the items.

@@ -155,6 +155,6 @@ pub fn conduct<R: Threads + Wait + time::Clock + Copy + Send + Sync + 'static>(
     alloc: Global,
     moves: &[Move],
 ) -> Result<Told, Refusal> {
-    let opened = Opened::new(alloc, &opening(alloc)?, 2)?;
+    let opened = Opened::new(alloc, &opening(alloc)?, 2)?.without_hints();
     conduct_by::<Brand, R>(rt, alloc, opened, moves)
 }

@@ -10,6 +10,7 @@ use album_access::AceType;
 use album_audit::Totals;
 use album_eval::Principal;
 use album_items::{ItemValues, Opening, Title, Value};
+use album_lists::Name;
 use album_permits::{Answer, Served};
 use album_stamps::Refusal;
 use album_threads::{
@@ -82,6 +83,22 @@ fn retitle<J: ServiceNames, R: Wait + time::Clock>(
     session.ask(rt, &principal, Ask::Retitle { object, title })
 }
 
+fn set_group<J: ServiceNames, R: Wait + time::Clock>(
+    rt: &R,
+    session: &mut Session<J>,
+    group: u64,
+) -> Result<Answer, Refusal> {
+    let principal = Principal::read("amy@users")?;
+    let object = item_of("picture/0")?;
+    let owner = Name::of("amy")?;
+    let ask = Ask::SetOwner {
+        object,
+        owner,
+        group,
+    };
+    session.ask(rt, &principal, ask)
+}
+
 /// The stamp at which it is written.
 fn committed(answer: Answer) -> Result<u64, Refusal> {
     match answer {
@@ -97,6 +114,8 @@ enum Step {
     Read(&'static str),
     /// It gives picture/0 this title, for amy.
     Retitle(&'static str),
+    /// It gives picture/0 this head group, for amy.
+    SetGroup(u64),
     Pending(u16),
     Sweep(u16, u64),
     /// It lets versions of picture/0 go.
@@ -144,6 +163,7 @@ fn text_of<J: ServiceNames, R: Wait + time::Clock>(
     match step {
         Step::Read(who) => read_text(alloc, &read(rt, session, who)?),
         Step::Retitle(title) => committed_text(alloc, retitle(rt, alloc, session, title)?),
+        Step::SetGroup(group) => committed_text(alloc, set_group(rt, session, group)?),
         Step::Pending(part) => pending_text(rt, alloc, session, part),
         Step::Sweep(part, stamp) => {
             session.sweep(rt, part, stamp_of(stamp)?)?;
@@ -185,21 +205,21 @@ fn told_so<J: ServiceNames, R: Wait + time::Clock + Abort>(
     Ok(())
 }
 
-/// A read reads picture/0, and then with it list/0 and group/0, in two rounds each.
+/// A first read reads picture/0, and then with it list/0 and group/0, in two rounds each.
 const BEFORE: &[Row] = &[(Step::Read("bo@users"), "Sea at 0", (6, 2))];
 
-/// A retitle reads the same, and then prepares and commits picture/0.
+/// A retitle by another session reads all three at once, and then prepares and commits picture/0.
 const MEANWHILE: &[Row] = &[
-    (Step::Retitle("Bay"), "committed at 65537", (8, 2)),
-    (Step::Read("amy@users"), "Bay at 65537", (6, 2)),
+    (Step::Retitle("Bay"), "committed at 65537", (6, 2)),
+    (Step::Read("amy@users"), "Bay at 65537", (4, 2)),
 ];
 
 /// The other reads what was written, although it has heard of nothing since it read last: it asks the partitions anew.
-const UNHEARD: &[Row] = &[(Step::Read("bo@users"), "Bay at 65537", (6, 2))];
+const UNHEARD: &[Row] = &[(Step::Read("bo@users"), "Bay at 65537", (4, 2))];
 
 /// The other's write has a greater stamp than the one that it read.
 const AFTER: &[Row] = &[
-    (Step::Read("bo@users"), "Bay at 65537", (6, 2)),
+    (Step::Read("bo@users"), "Bay at 65537", (4, 2)),
     (Step::Pending(0), "0 pending", (0, 0)),
     (Step::Pending(3), "NoSuchPart", (0, 0)),
     (Step::Sweep(0, 65537), "NotPrepared", (0, 0)),
@@ -208,8 +228,8 @@ const AFTER: &[Row] = &[
     (Step::Trim(1), "Clash", (0, 0)),
     (Step::Trim(3), "NoSuchPart", (0, 0)),
     (Step::Trim(0), "trimmed", (0, 0)),
-    (Step::Read("bo@users"), "Bay at 65537", (6, 2)),
-    (Step::Retitle("Cove"), "committed at 131074", (8, 2)),
+    (Step::Read("bo@users"), "Bay at 65537", (4, 2)),
+    (Step::Retitle("Cove"), "committed at 131074", (6, 2)),
 ];
 
 /// Two sessions are told so, before they meet and then.
@@ -263,6 +283,50 @@ fn two_sessions(rt: HostRuntime) -> Result<(), Fail> {
         counts: Arc::try_clone(&counts)?,
     };
     with_opened(rt, rt.alloc(), opened, gate, Two { counts })?
+}
+
+/// The head group becomes group/1, of partition 1. So what the hint names lacks it, and a read begins anew: after the
+/// hinted read it reads picture/0, and then with it list/0 and group/1. The next one reads all three at once. Group 0
+/// comes back: once more the hint lacks it.
+const REGROUPED: &[Row] = &[
+    (Step::Read("bo@users"), "Sea at 0", (6, 2)),
+    (Step::SetGroup(1), "committed at 65537", (6, 2)),
+    (Step::Read("bo@users"), "Sea at 65537", (8, 4)),
+    (Step::Read("bo@users"), "Sea at 65537", (2, 2)),
+    (Step::SetGroup(0), "committed at 131073", (4, 2)),
+    (Step::Read("bo@users"), "Sea at 131073", (8, 4)),
+    (Step::Read("cy@users"), "Sea at 131073", (4, 2)),
+];
+
+/// A visit of one session, while the gate counts, which is told so.
+#[derive(Drop)]
+struct Regroup {
+    counts: Arc<Counts, Global>,
+}
+
+impl<R: Wait + time::Clock + Abort + Copy> Visit<R> for Regroup {
+    type Answer = Result<(), Fail>;
+
+    fn visit<J: ServiceNames + Send + Sync>(
+        self,
+        rt: &R,
+        alloc: Global,
+        service: &Service<J>,
+    ) -> Result<(), Fail> {
+        let mut guest = OwnedSession::begin(rt, service)?;
+        told_so(rt, alloc, &mut guest.session, &self.counts, REGROUPED)
+    }
+}
+
+/// A hint that no longer names all that is looked at changes no answer, and is let go.
+#[test]
+fn a_stale_hint(rt: HostRuntime) -> Result<(), Fail> {
+    let opened = opened(rt.alloc(), READABLE, 1)?;
+    let counts = Arc::new(rt.alloc(), Counts::new())?;
+    let gate = Counting {
+        counts: Arc::try_clone(&counts)?,
+    };
+    with_opened(rt, rt.alloc(), opened, gate, Regroup { counts })?
 }
 
 /// Why two asks of the session are refused.

@@ -20,3 +20,4 @@ pub mod ReadingLemmas
 pub mod CarryLemmas
 pub mod WaitLemmas
 pub mod StepLemmas
+pub mod HintLemmas

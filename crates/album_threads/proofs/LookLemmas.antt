@@ -19,7 +19,7 @@ use Rattle.album_views.specs.declared.viewing.ViewStep.TheVariants.{Again, Close
 use Rattle.album_views.specs.declared.viewing.Why.{Why}
 use Rattle.album_views.specs.declared.viewing.Why.TheVariants.{Rounds, Wide}
 use Rattle.album_views.proofs.Closing.{closed-is, not-closed}
-use Rattle.album_threads.specs.Asks.{IsOn, IsViewOf, IsVain, LooksOnce, IsLooking, IsBusy, items_next}
+use Rattle.album_threads.specs.Asks.{IsOn, IsViewOf, IsVain, LooksOnce, IsLooking, IsReadFor, IsBusy, items_next}
 use Rattle.album_threads.specs.Grounds.{IsSeen, AreInVain, IsOutOfReads, trims_in}
 use Rattle.album_threads.specs.Grounds.AreInVain.{NoRead, OneMore}
 use Rattle.album_threads.specs.Replies.{IsReadOf}
@@ -132,16 +132,42 @@ on_trans a b c x y = record {
   sound = y.sound;
 }
 
-pub looking_first : (c : Cut) (viewing : ViewingState) (items : List ℕ) (ask : Ask) → viewing ≡ record { ask = ask; reads = 0 }
-    → items ≡ objects_of ask → AreReadable items → flaw_of ask ≡ None → IsSound c → IsLooking c c viewing items
-looking_first c viewing items ask is of readable flawless s =
-    subst (λ (v : ViewingState). IsLooking c c v items) (sym is) (record {
+pub looking_first : (a c : Cut) (viewing : ViewingState) (items : List ℕ) (ask : Ask) → viewing ≡ record { ask = ask; reads = 0 }
+    → items ≡ objects_of ask → AreReadable items → flaw_of ask ≡ None → IsSound a → IsSound c → Extends a c
+    → IsLooking a c viewing items
+looking_first a c viewing items ask is of readable flawless r s x =
+    subst (λ (v : ViewingState). IsLooking a c v items) (sym is) (record {
       flawless = flawless;
       reads = [];
       in_vain = NoRead (objects_of ask);
       next = of;
-      all = omega arith;
+      all = (let stay = trims_stay a c r s x in omega arith);
       readable = readable;
+      sound = s;
+    })
+
+-- what is so of items, by a hint or not
+pub for_sound : (hinted : Bool) (a b : Cut) (viewing : ViewingState) (items : List ℕ) → IsReadFor hinted a b viewing items → IsSound b
+for_sound true a b viewing items h = h.sound
+for_sound false a b viewing items h = h.sound
+
+pub for_flawless : (hinted : Bool) (a b : Cut) (viewing : ViewingState) (items : List ℕ) → IsReadFor hinted a b viewing items
+    → flaw_of viewing.ask ≡ None
+for_flawless true a b viewing items h = h.flawless
+for_flawless false a b viewing items h = h.flawless
+
+pub for_readable : (hinted : Bool) (a b : Cut) (viewing : ViewingState) (items : List ℕ) → IsReadFor hinted a b viewing items
+    → AreReadable items
+for_readable true a b viewing items h = h.readable
+for_readable false a b viewing items h = h.readable
+
+pub looks_seen : (a b c : Cut) (viewing : ViewingState) (items : List ℕ) → Extends a b → Extends b c → IsSound c
+    → (ask : Ask) (view : ViewState) → viewing.ask ≡ ask → LooksOnce b c viewing items (Closed view) → IsViewOf a c ask view
+looks_seen a b c viewing items x y s ask view of is =
+    subst (λ (k : Ask). IsViewOf a c k view) of (record {
+      of = is.of;
+      is = is.is;
+      seen = seen_from a b c view.rows s x y is.seen;
       sound = s;
     })
 
@@ -197,16 +223,6 @@ module _ (a b c : Cut) (viewing : ViewingState) (items : List ℕ) (h : IsLookin
     in_vain = in_vain_more a b c viewing.ask (objects_of viewing.ask) h.reads h.sound s x y h.in_vain;
     all = omega (arith, h.all, more, last);
   }
-
-  pub looks_seen : (ask : Ask) (view : ViewState) → viewing.ask ≡ ask → LooksOnce b c viewing items (Closed view)
-      → IsViewOf a c ask view
-  looks_seen ask view of is =
-      subst (λ (k : Ask). IsViewOf a c k view) of (record {
-        of = is.of;
-        is = is.is;
-        seen = seen_from a b c view.rows s x y is.seen;
-        sound = s;
-      })
 
   busy_so : (why : Why) → LooksOnce b c viewing items (Busy why) → IsBusy a c viewing.ask why
   busy_so Wide is = record {

@@ -1,7 +1,7 @@
--- What comes of a reply in a read: `read_on`. And how an ask begins, with a read of its objects: `reads_begin`, whose
--- messages need nothing shown (`shown_first`).
+-- What comes of a reply in a read: `read_on`. And how an ask begins, with a read of its objects or of what a hint names:
+-- `reads_begin` and `started_way`, whose messages need nothing shown (`shown_first`).
 use Rattle.std.proofs.Common.{◌≡◌, ℕ, ◌+◌, Bool, true, false, List, [], ◌∷◌, map, length, Some, None, is_some, All, refl, sym, ap, ◌∙◌, subst, arith, nat_lt, nat_le, if◌then◌else◌}
-use Rattle.std.proofs.lemmas.Bool.{ltb-false}
+use Rattle.std.proofs.lemmas.Bool.{ltb-false, or_left, or_right, true≢false}
 use Rattle.album_calls.specs.declared.messages.Message.{Message}
 use Rattle.album_client.specs.PendingAsks.{PendingAsk}
 use Rattle.album_client.specs.Clients.{Client, IsProper}
@@ -17,21 +17,23 @@ use Rattle.album_eval.specs.declared.facts.Principal.{Principal}
 use Rattle.album_eval.specs.declared.policies.Policy.{Policy}
 use Rattle.album_passes.specs.Cuts.{Cut, IsSound, Extends}
 use Rattle.album_passes.proofs.CutLemmas.{extends_self, extends_trans}
-use Rattle.album_reader.specs.Answers.{ReadVersion, answers_there}
+use Rattle.album_reader.specs.Answers.{Asker, ReadVersion, answers_there}
 use Rattle.album_reader.specs.Rounds.{RoundState, Step, IsOpen, asked_stamps, gets_of, get_of, first_round, stepped}
 use Rattle.album_reader.specs.Rounds.Step.{Same, Next, Done, Gone}
 use Rattle.album_stamps.specs.declared.limits.TheConstants.{MAX_READ_ITEMS, MAX_READS}
-use Rattle.album_threads.specs.Asks.{IsOn, IsViewOf, IsBusy, IsLooking, LooksOnce}
+use Rattle.album_threads.specs.Asks.{IsOn, IsViewOf, IsBusy, IsReadFor, LooksOnce}
 use Rattle.album_threads.specs.Envelopes.{Shows}
+use Rattle.album_threads.specs.Hints.{are_among, begins_read, is_busy, is_without_view}
 use Rattle.album_threads.specs.Phases.{Outset, IsRound, IsReading, IsUnderWay}
 use Rattle.album_threads.specs.Phases.IsRound.{First, Second}
 use Rattle.album_threads.specs.Replies.{IsReplied, IsFirstOver, IsReadOf, IsOvertaken, Leads}
 use Rattle.album_threads.specs.Resting.{RestsOn}
 use Rattle.album_threads.specs.Sending.{prepared_first}
 use Rattle.album_threads.specs.Sessions.{SessionState, AddsNothing}
-use Rattle.album_threads.specs.Steps.{client_step_in, terms_in}
+use Rattle.album_threads.specs.Steps.{client_step_in, terms_in, IsBegunFor, IsStarted, IsStill}
+use Rattle.album_threads.specs.declared.session.asked.Asked.{Asked}
 use Rattle.album_threads.proofs.EndLemmas.{read_so, overtaken}
-use Rattle.album_threads.proofs.LookLemmas.{done_so, gone_so, looking_first, looking_next, looks_seen, looks_busy, on_self}
+use Rattle.album_threads.proofs.LookLemmas.{done_so, gone_so, for_flawless, for_readable, for_sound, looking_first, looking_next, looks_seen, looks_busy, on_self}
 use Rattle.album_threads.proofs.TransitionLemmas.{IsNoted, IsMovedOn, on_heard, adds_heard, heard_same, goes_plain, goes_sent}
 use Rattle.album_threads.proofs.TransitionLemmas.IsMovedOn.{Told}
 use Rattle.album_threads.proofs.RoundLemmas.{leads, none_yet, under_first, gets_shown}
@@ -60,6 +62,11 @@ some_gets round is ts e = (readable_open round is).some (none round.items e)
     none [] f = refl
     none (i ∷ items) f = absurd (cc)
 
+-- they begin it
+begins_gets : (asker : Asker) (items : List ℕ) → (items ≡ [] → ⊥) → begins_read (gets_of asker [] items) ≡ true
+begins_gets asker [] some = absurd (some refl)
+begins_gets asker (i ∷ items) some = refl
+
 -- what was read can be read again
 readable_viewed : (viewing : ViewingState) (rows : List ReadVersion) → flaw_of viewing.ask ≡ None
     → AsksReadable (viewed viewing rows)
@@ -82,14 +89,14 @@ readable_viewed viewing rows flawless = go (is_closed viewing.ask rows)
     go false = wide (nat_lt MAX_READ_ITEMS (length (names_of rows viewing.ask))) refl
 
 -- a read that begins
-reading_first : (principal : Principal) (ask : Ask) (old now : Cut) (terms : Terms) (x : Client) (tag : ℕ)
+reading_first : (hinted : Bool) (principal : Principal) (ask : Ask) (old now : Cut) (terms : Terms) (x : Client) (tag : ℕ)
     (pending_ask : PendingAsk) (items : List ℕ)
     → pending_ask.viewing.ask ≡ ask → pending_ask.principal ≡ principal → terms.parts ≡ now.parts
     → IsOpen (first_round (asker_at terms x (tag + 1)) items)
-    → IsLooking old now pending_ask.viewing items → Extends old now
-    → IsReading principal ask old now now (gets_of (asker_at terms x (tag + 1)) [] items) pending_ask
+    → IsReadFor hinted old now pending_ask.viewing items → Extends old now
+    → IsReading hinted principal ask old now now (gets_of (asker_at terms x (tag + 1)) [] items) pending_ask
     (first_round (asker_at terms x (tag + 1)) items)
-reading_first principal ask old now terms x tag pending_ask items of whom parts opens looking before = record {
+reading_first hinted principal ask old now terms x tag pending_ask items of whom parts opens looking before = record {
   of = of;
   whom = whom;
   start = now;
@@ -99,55 +106,98 @@ reading_first principal ask old now terms x tag pending_ask items of whom parts 
   asks = refl;
   parts = parts;
   under = under_first now (first_round (asker_at terms x (tag + 1)) items) opens (none_yet items);
-  sound = looking.sound;
+  sound = for_sound hinted old now pending_ask.viewing items looking;
   before = before;
   on = extends_self now;
 }
 
 -- ---- how an ask begins
 
-module _ (policy : Policy) (principal : Principal) (ask : Ask) (now : SessionState) (terms : Terms) (x : Client)
-    (tag : ℕ) (transition : Transition)
+module _ (policy : Policy) (hinted : Bool) (principal : Principal) (ask : Ask) (session now : SessionState) (terms : Terms)
+    (x : Client) (tag : ℕ) (items : List ℕ) (transition : Transition)
     (is : IsMoved (read_begins terms x tag (record {
       viewing = record { ask = ask; reads = 0 };
       principal = principal;
-    }) (objects_of ask)) transition)
-    (proper : IsProper transition.client.phase) where
-  abbrev first_asking : PendingAsk
-  first_asking = record { viewing = record { ask = ask; reads = 0 }; principal = principal }
+    }) items) transition) where
+  abbrev unread : ViewingState
+  unread = record { ask = ask; reads = 0 }
 
-  opens : IsOpen (first_round (asker_at terms x (tag + 1)) (objects_of ask))
-  opens = subst IsProper (ap (λ (z : Client). z.phase) is.client) proper
+  abbrev outset : Outset
+  outset = record { principal = principal; ask = ask; session = session; hinted = hinted }
 
-  pub reads_begin : terms.parts ≡ now.cut.parts → refusal_of ask principal ≡ None → IsSound now.cut
-      → IsUnderWay policy (record { principal = principal; ask = ask; session = now }) now now.cut transition.sent.items
-      transition.client.phase
-  reads_begin parts taken s =
-      subst (λ (z : List Message × Phase). IsUnderWay policy
-      (record { principal = principal; ask = ask; session = now }) now now.cut z.0 z.1)
-      (λ i. (sym is.sent i, ap (λ (z : Client). z.phase) (sym is.client) i))
-      (record {
-        taken = taken;
-        on = on_self now s;
-        sound = s;
-        phase = (
-          reading_first principal ask now.cut now.cut terms x tag first_asking (objects_of ask) refl refl parts opens
-              (looking_first now.cut first_asking.viewing (objects_of ask) ask refl refl (readable_open _ opens)
-              (taken_flawless ask principal taken) s)
-              (extends_self now.cut),
-          record { share = refl; drawn = record { counter = refl; silent = λ t own. refl } },
-        );
-      })
-
+  -- nothing has to be shown beside its messages
   pub shown_first : All (Shows now.cut) transition.sent.items
-  shown_first = subst (All (Shows now.cut)) (sym is.sent)
-      (gets_shown now.cut (asker_at terms x (tag + 1)) [] (objects_of ask))
+  shown_first = subst (All (Shows now.cut)) (sym is.sent) (gets_shown now.cut (asker_at terms x (tag + 1)) [] items)
+
+  module _ (proper : IsProper transition.client.phase) where
+    opens : IsOpen (first_round (asker_at terms x (tag + 1)) items)
+    opens = subst IsProper (ap (λ (z : Client). z.phase) is.client) proper
+
+    pub readable_first : AreReadable items
+    readable_first = readable_open _ opens
+
+    pub reads_begin : terms.parts ≡ now.cut.parts → refusal_of ask principal ≡ None → IsStill session now → IsSound now.cut
+        → IsReadFor hinted session.cut now.cut unread items
+        → IsUnderWay policy outset now now.cut transition.sent.items transition.client.phase
+    reads_begin parts taken still s looking =
+        subst (λ (z : List Message × Phase). IsUnderWay policy outset now now.cut z.0 z.1)
+        (λ i. (sym is.sent i, ap (λ (z : Client). z.phase) (sym is.client) i))
+        (record {
+          taken = taken;
+          on = still.on;
+          sound = s;
+          phase = (
+            reading_first hinted principal ask session.cut now.cut terms x tag
+                (record { viewing = unread; principal = principal }) items refl refl parts opens looking still.on.grown,
+            still.adds,
+          );
+        })
+
+-- what its first messages begin is under way
+pub started_way : (policy : Policy) (principal : Principal) (ask : Ask) (session : SessionState) (hinted : Bool)
+    (old new : SessionState) (at : Cut) (transition : Transition) → new ≡ old → at ≡ old.cut
+    → (IsProper transition.client.phase → IsUnderWay policy
+    (record { principal = principal; ask = ask; session = session; hinted = hinted }) old old.cut transition.sent.items
+    transition.client.phase)
+    → (started : Asked × Phase) → IsStarted at transition started
+    → IsBegunFor policy principal ask session hinted new started
+started_way policy principal ask session hinted old new at transition same from way started h =
+    subst (λ (y : SessionState × Cut × List Message × Phase). IsUnderWay policy
+    (record { principal = principal; ask = ask; session = session; hinted = hinted }) y.0 y.1 y.2 y.3)
+    (λ i. (sym same i, sym (h.begun ∙ from) i, sym h.sent i, sym h.phase i)) (way h.proper)
+
+pub still_self : (a : SessionState) → IsSound a.cut → IsStill a a
+still_self a s = record {
+  sound = s;
+  on = on_self a s;
+  adds = record { share = refl; drawn = record { counter = refl; silent = λ t own. refl } };
+}
+
+-- why its first read is of these items
+pub plain_for : (old now : Cut) (ask : Ask) (principal : Principal) → refusal_of ask principal ≡ None
+    → AreReadable (objects_of ask) → IsSound old → IsSound now → Extends old now
+    → IsReadFor false old now (record { ask = ask; reads = 0 }) (objects_of ask)
+plain_for old now ask principal taken readable r s x =
+    looking_first old now (record { ask = ask; reads = 0 }) (objects_of ask) ask refl refl readable
+    (taken_flawless ask principal taken) r s x
+
+pub hint_for : (old now : Cut) (ask : Ask) (principal : Principal) (items : List ℕ) → refusal_of ask principal ≡ None
+    → are_among (objects_of ask) items ≡ true → AreReadable items → IsSound now
+    → IsReadFor true old now (record { ask = ask; reads = 0 }) items
+hint_for old now ask principal items taken among readable s = record {
+  flawless = taken_flawless ask principal taken;
+  unread = refl;
+  objects = among;
+  readable = readable;
+  sound = s;
+}
 
 -- ---- what comes of a reply
 
 module _ (limit : ℕ) (policy : Policy) (o : Outset) (now next noted : SessionState) (at : Cut) (sent : List Message)
     (transition : Transition)
-    (N : IsNoted o now next noted transition) (only_before : AddsNothing o.session now) where
+    (N : IsNoted o now next noted transition) (only_before : AddsNothing o.session now)
+    (view_by : o.hinted ≡ true → is_without_view transition.sent.items transition.answer ≡ false) where
   abbrev After : Type 0
   After = IsMovedOn limit policy o noted at sent transition
 
@@ -180,7 +230,7 @@ module _ (limit : ℕ) (policy : Policy) (o : Outset) (now next noted : SessionS
     -- it reads on
     waits : (pending_ask : PendingAsk) (round : RoundState) → transition.answer ≡ None
         → transition.client.phase ≡ phase.Reads pending_ask round → transition.sent.items ≡ []
-        → IsReading o.principal o.ask a at d sent pending_ask round → After
+        → IsReading o.hinted o.principal o.ask a at d sent pending_ask round → After
     waits pending_ask round quiet is empty w =
         goes_plain limit policy o noted at sent transition quiet [] empty refl (λ k l e. absurd (omega arith))
         (subst (λ (z : SessionState × Phase). IsUnderWay policy o z.0 at sent z.1) (λ i. (sym same i, sym is i))
@@ -189,7 +239,7 @@ module _ (limit : ℕ) (policy : Policy) (o : Outset) (now next noted : SessionS
     -- it sends these messages
     asks : (pending_ask : PendingAsk) (round : RoundState) (messages : List Message) → transition.answer ≡ None
         → transition.client.phase ≡ phase.Reads pending_ask round → transition.sent.items ≡ messages → (messages ≡ [] → ⊥)
-        → IsReading o.principal o.ask a d d messages pending_ask round → After
+        → IsReading o.hinted o.principal o.ask a d d messages pending_ask round → After
     asks pending_ask round messages quiet is sends some w =
         goes_sent limit policy o noted at sent transition quiet messages sends some
         (subst (λ (ms : List Message). prepared_first ms ≡ None) (sym w.asks)
@@ -222,33 +272,54 @@ module _ (limit : ℕ) (policy : Policy) (o : Outset) (now next noted : SessionS
 
   -- a read has led to this
   module _ (start : Cut) (tag : ℕ) (pending_ask : PendingAsk) (items : List ℕ) (of : pending_ask.viewing.ask ≡ o.ask)
-      (whom : pending_ask.principal ≡ o.principal)
-      (looking : IsLooking a start pending_ask.viewing items) (before : Extends a start) (since : Extends start d) where
-    views : (f : ViewStep) → LooksOnce start d pending_ask.viewing items f
-        → IsMoved (views_by terms x tag pending_ask.principal f) transition → After
-    views (Again viewing names) led is =
+      (whom : pending_ask.principal ≡ o.principal) (before : Extends a start) (since : Extends start d) where
+    -- to another read, and it goes by no hint
+    again_by : (hinted : Bool) → o.hinted ≡ hinted → IsReadFor hinted a start pending_ask.viewing items
+        → (viewing : ViewingState) (names : List ℕ) → LooksOnce start d pending_ask.viewing items (Again viewing names)
+        → IsMoved (views_by terms x tag pending_ask.principal (Again viewing names)) transition → After
+    again_by true by looking viewing names led is =
+        let does = ap (λ (z : Client). z.phase) is.client in
+        let opens : IsOpen (first_round (asker_at terms x (tag + 1)) names) = subst IsProper does N.proper in
+        let anew : is_without_view transition.sent.items transition.answer ≡ true =
+        or_left _ _ (ap begins_read is.sent ∙ begins_gets (asker_at terms x (tag + 1)) names (readable_open _ opens).some) in
+        absurd (true≢false (sym anew ∙ view_by by))
+    again_by false by looking viewing names led is =
         let round = first_round (asker_at terms x (tag + 1)) names in
         let does = ap (λ (z : Client). z.phase) is.client in
         let opens : IsOpen round = subst IsProper does N.proper in
         asks is.noted (ap (λ (z : Client). z.clock.counter) is.client)
         (record { viewing = viewing; principal = pending_ask.principal }) round
         (gets_of (asker_at terms x (tag + 1)) [] names) is.answer does is.sent (some_gets round opens [])
-        (reading_first o.principal o.ask a d terms x tag (record { viewing = viewing; principal = pending_ask.principal })
-        names
+        (reading_first o.hinted o.principal o.ask a d terms x tag
+        (record { viewing = viewing; principal = pending_ask.principal }) names
         (ap (λ (v : ViewingState). v.ask) led.0 ∙ of) whom refl opens
-        (looking_next a start d pending_ask.viewing items looking before since N.heard.sound viewing names led)
+        (subst (λ (h : Bool). IsReadFor h a d viewing names) (sym by)
+        (looking_next a start d pending_ask.viewing items looking before since N.heard.sound viewing names led))
         (extends_trans a start d before since))
-    views (Closed view) led is =
-        viewed_so tag view (looks_seen a start d pending_ask.viewing items looking before since N.heard.sound o.ask view of
-        led)
-        (subst (λ (p : Principal). IsMoved (rules terms x tag p view) transition) whom is)
-    views (Busy why) led is =
+
+    -- to no view, and it goes by no hint
+    busy_by : (hinted : Bool) → o.hinted ≡ hinted → IsReadFor hinted a start pending_ask.viewing items → (why : Why)
+        → LooksOnce start d pending_ask.viewing items (Busy why)
+        → IsMoved (views_by terms x tag pending_ask.principal (Busy why)) transition → After
+    busy_by true by looking why led is =
+        let vain : is_without_view transition.sent.items transition.answer ≡ true = or_right _ _ (ap is_busy is.answer) in
+        absurd (true≢false (sym vain ∙ view_by by))
+    busy_by false by looking why led is =
         busy is.noted (ap (λ (z : Client). z.clock.counter) is.client) why is.answer
         (looks_busy a start d pending_ask.viewing items looking before since N.heard.sound o.ask why of led)
 
+    views : IsReadFor o.hinted a start pending_ask.viewing items → (f : ViewStep)
+        → LooksOnce start d pending_ask.viewing items f
+        → IsMoved (views_by terms x tag pending_ask.principal f) transition → After
+    views looking (Again viewing names) led is = again_by o.hinted refl looking viewing names led is
+    views looking (Closed view) led is =
+        viewed_so tag view (looks_seen a start d pending_ask.viewing items before since N.heard.sound o.ask view of led)
+        (subst (λ (p : Principal). IsMoved (rules terms x tag p view) transition) whom is)
+    views looking (Busy why) led is = busy_by o.hinted refl looking why led is
+
   -- what a step of a round leads to
   steps : (tag : ℕ) (pending_ask : PendingAsk) (round : RoundState) (f : Step)
-      (w : IsReading o.principal o.ask a at c sent pending_ask round)
+      (w : IsReading o.hinted o.principal o.ask a at c sent pending_ask round)
       → Leads at d w.begun f → IsMoved (read_transition terms x tag pending_ask f) transition → After
   steps tag pending_ask round (Same other) w led is =
       waits is.noted (ap (λ (z : Client). z.clock.counter) is.client) pending_ask other is.answer
@@ -273,7 +344,7 @@ module _ (limit : ℕ) (policy : Policy) (o : Outset) (now next noted : SessionS
         whom = w.whom;
         start = w.start;
         begun = other;
-        looking = subst (λ (items : List ℕ). IsLooking a w.start pending_ask.viewing items)
+        looking = subst (λ (items : List ℕ). IsReadFor o.hinted a w.start pending_ask.viewing items)
             (sym (ap (λ (r : RoundState). r.items) led.next_is)) w.looking;
         which = which w.which;
         asks = led.gets_are ∙ sym (ap (λ (r : RoundState). gets_of r.asker (asked_stamps r) r.items) led.next_is);
@@ -308,14 +379,15 @@ module _ (limit : ℕ) (policy : Policy) (o : Outset) (now next noted : SessionS
       which (First none same) = absurd (let some = led.0 in let no = ap is_some none in cc)
       which (Second first gets y F) =
           let found : IsReadOf w.start d first.items rows = read_so w.start at d first w.begun gets F rows
-          w.looking.sound w.sound N.heard.sound y since led.1 in
+          (for_sound o.hinted a w.start pending_ask.viewing w.begun.items w.looking) w.sound N.heard.sound y since led.1 in
           let items : w.begun.items ≡ first.items = ap (λ (r : RoundState). r.items) F.next_is in
-          views w.start tag pending_ask w.begun.items w.of w.whom w.looking w.before (extends_trans w.start at d y since)
+          let flawless = for_flawless o.hinted a w.start pending_ask.viewing w.begun.items w.looking in
+          views w.start tag pending_ask w.begun.items w.of w.whom w.before (extends_trans w.start at d y since) w.looking
           (viewed pending_ask.viewing rows)
           (done_so w.start d pending_ask.viewing w.begun.items rows (viewed pending_ask.viewing rows) N.heard.sound
-          w.looking.flawless
+          flawless
           (subst (λ (is : List ℕ). IsReadOf w.start d is rows) (sym items) found) refl
-          (readable_viewed pending_ask.viewing rows w.looking.flawless))
+          (readable_viewed pending_ask.viewing rows flawless))
           (record { client = is.client; noted = is.noted; sent = is.sent; answer = is.answer })
   steps tag pending_ask round (Gone items) w led is = which w.which
     where
@@ -326,17 +398,18 @@ module _ (limit : ℕ) (policy : Policy) (o : Outset) (now next noted : SessionS
       which (First none same) = absurd (let some = led.0 in let no = ap is_some none in cc)
       which (Second first gets y F) =
           let found : IsOvertaken w.start d first.items items = overtaken w.start at d first w.begun gets F items
-          w.looking.sound w.sound N.heard.sound y since led.1 in
+          (for_sound o.hinted a w.start pending_ask.viewing w.begun.items w.looking) w.sound N.heard.sound y since led.1 in
           let same : w.begun.items ≡ items = ap (λ (r : RoundState). r.items) F.next_is ∙ sym found.items_are in
-          let looking = subst (λ (is : List ℕ). IsLooking a w.start pending_ask.viewing is) same w.looking in
-          views w.start tag pending_ask items w.of w.whom looking w.before (extends_trans w.start at d y since)
+          let looking = subst (λ (is : List ℕ). IsReadFor o.hinted a w.start pending_ask.viewing is) same w.looking in
+          views w.start tag pending_ask items w.of w.whom w.before (extends_trans w.start at d y since) looking
           (again pending_ask.viewing items)
-          (gone_so w.start d pending_ask.viewing items (again pending_ask.viewing items) found.trimmed looking.readable refl)
+          (gone_so w.start d pending_ask.viewing items (again pending_ask.viewing items) found.trimmed
+          (for_readable o.hinted a w.start pending_ask.viewing items looking) refl)
           (record { client = is.client; noted = is.noted; sent = is.sent; answer = is.answer })
 
   -- what a reply leads to
   pub read_on : (pending_ask : PendingAsk) (round : RoundState) (m : Message)
-      → IsReading o.principal o.ask a at c sent pending_ask round
+      → IsReading o.hinted o.principal o.ask a at c sent pending_ask round
       → IsReplied limit at d sent m → IsMoved (read_transition terms x round.asker.tag pending_ask (stepped round m)) transition → After
   read_on pending_ask round m w r is =
       steps round.asker.tag pending_ask round (stepped round m) w

@@ -1,10 +1,10 @@
 -- What comes of a reply to a session's client, by the phase that it is in: `moved_on`. `Session::goes_on` cites what
 -- follows of it. `Session::gives` cites `taken_so`.
-use Rattle.std.proofs.Common.{◌≡◌, ℕ, ◌≤◌, List, [], Option, Some, None, Result, Ok, Err, IfOk, refl, sym, ap, ◌∙◌, subst, arith}
+use Rattle.std.proofs.Common.{◌≡◌, ℕ, ◌≤◌, true, false, List, [], Option, Some, None, Result, Ok, Err, IfOk, refl, sym, ap, ◌∙◌, subst, arith}
 use Rattle.std.specs.Option.{unwrap_or}
 use Rattle.std.specs.Prelude.{IsOkAnd, IfSome, IfNone, OnErr}
 use Rattle.album_calls.specs.declared.messages.Message.{Message}
-use Rattle.album_client.specs.Clients.{Client, IsProper, stamp_at_work}
+use Rattle.album_client.specs.Clients.{Client, IsProper, is_reading, stamp_at_work}
 use Rattle.album_client.specs.Transitions.{IsMoved}
 use Rattle.album_client.specs.Terms.{Terms}
 use Rattle.album_client.specs.Steps.{transition_of, prepare_transition, commit_transition}
@@ -19,6 +19,7 @@ use Rattle.album_stamps.specs.declared.limits.TheConstants.{MAX_COUNTER}
 use Rattle.album_stamps.specs.declared.refusals.Refusal.{Refusal}
 use Rattle.album_stamps.specs.declared.refusals.Refusal.TheVariants.{StampsSpent}
 use Rattle.album_threads.specs.Asks.{IsOn, IsHeard, AreShared}
+use Rattle.album_threads.specs.Hints.{is_without_view}
 use Rattle.album_threads.specs.Phases.{Outset, IsPhase, IsUnderWay}
 use Rattle.album_threads.specs.Replies.{IsReplied}
 use Rattle.album_threads.specs.Resting.{RestsOn}
@@ -27,7 +28,7 @@ use Rattle.album_threads.specs.Sessions.{SessionState, IsClosedOrOutOfMemory, Dr
 use Rattle.album_threads.specs.Steps.{client_step_in, terms_in, IsTaken, IsSent, IsLed}
 use Rattle.album_threads.specs.declared.session.asked.Asked.{Asked}
 use Rattle.album_threads.specs.declared.session.ask.Way.{Way}
-use Rattle.album_threads.specs.declared.session.ask.Way.TheVariants.{Answered, Awaits}
+use Rattle.album_threads.specs.declared.session.ask.Way.TheVariants.{Answered, Awaits, InVain}
 use Rattle.album_threads.proofs.BegunLemmas.{cut_rests}
 use Rattle.album_threads.proofs.CarryLemmas.{prepared_on, committed_on}
 use Rattle.album_threads.proofs.ClockLemmas.{moved_clock}
@@ -40,13 +41,15 @@ use Rattle.album_permits.specs.declared.answers.Answer.TheVariants as answer
 
 moved_on : (limit : ℕ) (policy : Policy) (o : Outset) (now next noted : SessionState) (at : Cut) (sent : List Message) (transition : Transition)
     (d : Phase) (m : Message) → IsNoted o now next noted transition → IsPhase policy o now at sent d → IsReplied limit at next.cut sent m
-    → IsMoved (transition_of (terms_in policy next) (client_step_in next) m d) transition → IsMovedOn limit policy o noted at sent transition
-moved_on limit policy o now next noted at sent transition (phase.Idle tag) m N w r is = absurd w
-moved_on limit policy o now next noted at sent transition (phase.Reads pending_ask round) m N w r is =
-    read_on limit policy o now next noted at sent transition N w.1 pending_ask round m w.0 r is
-moved_on limit policy o now next noted at sent transition (phase.Prepares writing) m N w r is =
+    → IsMoved (transition_of (terms_in policy next) (client_step_in next) m d) transition
+    → (o.hinted ≡ true → is_reading d ≡ true → is_without_view transition.sent.items transition.answer ≡ false)
+    → IsMovedOn limit policy o noted at sent transition
+moved_on limit policy o now next noted at sent transition (phase.Idle tag) m N w r is by = absurd w
+moved_on limit policy o now next noted at sent transition (phase.Reads pending_ask round) m N w r is by =
+    read_on limit policy o now next noted at sent transition N w.1 (λ hinted. by hinted refl) pending_ask round m w.0 r is
+moved_on limit policy o now next noted at sent transition (phase.Prepares writing) m N w r is by =
     prepared_on limit policy o now next noted at sent transition N w.since w.begun w.granted writing m w.carried r is
-moved_on limit policy o now next noted at sent transition (phase.Commits writing) m N w r is =
+moved_on limit policy o now next noted at sent transition (phase.Commits writing) m N w r is by =
     committed_on limit policy o now next noted at sent transition N w.since w.begun w.granted writing m w.carried r is
 
 -- ---- a reply
@@ -67,8 +70,9 @@ module _ (limit : ℕ) (policy : Policy) (o : Outset) (now next noted : SessionS
   pub led_on : IsUnderWay policy o now at sent d → IsProper transition.client.phase
       → AreShared next.client next.share noted.share transition.notes.items
       → (next_of transition.client.clock ≡ Err StampsSpent → transition.client.clock.counter ≡ MAX_COUNTER)
+      → (o.hinted ≡ true → is_reading d ≡ true → is_without_view transition.sent.items transition.answer ≡ false)
       → IsMovedOn limit policy o noted at sent transition
-  led_on w proper shared spent =
+  led_on w proper shared spent by =
       moved_on limit policy o now next noted at sent transition d t.reply (record {
         taken = w.taken;
         on = w.on;
@@ -80,7 +84,7 @@ module _ (limit : ℕ) (policy : Policy) (o : Outset) (now next noted : SessionS
         cut = cut;
         shared = shared;
         spent = spent;
-      }) w.phase t.replied t.is
+      }) w.phase t.replied t.is by
 
 -- a session is on from what it was as the reply was heard
 pub on_moved : (limit : ℕ) (policy : Policy) (next noted : SessionState) (at : Cut) (sent : List Message) (d : Phase) (transition : Transition)
@@ -127,6 +131,7 @@ module _ (limit : ℕ) (policy : Policy) (o : Outset) where
       subst (λ (a : Answer). RestsOn limit policy o.principal o.ask o.session new a) (sym cut.is)
       (cut_rests policy o limit new new (sent_at asked.begun.cut new.cut messages) (sent_last asked.sent.items messages) d cut.stamp cut.why w cut.of cut.none
       refl refl (λ t own. refl) (extends_self new.cut) w.sound)
+  sent_led asked d messages new w InVain sent = absurd sent
   sent_led asked d messages new w (Awaits more next) (is, sends, from) =
       subst (λ (z : Cut × List Message × Phase). IsUnderWay policy o new z.0 z.1 z.2) (λ i. (sym from i, sym sends i, sym is i)) w
 

@@ -1,5 +1,5 @@
 -- The parts of a session that an ask keeps, and the items that it reads.
-use Rattle.std.specs.Prelude.{◌≡◌, ◌⊎◌, ◌+◌, ◌<◌, ◌≤◌, ℕ, max, List, [], ◌∷◌, All, length, map, None, IsTrue}
+use Rattle.std.specs.Prelude.{◌≡◌, ◌⊎◌, ◌+◌, ◌<◌, ◌≤◌, ℕ, Bool, true, false, max, List, [], ◌∷◌, All, length, map, None, IsTrue}
 use Rattle.album_stamps.specs.Stamps.{is_client, counter_of}
 use Rattle.album_stamps.specs.declared.limits.TheConstants.{MAX_READ_ITEMS, MAX_READS}
 use Rattle.album_audit.specs.Totals.{totals_of, plus}
@@ -9,6 +9,7 @@ use Rattle.album_permits.specs.declared.notes.Note.{Note}
 use Rattle.album_reader.specs.Answers.{ReadVersion}
 use Rattle.album_reader.specs.Snapshots.{items_read}
 use Rattle.album_threads.specs.Grounds.{IsSeen, IsWide, AreInVain, IsOutOfReads, trims_in}
+use Rattle.album_threads.specs.Hints.{are_among}
 use Rattle.album_threads.specs.Sessions.{SessionState, IsAhead, AnnouncesNothing}
 use Rattle.album_views.specs.Asks.{objects_of}
 use Rattle.album_views.specs.Checks.{flaw_of}
@@ -101,3 +102,16 @@ pub record IsLooking (begun now : Cut) (viewing : ViewingState) (items : List �
   pub all : viewing.reads + trims_in begun ≤ length reads + trims_in now
   pub readable : AreReadable items
   pub sound : IsSound now
+
+-- A hint names these items, and the ask's objects are among them. No read counts so far.
+pub record IsTrying (now : Cut) (viewing : ViewingState) (items : List ℕ) : Type 0 where
+  pub flawless : flaw_of viewing.ask ≡ None
+  pub unread : viewing.reads ≡ 0
+  pub objects : are_among (objects_of viewing.ask) items ≡ true
+  pub readable : AreReadable items
+  pub sound : IsSound now
+
+-- why these items are read: a hint names them, or what was read before
+abbrev pub IsReadFor : Bool → Cut → Cut → ViewingState → List ℕ → Type 0
+IsReadFor true begun now viewing items = IsTrying now viewing items
+IsReadFor false begun now viewing items = IsLooking begun now viewing items

@@ -9,6 +9,7 @@ pub mod Sessions
 pub mod Replies
 pub mod Resting
 pub mod Writes
+pub mod Hints
 pub mod Asks
 pub mod Sending
 pub mod Phases

@@ -1,5 +1,5 @@
 -- What is under way for an ask between two replies, a case for each phase of its client.
-use Rattle.std.specs.Prelude.{◌≡◌, List, None}
+use Rattle.std.specs.Prelude.{◌≡◌, Bool, List, None}
 use Rattle.album_calls.specs.declared.messages.Message.{Message}
 use Rattle.album_client.specs.PendingAsks.{PendingAsk}
 use Rattle.album_client.specs.declared.clients.Phase.{Phase}
@@ -8,7 +8,7 @@ use Rattle.album_eval.specs.declared.facts.Principal.{Principal}
 use Rattle.album_eval.specs.declared.policies.Policy.{Policy}
 use Rattle.album_passes.specs.Cuts.{Cut, IsSound, Extends}
 use Rattle.album_reader.specs.Rounds.{RoundState, asked_stamps, gets_of}
-use Rattle.album_threads.specs.Asks.{IsLooking, IsOn}
+use Rattle.album_threads.specs.Asks.{IsReadFor, IsOn}
 use Rattle.album_threads.specs.Replies.{IsUnder, IsFirstOver}
 use Rattle.album_threads.specs.Resting.{IsBegun}
 use Rattle.album_threads.specs.Sessions.{SessionState, AddsNothing}
@@ -17,11 +17,12 @@ use Rattle.album_views.specs.Checks.{refusal_of}
 use Rattle.album_views.specs.declared.asks.Ask.{Ask}
 use Rattle.album_writer.specs.Writing.{WritingState, prepares_of, commits_of, commit_round}
 
--- an ask as it began: its principal, the request, and the session at that time
+-- an ask as it began: its principal, the request, the session at that time, and whether it goes by a hint
 pub record Outset : Type 0 where
   pub principal : Principal
   pub ask : Ask
   pub session : SessionState
+  pub hinted : Bool
 
 -- ---- a read
 
@@ -31,16 +32,17 @@ pub data IsRound (start at : Cut) (begun : RoundState) : Type 0 where
   Second : (first : RoundState) (gets : List Message) → Extends start at → IsFirstOver start at first begun gets
       → IsRound start at begun
 
--- It reads for the ask: what was read before led to no view, and this round began at a cut, where it sent its messages.
+-- It reads for the ask: a hint names its items, or what was read before led to no view. This round began at a cut, where
+-- it sent its messages.
 pub record IsReading
-    (principal : Principal) (ask : Ask) (old at now : Cut) (sent : List Message)
+    (hinted : Bool) (principal : Principal) (ask : Ask) (old at now : Cut) (sent : List Message)
     (pending_ask : PendingAsk) (round : RoundState)
     : Type 0 where
   pub of : pending_ask.viewing.ask ≡ ask
   pub whom : pending_ask.principal ≡ principal
   pub start : Cut
   pub begun : RoundState
-  pub looking : IsLooking old start pending_ask.viewing begun.items
+  pub looking : IsReadFor hinted old start pending_ask.viewing begun.items
   pub which : IsRound start at begun
   pub asks : sent ≡ gets_of begun.asker (asked_stamps begun) begun.items
   pub parts : begun.asker.parts ≡ at.parts
@@ -88,7 +90,7 @@ pub record IsWriting
 abbrev pub IsPhase : Policy → Outset → SessionState → Cut → List Message → Phase → Type 0
 IsPhase policy outset now at sent (Idle tag) = ⊥
 IsPhase policy outset now at sent (Reads pending_ask round) =
-    IsReading outset.principal outset.ask outset.session.cut at now.cut sent pending_ask round
+    IsReading outset.hinted outset.principal outset.ask outset.session.cut at now.cut sent pending_ask round
     × AddsNothing outset.session now
 IsPhase policy outset now at sent (Prepares writing) = IsWriting policy outset now at sent (Prepares writing)
 IsPhase policy outset now at sent (Commits writing) = IsWriting policy outset now at sent (Commits writing)

@@ -1,29 +1,33 @@
 -- What comes of one reply to a session's client, step by step.
-use Rattle.std.specs.Prelude.{◌≡◌, ℕ, List, Option, Some, None}
+use Rattle.std.specs.Prelude.{◌≡◌, ℕ, Bool, true, List, Option, Some, None}
 use Rattle.album_calls.specs.declared.messages.Message.{Message}
-use Rattle.album_client.specs.Clients.{Client, stamp_at_work}
+use Rattle.album_client.specs.Clients.{Client, IsProper, stamp_at_work}
 use Rattle.album_client.specs.Transitions.{IsMoved}
 use Rattle.album_client.specs.Terms.{Terms}
-use Rattle.album_client.specs.Steps.{transition_of}
+use Rattle.album_client.specs.Steps.{read_begins, transition_of}
 use Rattle.album_client.specs.declared.clients.Phase.{Phase}
 use Rattle.album_client.specs.declared.clients.Phase.TheVariants.{Idle}
 use Rattle.album_client.specs.declared.transitions.Transition.{Transition}
+use Rattle.album_eval.specs.declared.facts.Principal.{Principal}
 use Rattle.album_eval.specs.declared.policies.Policy.{Policy}
-use Rattle.album_passes.specs.Cuts.{Cut}
+use Rattle.album_passes.specs.Cuts.{Cut, IsSound}
 use Rattle.album_stamps.specs.declared.refusals.Refusal.{Refusal}
-use Rattle.album_threads.specs.Asks.{IsHeard}
+use Rattle.album_threads.specs.Asks.{IsHeard, IsOn}
+use Rattle.album_threads.specs.Hints.{are_among}
 use Rattle.album_threads.specs.Phases.{Outset, IsUnderWay}
 use Rattle.album_threads.specs.Replies.{IsReplied}
 use Rattle.album_threads.specs.Resting.{RestsOn}
 use Rattle.album_threads.specs.Sending.{sent_at, sent_last}
-use Rattle.album_threads.specs.Sessions.{SessionState, IsClosedOrOutOfMemory}
+use Rattle.album_threads.specs.Sessions.{SessionState, AddsNothing, IsClosedOrOutOfMemory}
 use Rattle.album_threads.specs.declared.session.asked.Asked.{Asked}
 use Rattle.album_threads.specs.declared.session.step.Reaction.{Reaction}
 use Rattle.album_threads.specs.declared.session.step.Reaction.TheVariants.{Answers, Sends}
 use Rattle.album_threads.specs.declared.session.ask.Way.{Way}
-use Rattle.album_threads.specs.declared.session.ask.Way.TheVariants.{Answered, Awaits}
+use Rattle.album_threads.specs.declared.session.ask.Way.TheVariants.{Answered, Awaits, InVain}
 use Rattle.album_permits.specs.declared.answers.Answer.{Answer}
 use Rattle.album_permits.specs.declared.answers.Answer.TheVariants as answer
+use Rattle.album_views.specs.Asks.{objects_of}
+use Rattle.album_views.specs.declared.asks.Ask.{Ask}
 
 -- a session's client, whatever it does, and the terms on which it asks
 abbrev pub client_step_in : SessionState → Client
@@ -36,6 +40,43 @@ client_step_in session = record {
 abbrev pub terms_in : Policy → SessionState → Terms
 terms_in policy session = record { parts = session.cut.parts; policy = policy }
 
+-- ---- how an ask begins
+
+-- the session has seen more since it was this one, and has noted, drawn and announced nothing
+pub record IsStill (session now : SessionState) : Type 0 where
+  pub sound : IsSound session.cut
+  pub on : IsOn session now
+  pub adds : AddsNothing session now
+
+-- the ask is under way since it began at this session, by a hint or not
+abbrev pub IsBegunFor : Policy → Principal → Ask → SessionState → Bool → SessionState → Asked × Phase → Type 0
+IsBegunFor policy principal ask session hinted now started =
+    IsUnderWay policy (record { principal = principal; ask = ask; session = session; hinted = hinted }) now
+    started.0.begun.cut started.0.sent.items started.1
+
+-- the client begins to read items for the ask, and its objects are among them
+pub record IsBegunWith (policy : Policy) (principal : Principal) (ask : Ask) (session : SessionState) (transition : Transition)
+    : Type 0 where
+  pub tag : ℕ
+  pub items : List ℕ
+  pub objects : are_among (objects_of ask) items ≡ true
+  pub is : IsMoved (read_begins (terms_in policy session) (client_step_in session) tag
+      (record { viewing = record { ask = ask; reads = 0 }; principal = principal }) items) transition
+
+-- its first messages are sent, and it is in its first phase
+pub record IsStarted (at : Cut) (transition : Transition) (started : Asked × Phase) : Type 0 where
+  pub sent : started.0.sent.items ≡ transition.sent.items
+  pub begun : started.0.begun.cut ≡ at
+  pub phase : started.1 ≡ transition.client.phase
+  pub proper : IsProper transition.client.phase
+
+-- ---- what is heard
+
+-- some ask is under way, by a hint or not
+abbrev pub IsSomehowUnderWay : Policy → Bool → SessionState → Cut → List Message → Phase → Type 0
+IsSomehowUnderWay policy hinted now at sent phase =
+    (outset : Outset) × (outset.hinted ≡ hinted) × IsUnderWay policy outset now at sent phase
+
 -- an ask is under way so, but for the reply that was heard last
 pub record IsWaited
     (policy : Policy) (outset : Outset) (new : SessionState) (at : Cut) (sent : List Message) (phase : Phase)
@@ -44,9 +85,10 @@ pub record IsWaited
   pub way : IsUnderWay policy outset before at sent phase
   pub heard : IsHeard before new
 
--- some ask is
-abbrev pub IsSomehowWaited : Policy → SessionState → Cut → List Message → Phase → Type 0
-IsSomehowWaited policy new at sent phase = (outset : Outset) × IsWaited policy outset new at sent phase
+-- some ask is, by a hint or not
+abbrev pub IsSomehowWaited : Policy → Bool → SessionState → Cut → List Message → Phase → Type 0
+IsSomehowWaited policy hinted new at sent phase =
+    (outset : Outset) × (outset.hinted ≡ hinted) × IsWaited policy outset new at sent phase
 
 -- a reply has come to one of the messages that were sent, and led to this
 pub record IsTaken
@@ -77,10 +119,23 @@ IsSent asked phase messages now (Awaits more next) =
     (next ≡ phase)
     × (more.sent.items ≡ sent_last asked.sent.items messages)
     × (more.begun.cut ≡ sent_at asked.begun.cut now messages)
+IsSent asked phase messages now InVain = ⊥
 
--- the ask is answered, and the answer rests on what it should; or it is under way
+-- an ask that goes by a hint has come to no view by it: nothing is noted, drawn or announced
+pub record IsTried (outset : Outset) (now : SessionState) : Type 0 where
+  pub hinted : outset.hinted ≡ true
+  pub adds : AddsNothing outset.session now
+
+-- the ask is answered, and the answer rests on what it should; or it is under way; or its hint was in vain
 abbrev pub IsLed : ℕ → Policy → Outset → SessionState → Way → Type 0
 IsLed limit policy outset now (Answered given) =
     RestsOn limit policy outset.principal outset.ask outset.session now given
 IsLed limit policy outset now (Awaits asked phase) =
     IsUnderWay policy outset now asked.begun.cut asked.sent.items phase
+IsLed limit policy outset now InVain = IsTried outset now
+
+-- the same at the end of what was under way
+abbrev pub IsDone : ℕ → Policy → Outset → SessionState → Option Answer → Type 0
+IsDone limit policy outset now (Some given) =
+    RestsOn limit policy outset.principal outset.ask outset.session now given
+IsDone limit policy outset now None = IsTried outset now

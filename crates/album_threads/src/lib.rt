@@ -5,7 +5,8 @@
 //! A session sends envelopes to the mailboxes of partitions (`session/channel`, `session/round`). A partition's thread
 //! takes each, gives its message to the partition, and sends the reply back with a pass that shows the reply's history
 //! (`partition/thread`, `partition/keeper`). The session joins that pass, and gives the reply to its client, which is
-//! `album_client`'s (`session/step`), until the client answers (`session/ask`).
+//! `album_client`'s (`session/step`), until the client answers (`session/ask`). The first read asks for the items of an
+//! earlier view, where `hints` has them (`session/hinted`).
 //!
 //! Read `service`, `session` and `session/ask` first, then `partition/keeper`, and specs/ in the order of
 //! specs/Lib.antt.
@@ -20,7 +21,8 @@ mod service;
 mod service_names;
 mod visit;
 
-// A session, and how it asks the partitions.
+// A session, how it asks the partitions, and the hints of what to read.
+mod hints;
 mod owned_session;
 mod session;
 

@@ -4,6 +4,7 @@ ghost use Rattle.album_eval.specs.Policies.{policy_of};
 ghost use Rattle.album_items.specs.Openings.{is_opening};
 ghost use Rattle.album_passes.specs.Desk.{terms_of};
 
+use crate::hints::MAX_HINTS;
 use album_audit::Blanks;
 use album_eval::Policy;
 use album_items::Opening;
@@ -24,6 +25,8 @@ pub struct Opened {
     pub(crate) pass: Pass,
     pub(crate) policy: Policy,
     pub(crate) blanks: Blanks,
+    /// How many hints the service may keep.
+    pub(crate) hints: usize,
 }
 
 impl Model for Opened {
@@ -62,6 +65,14 @@ impl Opened {
             pass,
             policy,
             blanks: Blanks::new(),
+            hints: MAX_HINTS,
         })
+    }
+
+    /// The same for a service without hints, in which each ask begins with a read of its objects.
+    pub fn without_hints(self) -> Opened
+        ensures { result ≡ self }
+    {
+        Opened { hints: 0, ..self }
     }
 }

@@ -9,6 +9,7 @@ ghost use Rattle.album_threads.specs.Opened.{opened_as};
 use crate::breakage::Breakage;
 use crate::gate::Gate;
 use crate::gauge::Gauge;
+use crate::hints::Hints;
 use crate::mailbox::PartitionMail;
 use crate::opened::Opened;
 use crate::partition::start::start_all;
@@ -57,6 +58,7 @@ pub struct Service<J: ServiceNames> {
     policy: Policy,
     seed: Mutex<Seed<J>>,
     book: Arc<Mutex<AuditBook<J>>, Global>,
+    hints: Arc<Hints, Global>,
     alloc: Global,
     /// How many partitions there are.
     parts: u16,
@@ -95,11 +97,13 @@ impl<J: ServiceNames + Send + 'static> Service<J> {
             pass,
             policy,
             blanks,
+            hints,
         } = opened;
         let desk = Arc::new(alloc, desk)?;
         let gate = Arc::new(alloc, gate)?;
         let breakage = Arc::new(alloc, Breakage::new())?;
         let book = Arc::new(alloc, Mutex::new(AuditBook::new(blanks)))?;
+        let hints = Arc::new(alloc, Hints::new(alloc, hints))?;
         let seed = Mutex::new(Seed {
             pass,
             of: PhantomData,
@@ -127,6 +131,7 @@ impl<J: ServiceNames + Send + 'static> Service<J> {
             policy,
             seed,
             book,
+            hints,
             alloc,
             parts,
             mailboxes,
@@ -143,6 +148,7 @@ impl<J: ServiceNames + Send + 'static> Service<J> {
             policy: _,
             seed: _,
             book,
+            hints: _,
             alloc: _,
             parts: _,
             mailboxes,
@@ -171,10 +177,11 @@ impl<J: ServiceNames> Service<J> {
         ensures refused { IfErr result (λ e. (e ≡ Refusal.OutOfMemory) ⊎ (e ≡ Refusal.SessionsSpent)) }
     {
         let book = Arc::try_clone(&self.book)?;
+        let hints = Arc::try_clone(&self.hints)?;
         let channel = self.channel(rt)?;
         let share = self.book.lock(rt).share();
         match share {
-            Ok(share) => Ok(Session::new(self.alloc, channel, self.policy, book, share)),
+            Ok(share) => Ok(Session::new(self.alloc, channel, self.policy, book, share, hints)),
             Err(refusal) => {
                 channel.leave(rt);
                 Err(refusal)

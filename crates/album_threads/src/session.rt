@@ -12,11 +12,13 @@ ghost use Rattle.album_threads.specs.Sessions.{IsClosedOrOutOfMemory, AddsNothin
 mod ask;
 mod asked;
 pub(crate) mod channel;
+mod hinted;
 mod note;
 mod round;
 mod step;
 
 use crate::control::{Control, ControlAnswer};
+use crate::hints::Hints;
 use crate::service_names::ServiceNames;
 use crate::session::channel::PartitionChannel;
 use album_audit::{AuditBook, Share};
@@ -40,6 +42,8 @@ pub struct Session<J: ServiceNames> {
     pub(crate) policy: Policy,
     pub(crate) book: Arc<Mutex<AuditBook<J>>, Global>,
     pub(crate) share: Share<J>,
+    /// Of the whole service.
+    pub(crate) hints: Arc<Hints, Global>,
 }
 
 impl<J: ServiceNames> Model for Session<J> {
@@ -66,6 +70,7 @@ impl<J: ServiceNames> Session<J> {
         policy: Policy,
         book: Arc<Mutex<AuditBook<J>>, Global>,
         share: Share<J>,
+        hints: Arc<Hints, Global>,
     ) -> Session<J>
         requires policy { policy ≡ J.policy }
         requires unheard { IsUnheard channel.client channel.cut }
@@ -80,6 +85,7 @@ impl<J: ServiceNames> Session<J> {
             policy,
             book,
             share,
+            hints,
         }
     }
 
@@ -231,6 +237,7 @@ impl<J: ServiceNames> Session<J> {
             policy: _,
             book,
             share,
+            hints: _,
         } = self;
         channel.leave(rt);
         book.lock(rt).gather(share);

@@ -1,20 +1,23 @@
 //! Asks: a session's client, driven by what the partitions reply.
-ghost use Rattle.std.specs.Prelude.{◌≡◌, ◌≤◌, ◌⊎◌, None, Some, Err, IsTrue, IfOk, IfErr, IfSome, OnErr};
+ghost use Rattle.std.specs.Prelude.{◌≡◌, ◌≤◌, ◌⊎◌, false, None, Some, Err, All, IsTrue, IfOk, IfErr, IfSome, OnErr};
 ghost use Rattle.album_client.specs.Transitions.{client_of};
 ghost use Rattle.album_passes.specs.Cuts.{Extends, IsSound};
 ghost use Rattle.album_stamps.specs.Stamps.{is_client};
 ghost use Rattle.album_views.specs.Checks.{refusal_of};
 ghost use Rattle.album_threads.specs.Asks.{IsOn};
+ghost use Rattle.album_threads.specs.Envelopes.{Shows};
 ghost use Rattle.album_threads.specs.Phases.{Outset, IsUnderWay};
 ghost use Rattle.album_threads.specs.Replies.{IsReplied};
 ghost use Rattle.album_threads.specs.Resting.{RestsOn};
-ghost use Rattle.album_threads.specs.Sessions.{IsClosedOrOutOfMemory, DrawsNothing};
-ghost use Rattle.album_threads.specs.Steps.{client_step_in, terms_in, IsLed, IsSomehowWaited, IsWaited};
+ghost use Rattle.album_threads.specs.Sessions.{SessionState, IsClosedOrOutOfMemory, DrawsNothing};
+ghost use Rattle.album_threads.specs.Steps.{client_step_in, terms_in, IsBegunFor, IsDone, IsLed, IsSomehowUnderWay, IsSomehowWaited, IsStarted, IsStill, IsWaited};
 
+use crate::hints::Topic;
 use crate::service_names::ServiceNames;
 use crate::session::Session;
 use crate::session::asked::Asked;
-use crate::session::step::{Reaction, cut_off};
+use crate::session::hinted::{Course, given_up, is_in_vain};
+use crate::session::step::Reaction;
 use album_calls::Message;
 use album_client::{Client, ClientStep, Phase, Terms, Transition};
 use album_eval::Principal;
@@ -31,6 +34,8 @@ pub(crate) enum Way {
     Answered(Answer),
     /// Replies to these messages are outstanding, and the client is in this phase.
     Awaits(Asked, Phase),
+    /// It went by a hint, and came to no view.
+    InVain,
 }
 
 impl<J: ServiceNames> Session<J> {
@@ -56,11 +61,71 @@ impl<J: ServiceNames> Session<J> {
     {
         self.channel.is_sound();
         ask.check(principal)?;
-        let (mut asked, mut phase) = self.begins(rt, principal, ask)?;
+        let topic = Topic::of(&ask);
+        match self.tries(rt, principal, &ask, &topic)? {
+            Some(answer) => Ok(answer),
+            None => self.asks_by_objects(rt, principal, ask, topic),
+        }
+    }
+
+    /// Asks with a read of the objects at first.
+    ///
+    /// # Errors
+    ///
+    /// `Closed` or `OutOfMemory`.
+    fn asks_by_objects<R: Wait + time::Clock>(
+        &mut self,
+        rt: &R,
+        principal: &Principal,
+        ask: Ask,
+        topic: Topic,
+    ) -> Result<Answer, Refusal>
+        requires taken { refusal_of ask principal.now ≡ None }
+        ensures rests { (session : SessionState) → IsStill session self.old
+            → IfOk result (RestsOn J.terms.limit J.policy principal.now ask session self.new) }
+        ensures refused { IfErr result IsClosedOrOutOfMemory }
+        ensures unbegun { (session : SessionState) → IsStill session self.old
+            → OnErr result (DrawsNothing session self.new) }
+        ensures on { IsOn self.old self.new }
+    {
+        self.channel.is_sound();
+        let (asked, phase) = self.begins(rt, principal, ask)?;
+        let course = Course::plain(topic);
+        match self.drives(rt, asked, phase, &course)? {
+            Some(answer) => Ok(answer),
+            // Only a hint is in vain: `IsTried`.
+            None => unreachable!(),
+        }
+    }
+
+    /// Takes replies until the ask is answered, or its hint was in vain.
+    ///
+    /// # Errors
+    ///
+    /// `Closed` or `OutOfMemory`.
+    pub(crate) fn drives<R: Wait + time::Clock>(
+        &mut self,
+        rt: &R,
+        mut asked: Asked,
+        mut phase: Phase,
+        course: &Course,
+    ) -> Result<Option<Answer>, Refusal>
+        requires way { IsSomehowUnderWay J.policy course.now.hinted self.old asked.begun.cut asked.sent.items phase }
+        ensures done { (outset : Outset) → outset.hinted ≡ course.now.hinted
+            → IsUnderWay J.policy outset self.old asked.begun.cut asked.sent.items phase
+            → IfOk result (IsDone J.terms.limit J.policy outset self.new) }
+        ensures refused { IfErr result IsClosedOrOutOfMemory }
+        ensures unbegun { (outset : Outset) → outset.hinted ≡ course.now.hinted
+            → IsUnderWay J.policy outset self.old asked.begun.cut asked.sent.items phase
+            → OnErr result (DrawsNothing outset.session self.new) }
+        ensures on { IsOn self.old self.new }
+    {
+        self.channel.is_sound();
         for _ in rt.forever() {
             let heard = self.waits(rt, &asked, &mut phase);
-            match self.goes_on(rt, asked, phase, heard)? {
-                Way::Answered(answer) => return Ok(answer),
+            match self.goes_on(rt, asked, phase, heard, course)? {
+                Way::Answered(answer) => return Ok(Some(answer)),
+                Way::InVain => return Ok(None),
                 Way::Awaits(more, next) => {
                     asked = more;
                     phase = next;
@@ -83,15 +148,33 @@ impl<J: ServiceNames> Session<J> {
         ask: Ask,
     ) -> Result<(Asked, Phase), Refusal>
         requires taken { refusal_of ask principal.now ≡ None }
-        ensures way { IfOk result (λ way. IsUnderWay J.policy
-            (record { principal = principal.now; ask = ask; session = self.old }) self.new
-            way.0.begun.cut way.0.sent.items way.1) }
+        ensures way { (session : SessionState) → IsStill session self.old
+            → IfOk result (IsBegunFor J.policy principal.now ask session false self.new) }
         ensures refused { IfErr result IsClosedOrOutOfMemory }
         ensures same { self.new ≡ self.old }
     {
         self.channel.is_open()?;
         self.channel.is_sound();
         let transition = self.client_step().ask(self.tag, principal.copy()?, ask)?;
+        self.starts(rt, transition)
+    }
+
+    /// Sends the first messages of an ask.
+    ///
+    /// # Errors
+    ///
+    /// `Closed` or `OutOfMemory`.
+    pub(crate) fn starts<R: Wait>(
+        &mut self,
+        rt: &R,
+        transition: Transition,
+    ) -> Result<(Asked, Phase), Refusal>
+        requires shown { All (Shows self.old.cut) transition.sent.items }
+        ensures starts { IfOk result (IsStarted self.old.cut transition) }
+        ensures refused { IfErr result IsClosedOrOutOfMemory }
+        ensures same { self.new ≡ self.old }
+    {
+        // What is true of each phase is known once it is looked at.
         let _reads = transition.client.phase.is_reading();
         let (phase, sent) = work_of(transition);
         self.tag = phase.tag();
@@ -118,7 +201,8 @@ impl<J: ServiceNames> Session<J> {
         }
     }
 
-    /// Goes on by what was heard. Once a write has begun, what cuts it off is its answer.
+    /// Goes on by what was heard. Once a write has begun, what cuts it off is its answer. While a hint is tried, nothing
+    /// is taken over of what comes of no view, nor is the ask refused.
     ///
     /// # Errors
     ///
@@ -129,26 +213,33 @@ impl<J: ServiceNames> Session<J> {
         asked: Asked,
         phase: Phase,
         heard: Result<Message, Refusal>,
+        course: &Course,
     ) -> Result<Way, Refusal>
-        requires way { IsSomehowWaited J.policy self.old asked.begun.cut asked.sent.items phase }
+        requires way { IsSomehowWaited J.policy course.now.hinted self.old asked.begun.cut asked.sent.items phase }
         requires replied { IfOk heard
             (IsReplied J.terms.limit asked.begun.cut self.old.cut asked.sent.items) }
         requires heard { IfErr heard IsClosedOrOutOfMemory }
-        ensures way { (outset : Outset)
+        ensures way { (outset : Outset) → outset.hinted ≡ course.now.hinted
             → IsWaited J.policy outset self.old asked.begun.cut asked.sent.items phase
             → IfOk result (IsLed J.terms.limit J.policy outset self.new) }
         ensures refused { IfErr result IsClosedOrOutOfMemory }
-        ensures unbegun { (outset : Outset)
+        ensures unbegun { (outset : Outset) → outset.hinted ≡ course.now.hinted
             → IsWaited J.policy outset self.old asked.begun.cut asked.sent.items phase
             → OnErr result (DrawsNothing outset.session self.new) }
         ensures on { IsOn self.old self.new }
     {
         self.channel.is_sound();
         let stamp = phase.stamp();
+        let reads = phase.is_reading();
+        let tries = course.tries(reads);
         let transition = match self.gives(&asked, phase, heard) {
             Ok(transition) => transition,
-            Err(why) => return cut_off(stamp, why),
+            Err(why) => return given_up(tries, stamp, why),
         };
+        if is_in_vain(tries, &transition) {
+            return Ok(Way::InVain);
+        }
+        self.remembers(course, reads, &asked, &transition);
         match self.takes_over(rt, transition)? {
             Reaction::Answers(answer) => Ok(Way::Answered(answer)),
             Reaction::Sends(phase, sent) => self.sends(rt, asked, phase, sent),

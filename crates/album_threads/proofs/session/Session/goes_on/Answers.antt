@@ -1,4 +1,5 @@
-use Rattle.std.proofs.Common.{All, List, sym, subst}
+use Rattle.std.proofs.Common.{All, List, sym, subst, ◌∙◌}
+use Rattle.std.proofs.lemmas.Bool.{and_parts}
 use Rattle.album_calls.specs.declared.messages.Message.{Message}
 use Rattle.album_client.specs.declared.clients.Phase.{Phase}
 use Rattle.album_threads.specs.Envelopes.{Shows}
@@ -10,20 +11,38 @@ use Rattle.album_threads.specs.Steps.{client_step_in, terms_in, IsReaction}
 use Rattle.album_threads.proofs.ClockLemmas.{moved_clock}
 use Rattle.album_threads.proofs.LookLemmas.{on_trans}
 use Rattle.album_threads.proofs.TransitionLemmas.{told_rests, free_of, shown_of, goes_of}
-use Rattle.album_threads.proofs.StepLemmas.{on_moved, led_on, on_announced, on_refusal, cut_led, all_led, unbegun_cut, unbegun_noted, unbegun_sent}
+use Rattle.album_threads.proofs.HintLemmas.{asked_readable, given_led, tried_so, view_by}
+use Rattle.album_threads.proofs.StepLemmas.{on_moved, led_on, on_announced, on_refusal, all_led, unbegun_cut, unbegun_noted, unbegun_sent}
 use Rattle.album_threads.proofs.session.Session.goes_on.Goals as goal
 
 -- no word comes
 pub returns-in-Err-clause-way : goal.returns-in-Err-clause-way
-returns-in-Err-clause-way g c = λ outset w.
-    cut_led g.J.ServiceNames.terms.limit g.J.ServiceNames.policy outset w.before c.args.self.now c.args.asked.begun.cut c.args.asked.sent.items c.args.phase
-    c.in-Err.why c.cut_off.result w.way w.heard c.in-Err.ensures.refused c.stamp-stamp.result c.stamp-stamp.ensures
-    c.cut_off.ensures.begun c.cut_off.ensures.before
+returns-in-Err-clause-way g c = λ outset by w.
+    given_led g.J.ServiceNames.policy outset g.J.ServiceNames.terms.limit w.before c.args.self.now c.args.asked.begun.cut
+    c.args.asked.sent.items c.args.phase c.in-Err.why c.given_up.result w.way w.heard c.in-Err.ensures.refused c.stamp-stamp.result
+    c.stamp-stamp.ensures c.args.course.now.hinted c.is_reading-reads.result c.tries-tries.result by c.is_reading-reads.ensures.reads
+    c.tries-tries.ensures c.given_up.ensures.tried c.given_up.ensures.begun c.given_up.ensures.before
 
 pub returns-in-Err-clause-unbegun : goal.returns-in-Err-clause-unbegun
-returns-in-Err-clause-unbegun g c = λ outset w.
+returns-in-Err-clause-unbegun g c = λ outset by w.
     unbegun_cut g.J.ServiceNames.terms.limit g.J.ServiceNames.policy outset w.before c.args.self.now c.args.asked.begun.cut c.args.asked.sent.items c.args.phase
-    c.cut_off.result w.way w.heard c.stamp-stamp.result c.stamp-stamp.ensures c.cut_off.ensures.unbegun
+    c.given_up.result w.way w.heard c.stamp-stamp.result c.stamp-stamp.ensures c.given_up.ensures.unbegun
+
+-- the hint was in vain
+pub returns-then-is_in_vain-clause-way : goal.returns-then-is_in_vain-clause-way
+returns-then-is_in_vain-clause-way g c = λ outset by w.
+    let parts = and_parts _ _ (sym c.is_in_vain.ensures ∙ c.if-is_in_vain.true) in
+    let both = and_parts _ _ (sym c.tries-tries.ensures ∙ parts.0) in
+    tried_so g.J.ServiceNames.policy outset w.before c.args.self.now c.args.asked.begun.cut c.args.asked.sent.items c.args.phase w.way w.heard
+    (by ∙ both.0) (sym c.is_reading-reads.ensures.reads ∙ both.1)
+
+-- what was asked can be asked for again
+pub remembers-requires : goal.remembers-requires
+remembers-requires g c = record {
+  readable = λ reads. let w = c.requires.way.2 in
+      asked_readable g.J.ServiceNames.policy c.requires.way.0 w.before c.args.asked.begun.cut c.args.asked.sent.items c.args.phase w.way
+      (sym c.is_reading-reads.ensures.reads ∙ reads);
+}
 
 -- a reply comes, and the client's clock goes no way back
 pub takes_over-requires : goal.takes_over-requires
@@ -34,21 +53,23 @@ takes_over-requires g c =
 
 -- there is no memory for what is noted of it
 pub returns-in_err-answer-clause-unbegun : goal.returns-in_err-answer-clause-unbegun
-returns-in_err-answer-clause-unbegun g c = λ outset w.
+returns-in_err-answer-clause-unbegun g c = λ outset by w.
     on_refusal c.from_residual.result (DrawsNothing outset.session c.takes_over.new.self)
     (unbegun_noted g.J.ServiceNames.terms.limit g.J.ServiceNames.policy outset w.before c.args.self.now c.takes_over.new.self c.args.asked.begun.cut
     c.args.asked.sent.items c.args.phase c.in-Ok.transition w.way w.heard c.takes_over.ensures.cut c.in_err-answer.ensures.kept c.in-Ok.ensures.taken c.in_err-answer.ensures.noted)
 
 -- it answers the ask
 pub returns-in-Answers-clause-way : goal.returns-in-Answers-clause-way
-returns-in-Answers-clause-way g c = λ outset w.
+returns-in-Answers-clause-way g c = λ outset by w.
     let o = c.in_ok-answer.ensures in
     let turned = subst (IsReaction c.in-Ok.transition.client.phase c.in-Ok.transition.sent.items c.in-Ok.transition.answer) c.in-Answers.is o.reaction in
     told_rests g.J.ServiceNames.terms.limit g.J.ServiceNames.policy outset c.takes_over.new.self c.args.asked.begun.cut c.args.asked.sent.items c.in-Ok.transition
     c.in-Answers.answer turned
     (led_on g.J.ServiceNames.terms.limit g.J.ServiceNames.policy outset w.before c.args.self.now c.takes_over.new.self c.args.asked.begun.cut
     c.args.asked.sent.items c.args.phase c.in-Ok.transition w.heard c.in-Ok.ensures.taken c.takes_over.ensures.client c.takes_over.ensures.cut o.counter
-    w.way c.in-Ok.ensures.proper o.shared o.spent)
+    w.way c.in-Ok.ensures.proper o.shared o.spent
+    (view_by outset c.args.course.now.hinted c.is_reading-reads.result c.tries-tries.result c.is_in_vain.result c.args.phase
+    c.in-Ok.transition by c.is_reading-reads.ensures.reads c.tries-tries.ensures c.is_in_vain.ensures c.if-is_in_vain.false))
 
 pub returns-in-Answers-clause-on : goal.returns-in-Answers-clause-on
 returns-in-Answers-clause-on g c =
@@ -60,12 +81,14 @@ returns-in-Answers-clause-on g c =
 -- it goes on
 pub sends-requires : goal.sends-requires
 sends-requires g c =
-    let w = c.requires.way.1 in
+    let w = c.requires.way.2 in
     let o = c.in_ok-answer.ensures in
     let turned = subst (IsReaction c.in-Ok.transition.client.phase c.in-Ok.transition.sent.items c.in-Ok.transition.answer) c.in-Sends.is o.reaction in
     let led = led_on g.J.ServiceNames.terms.limit g.J.ServiceNames.policy c.requires.way.0 w.before c.args.self.now c.takes_over.new.self c.args.asked.begun.cut
     c.args.asked.sent.items c.args.phase c.in-Ok.transition w.heard c.in-Ok.ensures.taken c.takes_over.ensures.client c.takes_over.ensures.cut o.counter
-    w.way c.in-Ok.ensures.proper o.shared o.spent in
+    w.way c.in-Ok.ensures.proper o.shared o.spent
+    (view_by c.requires.way.0 c.args.course.now.hinted c.is_reading-reads.result c.tries-tries.result c.is_in_vain.result c.args.phase
+    c.in-Ok.transition c.requires.way.1 c.is_reading-reads.ensures.reads c.tries-tries.ensures c.is_in_vain.ensures c.if-is_in_vain.false) in
     record {
       free = subst (IsFree g.J.ServiceNames.policy c.takes_over.new.self) (sym turned.2)
           (free_of g.J.ServiceNames.terms.limit g.J.ServiceNames.policy c.requires.way.0 c.takes_over.new.self c.args.asked.begun.cut c.args.asked.sent.items c.in-Ok.transition turned.0 led);
@@ -74,12 +97,14 @@ sends-requires g c =
     }
 
 pub returns-in-Sends-clause-way : goal.returns-in-Sends-clause-way
-returns-in-Sends-clause-way g c = λ outset w.
+returns-in-Sends-clause-way g c = λ outset by w.
     let o = c.in_ok-answer.ensures in
     let turned = subst (IsReaction c.in-Ok.transition.client.phase c.in-Ok.transition.sent.items c.in-Ok.transition.answer) c.in-Sends.is o.reaction in
     let led = led_on g.J.ServiceNames.terms.limit g.J.ServiceNames.policy outset w.before c.args.self.now c.takes_over.new.self c.args.asked.begun.cut
     c.args.asked.sent.items c.args.phase c.in-Ok.transition w.heard c.in-Ok.ensures.taken c.takes_over.ensures.client c.takes_over.ensures.cut o.counter
-    w.way c.in-Ok.ensures.proper o.shared o.spent in
+    w.way c.in-Ok.ensures.proper o.shared o.spent
+    (view_by outset c.args.course.now.hinted c.is_reading-reads.result c.tries-tries.result c.is_in_vain.result c.args.phase
+    c.in-Ok.transition by c.is_reading-reads.ensures.reads c.tries-tries.ensures c.is_in_vain.ensures c.if-is_in_vain.false) in
     let goes = goes_of g.J.ServiceNames.terms.limit g.J.ServiceNames.policy outset c.takes_over.new.self c.args.asked.begun.cut c.args.asked.sent.items c.in-Ok.transition turned.0 led
     c.sends.new.self (subst (IsAnnouncedBy c.takes_over.new.self c.sends.new.self) turned.2 c.sends.ensures.announced) in
     all_led g.J.ServiceNames.terms.limit g.J.ServiceNames.policy outset c.args.asked c.in-Sends.phase c.in-Sends.sent.items c.sends.new.self
@@ -97,12 +122,14 @@ returns-in-Sends-clause-on g c =
     (on_announced c.takes_over.new.self c.sends.new.self c.in-Sends.sent.items c.sends.ensures.announced)
 
 pub returns-in-Sends-clause-unbegun : goal.returns-in-Sends-clause-unbegun
-returns-in-Sends-clause-unbegun g c = λ outset w.
+returns-in-Sends-clause-unbegun g c = λ outset by w.
     let o = c.in_ok-answer.ensures in
     let turned = subst (IsReaction c.in-Ok.transition.client.phase c.in-Ok.transition.sent.items c.in-Ok.transition.answer) c.in-Sends.is o.reaction in
     let led = led_on g.J.ServiceNames.terms.limit g.J.ServiceNames.policy outset w.before c.args.self.now c.takes_over.new.self c.args.asked.begun.cut
     c.args.asked.sent.items c.args.phase c.in-Ok.transition w.heard c.in-Ok.ensures.taken c.takes_over.ensures.client c.takes_over.ensures.cut o.counter
-    w.way c.in-Ok.ensures.proper o.shared o.spent in
+    w.way c.in-Ok.ensures.proper o.shared o.spent
+    (view_by outset c.args.course.now.hinted c.is_reading-reads.result c.tries-tries.result c.is_in_vain.result c.args.phase
+    c.in-Ok.transition by c.is_reading-reads.ensures.reads c.tries-tries.ensures c.is_in_vain.ensures c.if-is_in_vain.false) in
     let goes = goes_of g.J.ServiceNames.terms.limit g.J.ServiceNames.policy outset c.takes_over.new.self c.args.asked.begun.cut c.args.asked.sent.items c.in-Ok.transition turned.0 led
     c.sends.new.self (subst (IsAnnouncedBy c.takes_over.new.self c.sends.new.self) turned.2 c.sends.ensures.announced) in
     unbegun_sent g.J.ServiceNames.terms.limit g.J.ServiceNames.policy outset c.sends.new.self
