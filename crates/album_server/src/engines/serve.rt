@@ -243,7 +243,15 @@ fn serve_opened<T, R, W, A>(
     audit: Option<AuditFile<A>>,
 ) -> Result<Served, Fault>
 where
-    T: Host,
+    T: Net<Listener = TcpListener, Stream = TcpStream>
+        + Threads
+        + Wait
+        + time::Clock
+        + Eprint
+        + Copy
+        + Send
+        + Sync
+        + 'static,
     R: Read + Send + Drop,
     W: Write,
     A: Write + Send + Drop,
@@ -264,7 +272,15 @@ fn serve_at<J, T, R, W, A>(
 ) -> Result<(), Fault>
 where
     J: ServiceNames + Send + Sync + 'static,
-    T: Host,
+    T: Net<Listener = TcpListener, Stream = TcpStream>
+        + Threads
+        + Wait
+        + time::Clock
+        + Eprint
+        + Copy
+        + Send
+        + Sync
+        + 'static,
     R: Read + Send + Drop,
     W: Write,
     A: Write + Send + Drop,
@@ -306,7 +322,15 @@ fn attend_all<J, T, R, A>(
 ) -> Result<(), Fault>
 where
     J: ServiceNames + Send + Sync,
-    T: Host,
+    T: Net<Listener = TcpListener, Stream = TcpStream>
+        + Threads
+        + Wait
+        + time::Clock
+        + Eprint
+        + Copy
+        + Send
+        + Sync
+        + 'static,
     R: Read + Send + Drop,
     A: Write + Send + Drop,
 {
@@ -367,12 +391,11 @@ fn idle_of(seconds: u32) -> Option<Duration> {
 }
 
 /// Reads to the end, and closes the connections then, or where reading fails.
-fn read_to_end<T: Host, R: Read + Drop>(
-    rt: &T,
-    mut reader: R,
-    connections: &Connections,
-    turns: u64,
-) {
+fn read_to_end<T, R>(rt: &T, mut reader: R, connections: &Connections, turns: u64)
+where
+    T: Wait + Net<Listener = TcpListener, Stream = TcpStream>,
+    R: Read + Drop,
+{
     let mut piece = [0u8; PIECE];
     for _turn in 0..turns {
         match reader.read(&mut piece) {

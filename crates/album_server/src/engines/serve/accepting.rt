@@ -1,5 +1,4 @@
 //! The connections that come: each is given a session and a thread, or the reason why not.
-use crate::engines::serve::Host;
 use crate::engines::serve::audit::AuditJournal;
 use crate::engines::serve::connections::{Connections, attend};
 use album_judge::write_refused;
@@ -7,9 +6,9 @@ use album_stamps::Refusal;
 use album_threads::{OwnedSession, Service, ServiceNames};
 use std::alloc::Global;
 use std::io::{ErrorKind, Write};
-use std::net::{TcpListener, TcpStream};
+use std::net::{Net, TcpListener, TcpStream};
 use std::sync::{Arc, Wait};
-use std::thread::Scope;
+use std::thread::{Scope, Threads};
 use std::time::Duration;
 use std::{thread, time};
 
@@ -52,7 +51,14 @@ pub(crate) fn accept_all<'s, 'a, J, T, A, E>(
 )
 where
     J: ServiceNames + Send + Sync + 's,
-    T: Host,
+    T: Net<Listener = TcpListener, Stream = TcpStream>
+        + Threads
+        + Wait
+        + time::Clock
+        + Copy
+        + Send
+        + Sync
+        + 's,
     A: Write + Send + Drop + 's,
 {
     let mut count = Count {
@@ -95,11 +101,11 @@ where
 }
 
 /// Whether no connection begins any more. So it is once a partition's thread has ended for want of memory.
-fn is_closed<J: ServiceNames, T: Host>(
-    rt: &T,
-    service: &Service<J>,
-    connections: &Connections,
-) -> bool {
+fn is_closed<J, T>(rt: &T, service: &Service<J>, connections: &Connections) -> bool
+where
+    J: ServiceNames,
+    T: Wait + Net<Listener = TcpListener, Stream = TcpStream>,
+{
     if service.is_broken() {
         connections.close(rt);
     }
@@ -147,7 +153,14 @@ fn welcome<'s, 'a, J, T, A, E>(
 )
 where
     J: ServiceNames + Send + Sync + 's,
-    T: Host,
+    T: Net<Listener = TcpListener, Stream = TcpStream>
+        + Threads
+        + Wait
+        + time::Clock
+        + Copy
+        + Send
+        + Sync
+        + 's,
     A: Write + Send + Drop + 's,
 {
     let _ = stream.set_read_timeout(limits.idle);
@@ -181,7 +194,14 @@ fn begin<'s, 'a, J, T, A, E>(
 ) -> Result<(), Refusal>
 where
     J: ServiceNames + Send + Sync + 's,
-    T: Host,
+    T: Net<Listener = TcpListener, Stream = TcpStream>
+        + Threads
+        + Wait
+        + time::Clock
+        + Copy
+        + Send
+        + Sync
+        + 's,
     A: Write + Send + Drop + 's,
 {
     let own = Arc::try_clone(stream)?;

@@ -1,5 +1,4 @@
 //! The audit file of a service: each note is written to it before its request is answered.
-use crate::engines::serve::Host;
 use crate::engines::serve::connections::Connections;
 use crate::engines::serve::notices::Notice;
 use crate::journal::Journal;
@@ -13,7 +12,8 @@ use std::alloc::Global;
 use std::collections::BTreeMap;
 use std::io;
 use std::io::Write;
-use std::sync::Mutex;
+use std::net::{Net, TcpListener, TcpStream};
+use std::sync::{Mutex, Wait};
 use std::sync::atomic::{AtomicBool, Ordering};
 
 /// A file to which notes are appended, and its path.
@@ -33,7 +33,7 @@ struct Log<A: Drop> {
 
 /// Writes the notes of a service to its audit file, if it has one.
 #[derive(Drop)]
-pub(crate) struct AuditJournal<'a, J: ServiceNames, T: Host, A: Drop> {
+pub(crate) struct AuditJournal<'a, J: ServiceNames, T: Wait + Copy, A: Drop> {
     rt: T,
     alloc: Global,
     gauge: &'a Gauge<J>,
@@ -49,7 +49,12 @@ enum Unwritten {
     File(io::Error),
 }
 
-impl<'a, J: ServiceNames, T: Host, A: Write + Drop> AuditJournal<'a, J, T, A> {
+impl<'a, J, T, A> AuditJournal<'a, J, T, A>
+where
+    J: ServiceNames,
+    T: Wait + Net<Listener = TcpListener, Stream = TcpStream> + Copy,
+    A: Write + Drop,
+{
     /// Has the service keep its records from now on, if there is a file.
     pub(crate) fn new(
         rt: T,
@@ -105,7 +110,12 @@ impl<'a, J: ServiceNames, T: Host, A: Write + Drop> AuditJournal<'a, J, T, A> {
     }
 }
 
-impl<'a, J: ServiceNames, T: Host, A: Write + Drop> Journal for AuditJournal<'a, J, T, A> {
+impl<'a, J, T, A> Journal for AuditJournal<'a, J, T, A>
+where
+    J: ServiceNames,
+    T: Wait + Net<Listener = TcpListener, Stream = TcpStream> + Copy,
+    A: Write + Drop,
+{
     /// Whoever is first at the file writes what others have noted too: records are written in the order of the book.
     fn settle(&self, client: ClientNo, who: Option<&Principal>) -> Result<(), Fault> {
         let Some(log) = &self.log else {

@@ -1,7 +1,6 @@
 //! The connections of a service that are open. Each has a session and a thread of its own.
 use crate::admins::Admins;
 use crate::engines::converse::converse_with;
-use crate::engines::serve::Host;
 use crate::engines::serve::audit::AuditJournal;
 use crate::engines::serve::notices::Notice;
 use crate::engines::serve::waker::wake;
@@ -11,9 +10,10 @@ use crossbeam_channel::Sender;
 use std::alloc::Global;
 use std::collections::BTreeMap;
 use std::io::Write;
-use std::net::{Shutdown, TcpStream};
+use std::net::{Net, Shutdown, TcpListener, TcpStream};
 use std::sync::atomic::{AtomicU64, Ordering};
 use std::sync::{Arc, Mutex, Wait};
+use std::time;
 
 /// The streams of the connections that are open, by the numbers of their sessions.
 #[derive(Drop)]
@@ -112,7 +112,10 @@ impl Connections {
 
     /// No connection begins any more, and those that are open are read to the end of what has come: each line that is
     /// there is answered still. The thread that accepts is woken.
-    pub(crate) fn close<T: Host>(&self, rt: &T) {
+    pub(crate) fn close<T>(&self, rt: &T)
+    where
+        T: Wait + Net<Listener = TcpListener, Stream = TcpStream>,
+    {
         if self.begin_to_close(rt) {
             wake(rt, self.port);
         }
@@ -158,7 +161,7 @@ pub(crate) fn attend<'a, J, T, A>(
 )
 where
     J: ServiceNames + Send + Sync,
-    T: Host,
+    T: Net<Listener = TcpListener, Stream = TcpStream> + Wait + time::Clock + Copy + Send + Sync,
     A: Write + Drop,
 {
     let _ = stream.set_nodelay(true);
