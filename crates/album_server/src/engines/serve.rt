@@ -21,9 +21,9 @@ use crate::engines::serve::waker::{Waker, local};
 use crate::engines::serve::watch::watch;
 use album_audit::Totals;
 use album_judge::{Fault, PIECE, write_refused, write_text};
-use album_threads::{Opened, Service, ServiceNames};
+use album_threads::{Gauge, Opened, Service, ServiceNames};
 use album_wire::{Counted, TalkOut, write_talk};
-use crossbeam_channel::{Sender, unbounded};
+use crossbeam_channel::{Receiver, Sender, unbounded};
 use std::alloc::Global;
 use std::io::{Read, Write};
 use std::marker::Brand;
@@ -334,32 +334,64 @@ where
     R: Read + Send + Drop,
     A: Write + Send + Drop,
 {
-    let Serving {
-        port,
-        conns,
-        turns,
-        idle,
-        stats,
-        admins,
-    } = serving;
-    let limits = Limits {
-        conns,
-        turns,
-        idle: idle_of(idle),
-        until_closed: input.is_some(),
-    };
-    let connections = Connections::new(alloc, notices, port, conns, admins);
-    let connections = &connections;
-    // The watch ends once `end` is let go.
-    let (end, ended) = unbounded(alloc).map_err(|_| Fault::Memory)?;
+    let limits = limits_of(&serving, input.is_some());
+    let (port, stats) = (serving.port, serving.stats);
     let gauge = service.gauge()?;
-    let gauge = &gauge;
-    let journal = AuditJournal::new(rt, alloc, gauge, connections, audit);
+    let unwritten = notices.clone().map_err(|_| Fault::Memory)?;
+    let journal = AuditJournal::new(rt, alloc, service.gauge()?, unwritten, audit);
+    let connections = Connections::new(alloc, notices, port, limits.conns, serving.admins);
+    let watched = unbounded(alloc).map_err(|_| Fault::Memory)?;
+    attend_within(
+        rt,
+        alloc,
+        service,
+        listener,
+        &gauge,
+        &connections,
+        &journal,
+        input,
+        limits,
+        stats,
+        watched,
+    );
+    if journal.has_failed() {
+        return Err(Fault::Writing);
+    }
+    Ok(())
+}
+
+/// The threads of that. The watch ends once the sender of `watched` is let go.
+fn attend_within<J, T, R, A>(
+    rt: T,
+    alloc: Global,
+    service: &Service<J>,
+    listener: &TcpListener,
+    gauge: &Gauge<J>,
+    connections: &Connections,
+    journal: &AuditJournal<J, T, A>,
+    input: Option<R>,
+    limits: Limits,
+    stats: u32,
+    watched: (Sender<()>, Receiver<()>),
+)
+where
+    J: ServiceNames + Send + Sync,
+    T: Net<Listener = TcpListener, Stream = TcpStream>
+        + Threads
+        + Wait
+        + time::Clock
+        + Copy
+        + Send
+        + Sync,
+    R: Read + Send + Drop,
+    A: Write + Send + Drop,
+{
+    let (end, ended) = watched;
     thread::scope(thread::scope_env(), &rt, |scope| {
         // Where a thread can't be had, nothing is watched.
         let _ = scope.spawn(move || watch(&rt, alloc, gauge, connections, stats, &ended));
         if let Some(reader) = input {
-            let reads = scope.spawn(move || read_to_end(&rt, reader, connections, turns));
+            let reads = scope.spawn(move || read_to_end(&rt, reader, connections, limits.turns));
             if reads.is_err() {
                 connections.close(&rt);
             }
@@ -371,15 +403,21 @@ where
             service,
             listener,
             connections,
-            &journal,
+            journal,
             limits,
         );
         drop(end);
     });
-    if journal.has_failed() {
-        return Err(Fault::Writing);
+}
+
+/// How the connections are served.
+fn limits_of(serving: &Serving, until_closed: bool) -> Limits {
+    Limits {
+        conns: serving.conns,
+        turns: serving.turns,
+        idle: idle_of(serving.idle),
+        until_closed,
     }
-    Ok(())
 }
 
 /// So many seconds, or no limit.

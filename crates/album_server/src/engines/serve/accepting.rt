@@ -39,14 +39,14 @@ struct Count {
 }
 
 /// Accepts connections until all that are counted have ended, or they are closed.
-pub(crate) fn accept_all<'s, 'a, J, T, A, E>(
+pub(crate) fn accept_all<'s, J, T, A, E>(
     rt: T,
     alloc: Global,
     scope: &'s Scope<'s, E>,
     service: &Service<J>,
     listener: &TcpListener,
     connections: &'s Connections,
-    journal: &'s AuditJournal<'a, J, T, A>,
+    journal: &'s AuditJournal<J, T, A>,
     limits: Limits,
 )
 where
@@ -141,13 +141,13 @@ fn turn_away(alloc: Global, stream: &TcpStream, why: Refusal) {
 }
 
 /// Gives a connection a session and a thread, or answers why it has none.
-fn welcome<'s, 'a, J, T, A, E>(
+fn welcome<'s, J, T, A, E>(
     rt: T,
     alloc: Global,
     scope: &'s Scope<'s, E>,
     service: &Service<J>,
     connections: &'s Connections,
-    journal: &'s AuditJournal<'a, J, T, A>,
+    journal: &'s AuditJournal<J, T, A>,
     limits: Limits,
     stream: TcpStream,
 )
@@ -182,13 +182,13 @@ where
 }
 
 /// The same, or why not.
-fn begin<'s, 'a, J, T, A, E>(
+fn begin<'s, J, T, A, E>(
     rt: T,
     alloc: Global,
     scope: &'s Scope<'s, E>,
     service: &Service<J>,
     connections: &'s Connections,
-    journal: &'s AuditJournal<'a, J, T, A>,
+    journal: &'s AuditJournal<J, T, A>,
     turns: u64,
     stream: &Arc<TcpStream, Global>,
 ) -> Result<(), Refusal>

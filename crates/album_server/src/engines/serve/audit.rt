@@ -1,5 +1,4 @@
 //! The audit file of a service: each note is written to it before its request is answered.
-use crate::engines::serve::connections::Connections;
 use crate::engines::serve::notices::Notice;
 use crate::journal::Journal;
 use album_audit::Record;
@@ -8,13 +7,13 @@ use album_judge::Fault;
 use album_stamps::{ClientNo, Refusal};
 use album_threads::{Gauge, ServiceNames};
 use album_wire::write_record;
+use crossbeam_channel::Sender;
 use std::alloc::Global;
 use std::collections::BTreeMap;
 use std::io;
 use std::io::Write;
-use std::net::{Net, TcpListener, TcpStream};
-use std::sync::{Mutex, Wait};
 use std::sync::atomic::{AtomicBool, Ordering};
+use std::sync::{Mutex, Wait};
 
 /// A file to which notes are appended, and its path.
 #[derive(Drop)]
@@ -33,11 +32,11 @@ struct Log<A: Drop> {
 
 /// Writes the notes of a service to its audit file, if it has one.
 #[derive(Drop)]
-pub(crate) struct AuditJournal<'a, J: ServiceNames, T: Wait + Copy, A: Drop> {
+pub(crate) struct AuditJournal<J: ServiceNames, T: Wait + Copy, A: Drop> {
     rt: T,
     alloc: Global,
-    gauge: &'a Gauge<J>,
-    connections: &'a Connections,
+    gauge: Gauge<J>,
+    notices: Sender<Notice>,
     log: Option<Mutex<Log<A>>>,
     /// Whether a note could not be written. Nothing is answered any more then.
     has_failed: AtomicBool,
@@ -49,20 +48,15 @@ enum Unwritten {
     File(io::Error),
 }
 
-impl<'a, J, T, A> AuditJournal<'a, J, T, A>
-where
-    J: ServiceNames,
-    T: Wait + Net<Listener = TcpListener, Stream = TcpStream> + Copy,
-    A: Write + Drop,
-{
+impl<J: ServiceNames, T: Wait + Copy, A: Write + Drop> AuditJournal<J, T, A> {
     /// Has the service keep its records from now on, if there is a file.
     pub(crate) fn new(
         rt: T,
         alloc: Global,
-        gauge: &'a Gauge<J>,
-        connections: &'a Connections,
+        gauge: Gauge<J>,
+        notices: Sender<Notice>,
         file: Option<AuditFile<A>>,
-    ) -> AuditJournal<'a, J, T, A> {
+    ) -> AuditJournal<J, T, A> {
         if file.is_some() {
             gauge.keep_records(&rt);
         }
@@ -76,7 +70,7 @@ where
             rt,
             alloc,
             gauge,
-            connections,
+            notices,
             log,
             has_failed: AtomicBool::new(false),
         }
@@ -96,7 +90,7 @@ where
         }
     }
 
-    /// Reports why a note isn't written, and closes the connections.
+    /// Reports why a note isn't written.
     fn fail(&self, path: &str, why: Unwritten) {
         self.has_failed.store(true, Ordering::SeqCst);
         let text = match why {
@@ -104,18 +98,12 @@ where
             Unwritten::File(error) => format!(in self.alloc; "{path}: {error}"),
         };
         if let Ok(text) = text {
-            self.connections.notify(&self.rt, Notice::Warning(text));
+            let _ = self.notices.send(&self.rt, Notice::Warning(text));
         }
-        self.connections.close(&self.rt);
     }
 }
 
-impl<'a, J, T, A> Journal for AuditJournal<'a, J, T, A>
-where
-    J: ServiceNames,
-    T: Wait + Net<Listener = TcpListener, Stream = TcpStream> + Copy,
-    A: Write + Drop,
-{
+impl<J: ServiceNames, T: Wait + Copy, A: Write + Drop> Journal for AuditJournal<J, T, A> {
     /// Whoever is first at the file writes what others have noted too: records are written in the order of the book.
     fn settle(&self, client: ClientNo, who: Option<&Principal>) -> Result<(), Fault> {
         let Some(log) = &self.log else {

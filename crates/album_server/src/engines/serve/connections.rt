@@ -151,10 +151,10 @@ impl Connections {
 }
 
 /// Answers the lines of a connection, to its end. Where a note can't be written, no connection is answered any more.
-pub(crate) fn attend<'a, J, T, A>(
+pub(crate) fn attend<J, T, A>(
     alloc: Global,
     connections: &Connections,
-    journal: &AuditJournal<'a, J, T, A>,
+    journal: &AuditJournal<J, T, A>,
     mut guest: OwnedSession<J, T>,
     stream: &Arc<TcpStream, Global>,
     turns: u64,
@@ -181,6 +181,9 @@ where
         connections.notify(&rt, Notice::Fault(fault));
     }
     journal.forget(client);
+    if journal.has_failed() {
+        connections.close(&rt);
+    }
     drop(guest);
     connections.end(&rt, client);
 }
