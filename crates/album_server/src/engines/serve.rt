@@ -29,7 +29,7 @@ use std::io::{Read, Write};
 use std::marker::Brand;
 use std::net::{Net, TcpListener, TcpStream};
 use std::sync::Wait;
-use std::thread::Threads;
+use std::thread::{Scope, Threads};
 use std::time::Duration;
 use std::{thread, time};
 
@@ -360,7 +360,7 @@ where
     Ok(())
 }
 
-/// The threads of that. The watch ends once the sender of `watched` is let go.
+/// The threads of that.
 fn attend_within<J, T, R, A>(
     rt: T,
     alloc: Global,
@@ -386,16 +386,10 @@ where
     R: Read + Send + Drop,
     A: Write + Send + Drop,
 {
-    let (end, ended) = watched;
     thread::scope(thread::scope_env(), &rt, |scope| {
-        // Where a thread can't be had, nothing is watched.
-        let _ = scope.spawn(move || watch(&rt, alloc, gauge, connections, stats, &ended));
-        if let Some(reader) = input {
-            let reads = scope.spawn(move || read_to_end(&rt, reader, connections, limits.turns));
-            if reads.is_err() {
-                connections.close(&rt);
-            }
-        }
+        let (end, ended) = watched;
+        watch_within(rt, alloc, scope, gauge, connections, stats, ended);
+        read_within(rt, scope, input, connections, limits.turns);
         accept_all(
             rt,
             alloc,
@@ -406,8 +400,47 @@ where
             journal,
             limits,
         );
+        // The watch ends.
         drop(end);
     });
+}
+
+/// Watches the figures in a thread, until the sender to `ended` is let go. Where there is no thread, nothing is watched.
+fn watch_within<'s, J, T, E>(
+    rt: T,
+    alloc: Global,
+    scope: &'s Scope<'s, E>,
+    gauge: &'s Gauge<J>,
+    connections: &'s Connections,
+    stats: u32,
+    ended: Receiver<()>,
+)
+where
+    J: ServiceNames + Send + Sync + 's,
+    T: Threads + Wait + time::Clock + Copy + Send + Sync + 's,
+{
+    let _ = scope.spawn(move || watch(&rt, alloc, gauge, connections, stats, &ended));
+}
+
+/// Reads the input to its end in a thread, if there is one. Where there is no thread, it has ended.
+fn read_within<'s, T, R, E>(
+    rt: T,
+    scope: &'s Scope<'s, E>,
+    input: Option<R>,
+    connections: &'s Connections,
+    turns: u64,
+)
+where
+    T: Net<Listener = TcpListener, Stream = TcpStream> + Threads + Wait + Copy + Send + Sync + 's,
+    R: Read + Send + Drop + 's,
+{
+    let Some(reader) = input else {
+        return;
+    };
+    let reads = scope.spawn(move || read_to_end(&rt, reader, connections, turns));
+    if reads.is_err() {
+        connections.close(&rt);
+    }
 }
 
 /// How the connections are served.
