@@ -265,7 +265,7 @@ fn audit_file<T: Files<File = File> + Eprint>(
     rt: &T,
     alloc: Global,
     matches: Option<&ArgMatches<'_>>,
-) -> Result<Option<AuditFile<File>>, Fault> {
+) -> Result<Option<AuditFile>, Fault> {
     let Some(path) = matches.and_then(|m| m.get_str("audit")) else {
         return Ok(None);
     };

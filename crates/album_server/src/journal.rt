@@ -3,17 +3,23 @@ ghost use Rattle.std.specs.Prelude.{◌≡◌, IfErr};
 
 use album_eval::Principal;
 use album_judge::Fault;
-use album_stamps::ClientNo;
+use album_threads::{ServiceNames, Session};
+use std::sync::Wait;
 
 /// Writes what was noted before it is answered.
 pub trait Journal {
-    /// Writes all that was noted and isn't written yet. An answer to this client is written next: what was noted of its
+    /// Writes all that was noted and isn't written yet. An answer of this session is written next: what was noted of its
     /// request is noted by now. Who talks is known from its first line on.
     ///
     /// # Errors
     ///
     /// `Writing`. The answer isn't written then.
-    fn settle(&self, client: ClientNo, who: Option<&Principal>) -> Result<(), Fault>
+    fn settle<J: ServiceNames, T: Wait>(
+        &self,
+        rt: &T,
+        session: &Session<J>,
+        who: Option<&Principal>,
+    ) -> Result<(), Fault>
         ensures fault { IfErr result (λ fault. fault ≡ Fault.Writing) };
 }
 
@@ -22,7 +28,12 @@ pub trait Journal {
 pub struct NoJournal;
 
 impl Journal for NoJournal {
-    fn settle(&self, _client: ClientNo, _who: Option<&Principal>) -> Result<(), Fault> {
+    fn settle<J: ServiceNames, T: Wait>(
+        &self,
+        _rt: &T,
+        _session: &Session<J>,
+        _who: Option<&Principal>,
+    ) -> Result<(), Fault> {
         Ok(())
     }
 }

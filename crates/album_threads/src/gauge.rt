@@ -1,7 +1,7 @@
 //! What those who run a service look at: how much its partitions have, and what is noted.
 use crate::mailbox::PartitionMail;
 use crate::service_names::ServiceNames;
-use album_audit::{AuditBook, Record, Totals};
+use album_audit::{AuditBook, Totals};
 use album_partition::Figures;
 use album_stamps::Refusal;
 use crossbeam_channel::{SendError, Sender, unbounded};
@@ -34,16 +34,6 @@ impl<J: ServiceNames> Gauge<J> {
     /// The totals of the audit book so far.
     pub fn totals<R: Wait>(&self, rt: &R) -> Totals {
         self.book.lock(rt).totals()
-    }
-
-    /// Has the audit book keep the record of each note from now on, until they are taken.
-    pub fn keep_records<R: Wait>(&self, rt: &R) {
-        self.book.lock(rt).keep(self.alloc);
-    }
-
-    /// The records that the audit book keeps, in the order in which they were noted. It keeps none of them any longer.
-    pub fn take_records<R: Wait>(&self, rt: &R) -> Vec<Record> {
-        self.book.lock(rt).take(self.alloc)
     }
 }
 

@@ -224,6 +224,11 @@ impl<J: ServiceNames> Service<J> {
         self.book.lock(rt).totals()
     }
 
+    /// Has the audit book keep the record of each note from now on, until they are taken.
+    pub fn keep_records<R: Wait>(&self, rt: &R) {
+        self.book.lock(rt).keep(self.alloc);
+    }
+
     /// What of the service another thread may look at.
     ///
     /// # Errors

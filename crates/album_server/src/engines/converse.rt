@@ -15,7 +15,6 @@ use crate::journal::{Journal, NoJournal};
 use album_eval::Principal;
 use album_judge::{Fault, PIECE, write_text};
 use album_lines::{LineIn, Lines};
-use album_stamps::ClientNo;
 use album_threads::{ServiceNames, Session};
 use json::Scratch;
 use std::alloc::Global;
@@ -222,19 +221,19 @@ fn answer_lines<J: ServiceNames, T: Wait + time::Clock, W: Write, A: Journal>(
     ensures on { IsOn session.old session.new }
 {
     session.has_granted_writes();
-    let client = session.client();
     for line in lines {
         let text = answer(rt, alloc, scratch, session, admins, who, line)?;
-        write_settled(journal, client, who.as_ref(), writer, &text)?;
+        write_settled(rt, journal, session, who.as_ref(), writer, &text)?;
     }
     Ok(())
 }
 
 /// Writes the text of an answer, once the journal is settled. For a line that is skipped nothing is done.
 #[tactic(auto, using(crate::proofs::Talking::none_written))]
-fn write_settled<A: Journal, W: Write>(
+fn write_settled<J: ServiceNames, T: Wait, A: Journal, W: Write>(
+    rt: &T,
     journal: &A,
-    client: ClientNo,
+    session: &Session<J>,
     who: Option<&Principal>,
     writer: &mut W,
     text: &[u8],
@@ -247,6 +246,6 @@ fn write_settled<A: Journal, W: Write>(
     if text.is_empty() {
         return Ok(());
     }
-    journal.settle(client, who)?;
+    journal.settle(rt, session, who)?;
     write_text(writer, text)
 }

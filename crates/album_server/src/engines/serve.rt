@@ -110,7 +110,7 @@ pub fn serve<T: Host, R: Read, W: Write>(
         stats: 0,
         admins: Admins::Anyone,
     };
-    serve_for::<T, R, W, Vec<u8>>(rt, alloc, reader, writer, serving, None)
+    serve_for(rt, alloc, reader, writer, serving, None)
 }
 
 /// The same, as `serving` says. Each note is appended to the audit file, if there is one, before its request is
@@ -120,19 +120,19 @@ pub fn serve<T: Host, R: Read, W: Write>(
 ///
 /// As `serve`; also `Writing`, where a note can't be written to the audit file. Then nothing is answered any more, and
 /// the reason is printed on standard error.
-pub fn serve_for<T: Host, R: Read, W: Write, A: Write + Send + Drop>(
+pub fn serve_for<T: Host, R: Read, W: Write>(
     rt: T,
     alloc: Global,
     reader: &mut R,
     writer: &mut W,
     serving: Serving,
-    audit: Option<AuditFile<A>>,
+    audit: Option<AuditFile>,
 ) -> Result<Served, Fault> {
     let (opened, listener) = match begin(&rt, alloc, reader, writer, &serving)? {
         Ok(begun) => begun,
         Err(served) => return Ok(served),
     };
-    serve_opened::<T, &[u8], W, A>(rt, alloc, opened, &listener, None, writer, serving, audit)
+    serve_opened::<T, &[u8], W>(rt, alloc, opened, &listener, None, writer, serving, audit)
 }
 
 /// The same, to the end of the input behind the opening: then no connection begins any more, and each line that has
@@ -141,13 +141,13 @@ pub fn serve_for<T: Host, R: Read, W: Write, A: Write + Send + Drop>(
 /// # Errors
 ///
 /// As `serve_for`.
-pub fn serve_until<T: Host, R: Read + Send + Drop, W: Write, A: Write + Send + Drop>(
+pub fn serve_until<T: Host, R: Read + Send + Drop, W: Write>(
     rt: T,
     alloc: Global,
     mut reader: R,
     writer: &mut W,
     serving: Serving,
-    audit: Option<AuditFile<A>>,
+    audit: Option<AuditFile>,
 ) -> Result<Served, Fault> {
     let (opened, listener) = match begin(&rt, alloc, &mut reader, writer, &serving)? {
         Ok(begun) => begun,
@@ -170,14 +170,14 @@ pub fn serve_until<T: Host, R: Read + Send + Drop, W: Write, A: Write + Send + D
 /// # Errors
 ///
 /// As `serve_for`.
-pub fn serve_beside<T: Host, O: Read, R: Read + Send + Drop, W: Write, A: Write + Send + Drop>(
+pub fn serve_beside<T: Host, O: Read, R: Read + Send + Drop, W: Write>(
     rt: T,
     alloc: Global,
     opening: &mut O,
     input: R,
     writer: &mut W,
     serving: Serving,
-    audit: Option<AuditFile<A>>,
+    audit: Option<AuditFile>,
 ) -> Result<Served, Fault> {
     let (opened, listener) = match begin(&rt, alloc, opening, writer, &serving)? {
         Ok(begun) => begun,
@@ -232,7 +232,7 @@ where
 }
 
 /// Serves what was opened, under names of its own.
-fn serve_opened<T, R, W, A>(
+fn serve_opened<T, R, W>(
     rt: T,
     alloc: Global,
     opened: Opened,
@@ -240,7 +240,7 @@ fn serve_opened<T, R, W, A>(
     input: Option<R>,
     writer: &mut W,
     serving: Serving,
-    audit: Option<AuditFile<A>>,
+    audit: Option<AuditFile>,
 ) -> Result<Served, Fault>
 where
     T: Net<Listener = TcpListener, Stream = TcpStream>
@@ -254,13 +254,12 @@ where
         + 'static,
     R: Read + Send + Drop,
     W: Write,
-    A: Write + Send + Drop,
 {
-    serve_at::<Brand, T, R, W, A>(rt, alloc, opened, listener, input, writer, serving, audit)?;
+    serve_at::<Brand, T, R, W>(rt, alloc, opened, listener, input, writer, serving, audit)?;
     Ok(Served::Done)
 }
 
-fn serve_at<J, T, R, W, A>(
+fn serve_at<J, T, R, W>(
     rt: T,
     alloc: Global,
     opened: Opened,
@@ -268,7 +267,7 @@ fn serve_at<J, T, R, W, A>(
     input: Option<R>,
     writer: &mut W,
     serving: Serving,
-    audit: Option<AuditFile<A>>,
+    audit: Option<AuditFile>,
 ) -> Result<(), Fault>
 where
     J: ServiceNames + Send + Sync + 'static,
@@ -283,7 +282,6 @@ where
         + 'static,
     R: Read + Send + Drop,
     W: Write,
-    A: Write + Send + Drop,
     requires named { opened ≡ opened_as J.table J.terms J.policy J.audit_ok J.audit_failed J.alarm_ok J.alarm_failed }
 {
     let (printer, notices) = Printer::open(rt, alloc)?;
@@ -310,14 +308,14 @@ where
 /// # Errors
 ///
 /// `Memory`; `Writing`, where a note can't be written.
-fn attend_all<J, T, R, A>(
+fn attend_all<J, T, R>(
     rt: T,
     alloc: Global,
     service: &Service<J>,
     listener: &TcpListener,
     input: Option<R>,
     serving: Serving,
-    audit: Option<AuditFile<A>>,
+    audit: Option<AuditFile>,
     notices: Sender<Notice>,
 ) -> Result<(), Fault>
 where
@@ -332,13 +330,15 @@ where
         + Sync
         + 'static,
     R: Read + Send + Drop,
-    A: Write + Send + Drop,
 {
     let limits = limits_of(&serving, input.is_some());
     let (port, stats) = (serving.port, serving.stats);
     let gauge = service.gauge()?;
     let unwritten = notices.clone().map_err(|_| Fault::Memory)?;
-    let journal = AuditJournal::new(rt, alloc, service.gauge()?, unwritten, audit);
+    if audit.is_some() {
+        service.keep_records(&rt);
+    }
+    let journal = AuditJournal::new(alloc, unwritten, audit);
     let connections = Connections::new(alloc, notices, port, limits.conns, serving.admins);
     let watched = unbounded(alloc).map_err(|_| Fault::Memory)?;
     attend_within(
@@ -361,14 +361,14 @@ where
 }
 
 /// The threads of that.
-fn attend_within<J, T, R, A>(
+fn attend_within<J, T, R>(
     rt: T,
     alloc: Global,
     service: &Service<J>,
     listener: &TcpListener,
     gauge: &Gauge<J>,
     connections: &Connections,
-    journal: &AuditJournal<J, T, A>,
+    journal: &AuditJournal,
     input: Option<R>,
     limits: Limits,
     stats: u32,
@@ -384,7 +384,6 @@ where
         + Send
         + Sync,
     R: Read + Send + Drop,
-    A: Write + Send + Drop,
 {
     thread::scope(thread::scope_env(), &rt, |scope| {
         let (end, ended) = watched;

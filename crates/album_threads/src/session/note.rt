@@ -4,7 +4,7 @@ ghost use Rattle.album_threads.specs.Asks.{AreShared};
 
 use crate::service_names::ServiceNames;
 use crate::session::Session;
-use album_audit::AuditBook;
+use album_audit::{AuditBook, Record};
 use album_permits::Note;
 use album_stamps::Refusal;
 use std::sync::Wait;
@@ -29,5 +29,11 @@ impl<J: ServiceNames> Session<J> {
         }
         let client = self.channel.client();
         self.book.lock(rt).note_all(&mut self.share, client, notes)
+    }
+
+    /// The records that the audit book keeps, of this session and of others, in the order in which they were noted. It
+    /// keeps none of them any longer.
+    pub fn take_records<R: Wait>(&self, rt: &R) -> Vec<Record> {
+        self.book.lock(rt).take(self.alloc)
     }
 }

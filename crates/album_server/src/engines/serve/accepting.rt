@@ -5,7 +5,7 @@ use album_judge::write_refused;
 use album_stamps::Refusal;
 use album_threads::{OwnedSession, Service, ServiceNames};
 use std::alloc::Global;
-use std::io::{ErrorKind, Write};
+use std::io::ErrorKind;
 use std::net::{Net, TcpListener, TcpStream};
 use std::sync::{Arc, Wait};
 use std::thread::{Scope, Threads};
@@ -39,14 +39,14 @@ struct Count {
 }
 
 /// Accepts connections until all that are counted have ended, or they are closed.
-pub(crate) fn accept_all<'s, J, T, A, E>(
+pub(crate) fn accept_all<'s, J, T, E>(
     rt: T,
     alloc: Global,
     scope: &'s Scope<'s, E>,
     service: &Service<J>,
     listener: &TcpListener,
     connections: &'s Connections,
-    journal: &'s AuditJournal<J, T, A>,
+    journal: &'s AuditJournal,
     limits: Limits,
 )
 where
@@ -59,7 +59,6 @@ where
         + Send
         + Sync
         + 's,
-    A: Write + Send + Drop + 's,
 {
     let mut count = Count {
         counted: 0,
@@ -141,13 +140,13 @@ fn turn_away(alloc: Global, stream: &TcpStream, why: Refusal) {
 }
 
 /// Gives a connection a session and a thread, or answers why it has none.
-fn welcome<'s, J, T, A, E>(
+fn welcome<'s, J, T, E>(
     rt: T,
     alloc: Global,
     scope: &'s Scope<'s, E>,
     service: &Service<J>,
     connections: &'s Connections,
-    journal: &'s AuditJournal<J, T, A>,
+    journal: &'s AuditJournal,
     limits: Limits,
     stream: TcpStream,
 )
@@ -161,7 +160,6 @@ where
         + Send
         + Sync
         + 's,
-    A: Write + Send + Drop + 's,
 {
     let _ = stream.set_read_timeout(limits.idle);
     let Ok(stream) = Arc::new(alloc, stream) else {
@@ -182,13 +180,13 @@ where
 }
 
 /// The same, or why not.
-fn begin<'s, J, T, A, E>(
+fn begin<'s, J, T, E>(
     rt: T,
     alloc: Global,
     scope: &'s Scope<'s, E>,
     service: &Service<J>,
     connections: &'s Connections,
-    journal: &'s AuditJournal<J, T, A>,
+    journal: &'s AuditJournal,
     turns: u64,
     stream: &Arc<TcpStream, Global>,
 ) -> Result<(), Refusal>
@@ -202,7 +200,6 @@ where
         + Send
         + Sync
         + 's,
-    A: Write + Send + Drop + 's,
 {
     let own = Arc::try_clone(stream)?;
     let guest = OwnedSession::begin(&rt, service)?;

@@ -5,11 +5,12 @@ use album_audit::Record;
 use album_eval::Principal;
 use album_judge::Fault;
 use album_stamps::{ClientNo, Refusal};
-use album_threads::{Gauge, ServiceNames};
+use album_threads::{ServiceNames, Session};
 use album_wire::write_record;
 use crossbeam_channel::Sender;
 use std::alloc::Global;
 use std::collections::BTreeMap;
+use std::fs::File;
 use std::io;
 use std::io::Write;
 use std::sync::atomic::{AtomicBool, Ordering};
@@ -17,29 +18,27 @@ use std::sync::{Mutex, Wait};
 
 /// A file to which notes are appended, and its path.
 #[derive(Drop)]
-pub struct AuditFile<A: Drop> {
+pub struct AuditFile {
     pub path: String,
-    pub file: A,
+    pub file: File,
 }
 
 /// The file, and who talks over each connection.
 #[derive(Drop)]
-struct Log<A: Drop> {
-    to: AuditFile<A>,
+struct Log {
+    to: AuditFile,
     /// By the numbers of their sessions.
     named: BTreeMap<u16, Principal>,
 }
 
 /// Writes the notes of a service to its audit file, if it has one.
 #[derive(Drop)]
-pub(crate) struct AuditJournal<J: ServiceNames, T: Wait + Copy, A: Drop> {
-    rt: T,
+pub(crate) struct AuditJournal {
     alloc: Global,
-    gauge: Gauge<J>,
-    notices: Sender<Notice>,
-    log: Option<Mutex<Log<A>>>,
+    log: Option<Mutex<Log>>,
     /// Whether a note could not be written. Nothing is answered any more then.
     has_failed: AtomicBool,
+    notices: Sender<Notice>,
 }
 
 /// Why a note isn't written.
@@ -48,18 +47,13 @@ enum Unwritten {
     File(io::Error),
 }
 
-impl<J: ServiceNames, T: Wait + Copy, A: Write + Drop> AuditJournal<J, T, A> {
-    /// Has the service keep its records from now on, if there is a file.
+impl AuditJournal {
+    /// Nothing is written yet.
     pub(crate) fn new(
-        rt: T,
         alloc: Global,
-        gauge: Gauge<J>,
         notices: Sender<Notice>,
-        file: Option<AuditFile<A>>,
-    ) -> AuditJournal<J, T, A> {
-        if file.is_some() {
-            gauge.keep_records(&rt);
-        }
+        file: Option<AuditFile>,
+    ) -> AuditJournal {
         let log = file.map(|to| {
             Mutex::new(Log {
                 to,
@@ -67,12 +61,10 @@ impl<J: ServiceNames, T: Wait + Copy, A: Write + Drop> AuditJournal<J, T, A> {
             })
         });
         AuditJournal {
-            rt,
             alloc,
-            gauge,
-            notices,
             log,
             has_failed: AtomicBool::new(false),
+            notices,
         }
     }
 
@@ -81,50 +73,55 @@ impl<J: ServiceNames, T: Wait + Copy, A: Write + Drop> AuditJournal<J, T, A> {
         self.has_failed.load(Ordering::SeqCst)
     }
 
-    /// The client's connection has ended. What was noted of it is written still.
-    pub(crate) fn forget(&self, client: ClientNo) {
-        let _ = self.settle(client, None);
+    /// The connection of this session has ended. What was noted of it is written still.
+    pub(crate) fn forget<J: ServiceNames, T: Wait>(&self, rt: &T, session: &Session<J>) {
+        let _ = self.settle(rt, session, None);
         if let Some(log) = &self.log {
-            let who = log.lock(&self.rt).named.remove(&client.number());
+            let who = log.lock(rt).named.remove(&session.client().number());
             drop(who);
         }
     }
 
     /// Reports why a note isn't written.
-    fn fail(&self, path: &str, why: Unwritten) {
+    fn fail<T: Wait>(&self, rt: &T, path: &str, why: Unwritten) {
         self.has_failed.store(true, Ordering::SeqCst);
         let text = match why {
             Unwritten::Memory => format!(in self.alloc; "{path}: {}", Fault::Memory),
             Unwritten::File(error) => format!(in self.alloc; "{path}: {error}"),
         };
         if let Ok(text) = text {
-            let _ = self.notices.send(&self.rt, Notice::Warning(text));
+            let _ = self.notices.send(rt, Notice::Warning(text));
         }
     }
 }
 
-impl<J: ServiceNames, T: Wait + Copy, A: Write + Drop> Journal for AuditJournal<J, T, A> {
+impl Journal for AuditJournal {
     /// Whoever is first at the file writes what others have noted too: records are written in the order of the book.
-    fn settle(&self, client: ClientNo, who: Option<&Principal>) -> Result<(), Fault> {
+    fn settle<J: ServiceNames, T: Wait>(
+        &self,
+        rt: &T,
+        session: &Session<J>,
+        who: Option<&Principal>,
+    ) -> Result<(), Fault> {
         let Some(log) = &self.log else {
             return Ok(());
         };
-        let mut log = log.lock(&self.rt);
+        let mut log = log.lock(rt);
         if self.has_failed() {
             return Err(Fault::Writing);
         }
-        let records = self.gauge.take_records(&self.rt);
-        match log.write(self.alloc, client, who, &records) {
+        let records = session.take_records(rt);
+        match log.write(self.alloc, session.client(), who, &records) {
             Ok(()) => Ok(()),
             Err(why) => {
-                self.fail(log.to.path.as_str(), why);
+                self.fail(rt, log.to.path.as_str(), why);
                 Err(Fault::Writing)
             }
         }
     }
 }
 
-impl<A: Write + Drop> Log<A> {
+impl Log {
     /// Writes the records, each with who asked.
     fn write(
         &mut self,

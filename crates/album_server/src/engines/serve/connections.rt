@@ -9,7 +9,6 @@ use album_threads::{OwnedSession, ServiceNames};
 use crossbeam_channel::Sender;
 use std::alloc::Global;
 use std::collections::BTreeMap;
-use std::io::Write;
 use std::net::{Net, Shutdown, TcpListener, TcpStream};
 use std::sync::atomic::{AtomicU64, Ordering};
 use std::sync::{Arc, Mutex, Wait};
@@ -151,10 +150,10 @@ impl Connections {
 }
 
 /// Answers the lines of a connection, to its end. Where a note can't be written, no connection is answered any more.
-pub(crate) fn attend<J, T, A>(
+pub(crate) fn attend<J, T>(
     alloc: Global,
     connections: &Connections,
-    journal: &AuditJournal<J, T, A>,
+    journal: &AuditJournal,
     mut guest: OwnedSession<J, T>,
     stream: &Arc<TcpStream, Global>,
     turns: u64,
@@ -162,7 +161,6 @@ pub(crate) fn attend<J, T, A>(
 where
     J: ServiceNames + Send + Sync,
     T: Net<Listener = TcpListener, Stream = TcpStream> + Wait + time::Clock + Copy + Send + Sync,
-    A: Write + Drop,
 {
     let _ = stream.set_nodelay(true);
     let (rt, client) = (guest.rt, guest.session.client());
@@ -180,7 +178,7 @@ where
     if let Err(fault) = done {
         connections.notify(&rt, Notice::Fault(fault));
     }
-    journal.forget(client);
+    journal.forget(&rt, &guest.session);
     if journal.has_failed() {
         connections.close(&rt);
     }
