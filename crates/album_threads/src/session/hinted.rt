@@ -146,7 +146,11 @@ impl<J: ServiceNames> Session<J> {
     )
         requires readable { reads ≡ true → AreReadable (items_asked asked.now.sent.items) }
     {
-        if course.hinted || !reads || transition.client.phase.is_reading() || is_without_view(transition) {
+        if course.hinted
+            || !reads
+            || transition.client.phase.is_reading()
+            || is_without_view(transition)
+        {
             return;
         }
         if let Ok(items) = items_asked(self.alloc, &asked.sent) {
@@ -156,11 +160,7 @@ impl<J: ServiceNames> Session<J> {
 }
 
 /// What comes of an ask that hears no more. A hint that is tried is let go.
-pub(crate) fn given_up(
-    tries: bool,
-    stamp: Option<Stamp>,
-    why: Refusal,
-) -> Result<Way, Refusal>
+pub(crate) fn given_up(tries: bool, stamp: Option<Stamp>, why: Refusal) -> Result<Way, Refusal>
     ensures tried { tries ≡ true → result ≡ Ok Way.InVain }
     ensures begun { tries ≡ false → IfSome stamp (λ t. result ≡ Ok (Way.Answered (Answer.Unsettled t why))) }
     ensures before { tries ≡ false → IfNone stamp (result ≡ Err why) }
@@ -231,7 +231,10 @@ fn is_among(item: ItemId, others: &[ItemId]) -> bool
 fn items_asked(alloc: Global, sent: &[Message]) -> Result<Items, AllocError>
     ensures { IfOk result (λ items. items ≡ items_asked sent.now) }
 {
-    let items = sent.iter().map(|message| item_asked(message.body())).collect(alloc)?;
+    let items = sent
+        .iter()
+        .map(|message| item_asked(message.body()))
+        .collect(alloc)?;
     Ok(Items::of(items))
 }
 
