@@ -149,7 +149,7 @@ fn conduct_by<
     told_of(both?, totals, &doors)
 }
 
-/// What two sessions are told by a service in which the moves are made.
+/// What two sessions are told by a service in which the moves are made. It has no hints, as a world has none.
 pub fn conduct<R: Threads + Wait + time::Clock + Copy + Send + Sync + 'static>(
     rt: R,
     alloc: Global,
