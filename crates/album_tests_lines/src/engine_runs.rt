@@ -1,7 +1,6 @@
-//! `judge`, `explain` and `replay` over readers and writers that give and take little, or fail.
+//! `judge` and `replay` over readers and writers that give and take little, or fail.
 use crate::runs::{Engine, Script, assert_kept, assert_read, stops_at_each_write};
 use crate::streams::{Pieces, Taking};
-use album_explain::explain;
 use album_judge::{Fault, judge};
 use album_server::replay;
 use std::alloc::Global;
@@ -22,22 +21,6 @@ impl Engine for Judging {
 }
 
 #[derive(Drop)]
-struct Explaining;
-
-impl Engine for Explaining {
-    fn run(
-        &mut self,
-        alloc: Global,
-        reader: &mut Pieces,
-        writer: &mut Taking,
-        turns: u64,
-    ) -> Result<(), Fault> {
-        let _refused = explain(alloc, reader, writer, turns)?;
-        Ok(())
-    }
-}
-
-#[derive(Drop)]
 struct Replaying;
 
 impl Engine for Replaying {
@@ -53,26 +36,14 @@ impl Engine for Replaying {
 }
 
 /// A question, two blank lines, another question, and the beginning of a third.
-const QUESTIONS_TEXT: &str = "{\"entries\":[[\"allow\",\"amy@users\",1,0]],\"group\":0,\"mask\":1,\
-    \"owner\":\"bo@users\",\"who\":\"amy@users\"}\r\n \t\r\n\n\
-    {\"entries\":[],\"group\":0,\"mask\":512,\"owner\":\"bo@users\",\"who\":\"amy@users\"}\n\
-    {\"deliver\":";
-
 const QUESTIONS: Script = Script {
-    input: QUESTIONS_TEXT,
+    input: "{\"entries\":[[\"allow\",\"amy@users\",1,0]],\"group\":0,\"mask\":1,\
+        \"owner\":\"bo@users\",\"who\":\"amy@users\"}\r\n \t\r\n\n\
+        {\"entries\":[],\"group\":0,\"mask\":512,\"owner\":\"bo@users\",\"who\":\"amy@users\"}\n\
+        {\"deliver\":",
     output: "{\"answer\":\"granted\"}\n{\"name\":\"BadMask\",\"refused\":5}\n{\"name\":\"BadLine\",\"refused\":2}\n",
     ends: &[(97, 21), (175, 52)],
     writes: &[21, 31, 31],
-};
-
-/// The same, explained.
-const EXPLAINED: Script = Script {
-    input: QUESTIONS_TEXT,
-    output: "{\"answer\":\"granted\",\"bits\":[[\"READ_DATA\",\"allowed\",0]],\"line\":1}\n\
-        {\"at\":\"mask\",\"line\":4,\"name\":\"BadMask\",\"refused\":5,\"value\":512}\n\
-        {\"at\":\"byte 11\",\"line\":5,\"name\":\"BadLine\",\"refused\":2}\n",
-    ends: &[(97, 65), (175, 129)],
-    writes: &[65, 64, 55],
 };
 
 /// A world in a trace: an ask that sends two messages, deliveries of none, a client that is stopped twice, and the
@@ -102,11 +73,6 @@ const REFUSED: Script = Script {
 #[test]
 fn questions(rt: HostRuntime) {
     assert_kept(&rt, &mut Judging, rt.alloc(), &QUESTIONS);
-}
-
-#[test]
-fn explanations(rt: HostRuntime) {
-    assert_kept(&rt, &mut Explaining, rt.alloc(), &EXPLAINED);
 }
 
 #[test]

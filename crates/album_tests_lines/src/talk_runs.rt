@@ -7,7 +7,7 @@ use crate::runs::{Engine, Script, assert_kept};
 use crate::streams::{Counted, Pieces, Taking, Waiting};
 use album_items::{ItemValues, Opening};
 use album_judge::Fault;
-use album_server::{Admins, converse_with};
+use album_server::{Admins, NoJournal, converse_with};
 use album_stamps::Refusal;
 use album_threads::{Open, Opened, Service, ServiceNames, Session};
 use std::alloc::Global;
@@ -38,6 +38,7 @@ impl<J: ServiceNames, R: Wait + time::Clock + Copy> Engine for Talking<J, R> {
             writer,
             &mut self.session,
             &Admins::Anyone,
+            &NoJournal,
             turns,
         )
     }
@@ -91,8 +92,18 @@ fn waited_for<J: ServiceNames, R: Wait + time::Clock>(
         given: 0,
         answered,
     };
-    let admins = Admins::Anyone;
-    Ok(converse_with(rt, alloc, &mut reader, &mut writer, session, &admins, 100).err())
+    let (admins, journal) = (Admins::Anyone, NoJournal);
+    let done = converse_with(
+        rt,
+        alloc,
+        &mut reader,
+        &mut writer,
+        session,
+        &admins,
+        &journal,
+        100,
+    );
+    Ok(done.err())
 }
 
 /// The session talks.
