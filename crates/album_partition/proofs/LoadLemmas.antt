@@ -1,5 +1,6 @@
 -- How many stamps are pending, and so how full a history is, as one mark more is made.
-use Rattle.std.proofs.Common.{◌≡◌, ℕ, ◌≤◌, ◌+◌, Bool, true, false, ◌==◌, cond, List, [], ◌∷◌, ◌++◌, length, filter, refl, sym, ap, ◌∙◌, subst, arith}
+use Rattle.std.proofs.Common.{◌≡◌, ℕ, zero, suc, ◌<◌, ◌≤◌, ◌+◌, Bool, true, false, ◌==◌, ◌||◌, cond, List, [], ◌∷◌, ◌++◌, length, filter, Contains, refl, sym, ap, ◌∙◌, subst, arith}
+use Rattle.std.specs.List.{list_any}
 use Rattle.std.proofs.lemmas.Bool.Decides.{Decides-eqb}
 use Rattle.std.proofs.lemmas.List.{length-append}
 use Rattle.std.proofs.lemmas.List.Sums.{length-filter, count_by-le-length}
@@ -8,7 +9,7 @@ use Rattle.album_items.specs.Openings.{Row}
 use Rattle.album_terminate.specs.declared.deciding.StampState.TheVariants as state
 use Rattle.album_partition.specs.declared.marks.Mark.{Mark}
 use Rattle.album_partition.specs.declared.marks.Mark.TheVariants.{Prepared, Committed, Discarded, Trimmed}
-use Rattle.album_partition.specs.Marks.{is_mark_of, state_of, is_pending, prepare_in, prepared_stamps, pending_stamps, is_legal}
+use Rattle.album_partition.specs.Marks.{is_mark_of, prepares, state_of, is_pending, prepare_in, prepared_stamps, pending_stamps, is_legal}
 use Rattle.album_partition.proofs.LegalLemmas.{times, times_none, times_once}
 use Rattle.album_partition.proofs.ListLemmas.{turned}
 use Rattle.album_partition.proofs.StateLemmas.{state_push_other, unknown_tells, pending_tells, prepared_is_pending, committed_is_committed, discarded_is_discarded}
@@ -91,6 +92,42 @@ trimmed_counts marks i =
     let same = filter_agree (λ s. is_pending (state_of (marks ++ Trimmed i ∷ []) s)) (λ s. is_pending (state_of marks s)) (λ s. others_stay marks (Trimmed i) s refl) (prepared_stamps marks) in
     let pushed = pending_push marks (Trimmed i) in
     (let counted = ap length same in omega arith)
+
+-- ---- each pending stamp counts
+
+-- what passes is among what is filtered
+filter_some : (test : ℕ → Bool) (t : ℕ) → test t ≡ true → (ts : List ℕ) → Contains ts t → 0 < length (filter test ts)
+filter_some test t e [] n = absurd (omega (arith, n.1))
+filter_some test t e (s ∷ ts) (zero, l, same) = go (test s) (ap test same ∙ e)
+  where
+    go : (b : Bool) → b ≡ true → 0 < length (cond b (s ∷ filter test ts) (filter test ts))
+    go true f = omega arith
+    go false f = absurd (cc)
+filter_some test t e (s ∷ ts) (suc k, l, same) = go (test s) (filter_some test t e ts (k, omega (arith, l), same))
+  where
+    go : (b : Bool) → 0 < length (filter test ts) → 0 < length (cond b (s ∷ filter test ts) (filter test ts))
+    go true f = omega arith
+    go false f = f
+
+later : (s t : ℕ) (ts : List ℕ) → Contains ts t → Contains (s ∷ ts) t
+later s t ts n = (suc n.0, omega (arith, n.1), n.2)
+
+prepared_there : (t : ℕ) (marks : List Mark) → list_any (prepares t) marks ≡ true → Contains (prepared_stamps marks) t
+prepared_there t [] e = absurd (cc)
+prepared_there t (Prepared u ws is ∷ marks) e = go (u == t) refl e (λ g. prepared_there t marks g)
+  where
+    go : (b : Bool) → (u == t) ≡ b → (b || list_any (prepares t) marks) ≡ true
+        → (list_any (prepares t) marks ≡ true → Contains (prepared_stamps marks) t) → Contains (u ∷ prepared_stamps marks) t
+    go true f g h = (0, omega arith, (Decides-eqb u t).0 f)
+    go false f g h = later u t (prepared_stamps marks) (h g)
+prepared_there t (Committed u ∷ marks) e = prepared_there t marks e
+prepared_there t (Discarded u ∷ marks) e = prepared_there t marks e
+prepared_there t (Trimmed i ∷ marks) e = prepared_there t marks e
+
+pub pending_some : (marks : List Mark) (t : ℕ) → state_of marks t ≡ state.Pending → 0 < length (pending_stamps marks)
+pending_some marks t e =
+    filter_some (λ s. is_pending (state_of marks s)) t (ap is_pending e) (prepared_stamps marks)
+    (prepared_there t marks (pending_tells _ _ _ e).2)
 
 -- ---- there are no more pending stamps than marks
 

@@ -1,5 +1,5 @@
 //! A partition, and what it does with a message.
-ghost use Rattle.std.specs.Prelude.{◌≡◌, ◌≤◌, true, IfOk, IfErr, OnOk, OnErr, IfSome, is_some, ◌||◌, ◌≢◌, length, IsOk, Some, IsOkUnless, Ok, Err};
+ghost use Rattle.std.specs.Prelude.{◌≡◌, ◌≤◌, true, IfOk, IfErr, OnOk, OnErr, IfSome, is_some, ◌||◌, ◌≢◌, ℕ, false, nat_lt, length, IsOk, Some, IsOkUnless, Ok, Err};
 ghost use Rattle.album_stamps.specs.Outcome.{Makes};
 ghost use Rattle.album_partition.specs.Answers.{with_action, action_of, after, answer, reply_to, wants_memory};
 ghost use Rattle.album_partition.specs.Marks.{ArePending, state_of, is_legal, load, pending_stamps, latest};
@@ -172,6 +172,14 @@ impl Partition {
         ensures memory { IsOkUnless result Refusal.OutOfMemory }
     {
         Ok(self.stored.pending(self.alloc)?)
+    }
+
+    /// Whether some stamp is pending here.
+    pub fn has_pending(&self) -> bool
+        ensures count { result ≡ nat_lt 0 (length (pending_stamps self.now.marks)) }
+        ensures none { result ≡ false → (stamp : ℕ) → state_of self.now.marks stamp ≢ StampState.Pending }
+    {
+        self.stored.pending_count() > 0
     }
 
     /// How much it holds, and how many marks it may have.

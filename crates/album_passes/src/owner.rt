@@ -89,6 +89,15 @@ impl Owner {
         self.holding.join(desk, other.into_holding());
     }
 
+    /// For contracts alone: the cut is sound, and of the owner's partition, by the invariant of its seat. Nothing is
+    /// computed.
+    pub fn is_sound(&self)
+        ensures sound { IsSound self.now.cut }
+        ensures inside { self.now.part < self.now.cut.parts }
+    {
+        let _ = self.holding.length(0);
+    }
+
     /// A pass with the owner's cut and no number, to go with a message.
     pub fn split(&mut self, desk: &Desk) -> Pass
         requires table { self.old.table ≡ desk.now.table }

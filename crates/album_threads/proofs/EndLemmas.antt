@@ -31,7 +31,7 @@ mapped_there f [] x n = absurd (omega (arith, n.1))
 mapped_there f (y ∷ xs) x (zero, l, e) = (0, omega arith, ap f e)
 mapped_there f (y ∷ xs) x (suc k, l, e) = let r = mapped_there f xs x (k, omega arith, e) in (suc r.0, omega (arith, r.1), r.2)
 
-mapped_from : (f : ReadVersion → ℕ) (xs : List ReadVersion) (n : ℕ) → Contains (map f xs) n → (x : ReadVersion) × Contains xs x × (f x ≡ n)
+pub mapped_from : (f : ReadVersion → ℕ) (xs : List ReadVersion) (n : ℕ) → Contains (map f xs) n → (x : ReadVersion) × Contains xs x × (f x ≡ n)
 mapped_from f [] n h = absurd (omega (arith, h.1))
 mapped_from f (y ∷ xs) n (zero, l, e) = (y, (0, omega arith, refl), e)
 mapped_from f (y ∷ xs) n (suc k, l, e) = let r = mapped_from f xs n (k, omega arith, e) in (r.0, (suc r.1.0, omega (arith, r.1.1), r.1.2), r.2)
@@ -69,7 +69,7 @@ module _ (b m c : Cut) (begun next : RoundState) (gets : List Message) (F : IsFi
         (mapped_there (λ (z : ReadVersion). z.item) rows (get_or rows k d) (Contains-get_or rows k d l)));
   }
 
-  -- what the second round has read is read atomic and fresh
+  -- what the second round has read is read atomic, fresh and settled
   pub read_so : (rows : List ReadVersion) → IsSound b → IsSound m → IsSound c → Extends b m → Extends m c → AreOf m c next rows
       → IsReadOf b c begun.items rows
   read_so rows s r t x y a =
@@ -82,6 +82,7 @@ module _ (b m c : Cut) (begun next : RoundState) (gets : List Message) (F : IsFi
             written = read_written b m c F.answers (stamps_of F.answers) rows R;
           };
           fresh = read_fresh b m c F.answers (stamps_of F.answers) rows R;
+          settled = a.settled;
         };
       }
 

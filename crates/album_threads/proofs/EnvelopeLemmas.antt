@@ -1,6 +1,6 @@
 -- What a reply shows that goes on to another partition, and that what is shown stays so. `ReplyEnvelope::into_envelope` cites
 -- `answer_shows`, and `PartitionKeeper::receive` cites `shows_more`.
-use Rattle.std.proofs.Common.{◌≡◌, ℕ, Bool, true, false, List, refl, sym, subst}
+use Rattle.std.proofs.Common.{◌≡◌, ℕ, Bool, true, false, List, get_or, refl, sym, subst}
 use Rattle.album_calls.specs.declared.messages.Body.{Body}
 use Rattle.album_calls.specs.declared.messages.Body.TheVariants as body
 use Rattle.album_calls.specs.declared.messages.Message.{Message}
@@ -14,7 +14,7 @@ use Rattle.album_calls.specs.declared.replies.Reply.{Reply}
 use Rattle.album_calls.specs.declared.replies.Reply.TheVariants as reply
 use Rattle.album_terminate.specs.declared.deciding.StampState.TheVariants as state
 use Rattle.album_partition.specs.Laws.{IsTrueOf}
-use Rattle.album_partition.specs.Marks.{state_by, prepares}
+use Rattle.album_partition.specs.Marks.{state_by, prepares, commits}
 use Rattle.album_partition.specs.declared.marks.Mark.{Mark}
 use Rattle.album_partition.specs.declared.marks.Mark.TheVariants.{Committed}
 use Rattle.album_partition.proofs.LawLemmas.{replies_are_true, to_the_sender}
@@ -73,7 +73,8 @@ more_check c d x (Client k) t h = tt
 more_request : (c d : Cut) → Extends c d → (n : Node) (r : Request) → ShowsRequest c n r → ShowsRequest d n r
 more_request c d x n (Prepare t ws is) h = x.announced t is h
 more_request c d x n (Commit t) h = backed_more c d x (Committed t) h
-more_request c d x n (Get i ts) h = tt
+more_request c d x n (Get i ts) h = λ k e l nz. let was = h k e l nz in
+    (was.0, any_more (commits (get_or ts k e)) (prefix_at c was.0) (prefix_at d was.0) (x.prefixes was.0) was.1)
 more_request c d x n (Check t) h = more_check c d x n t h
 
 more_reply : (c d : Cut) → Extends c d → (n : Node) (r : Reply) → ShowsReply c n r → ShowsReply d n r

@@ -1,5 +1,5 @@
 -- The grounds of an answer stay as the cut grows: the law `grounds_stay` cites the lemmas that are `pub`.
-use Rattle.std.proofs.Common.{ℕ, ◌<◌, List, ◌++◌, length, length-append, Contains, sym, ◌∙◌, subst, arith}
+use Rattle.std.proofs.Common.{ℕ, ◌<◌, List, ◌++◌, length, length-append, get_or, Contains, sym, ◌∙◌, subst, arith}
 use Rattle.std.proofs.lemmas.List.{get_or_append_left}
 use Rattle.album_items.specs.Places.{places_of, rows_placed_at}
 use Rattle.album_partition.specs.Marks.{commits}
@@ -8,16 +8,22 @@ use Rattle.album_partition.specs.declared.marks.Mark.TheVariants.{Prepared}
 use Rattle.album_reader.specs.Answers.{ReadVersion}
 use Rattle.album_permits.specs.Effects.{effect_of}
 use Rattle.album_permits.specs.Permits.{PermitState}
-use Rattle.album_passes.specs.Cuts.{Cut, prefix_at, IsSound, IsPrefix, Extends}
-use Rattle.album_passes.proofs.CutLemmas.{extends_self}
+use Rattle.album_passes.specs.Cuts.{Cut, prefix_at, prefix_for, IsSound, IsPrefix, Extends}
+use Rattle.album_passes.proofs.CutLemmas.{extends_self, prefix_for_more}
 use Rattle.album_passes.proofs.PrefixLemmas.{prefix_trans, any_more}
 use Rattle.album_passes.proofs.ReadLemmas.{atomic_more, fresh_more}
-use Rattle.album_threads.specs.Grounds.{IsSeen, items_of, IsKeptAt, IsKept, IsWithoutRoom}
+use Rattle.album_threads.specs.Grounds.{AreSettled, IsSeen, items_of, IsKeptAt, IsKept, IsWithoutRoom}
+
+pub settled_more : (c d : Cut) → Extends c d → (rows : List ReadVersion) → AreSettled c rows → AreSettled d rows
+settled_more c d x rows h = λ k row l nz.
+    let it = get_or rows k row in
+    any_more (commits it.stamp) (prefix_for c it.item) (prefix_for d it.item) (prefix_for_more c d x it.item) (h k row l nz)
 
 pub seen_more : (b c d : Cut) (rows : List ReadVersion) → IsSound c → IsSound d → Extends b c → Extends c d → IsSeen b c rows → IsSeen b d rows
 seen_more b c d rows s r x y h = record {
   atomic = atomic_more c d s r y rows h.atomic;
   fresh = fresh_more b b c d s r (extends_self b) x y rows h.fresh;
+  settled = settled_more c d y rows h.settled;
 }
 
 -- what a history has, a longer one has

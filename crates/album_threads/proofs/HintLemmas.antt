@@ -1,6 +1,6 @@
 -- What comes of a hint that is tried: where it is in vain nothing was taken over (`tried_so`, `given_led`), and else a view
 -- has come of it (`view_by`). `Session::goes_on` cites these, and `asked_readable` for the hint that it keeps.
-use Rattle.std.proofs.Common.{◌≡◌, ℕ, Bool, true, false, ◌&&◌, List, [], ◌∷◌, Option, Some, None, Result, Ok, Err, IfOk, refl, sym, ap, ◌∙◌, subst}
+use Rattle.std.proofs.Common.{◌≡◌, ℕ, Bool, true, false, ◌&&◌, List, [], ◌∷◌, Option, Result, Ok, Err, IfOk, refl, sym, ap, ◌∙◌, subst}
 use Rattle.std.specs.Prelude.{IfSome, IfNone}
 use Rattle.std.proofs.lemmas.Bool.{and_from, and_parts, true≢false}
 use Rattle.album_calls.specs.declared.messages.Message.{Message}

@@ -95,6 +95,7 @@ seen_from : (a b c : Cut) (rows : List ReadVersion) → IsSound c → Extends a 
 seen_from a b c rows s x y h = record {
   atomic = h.atomic;
   fresh = fresh_more a b c c s s x y (extends_self c) rows h.fresh;
+  settled = h.settled;
 }
 
 in_vain_more : (a b c : Cut) (ask : Ask) (items : List ℕ) (reads : List (List ReadVersion)) → IsSound b → IsSound c

@@ -1,6 +1,9 @@
 -- What comes of a reply in a read: `read_on`. And how an ask begins, with a read of its objects or of what a hint names:
--- `reads_begin` and `started_way`, whose messages need nothing shown (`shown_first`).
-use Rattle.std.proofs.Common.{◌≡◌, ℕ, ◌+◌, Bool, true, false, List, [], ◌∷◌, map, length, Some, None, is_some, All, refl, sym, ap, ◌∙◌, subst, arith, nat_lt, nat_le, if◌then◌else◌}
+-- `reads_begin` and `started_way`, whose messages ask with no stamps (`shown_first`).
+use Rattle.std.proofs.Common.{◌≡◌, ◌≢◌, ℕ, ◌+◌, Bool, true, false, List, [], ◌∷◌, map, length, get_or, Option, Some, None, is_some, All, refl, sym, ap, ◌∙◌, subst, arith, nat_lt, nat_le, if◌then◌else◌}
+use Rattle.std.specs.Option.{unwrap_or}
+use Rattle.std.proofs.lemmas.List.Elements.{All-contains, Contains-get_or}
+use Rattle.album_items.specs.ItemIds.{place_of}
 use Rattle.std.proofs.lemmas.Bool.{ltb-false, or_left, or_right, true≢false}
 use Rattle.album_calls.specs.declared.messages.Message.{Message}
 use Rattle.album_client.specs.PendingAsks.{PendingAsk}
@@ -16,13 +19,17 @@ use Rattle.album_client.proofs.MoveLemmas.{readable_open}
 use Rattle.album_eval.specs.declared.facts.Principal.{Principal}
 use Rattle.album_eval.specs.declared.policies.Policy.{Policy}
 use Rattle.album_passes.specs.Cuts.{Cut, IsSound, Extends}
+use Rattle.album_passes.specs.Reads.{IsCommitted, IsCommittedFor}
 use Rattle.album_passes.proofs.CutLemmas.{extends_self, extends_trans}
 use Rattle.album_reader.specs.Answers.{Asker, ReadVersion, answers_there}
 use Rattle.album_reader.specs.Rounds.{RoundState, Step, IsOpen, asked_stamps, gets_of, get_of, first_round, stepped}
 use Rattle.album_reader.specs.Rounds.Step.{Same, Next, Done, Gone}
+use Rattle.album_reader.specs.StampSets.{stamps_of}
+use Rattle.album_reader.proofs.StampSets.{stamps_of-Contains}
 use Rattle.album_stamps.specs.declared.limits.TheConstants.{MAX_READ_ITEMS, MAX_READS}
 use Rattle.album_threads.specs.Asks.{IsOn, IsViewOf, IsBusy, IsReadFor, LooksOnce}
 use Rattle.album_threads.specs.Envelopes.{Shows}
+use Rattle.album_threads.specs.Grounds.{AreSettled}
 use Rattle.album_threads.specs.Hints.{are_among, begins_read, is_busy, is_without_view}
 use Rattle.album_threads.specs.Phases.{Outset, IsRound, IsReading, IsUnderWay}
 use Rattle.album_threads.specs.Phases.IsRound.{First, Second}
@@ -30,13 +37,14 @@ use Rattle.album_threads.specs.Replies.{IsReplied, IsFirstOver, IsReadOf, IsOver
 use Rattle.album_threads.specs.Resting.{RestsOn}
 use Rattle.album_threads.specs.Sending.{prepared_first}
 use Rattle.album_threads.specs.Sessions.{SessionState, AddsNothing}
+use Rattle.album_threads.specs.Settling.{AreCommitted}
 use Rattle.album_threads.specs.Steps.{client_step_in, terms_in, IsBegunFor, IsStarted, IsStill}
 use Rattle.album_threads.specs.declared.session.asked.Asked.{Asked}
-use Rattle.album_threads.proofs.EndLemmas.{read_so, overtaken}
+use Rattle.album_threads.proofs.EndLemmas.{mapped_from, read_so, overtaken}
 use Rattle.album_threads.proofs.LookLemmas.{done_so, gone_so, for_flawless, for_readable, for_sound, looking_first, looking_next, looks_seen, looks_busy, on_self}
 use Rattle.album_threads.proofs.TransitionLemmas.{IsNoted, IsMovedOn, on_heard, adds_heard, heard_same, goes_plain, goes_sent}
 use Rattle.album_threads.proofs.TransitionLemmas.IsMovedOn.{Told}
-use Rattle.album_threads.proofs.RoundLemmas.{leads, none_yet, under_first, gets_shown}
+use Rattle.album_threads.proofs.RoundLemmas.{leads, none_yet, under_first, gets_shown, none_committed}
 use Rattle.album_threads.proofs.RuledLemmas.{ruled_on}
 use Rattle.album_threads.proofs.SendLemmas.{gets_plain}
 use Rattle.album_views.specs.Asks.{objects_of}
@@ -111,6 +119,22 @@ reading_first hinted principal ask old now terms x tag pending_ask items of whom
   on = extends_self now;
 }
 
+-- ---- what is shown beside a round
+
+-- what is settled is committed somewhere
+settled_somewhere : (c : Cut) (xs : List ReadVersion) → AreSettled c xs → AreCommitted c (stamps_of xs)
+settled_somewhere c xs h = λ k d l nz.
+    let from = (stamps_of-Contains xs (get_or (stamps_of xs) k d)).0 (Contains-get_or (stamps_of xs) k d l) in
+    let x = mapped_from (λ (row : ReadVersion). row.stamp) xs (get_or (stamps_of xs) k d) from in
+    subst (IsCommitted c) x.2
+    (place_of c.parts x.0.item, All-contains (λ (row : ReadVersion). row.stamp ≢ 0 → IsCommittedFor c row.stamp row.item) xs x.0 h x.1 (λ z. nz (sym x.2 ∙ z)))
+
+-- and so are the stamps with which a round asks
+pub asked_committed : (start at : Cut) (begun : RoundState) → IsRound start at begun → AreCommitted at (asked_stamps begun)
+asked_committed start at begun (First none same) = subst (λ (o : Option (List ℕ)). AreCommitted at (unwrap_or o [])) (sym none) (none_committed at)
+asked_committed start at begun (Second first gets on over) =
+    subst (λ (r : RoundState). AreCommitted at (asked_stamps r)) (sym over.next_is) (settled_somewhere at over.answers over.are.settled)
+
 -- ---- how an ask begins
 
 module _ (policy : Policy) (hinted : Bool) (principal : Principal) (ask : Ask) (session now : SessionState) (terms : Terms)
@@ -125,9 +149,9 @@ module _ (policy : Policy) (hinted : Bool) (principal : Principal) (ask : Ask) (
   abbrev outset : Outset
   outset = record { principal = principal; ask = ask; session = session; hinted = hinted }
 
-  -- nothing has to be shown beside its messages
+  -- its messages ask with no stamps
   pub shown_first : All (Shows now.cut) transition.sent.items
-  shown_first = subst (All (Shows now.cut)) (sym is.sent) (gets_shown now.cut (asker_at terms x (tag + 1)) [] items)
+  shown_first = subst (All (Shows now.cut)) (sym is.sent) (gets_shown now.cut (asker_at terms x (tag + 1)) [] items (none_committed now.cut))
 
   module _ (proper : IsProper transition.client.phase) where
     opens : IsOpen (first_round (asker_at terms x (tag + 1)) items)
@@ -245,7 +269,7 @@ module _ (limit : ℕ) (policy : Policy) (o : Outset) (now next noted : SessionS
         (subst (λ (ms : List Message). prepared_first ms ≡ None) (sym w.asks)
         (gets_plain w.begun.asker (asked_stamps w.begun) w.begun.items))
         (subst (λ (z : Cut × List Message). All (Shows z.0) z.1) (λ i. (sym N.cut i, sym w.asks i))
-        (gets_shown d w.begun.asker (asked_stamps w.begun) w.begun.items))
+        (gets_shown d w.begun.asker (asked_stamps w.begun) w.begun.items (asked_committed w.start d w.begun w.which)))
         (subst (λ (z : SessionState × Phase). IsUnderWay policy o z.0 z.0.cut messages z.1)
         (λ i. (sym same i, sym is i))
         (record { taken = N.taken; on = on_next; sound = N.heard.sound; phase = (w, only) }))

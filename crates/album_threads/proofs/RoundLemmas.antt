@@ -1,8 +1,8 @@
 -- What a reply brings to a round of a read. ReadingLemmas cites the lemmas that are `pub`;
 -- the main one is `leads`.
-use Rattle.std.proofs.Common.{◌≡◌, ℕ, zero, suc, ◌≤◌, Bool, true, false, cond, ◌==◌, List, [], ◌∷◌, ◌++◌, length, append-nil, map, All, Contains, Option, Some, None, is_some, option_map, option_and_then, option_to_list, refl, sym, ap, ◌∙◌, subst, arith, get_or, if◌then◌else◌}
+use Rattle.std.proofs.Common.{◌≡◌, ◌≢◌, ℕ, zero, suc, ◌≤◌, Bool, true, false, cond, ◌==◌, List, [], ◌∷◌, ◌++◌, length, append-nil, map, All, Contains, Option, Some, None, is_some, option_map, option_and_then, option_to_list, refl, sym, ap, ◌∙◌, subst, arith, get_or, if◌then◌else◌}
 use Rattle.std.specs.Option.{option_map_or, unwrap_or}
-use Rattle.std.proofs.lemmas.List.Elements.{All-cons, All-head, All-tail, All-map}
+use Rattle.std.proofs.lemmas.List.Elements.{All-nil, All-cons, All-head, All-tail, All-map}
 use Rattle.std.proofs.lemmas.Bool.{and_parts, eqb-true, eq-eqb}
 use Rattle.album_items.specs.ItemIds.{place_of}
 use Rattle.album_items.specs.Openings.{Row}
@@ -19,14 +19,14 @@ use Rattle.album_calls.specs.declared.replies.Reply.TheVariants as reply
 use Rattle.album_calls.specs.declared.requests.Request.TheVariants.{Get}
 use Rattle.album_partition.specs.Answers.{says, nothing, get_by, on_body, action_of, answer, reply_to}
 use Rattle.album_partition.specs.Laws.{IsReadAt}
-use Rattle.album_partition.specs.Marks.{value_in, kept_version}
+use Rattle.album_partition.specs.Marks.{commits, value_in, kept_version}
 use Rattle.album_partition.specs.Partition.{PartitionState, read_at}
 use Rattle.album_partition.specs.declared.marks.Mark.{Mark}
 use Rattle.album_partition.proofs.LawLemmas.{to_the_sender, version_is_read, gone_is_trimmed}
 use Rattle.album_passes.specs.Cuts.{Cut, prefix_at, prefix_for, IsPrefix, Extends}
-use Rattle.album_passes.specs.Reads.{IsAnsweredBetween}
+use Rattle.album_passes.specs.Reads.{IsCommittedFor, IsAnsweredBetween}
 use Rattle.album_passes.proofs.CutLemmas.{prefix_for_more}
-use Rattle.album_passes.proofs.PrefixLemmas.{prefix_trans, prefix_shorter}
+use Rattle.album_passes.proofs.PrefixLemmas.{prefix_trans, prefix_shorter, any_more}
 use Rattle.album_reader.specs.Answers.{Asker, ReadVersion, reply_version, body_version, is_answer, if_answer, answer_in, answers_there, are_there}
 use Rattle.album_reader.specs.Rounds.{RoundState, IsOpen, StaysOpen, no_answers, next_asker, second_round, asked_stamps, get_of, gets_of, if_lacking, new_answer, put_answer, with_answer, lacks, end_by, end_of, outcome, is_gone, taken, stepped, are_in_order}
 use Rattle.album_reader.specs.Rounds.Step.{Same, Gone}
@@ -35,7 +35,11 @@ use Rattle.album_reader.specs.Others.{IsGone}
 use Rattle.album_reader.proofs.Others.{is_part-own, IsGone-is_gone}
 use Rattle.album_reader.proofs.Rounds.{items_read-in_order, stepped-open, with_answer-in_order}
 use Rattle.album_threads.specs.Envelopes.{Shows}
+use Rattle.album_threads.specs.Grounds.{AreSettled}
 use Rattle.album_threads.specs.Replies.{IsReplied, IsUnder, AreOf, IsGoneBetween, Leads}
+use Rattle.album_threads.specs.Settling.{stamps_in, AreCommitted, AreSettledIn}
+use Rattle.album_threads.proofs.GroundLemmas.{settled_more}
+use Rattle.album_threads.proofs.SettleLemmas.{read_committed}
 
 -- ---- what a message answers
 
@@ -76,7 +80,7 @@ answers_it a m x e = go (body_version m.body) refl e
 -- ---- where it was read
 
 -- the value of an item stands among the rows that are placed at its partition
-value_placed : (rows : List Row) (p n i : ℕ) → place_of n i ≡ p → value_in (rows_placed_at p n rows) i ≡ value_in rows i
+pub value_placed : (rows : List Row) (p n i : ℕ) → place_of n i ≡ p → value_in (rows_placed_at p n rows) i ≡ value_in rows i
 value_placed [] p n i e = refl
 value_placed (row ∷ rows) p n i e = go (place_of n row.0 == p) (row.0 == i) refl refl (value_placed rows p n i e)
   where
@@ -184,6 +188,18 @@ read_between limit b c a ts items m x on parts r e =
       first = λ zero. read.value_is.first zero ∙ ap (λ (o : Option Value). unwrap_or o Missing) at.first;
     }
 
+-- And the item's partition has committed its stamp by then.
+settled_then : (limit : ℕ) (b c : Cut) (a : Asker) (ts items : List ℕ) (m : Message) (x : ReadVersion) → Extends b c → a.parts ≡ b.parts
+    → IsReplied limit b c (gets_of a ts items) m → answer_in a m ≡ Some x → x.stamp ≢ 0 → IsCommittedFor c x.stamp x.item
+settled_then limit b c a ts items m x on parts r e nz =
+    let p = r.answered.partition in
+    let q = r.request in
+    let told = answers_it a m x e in
+    let read = version_is_read p q x.item x.stamp x.value (replied_so p q m (reply.Version x.item x.stamp x.value) r.answered.answered told.0) in
+    let at = told_between limit b c a.parts (gets_of a ts items) m x.item read.stamps on parts r read.asked told.1 in
+    let none = subst (λ (y : Body). AreSettledIn p.marks (stamps_in y)) read.asked r.answered.settled in
+    any_more (commits x.stamp) p.marks (prefix_for c x.item) at.to (read_committed p.marks x.item read.stamps x.stamp none read.stamp_is nz)
+
 -- An item that is told to be gone was gone at such a history.
 gone_between : (limit : ℕ) (b c : Cut) (a : Asker) (ts items : List ℕ) (m : Message) (i : ℕ) → Extends b c → a.parts ≡ b.parts
     → IsReplied limit b c (gets_of a ts items) m → m.body ≡ body.Reply (reply.Gone i) → m.from ≡ Part (place_of a.parts i) → Contains items i
@@ -249,11 +265,12 @@ counts round m x e = go (answer_in round.asker m) refl e
 -- what comes of a round with one answer more
 outcome_leads : (b c : Cut) (begun round : RoundState) → round.asker ≡ begun.asker → round.items ≡ begun.items → round.stamps ≡ begun.stamps
     → are_in_order round.items round.answers ≡ true
-    → All (IsAnsweredBetween b c (asked_stamps begun)) (answers_there round.answers) → StaysOpen (outcome round) → Leads b c begun (outcome round)
-outcome_leads b c begun round asker items stamps order all = go (are_there round.answers) refl
+    → All (IsAnsweredBetween b c (asked_stamps begun)) (answers_there round.answers) → AreSettled c (answers_there round.answers)
+    → StaysOpen (outcome round) → Leads b c begun (outcome round)
+outcome_leads b c begun round asker items stamps order all kept = go (are_there round.answers) refl
   where
     found : are_there round.answers ≡ true → AreOf b c begun (answers_there round.answers)
-    found e = record { items = sym (items_read-in_order round.items round.answers order e) ∙ items; between = all }
+    found e = record { items = sym (items_read-in_order round.items round.answers order e) ∙ items; between = all; settled = kept }
 
     by : (o : Option (List ℕ)) → begun.stamps ≡ o → are_there round.answers ≡ true
         → StaysOpen (end_by o round (answers_there round.answers)) → Leads b c begun (end_by o round (answers_there round.answers))
@@ -277,7 +294,7 @@ outcome_leads b c begun round asker items stamps order all = go (are_there round
         → Leads b c begun (option_map_or (end_of round) (if there then Some (answers_there round.answers) else None) (Same round))
     go true e stays = subst (λ (o : Option (List ℕ)). StaysOpen (end_by o round (answers_there round.answers)) → Leads b c begun (end_by o round (answers_there round.answers)))
         (sym stamps) (by begun.stamps refl e) stays
-    go false e stays = record { asker = asker; items = items; stamps = stamps; still_open = stays; between = all }
+    go false e stays = record { asker = asker; items = items; stamps = stamps; still_open = stays; between = all; settled = kept }
 
 -- What comes of a reply to one of the round's Gets.
 pub leads : (limit : ℕ) (b c d : Cut) (begun round : RoundState) (m : Message) → Extends b c → Extends c d → Extends b d → begun.asker.parts ≡ b.parts
@@ -287,15 +304,23 @@ leads limit b c d begun round m first on both parts r u = by (is_gone round m) r
     old : All (IsAnsweredBetween b d (asked_stamps begun)) (answers_there round.answers)
     old = all_on b c d (asked_stamps begun) (answers_there round.answers) on u.between
 
+    old_settled : AreSettled d (answers_there round.answers)
+    old_settled = settled_more c d on (answers_there round.answers) u.settled
+
+    new_settled : (x : ReadVersion) → new_answer round m ≡ Some x → x.stamp ≢ 0 → IsCommittedFor d x.stamp x.item
+    new_settled x e = settled_then limit b d begun.asker (asked_stamps begun) begun.items m x both parts r
+        (subst (λ (a : Asker). answer_in a m ≡ Some x) u.asker (counts round m x e))
+
     new : (x : ReadVersion) → new_answer round m ≡ Some x → IsAnsweredBetween b d (asked_stamps begun) x
     new x e = read_between limit b d begun.asker (asked_stamps begun) begun.items m x both parts r
         (subst (λ (a : Asker). answer_in a m ≡ Some x) u.asker (counts round m x e))
 
     go : (o : Option ReadVersion) → new_answer round m ≡ o → StaysOpen (option_map_or (λ (x : ReadVersion). outcome (with_answer round x)) o (Same round))
         → Leads b d begun (option_map_or (λ (x : ReadVersion). outcome (with_answer round x)) o (Same round))
-    go None e stays = record { asker = u.asker; items = u.items; stamps = u.stamps; still_open = u.still_open; between = old }
+    go None e stays = record { asker = u.asker; items = u.items; stamps = u.stamps; still_open = u.still_open; between = old; settled = old_settled }
     go (Some x) e stays = outcome_leads b d begun (with_answer round x) u.asker u.items u.stamps (with_answer-in_order round x u.still_open)
-        (all_put (IsAnsweredBetween b d (asked_stamps begun)) x round.items round.answers (new x e) old) stays
+        (all_put (IsAnsweredBetween b d (asked_stamps begun)) x round.items round.answers (new x e) old)
+        (all_put (λ (row : ReadVersion). row.stamp ≢ 0 → IsCommittedFor d row.stamp row.item) x round.items round.answers (new_settled x e) old_settled) stays
 
     second : (gone : Bool) → is_gone round m ≡ gone → gone ≡ true → is_some round.stamps ≡ true
     second gone e f = (and_parts _ _ (e ∙ f)).0
@@ -312,9 +337,13 @@ leads limit b c d begun round m first on both parts r u = by (is_gone round m) r
 
 -- ---- how a round begins, and goes on
 
--- beside a Get nothing has to be shown
-pub gets_shown : (c : Cut) (a : Asker) (ts items : List ℕ) → All (Shows c) (gets_of a ts items)
-gets_shown c a ts items = All-map (Shows c) (get_of a ts) items (λ k d l. tt)
+-- beside a Get it has to be shown that each of its stamps is committed somewhere
+pub gets_shown : (c : Cut) (a : Asker) (ts items : List ℕ) → AreCommitted c ts → All (Shows c) (gets_of a ts items)
+gets_shown c a ts items h = All-map (Shows c) (get_of a ts) items (λ k d l. h)
+
+-- a first round asks with none
+pub none_committed : (c : Cut) → AreCommitted c []
+none_committed c = All-nil _
 
 pub none_yet : (items : List ℕ) → answers_there (no_answers items) ≡ []
 none_yet [] = refl
@@ -327,4 +356,5 @@ under_first c begun o none = record {
   stamps = refl;
   still_open = o;
   between = subst (All (IsAnsweredBetween c c (asked_stamps begun))) (sym none) (λ k d l. absurd (omega arith));
+  settled = subst (AreSettled c) (sym none) (λ k d l. absurd (omega arith));
 }

@@ -1,7 +1,7 @@
 -- A reply that ends no round of a read is taken in place, and the ask is under way as before: `waits_on`, for
 -- `Session::waits_once`.
-use Rattle.std.proofs.Common.{◌≡◌, ℕ, Bool, true, false, not, List, Option, Some, None, Result, Ok, Err, IfOk, IsSome, sym, ap, ◌∙◌, subst}
-use Rattle.std.specs.Prelude.{IsOkAnd, IfSome, IfNone, IfErr}
+use Rattle.std.proofs.Common.{◌≡◌, ℕ, true, not, List, Option, Some, None, Result, Ok, Err, IfOk, ap, subst}
+use Rattle.std.specs.Prelude.{IsOkAnd, IfSome, IfNone}
 use Rattle.album_calls.specs.declared.messages.Message.{Message}
 use Rattle.album_client.specs.PendingAsks.{PendingAsk}
 use Rattle.album_client.specs.Clients.{Client}

@@ -20,6 +20,7 @@ use Rattle.album_partition.specs.Partition.{PartitionState, IsPartition}
 use Rattle.album_partition.specs.declared.marks.Mark.{Mark}
 use Rattle.album_passes.specs.Cuts.{Cut, prefix_at, announced_for, IsPreparedThroughout}
 use Rattle.album_passes.specs.Pass.{PassState}
+use Rattle.album_threads.specs.Settling.{stamps_in, AreCommitted, AreSettledIn}
 
 -- ---- what a cut shows about a message
 
@@ -48,11 +49,11 @@ ShowsCheck cut (Part part) stamp = IsOfPart cut stamp part
 ShowsCheck cut (Client client) stamp = Unit {0}
 
 -- The cut of a Prepare announces its items, that of a Commit shows that each partition of the items has prepared the
--- stamp, that of a Check as above.
+-- stamp, that of a Get that each of its stamps is committed somewhere, that of a Check as above.
 abbrev pub ShowsRequest : Cut → Node → Request → Type 0
 ShowsRequest cut to (Prepare stamp writes items) = announced_for cut stamp ≡ Some items
 ShowsRequest cut to (Commit stamp) = IsPreparedThroughout cut stamp
-ShowsRequest cut to (Get item stamps) = Unit {0}
+ShowsRequest cut to (Get item stamps) = AreCommitted cut stamps
 ShowsRequest cut to (Check stamp) = ShowsCheck cut to stamp
 
 -- of what is replied, a vote alone makes a mark
@@ -98,11 +99,13 @@ pub record IsShown (limit : ℕ) (cut : Cut) (partition : PartitionState) : Type
   pub items : partition.items ≡ rows_placed_at partition.number cut.parts cut.opening
   pub marks : partition.marks ≡ prefix_at cut partition.number
 
--- A partition has replied so to the request, by the table of answers, and the cut shows it as it was then.
+-- A partition has replied so to the request, by the table of answers, and the cut shows it as it was then. Of the
+-- stamps with which it was asked none was pending.
 pub record IsAnswered (limit : ℕ) (cut : Cut) (request reply : Message) : Type 0 where
   pub partition : PartitionState
   pub proper : IsPartition partition
   pub answered : answer partition request ≡ Some reply
+  pub settled : AreSettledIn partition.marks (stamps_in request.body)
   pub shown : IsShown limit cut (after partition request)
 
 -- the request, the reply, and the pass that goes with it

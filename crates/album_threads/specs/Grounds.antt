@@ -1,5 +1,5 @@
 -- On what an answer of a session rests: the cut that it began with, and the one that it has then.
-use Rattle.std.specs.Prelude.{◌≡◌, ℕ, ◌+◌, ◌<◌, ◌≤◌, Bool, true, false, List, [], ◌∷◌, length, sum_by, count_by, Contains}
+use Rattle.std.specs.Prelude.{◌≡◌, ◌≢◌, ℕ, ◌+◌, ◌<◌, ◌≤◌, Bool, true, false, List, [], ◌∷◌, length, sum_by, count_by, All, Contains}
 use Rattle.std.specs.List.{list_any}
 use Rattle.album_stamps.specs.declared.limits.TheConstants.{MAX_READ_ITEMS, MAX_READS}
 use Rattle.album_items.specs.Places.{places_of, rows_placed_at}
@@ -24,10 +24,37 @@ use Rattle.album_passes.specs.Reads.{IsCommittedFor, writes_in_cut}
 
 -- ---- a view
 
--- what was read is read atomic, with the cut's marks as histories, and fresh from the cut with which the ask began
+-- each stamp at which an item was read, but for 0, is committed at the item's own partition: whoever reads the item later
+-- finds that version, or a newer one
+abbrev pub AreSettled : Cut → List ReadVersion → Type 0
+AreSettled now rows = All (λ row. row.stamp ≢ 0 → IsCommittedFor now row.stamp row.item) rows
+
+-- what was read is read atomic, with the cut's marks as histories, fresh from the cut with which the ask began, and
+-- settled
 pub record IsSeen (begun now : Cut) (rows : List ReadVersion) : Type 0 where
   pub atomic : IsReadAtomic (writes_in_cut now) (first_value now.opening) rows
   pub fresh : IsFreshFrom (writes_in_cut now) (IsCommittedFor begun) rows
+  pub settled : AreSettled now rows
+
+-- no item of both reads is older in the later one than in the earlier
+abbrev pub AreNoOlder : List ReadVersion → List ReadVersion → Type 0
+AreNoOlder earlier later =
+    (one other : ReadVersion) → Contains earlier one → Contains later other → other.item ≡ one.item
+    → one.stamp ≤ other.stamp
+
+-- each item of both reads has one stamp in both, and one value, where that isn't the opening's
+abbrev pub AreAlike : List ReadVersion → List ReadVersion → Type 0
+AreAlike first second =
+    (one other : ReadVersion) → Contains first one → Contains second other → other.item ≡ one.item
+    → (other.stamp ≡ one.stamp) × (one.stamp ≢ 0 → other.value ≡ one.value)
+
+-- no mark was made from the one cut to the other
+abbrev pub HasSameMarks : Cut → Cut → Type 0
+HasSameMarks begun now = (part : ℕ) → prefix_at now part ≡ prefix_at begun part
+
+-- none of these items is read below the stamp
+abbrev pub AreFrom : ℕ → List ℕ → List ReadVersion → Type 0
+AreFrom stamp items rows = (row : ReadVersion) → Contains rows row → Contains items row.item → stamp ≤ row.stamp
 
 -- The ask has a view, made of versions that were read so. The property holds of the permit that the view, the principal
 -- and the policy would make.

@@ -1,4 +1,5 @@
 pub mod ServiceNames
+pub mod Settling
 pub mod Envelopes
 pub mod Controls
 pub mod Keepers

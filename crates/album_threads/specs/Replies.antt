@@ -11,7 +11,7 @@ use Rattle.album_reader.specs.Rounds.{RoundState, Step, IsOpen, next_asker, seco
 use Rattle.album_reader.specs.Rounds.Step.{Same, Next, Done, Gone}
 use Rattle.album_reader.specs.Snapshots.{items_read}
 use Rattle.album_reader.specs.StampSets.{stamps_of}
-use Rattle.album_threads.specs.Grounds.{IsSeen, trims_in}
+use Rattle.album_threads.specs.Grounds.{AreSettled, IsSeen, trims_in}
 use Rattle.album_threads.specs.Envelopes.{IsAnswered}
 
 -- ---- a reply
@@ -33,18 +33,21 @@ pub record IsReplied (limit : ℕ) (old new : Cut) (sent : List Message) (reply 
 
 -- ---- a round of a read
 
--- The round asks the same as it did when it began, and each answer that it has was given between the two cuts.
+-- The round asks the same as it did when it began, and each answer that it has was given between the two cuts, and is
+-- settled.
 pub record IsUnder (old new : Cut) (begun round : RoundState) : Type 0 where
   pub asker : round.asker ≡ begun.asker
   pub items : round.items ≡ begun.items
   pub stamps : round.stamps ≡ begun.stamps
   pub still_open : IsOpen round
   pub between : All (IsAnsweredBetween old new (asked_stamps begun)) (answers_there round.answers)
+  pub settled : AreSettled new (answers_there round.answers)
 
--- these are the answers of all its items
+-- these are the answers of all its items, and they are settled
 pub record AreOf (old new : Cut) (begun : RoundState) (answers : List ReadVersion) : Type 0 where
   pub items : items_read answers ≡ begun.items
   pub between : All (IsAnsweredBetween old new (asked_stamps begun)) answers
+  pub settled : AreSettled new answers
 
 -- the first round is over, and the second asks with exactly the stamps of its answers
 pub record IsFirstOver (old new : Cut) (begun next : RoundState) (gets : List Message) : Type 0 where
@@ -80,7 +83,7 @@ Leads old new begun (Gone items) = (is_some begun.stamps ≡ true) × IsGoneFrom
 
 -- ---- a read
 
--- what was read is of these items, read atomic and fresh
+-- what was read is of these items, read atomic, fresh and settled
 pub record IsReadOf (begun now : Cut) (items : List ℕ) (rows : List ReadVersion) : Type 0 where
   pub items_are : items_read rows ≡ items
   pub seen : IsSeen begun now rows

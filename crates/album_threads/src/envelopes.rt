@@ -12,6 +12,7 @@ use std::marker::{Model, PhantomData};
 ///
 /// - a Prepare: its items are announced;
 /// - a Commit: each participant has prepared its stamp;
+/// - a Get: each of its stamps is committed somewhere;
 /// - a Check: an item of its stamp is placed at the receiver;
 /// - a vote: the mark that it reports.
 #[derive(Drop)]

@@ -1,21 +1,25 @@
 //! A partition, with the owner of its history.
-ghost use Rattle.std.specs.Prelude.{◌≡◌, ◌≢◌, ◌<◌, ℕ, length, map, All, option_map, None, Ok, Err, IfOk, IfErr, IfSome, OnOk, OnErr, IsOkUnless};
+ghost use Rattle.std.specs.Prelude.{◌≡◌, ◌≢◌, ◌<◌, ℕ, length, map, take, All, option_map, None, Ok, Err, IfOk, IfErr, IfSome, OnOk, OnErr, IsOkUnless};
 ghost use Rattle.album_partition.specs.Answers.{after, answer};
 ghost use Rattle.album_partition.specs.Marks.{pending_stamps};
+ghost use Rattle.album_partition.specs.Partition.{PartitionState};
 ghost use Rattle.album_partition.specs.Sweeps.{swept};
 ghost use Rattle.album_passes.specs.Cuts.{Extends, IsSound, prefix_at};
 ghost use Rattle.album_threads.specs.Controls.{Answers, AnswersPending, AnswersTrimmed};
 ghost use Rattle.album_threads.specs.Keepers.{IsKeeper, IsNext};
+ghost use Rattle.album_passes.specs.Reads.{IsCommitted};
 ghost use Rattle.album_threads.specs.Envelopes.{Shows, IsAnswered};
+ghost use Rattle.album_threads.specs.Settling.{stamps_in, own_commit, is_unsettled, settle_one, settled, AreSettledIn};
 
 use crate::control::{Control, ControlAnswer, ControlReply, ControlRequest};
 use crate::envelopes::{ReplyEnvelope, RequestEnvelope};
 use crate::service_names::ServiceNames;
-use album_calls::{Message, Stamps};
+use album_calls::{Body, Message, Node, Request, Stamps};
 use album_items::ItemId;
 use album_partition::{Figures, Partition};
 use album_passes::{Desk, Owner, Pass};
 use album_stamps::{Refusal, Stamp};
+use album_terminate::StampState;
 use std::alloc::Global;
 use std::marker::{Model, PhantomData};
 
@@ -57,13 +61,13 @@ impl<J: ServiceNames> PartitionKeeper<J> {
         }
     }
 
-    /// Takes in the envelope's pass, does what its message asks, and gives the reply, if there is one:
-    /// the table of answers. The reply's pass shows the partition as it is then, and all that the
+    /// Takes in the envelope's pass, settles the stamps of a Get, does what the message asks, and gives the reply, if
+    /// there is one: the table of answers. The reply's pass shows the partition as it is then, and all that the
     /// envelope's pass has seen.
     ///
     /// # Errors
     ///
-    /// `OutOfMemory`. The partition stays as it is.
+    /// `OutOfMemory`. The partition stays as it is, but for stamps that are settled by then.
     pub(crate) fn receive(
         &mut self,
         desk: &Desk,
@@ -71,18 +75,20 @@ impl<J: ServiceNames> PartitionKeeper<J> {
     ) -> Result<Option<ReplyEnvelope<J>>, Refusal>
         requires table { desk.now.table ≡ J.table }
         requires terms { desk.now.terms ≡ J.terms }
-        ensures changed { OnOk result (self.new.partition ≡ after self.old.partition envelope.message) }
+        ensures changed { OnOk result (self.new.partition
+            ≡ after (settled self.old.partition (stamps_in envelope.message.body)) envelope.message) }
         ensures answered { IfOk result (λ reply. option_map (λ some. some.reply) reply
-            ≡ answer self.old.partition envelope.message) }
+            ≡ answer (settled self.old.partition (stamps_in envelope.message.body)) envelope.message) }
         ensures request { IfOk result (λ reply. IfSome reply (λ some. some.request ≡ envelope.message)) }
         ensures point { IfOk result (λ reply. IfSome reply (λ some. some.pass.cut ≡ self.new.owner.cut)) }
         ensures grown { Extends self.old.owner.cut self.new.owner.cut }
         ensures heard { Extends envelope.pass.cut self.new.owner.cut }
-        ensures unchanged { OnErr result (self.new.partition ≡ self.old.partition) }
+        ensures unchanged { OnErr result ((count : ℕ)
+            × (self.new.partition ≡ settled self.old.partition (take count (stamps_in envelope.message.body)))) }
         ensures memory { IsOkUnless result Refusal.OutOfMemory }
     {
         let (message, pass) = envelope.open();
-        self.hear(desk, pass);
+        self.take_in(desk, &message, pass)?;
         match self.take(desk, &message)? {
             None => Ok(None),
             Some(reply) => {
@@ -115,6 +121,99 @@ impl<J: ServiceNames> PartitionKeeper<J> {
         self.owner.join(desk, pass);
     }
 
+    /// Takes in all that the message's pass has seen, and settles the stamps of a Get.
+    ///
+    /// # Errors
+    ///
+    /// `OutOfMemory`. What is settled by then stays so.
+    fn take_in(&mut self, desk: &Desk, message: &Message, pass: Pass) -> Result<(), Refusal>
+        requires table { desk.now.table ≡ J.table }
+        requires terms { desk.now.terms ≡ J.terms }
+        requires of { pass.table ≡ J.table }
+        requires unnumbered { pass.number ≡ None }
+        requires shown { Shows pass.cut message.now }
+        ensures settled { OnOk result (self.new.partition
+            ≡ settled self.old.partition (stamps_in message.now.body)) }
+        ensures none { OnOk result (AreSettledIn self.new.partition.marks (stamps_in message.now.body)) }
+        ensures unchanged { OnErr result ((count : ℕ)
+            × (self.new.partition ≡ settled self.old.partition (take count (stamps_in message.now.body)))) }
+        ensures memory { IsOkUnless result Refusal.OutOfMemory }
+        ensures grown { Extends self.old.owner.cut self.new.owner.cut }
+        ensures heard { Extends pass.cut self.new.owner.cut }
+        ensures sound { IsSound self.new.owner.cut }
+        ensures inside { self.new.owner.part < self.new.owner.cut.parts }
+        ensures shown { Shows self.new.owner.cut message.now }
+    {
+        self.hear(desk, pass);
+        self.settle(desk, message)
+    }
+
+    /// Commits those stamps of a Get that are pending here. Whoever asks with them has seen each committed at some
+    /// partition; so each participant has prepared it, and it will be committed here too. Committed now, it is found by
+    /// whoever reads later, whether or not the writer's Commit has come by then.
+    ///
+    /// # Errors
+    ///
+    /// `OutOfMemory`. What is committed by then stays so.
+    fn settle(&mut self, desk: &Desk, message: &Message) -> Result<(), Refusal>
+        requires table { desk.now.table ≡ J.table }
+        requires terms { desk.now.terms ≡ J.terms }
+        requires sound { IsSound self.old.owner.cut }
+        requires inside { self.old.owner.part < self.old.owner.cut.parts }
+        requires shown { Shows self.old.owner.cut message.now }
+        ensures settled { OnOk result (self.new.partition
+            ≡ settled self.old.partition (stamps_in message.now.body)) }
+        ensures none { OnOk result (AreSettledIn self.new.partition.marks (stamps_in message.now.body)) }
+        ensures unchanged { OnErr result ((count : ℕ)
+            × (self.new.partition ≡ settled self.old.partition (take count (stamps_in message.now.body)))) }
+        ensures memory { IsOkUnless result Refusal.OutOfMemory }
+        ensures grown { Extends self.old.owner.cut self.new.owner.cut }
+        ensures sound { IsSound self.new.owner.cut }
+        ensures inside { self.new.owner.part < self.new.owner.cut.parts }
+    {
+        // Mostly nothing is pending, and then no stamp has to be looked up.
+        if !self.partition.has_pending() {
+            return Ok(());
+        }
+        for stamp in stamps_in(message) {
+            self.settle_one(desk, *stamp)?;
+        }
+        Ok(())
+    }
+
+    /// Commits the stamp, if it is a write's and pending here.
+    ///
+    /// # Errors
+    ///
+    /// `OutOfMemory`. Nothing changes then.
+    fn settle_one(&mut self, desk: &Desk, stamp: Stamp) -> Result<(), Refusal>
+        requires table { desk.now.table ≡ J.table }
+        requires terms { desk.now.terms ≡ J.terms }
+        requires sound { IsSound self.old.owner.cut }
+        requires inside { self.old.owner.part < self.old.owner.cut.parts }
+        requires committed { stamp ≢ 0 → IsCommitted self.old.owner.cut stamp }
+        ensures settled { OnOk result (self.new.partition ≡ settle_one self.old.partition stamp) }
+        ensures unchanged { OnErr result (self.new ≡ self.old) }
+        ensures memory { IsOkUnless result Refusal.OutOfMemory }
+        ensures grown { Extends self.old.owner.cut self.new.owner.cut }
+        ensures sound { IsSound self.new.owner.cut }
+        ensures inside { self.new.owner.part < self.new.owner.cut.parts }
+    {
+        if !self.is_unsettled(stamp) {
+            return Ok(());
+        }
+        self.take(desk, &own_commit(self.part, stamp))?;
+        self.owner.is_sound();
+        Ok(())
+    }
+
+    /// Whether the stamp is a write's, and pending here.
+    fn is_unsettled(&self, stamp: Stamp) -> bool
+        ensures { result ≡ is_unsettled self.now.partition stamp }
+    {
+        stamp.value() != 0 && matches!(self.partition.state(stamp), StampState::Pending)
+    }
+
     /// Does what the message asks, and makes its mark, if it makes one, in the owner's history too.
     fn take(&mut self, desk: &Desk, message: &Message) -> Result<Option<Message>, Refusal>
         requires table { desk.now.table ≡ J.table }
@@ -122,6 +221,7 @@ impl<J: ServiceNames> PartitionKeeper<J> {
         requires sound { IsSound self.old.owner.cut }
         requires inside { self.old.owner.part < self.old.owner.cut.parts }
         requires shown { Shows self.old.owner.cut message.now }
+        requires settled { AreSettledIn self.old.partition.marks (stamps_in message.now.body) }
         ensures changed { OnOk result (self.new.partition ≡ after self.old.partition message.now) }
         ensures answered { IfOk result (λ reply. reply ≡ answer self.old.partition message.now) }
         ensures replied { IfOk result (λ reply. IfSome reply
@@ -242,6 +342,28 @@ impl<J: ServiceNames> PartitionKeeper<J> {
             }
         }
     }
+}
+
+/// The stamps with which the message asks: those of a Get.
+fn stamps_in(message: &Message) -> &[Stamp]
+    ensures { result.now ≡ stamps_in message.now.body }
+{
+    match message.body() {
+        Body::Request(Request::Get(_, stamps)) => stamps.as_slice(),
+        Body::Request(_) | Body::Reply(_) => &[],
+    }
+}
+
+/// A Commit of the stamp, from the partition to itself.
+fn own_commit(part: u16, stamp: Stamp) -> Message
+    ensures { (partition : PartitionState) → part ≡ partition.number → result ≡ own_commit partition stamp }
+{
+    Message::new(
+        Node::Part(part),
+        Node::Part(part),
+        0,
+        Body::Request(Request::Commit(stamp)),
+    )
 }
 
 /// The messages as envelopes, with passes of the owner's.

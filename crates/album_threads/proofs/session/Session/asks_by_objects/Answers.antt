@@ -1,4 +1,4 @@
-use Rattle.std.proofs.Common.{false, true, sym, subst}
+use Rattle.std.proofs.Common.{false, sym, subst}
 use Rattle.std.proofs.lemmas.Bool.{true≢false}
 use Rattle.album_passes.specs.Cuts.{IsSound}
 use Rattle.album_threads.specs.Asks.{IsOn}
