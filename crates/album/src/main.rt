@@ -1,11 +1,14 @@
-//! The program `album`. `album judge` answers each line of standard input by one line, `album replay` tells what
-//! the events that its lines spell bring about in a store, and `album serve` runs a store for who connects to a port.
+//! The program `album`. `album judge` answers each line of standard input by one line, and `album replay` prints what
+//! the events that its lines spell bring about in a store. `album serve` runs a store for whoever connects to a port,
+//! and `album ask` is a client of it.
 #![tactic(auto)]
 
+mod asking;
 mod explaining;
 mod replaying;
 mod texts;
 
+use crate::asking::{ask_command, ask_service};
 use crate::explaining::{explain_command, explain_lines, flags_command, mask_command, tell_bits};
 use crate::replaying::{replay_command, replay_lines};
 use crate::texts::{ABOUT, JUDGE_ABOUT, JUDGE_HELP, NO_TEXT, SERVE_ABOUT, SERVE_HELP};
@@ -16,7 +19,7 @@ use clap::error::ErrorKind;
 use clap::{Arg, ArgAction, ArgMatches, Command, Error, value_parser};
 use std::alloc::{AllocError, Global};
 use std::fs::{File, OpenOptions};
-use std::io::{Read, Write};
+use std::io::{IsTerminal, Read, Write};
 use std::net::{Net, TcpListener, TcpStream};
 use std::process::ExitCode;
 use std::rt::Files;
@@ -52,6 +55,17 @@ fn main(rt: HostRuntime) -> ExitCode {
         }
         Some("explain") => {
             explain_lines(&rt, rt.alloc(), &mut rt.stdin(), &mut rt.stdout(), &matches)
+        }
+        Some("ask") => {
+            let has_prompt = rt.stdin().is_terminal() && rt.stdout().is_terminal();
+            ask_service(
+                &rt,
+                rt.alloc(),
+                &mut rt.stdin(),
+                &mut rt.stdout(),
+                &matches,
+                has_prompt,
+            )
         }
         Some("mask") => tell_bits(&rt, rt.alloc(), &mut rt.stdout(), &matches, "mask"),
         Some("flags") => tell_bits(&rt, rt.alloc(), &mut rt.stdout(), &matches, "flags"),
@@ -91,6 +105,7 @@ fn command<'a>(alloc: Global) -> Result<Command<'a>, AllocError> {
         .subcommand(judge)?
         .subcommand(replay_command(alloc)?)?
         .subcommand(serve_command(alloc)?)?
+        .subcommand(ask_command(alloc)?)?
         .subcommand(explain_command(alloc, questions_arg(alloc))?)?
         .subcommand(mask_command(alloc)?)?
         .subcommand(flags_command(alloc)?)
@@ -116,7 +131,7 @@ fn serve_command<'a>(alloc: Global) -> Result<Command<'a>, AllocError> {
         .arg(audit_arg(alloc))
 }
 
-fn port_arg<'a>(alloc: Global) -> Arg<'a> {
+pub(crate) fn port_arg<'a>(alloc: Global) -> Arg<'a> {
     Arg::new(alloc, "PORT")
         .help("The port of 127.0.0.1")
         .required(true)

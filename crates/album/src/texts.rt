@@ -91,6 +91,25 @@ in its first line who asks, and is answered a line for each line:
   {"name":"NotPrepared","refused":17}
   {"answer":"trimmed"}"#;
 
+pub(crate) const ASK_ABOUT: &str =
+    "Sends each line of standard input to a service, and prints what it is answered";
+
+pub(crate) const ASK_HELP: &str =
+    r#"A line is a request; any other line of a connection is sent as it is:
+
+  {"do":"read","object":"picture/0"}
+  {"do":"set_lists","lists":[["picture/0",[["allow","EVERYONE@",1,0]]]]}
+  {"pending":0}
+
+On a terminal each is asked for by a prompt. With --text an answer is spelled out:
+
+  {"answer":"served","client":1,"object":"picture/0","stamp":0,"text":"sea","title":"Sea"}
+  {"answer":"denied","client":1,"reasons":[["picture/0","DELETE","end"]]}
+  {"answer":"committed","client":1,"object":"picture/65537","stamp":65537}
+
+The status is 1 where there is no service at the port, where it refuses WHO, or where it ends before the
+last line is answered."#;
+
 pub(crate) const EXPLAIN_ABOUT: &str =
     "Tells of each line where it is refused, or by which entry each bit is decided";
 

@@ -1,0 +1,75 @@
+//! The subcommand `ask`: a client of a service.
+
+use crate::texts::{ASK_ABOUT, ASK_HELP};
+use crate::{TURNS, port_arg, status};
+use album_ask::{Asking, ask};
+use album_server::Fault;
+use clap::{Arg, ArgAction, ArgMatches, Command};
+use std::alloc::{AllocError, Global};
+use std::io::{Read, Write};
+use std::net::{IpAddr, Ipv4Addr, Net, SocketAddr, TcpListener, TcpStream};
+use std::process::ExitCode;
+
+pub(crate) fn ask_command<'a>(alloc: Global) -> Result<Command<'a>, AllocError> {
+    let who = Arg::new(alloc, "as")
+        .long("as")
+        .value_name("WHO")
+        .help("Who asks: name@users or ANONYMOUS@")
+        .required(true);
+    let text = Arg::new(alloc, "text")
+        .long("text")
+        .help("Spells answers out: contents as text, masks and flags by name, and a new object by its name")
+        .action(ArgAction::SetTrue);
+    Command::new(alloc, "ask")
+        .about(ASK_ABOUT)
+        .after_help(ASK_HELP)
+        .arg(port_arg(alloc))?
+        .arg(who)?
+        .arg(text)
+}
+
+/// Asks the service at the port what the reader has, line by line. The status is 1 where it isn't there, refuses who
+/// asks, or goes away before the end.
+pub(crate) fn ask_service<T, R: Read, W: Write>(
+    rt: &T,
+    alloc: Global,
+    requests: &mut R,
+    writer: &mut W,
+    matches: &ArgMatches<'_>,
+    has_prompt: bool,
+) -> ExitCode
+where
+    T: Net<Listener = TcpListener, Stream = TcpStream> + Eprint,
+{
+    let named = matches.subcommand_matches("ask");
+    let port = named.and_then(|m| m.get_one::<u16>("PORT")).unwrap_or(0);
+    let asking = Asking {
+        who: named.and_then(|m| m.get_str("as")).unwrap_or(""),
+        is_spelled: named.is_some_and(|m| m.get_flag("text")),
+        has_prompt,
+        turns: TURNS,
+    };
+    match TcpStream::connect(rt, local(port)) {
+        Err(error) => {
+            let _ = eprintln!(rt; "album: port {port}: {error}");
+            ExitCode::from(1)
+        }
+        Ok(mut service) => asked(rt, ask(alloc, requests, writer, &mut service, asking)),
+    }
+}
+
+fn asked(rt: &impl Eprint, outcome: Result<bool, Fault>) -> ExitCode {
+    match outcome {
+        Ok(true) => ExitCode::SUCCESS,
+        Ok(false) => {
+            let _ = eprintln!(rt; "album: the service has not answered to the end");
+            ExitCode::from(1)
+        }
+        Err(fault) => status(rt, Err(fault)),
+    }
+}
+
+/// The port of 127.0.0.1.
+fn local(port: u16) -> SocketAddr {
+    SocketAddr::new(IpAddr::V4(Ipv4Addr::new(127, 0, 0, 1)), port)
+}
