@@ -30,10 +30,19 @@ mod laws;
 pub use admins::{Admins, only_admins_are_heard};
 pub use album_judge::{Fault, judge, one_judgement};
 pub use album_stamps::Refusal;
+
+// What a program of one's own needs beside, to open a store and ask (album_first is one).
+pub use album_eval::Principal;
+pub use album_items::{Opening, read_item};
+pub use album_permits::{Answer, Out};
+pub use album_threads::{OwnedSession, Service, ServiceNames, Session, Visit, with_service};
+pub use album_views::Ask;
+pub use album_wire::write_out;
+
 pub use engines::converse::{converse, converse_with};
 pub use engines::replay::replay;
 pub use engines::serve::{
-    AuditFile, Host, Served, Serving, serve, serve_beside, serve_for, serve_until,
+    AuditFile, Host, Served, Serving, opening_of_text, serve, serve_beside, serve_for, serve_until,
 };
 pub use journal::{Journal, NoJournal};
 pub use laws::{

@@ -16,6 +16,7 @@ pub use crate::engines::serve::audit::AuditFile;
 use crate::engines::serve::audit::AuditJournal;
 use crate::engines::serve::connections::Connections;
 use crate::engines::serve::notices::{Notice, Printer};
+pub use crate::engines::serve::opening::opening_of_text;
 use crate::engines::serve::opening::{Unopened, read_opening};
 use crate::engines::serve::waker::{Waker, local};
 use crate::engines::serve::watch::watch;

@@ -1,4 +1,6 @@
 //! The opening of a service, read up to the line with which it is whole.
+ghost use Rattle.std.specs.Prelude.{◌≡◌, true, IfOk};
+ghost use Rattle.album_items.specs.Openings.{is_opening};
 use crate::openings::{SoFar, first_line, later_line, opening_of};
 use album_items::Opening;
 use album_judge::{Fault, PIECE};
@@ -7,6 +9,27 @@ use album_stamps::Refusal;
 use json::Scratch;
 use std::alloc::Global;
 use std::io::Read;
+
+/// The opening that the lines of a text spell, up to `begin`: for a program of one's own.
+///
+/// # Errors
+///
+/// That of the first line that is refused; `BadOpening` where the opening breaks a rule, or the text ends before
+/// `begin`; else `OutOfMemory`.
+pub fn opening_of_text(alloc: Global, text: &str) -> Result<Opening, Refusal>
+    ensures checked { IfOk result (λ opening. is_opening opening ≡ true) }
+{
+    let mut bytes = text.as_bytes();
+    match read_opening(alloc, &mut bytes, u64::MAX) {
+        Ok(Ok(opening)) => {
+            opening.check()?;
+            Ok(opening)
+        }
+        Ok(Err(unopened)) => Err(unopened.why),
+        // A text is read without a failure, and to its end: what is wanting is memory.
+        Err(_) => Err(Refusal::OutOfMemory),
+    }
+}
 
 /// Why an opening is refused, and in which of its lines, from 1.
 #[derive(Clone, Copy)]
