@@ -32,6 +32,7 @@ mod laws;
 // The lines that are written.
 mod figures_json;
 mod message_json;
+mod object_text;
 mod out_json;
 mod record_json;
 mod talk_json;
