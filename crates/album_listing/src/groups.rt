@@ -77,8 +77,8 @@ fn add_group(
     Ok(())
 }
 
-/// Those of the members once more that may bring the principal in. Of a group's users most are others, and a copy of each
-/// would cost more than the ruling.
+/// Those of the members once more that may bring the principal in. Of a group's users most are others, and a copy of
+/// each would cost more than the ruling.
 fn copies(
     alloc: Global,
     members: &[Member],
