@@ -1,10 +1,11 @@
 -- The members of the groups of a view, gathered item by item, for `groups::listed_in` (`gathered-more`, `gathered-other`,
 -- `gathered-all`), and who is in a group by them, for `groups::groups_in` (`groups-are`).
-use Rattle.std.proofs.Common.{◌≡◌, ◌≢◌, ◌<◌, ◌≤◌, ◌+◌, ◌||◌, ◌==◌, ◌++◌, ◌↔◌, ℕ, List, [], ◌∷◌, Bool, true, false, Option, Some, None, is_some, length, take, get_or, refl, sym, ap, subst, ◌∙◌, arith, Contains, IsTrue, if◌then◌else◌}
+use Rattle.std.proofs.Common.{◌≡◌, ◌≢◌, ◌<◌, ◌≤◌, ◌+◌, ◌||◌, ◌==◌, ◌++◌, ◌↔◌, ℕ, zero, suc, List, [], ◌∷◌, Bool, true, false, cond, filter, Option, Some, None, is_some, length, take, get_or, refl, sym, ap, subst, ◌∙◌, arith, Contains, IsTrue, if◌then◌else◌}
 use Rattle.std.specs.Option.{option_map_or}
 use Rattle.std.proofs.lemmas.Bool.{eqb-true, eq-eqb, or_from}
 use Rattle.std.proofs.lemmas.List.{take_more, take_all}
 use Rattle.std.proofs.lemmas.List.Folds.{list_any-append}
+use Rattle.std.proofs.lemmas.Slice.Eq.{bytes_eq-Decides}
 use Rattle.album_lists.specs.declared.whos.Member.{Member}
 use Rattle.album_lists.specs.declared.whos.Member.TheVariants as member
 use Rattle.album_eval.specs.Groups.{IsIn, IsMember}
@@ -21,15 +22,20 @@ use Rattle.album_views.specs.Seen.{seen}
 use Rattle.album_views.proofs.Sets.{has, in-right, in-here}
 use Rattle.album_views.proofs.Turns.{read-has}
 use Rattle.album_listing.specs.Basis.{AreGroups, members_seen}
+use Rattle.album_listing.specs.GroupsFound.{may_bring_in}
 
 -- ---- gathered item by item
 
--- the members of a group that is among the items; of no other
-abbrev pub gathered_of : (ℕ → Value) → List ℕ → ℕ → List Member
-gathered_of seen items number = if has items (group number) then members_seen seen number else []
+-- the members of the value that may bring the principal in
+abbrev pub members_for : Principal → Value → List Member
+members_for p v = filter (may_bring_in p) (members_of v)
 
-abbrev pub IsGathered : (ℕ → Value) → List ℕ → (ℕ → List Member) → Type 0
-IsGathered seen items listed = (number : ℕ) → listed number ≡ gathered_of seen items number
+-- those of a group that is among the items; of no other
+abbrev pub gathered_of : Principal → (ℕ → Value) → List ℕ → ℕ → List Member
+gathered_of p seen items number = if has items (group number) then members_for p (seen (group number)) else []
+
+abbrev pub IsGathered : Principal → (ℕ → Value) → List ℕ → (ℕ → List Member) → Type 0
+IsGathered p seen items listed = (number : ℕ) → listed number ≡ gathered_of p seen items number
 
 -- an item is the group of its number, if it is a group
 group-back : (item : ℕ) → kind_of item ≡ 3 → group (number_of item) ≡ item
@@ -53,51 +59,51 @@ apart a b differ = go (a == b) refl
 
 -- one group more
 more :
-    (seen : ℕ → Value) (items : List ℕ) (item : ℕ) (old new : ℕ → List Member) → kind_of item ≡ 3
-    → ((number : ℕ) → new number ≡ (if number_of item == number then members_of (seen item) else old number))
-    → IsGathered seen items old → IsGathered seen (items ++ item ∷ []) new
-more seen items item old new kind is gathered number = go (number_of item == number) refl
+    (p : Principal) (seen : ℕ → Value) (items : List ℕ) (item : ℕ) (old new : ℕ → List Member) → kind_of item ≡ 3
+    → ((number : ℕ) → new number ≡ (if number_of item == number then members_for p (seen item) else old number))
+    → IsGathered p seen items old → IsGathered p seen (items ++ item ∷ []) new
+more p seen items item old new kind is gathered number = go (number_of item == number) refl
   where
-    go : (b : Bool) → (number_of item == number) ≡ b → new number ≡ gathered_of seen (items ++ item ∷ []) number
+    go : (b : Bool) → (number_of item == number) ≡ b → new number ≡ gathered_of p seen (items ++ item ∷ []) number
     go true e =
         let same : group number ≡ item =
         ap (λ n. group n) (sym (eqb-true (number_of item) number e)) ∙ group-back item kind in
         let there : has (items ++ item ∷ []) (group number) ≡ true =
         subst (λ x. has (items ++ item ∷ []) x ≡ true) (sym same) (in-right items (item ∷ []) item (in-here item [])) in
         is number
-        ∙ ap (λ (b : Bool). if b then members_of (seen item) else old number) e
-        ∙ ap (λ x. members_of (seen x)) (sym same)
-        ∙ ap (λ (b : Bool). if b then members_seen seen number else []) (sym there)
+        ∙ ap (λ (b : Bool). if b then members_for p (seen item) else old number) e
+        ∙ ap (λ x. members_for p (seen x)) (sym same)
+        ∙ ap (λ (b : Bool). if b then members_for p (seen (group number)) else []) (sym there)
     go false e =
         let other : (group number == item) ≡ false =
         apart (group number) item (λ same.
         let equal : number_of item ≡ number = omega (arith, same) in
         let t = eq-eqb (number_of item) number equal in absurd (cc)) in
         is number
-        ∙ ap (λ (b : Bool). if b then members_of (seen item) else old number) e
+        ∙ ap (λ (b : Bool). if b then members_for p (seen item) else old number) e
         ∙ gathered number
-        ∙ ap (λ (b : Bool). if b then members_seen seen number else []) (sym (has-other items item (group number) other))
+        ∙ ap (λ (b : Bool). if b then members_for p (seen (group number)) else []) (sym (has-other items item (group number) other))
 
 pub gathered-more :
-    (seen : ℕ → Value) (items : List ℕ) (n : ℕ) (old new : ℕ → List Member) → n < length items
+    (p : Principal) (seen : ℕ → Value) (items : List ℕ) (n : ℕ) (old new : ℕ → List Member) → n < length items
     → kind_of (get_or items n 0) ≡ 3
     → ((number : ℕ)
-    → new number ≡ (if number_of (get_or items n 0) == number then members_of (seen (get_or items n 0)) else old number))
-    → IsGathered seen (take n items) old → IsGathered seen (take (n + 1) items) new
-gathered-more seen items n old new l kind is gathered =
-    subst (λ (is : List ℕ). IsGathered seen is new) (sym (take_more items n 0 l))
-    (more seen (take n items) (get_or items n 0) old new kind is gathered)
+    → new number ≡ (if number_of (get_or items n 0) == number then members_for p (seen (get_or items n 0)) else old number))
+    → IsGathered p seen (take n items) old → IsGathered p seen (take (n + 1) items) new
+gathered-more p seen items n old new l kind is gathered =
+    subst (λ (is : List ℕ). IsGathered p seen is new) (sym (take_more items n 0 l))
+    (more p seen (take n items) (get_or items n 0) old new kind is gathered)
 
 -- one item more that is no group
 pub gathered-other :
-    (seen : ℕ → Value) (items : List ℕ) (n : ℕ) (listed : ℕ → List Member) → n < length items
+    (p : Principal) (seen : ℕ → Value) (items : List ℕ) (n : ℕ) (listed : ℕ → List Member) → n < length items
     → kind_of (get_or items n 0) ≢ 3
-    → IsGathered seen (take n items) listed → IsGathered seen (take (n + 1) items) listed
-gathered-other seen items n listed l kind gathered number =
+    → IsGathered p seen (take n items) listed → IsGathered p seen (take (n + 1) items) listed
+gathered-other p seen items n listed l kind gathered number =
     let other : (group number == get_or items n 0) ≡ false =
     apart (group number) (get_or items n 0) (λ same. kind (omega (arith, same))) in
     gathered number
-    ∙ ap (λ (b : Bool). if b then members_seen seen number else [])
+    ∙ ap (λ (b : Bool). if b then members_for p (seen (group number)) else [])
     (sym (ap (λ (is : List ℕ). has is (group number)) (take_more items n 0 l)
     ∙ has-other (take n items) (get_or items n 0) (group number) other))
 
@@ -111,21 +117,21 @@ unread rows item e = go (version_read rows item) (read-has rows item ∙ e)
     go (Some version) e = absurd (cc)
 
 pub gathered-all :
-    (rows : List ReadVersion) (n : ℕ) (listed : ℕ → List Member) → length (items_read rows) ≤ n
-    → IsGathered (seen rows) (take n (items_read rows)) listed
-    → (number : ℕ) → listed number ≡ members_seen (seen rows) number
-gathered-all rows n listed l gathered number =
+    (p : Principal) (rows : List ReadVersion) (n : ℕ) (listed : ℕ → List Member) → length (items_read rows) ≤ n
+    → IsGathered p (seen rows) (take n (items_read rows)) listed
+    → (number : ℕ) → listed number ≡ filter (may_bring_in p) (members_seen (seen rows) number)
+gathered-all p rows n listed l gathered number =
     gathered number
-    ∙ ap (λ (is : List ℕ). gathered_of (seen rows) is number) (take_all n (items_read rows) l)
+    ∙ ap (λ (is : List ℕ). gathered_of p (seen rows) is number) (take_all n (items_read rows) l)
     ∙ go (has (items_read rows) (group number)) refl
   where
     go :
         (b : Bool) → has (items_read rows) (group number) ≡ b
-        → gathered_of (seen rows) (items_read rows) number ≡ members_seen (seen rows) number
-    go true e = ap (λ (b : Bool). if b then members_seen (seen rows) number else []) e
+        → gathered_of p (seen rows) (items_read rows) number ≡ members_for p (seen rows (group number))
+    go true e = ap (λ (b : Bool). if b then members_for p (seen rows (group number)) else []) e
     go false e =
-        ap (λ (b : Bool). if b then members_seen (seen rows) number else []) e
-        ∙ ap members_of (sym (unread rows (group number) e))
+        ap (λ (b : Bool). if b then members_for p (seen rows (group number)) else []) e
+        ∙ ap (members_for p) (sym (unread rows (group number) e))
 
 -- ---- membership
 
@@ -144,16 +150,72 @@ pub member-along :
 member-along a b principal.Anonymous same number m = m
 member-along a b (principal.User user) same number m = in-along a b user same number m
 
--- the groups by lists that are those seen
+-- ---- members that may bring a principal in
+
+behind : (y : Member) (ys : List Member) (x : Member) → Contains ys x → Contains (y ∷ ys) x
+behind y ys x (k, l, e) = (suc k, omega arith, e)
+
+kept-in : (p : Member → Bool) (xs : List Member) (x : Member) → Contains (filter p xs) x → Contains xs x
+kept-in p [] x (k, l, e) = absurd (omega arith)
+kept-in p (y ∷ ys) x c = go (p y) c (kept-in p ys x)
+  where
+    go : (b : Bool) → Contains (cond b (y ∷ filter p ys) (filter p ys)) x → (Contains (filter p ys) x → Contains ys x)
+        → Contains (y ∷ ys) x
+    go true (zero, l, e) h = (zero, omega arith, e)
+    go true (suc k, l, e) h = behind y ys x (h (k, omega arith, e))
+    go false c h = behind y ys x (h c)
+
+in-kept : (p : Member → Bool) (xs : List Member) (x : Member) → p x ≡ true → Contains xs x → Contains (filter p xs) x
+in-kept p [] x t (k, l, e) = absurd (omega arith)
+in-kept p (y ∷ ys) x t (zero, l, e) =
+    let here : p y ≡ true = ap p e ∙ t in
+    subst (λ (b : Bool). Contains (cond b (y ∷ filter p ys) (filter p ys)) x) (sym here) (zero, omega arith, e)
+in-kept p (y ∷ ys) x t (suc k, l, e) = go (p y) (in-kept p ys x t (k, omega arith, e))
+  where
+    go : (b : Bool) → Contains (filter p ys) x → Contains (cond b (y ∷ filter p ys) (filter p ys)) x
+    go true c = behind y (filter p ys) x c
+    go false c = c
+
+-- the user is in the same groups by them
+in-all :
+    (f : ℕ → List Member) (user : List ℕ) (number : ℕ)
+    → IsIn (λ n. filter (may_bring_in (principal.User user)) (f n)) user number → IsIn f user number
+in-all f user number (by_name n c) = by_name n (kept-in (may_bring_in (principal.User user)) (f n) (member.User user) c)
+in-all f user number (by_group n inner c h) =
+    by_group n inner (kept-in (may_bring_in (principal.User user)) (f n) (member.Group inner) c) (in-all f user inner h)
+
+in-few :
+    (f : ℕ → List Member) (user : List ℕ) (number : ℕ)
+    → IsIn f user number → IsIn (λ n. filter (may_bring_in (principal.User user)) (f n)) user number
+in-few f user number (by_name n c) =
+    by_name n (in-kept (may_bring_in (principal.User user)) (f n) (member.User user) ((bytes_eq-Decides user user).1 refl) c)
+in-few f user number (by_group n inner c h) =
+    by_group n inner (in-kept (may_bring_in (principal.User user)) (f n) (member.Group inner) refl c) (in-few f user inner h)
+
+member-of-all :
+    (f : ℕ → List Member) (p : Principal) (number : ℕ)
+    → IsMember (λ n. filter (may_bring_in p) (f n)) p number → IsMember f p number
+member-of-all f principal.Anonymous number m = m
+member-of-all f (principal.User user) number m = in-all f user number m
+
+member-of-few :
+    (f : ℕ → List Member) (p : Principal) (number : ℕ)
+    → IsMember f p number → IsMember (λ n. filter (may_bring_in p) (f n)) p number
+member-of-few f principal.Anonymous number m = m
+member-of-few f (principal.User user) number m = in-few f user number m
+
+-- the groups by lists that have those members of each group that is seen
 pub groups-are :
     (rows : List ReadVersion) (p : Principal) (listed : ℕ → List Member) (is_in : ℕ → Bool)
-    → ((number : ℕ) → listed number ≡ members_seen (seen rows) number)
+    → ((number : ℕ) → listed number ≡ filter (may_bring_in p) (members_seen (seen rows) number))
     → ((number : ℕ) → IsTrue (is_in number) ↔ IsMember listed p number)
     → AreGroups (seen rows) p is_in
 groups-are rows p listed is_in same tied =
+    let few = λ (number : ℕ). filter (may_bring_in p) (members_seen (seen rows) number) in
     record {
       tied = λ number. (
-        λ t. member-along listed (members_seen (seen rows)) p same number ((tied number).0 t),
-        λ m. (tied number).1 (member-along (members_seen (seen rows)) listed p (λ n. sym (same n)) number m),
+        λ t. member-of-all (members_seen (seen rows)) p number (member-along listed few p same number ((tied number).0 t)),
+        λ m. (tied number).1
+            (member-along few listed p (λ n. sym (same n)) number (member-of-few (members_seen (seen rows)) p number m)),
       );
     }

@@ -1,5 +1,5 @@
 -- Which groups a principal is in, computed, and the basis of a ruling that has them.
-use Rattle.std.specs.Prelude.{ℕ, ◌+◌, ◌==◌, Bool, List, [], filter, length, map}
+use Rattle.std.specs.Prelude.{ℕ, ◌+◌, ◌==◌, Bool, true, List, [], filter, length, map}
 use Rattle.std.specs.Fn.{iterate}
 use Rattle.std.specs.List.{list_any}
 use Rattle.album_lists.specs.declared.whos.Member.{Member}
@@ -17,6 +17,11 @@ use Rattle.album_listing.specs.Basis.{Basis, members_seen}
 -- the numbers of the groups that were read
 abbrev pub groups_read : List ReadVersion → List ℕ
 groups_read rows = map number_of (filter (λ item. kind_of item == 3) (items_read rows))
+
+-- the member is the principal, or a group: no other brings the principal into a group
+abbrev pub may_bring_in : Principal → Member → Bool
+may_bring_in principal (member.User name) = is_user principal name
+may_bring_in principal (member.Group number) = true
 
 -- the member is the principal, or one of these groups
 abbrev pub brings_in : Principal → List ℕ → Member → Bool

@@ -1,5 +1,5 @@
--- No line that is written has a float. For `write_out`: `no_float_in_note`, `no_float_in_answer` and
--- `no_float_in_message`; for `write_talk`: `no_float_in_talk`; for `write_record`: `no_float_in_record`; for
+-- No line that is written has a float. For `write_out`: `no_float_in_note`, `no_float_in_answer` with those of its lists,
+-- and `no_float_in_message`; for `write_talk`: `no_float_in_talk`; for `write_record`: `no_float_in_record`; for
 -- `write_figures`: `no_float_in_figures`.
 use Rattle.std.proofs.Common.{◌≡◌, ℕ, List, [], ◌∷◌, map, false, Some, None, Option, refl}
 use Rattle.serde_json.specs.Data.{Data}
@@ -30,7 +30,7 @@ use Rattle.album_lines.specs.Spelling.{whole_data}
 use Rattle.album_wire.specs.ValueJson.{item_json, entry_json, member_json, home_json, value_json}
 use Rattle.album_wire.specs.MessageJson.{write_json, request_json, reply_json, message_json}
 use Rattle.album_wire.specs.RecordJson.{record_json}
-use Rattle.album_wire.specs.OutJson.{note_json, row_json, at_json, reason_json, served_json, answer_json}
+use Rattle.album_wire.specs.OutJson.{note_json, row_json, at_json, reason_json, group_served, entries_served, listed_json, denied_json, served_json, answer_json}
 use Rattle.album_wire.specs.TalkJson.{talk_json}
 use Rattle.album_wire.specs.FiguresJson.{marks_json, figures_json}
 use Rattle.album_wire.specs.declared.figures_json.ServiceFigures.{ServiceFigures}
@@ -108,15 +108,27 @@ in_at verdict.DeniedAtEnd = refl
 in_reason : (reason : Reason) → has_float (reason_json reason) ≡ false
 in_reason reason = rw (in_at reason.verdict) refl
 
+pub no_float_in_group : (client object stamp : ℕ) (members : List Member) → has_float (group_served client object stamp members) ≡ false
+no_float_in_group client object stamp members = rw (in_members members) refl
+
+pub no_float_in_entries : (client object stamp : ℕ) (entries : List Ace) → has_float (entries_served client object stamp entries) ≡ false
+no_float_in_entries client object stamp entries = rw (in_entries entries) refl
+
+pub no_float_in_rows : (client album stamp : ℕ) (rows : List Row) → has_float (listed_json client album stamp rows) ≡ false
+no_float_in_rows client album stamp rows = rw (in_list row_json in_row rows) refl
+
+pub no_float_in_reasons : (client : ℕ) (reasons : List Reason) → has_float (denied_json client reasons) ≡ false
+no_float_in_reasons client reasons = rw (in_list reason_json in_reason reasons) refl
+
 in_served : (client : ℕ) (s : Served) → has_float (served_json client s) ≡ false
 in_served client (served.Picture object stamp title content) = refl
-in_served client (served.Group object stamp members) = rw (in_members members) refl
-in_served client (served.Entries object stamp entries) = rw (in_entries entries) refl
-in_served client (served.Listed album stamp rows) = rw (in_list row_json in_row rows) refl
+in_served client (served.Group object stamp members) = no_float_in_group client object stamp members
+in_served client (served.Entries object stamp entries) = no_float_in_entries client object stamp entries
+in_served client (served.Listed album stamp rows) = no_float_in_rows client album stamp rows
 
 pub no_float_in_answer : (client : ℕ) (a : Answer) → has_float (answer_json client a) ≡ false
 no_float_in_answer client (answer.Served served) = in_served client served
-no_float_in_answer client (answer.Denied reasons) = rw (in_list reason_json in_reason reasons) refl
+no_float_in_answer client (answer.Denied reasons) = no_float_in_reasons client reasons
 no_float_in_answer client (answer.Missing object) = refl
 no_float_in_answer client (answer.Busy why) = refl
 no_float_in_answer client (answer.Committed stamp) = refl

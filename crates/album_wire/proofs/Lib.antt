@@ -1,4 +1,5 @@
 pub mod Floats
+pub mod AnswerTexts
 pub mod OnLiterals
 pub mod Forms
 pub mod HexTexts

@@ -8,7 +8,8 @@ ghost use Rattle.album_wire.specs.OutJson.{note_json, row_json, rows_json, pictu
 ghost use Rattle.album_lines.specs.Output.{line_text};
 
 use crate::message_json::message_json;
-use crate::value_json::{entries_json, item_json, members_json};
+use crate::object_text::{begin_answer, end_line, put_number, put_text};
+use crate::value_json::{entries_json, item_json, item_text, members_json};
 use album_calls::Message;
 use album_eval::Verdict;
 use album_items::{Content, ItemId, Title};
@@ -95,8 +96,89 @@ fn note_line(alloc: Global, client: ClientNo, note: Note) -> Result<Vec<u8>, All
 fn answer_line(alloc: Global, client: ClientNo, answer: &Answer) -> Result<Vec<u8>, AllocError>
     ensures { IfOk result (λ bytes. bytes.items ≡ line_text (answer_json client answer.now)) }
 {
-    let value = answer_json(alloc, client, answer)?;
-    line(alloc, &value)
+    match answer {
+        Answer::Served(served) => served_line(alloc, client, served),
+        Answer::Denied(denial) => line(alloc, &denied_json(alloc, client, denial.as_slice())?),
+        Answer::Missing(object) => line(alloc, &missing_json(alloc, client, *object)?),
+        Answer::Busy(why) => line(alloc, &busy_json(alloc, client, *why)?),
+        Answer::Committed(stamp) => ended_line(alloc, client, "committed", *stamp),
+        Answer::Aborted(stamp) => ended_line(alloc, client, "aborted", *stamp),
+        Answer::Unsettled(stamp, refusal) => {
+            line(alloc, &unsettled_json(alloc, client, *stamp, *refusal)?)
+        }
+        Answer::Refused(refusal) => line(alloc, &refused_json(alloc, client, *refusal)?),
+    }
+}
+
+fn served_line(alloc: Global, client: ClientNo, served: &Served) -> Result<Vec<u8>, AllocError>
+    ensures { IfOk result (λ bytes. bytes.items ≡ line_text (served_json client served.now)) }
+{
+    match served {
+        Served::Picture {
+            object,
+            stamp,
+            title,
+            content,
+        } => picture_line(alloc, client, *object, *stamp, title, content),
+        Served::Group {
+            object,
+            stamp,
+            members,
+        } => line(
+            alloc,
+            &group_served(alloc, client, *object, *stamp, members.as_slice())?,
+        ),
+        Served::Entries {
+            object,
+            stamp,
+            list,
+        } => line(
+            alloc,
+            &entries_served(alloc, client, *object, *stamp, list.entries())?,
+        ),
+        Served::Listed { album, stamp, rows } => {
+            line(
+                alloc,
+                &listed_json(alloc, client, *album, *stamp, rows.as_slice())?,
+            )
+        }
+    }
+}
+
+/// Most answers are pictures and writes that ended: these are written straight.
+fn picture_line(
+    alloc: Global,
+    client: ClientNo,
+    object: ItemId,
+    stamp: Stamp,
+    title: &Title,
+    content: &Content,
+) -> Result<Vec<u8>, AllocError>
+    ensures { IfOk result
+        (λ bytes. bytes.items ≡ line_text (picture_served client object stamp title.now content.now)) }
+{
+    let content = hex::encode(alloc, content.as_slice())?;
+    let object = item_text(alloc, object)?;
+    let mut out = begin_answer(alloc, "served", client)?;
+    put_text(&mut out, "content", content.as_str())?;
+    put_text(&mut out, "object", object.as_str())?;
+    put_number(&mut out, "stamp", stamp.value())?;
+    put_text(&mut out, "title", title.as_str())?;
+    end_line(out)
+}
+
+/// A write that ended, by the word that says how.
+fn ended_line(
+    alloc: Global,
+    client: ClientNo,
+    word: &str,
+    stamp: Stamp,
+) -> Result<Vec<u8>, AllocError>
+    ensures { IfOk result (λ bytes. bytes.items ≡ line_text (ended_json client word.now stamp)) }
+{
+    let mut out = begin_answer(alloc, word, client)?;
+    put_number(&mut out, "stamp", stamp.value())?;
+    end_line(out)
 }
 
 /// The line of a value that has no float.
@@ -120,73 +202,6 @@ fn note_json(alloc: Global, client: ClientNo, note: Note) -> Result<Value, Alloc
         "mask": note.mask.bits(),
         "object": object,
         "success": note.success,
-    })
-}
-
-fn answer_json(alloc: Global, client: ClientNo, answer: &Answer) -> Result<Value, AllocError>
-    ensures { IfOk result (λ v. view v ≡ answer_json client answer.now) }
-{
-    match answer {
-        Answer::Served(served) => served_json(alloc, client, served),
-        Answer::Denied(denial) => denied_json(alloc, client, denial.as_slice()),
-        Answer::Missing(object) => missing_json(alloc, client, *object),
-        Answer::Busy(why) => busy_json(alloc, client, *why),
-        Answer::Committed(stamp) => ended_json(alloc, client, "committed", *stamp),
-        Answer::Aborted(stamp) => ended_json(alloc, client, "aborted", *stamp),
-        Answer::Unsettled(stamp, refusal) => unsettled_json(alloc, client, *stamp, *refusal),
-        Answer::Refused(refusal) => refused_json(alloc, client, *refusal),
-    }
-}
-
-fn served_json(alloc: Global, client: ClientNo, served: &Served) -> Result<Value, AllocError>
-    ensures { IfOk result (λ v. view v ≡ served_json client served.now) }
-{
-    match served {
-        Served::Picture {
-            object,
-            stamp,
-            title,
-            content,
-        } => picture_served(alloc, client, *object, *stamp, title, content),
-        Served::Group {
-            object,
-            stamp,
-            members,
-        } => group_served(alloc, client, *object, *stamp, members.as_slice()),
-        Served::Entries {
-            object,
-            stamp,
-            list,
-        } => entries_served(alloc, client, *object, *stamp, list.entries()),
-        Served::Listed { album, stamp, rows } => listed_json(
-            alloc,
-            client,
-            *album,
-            *stamp,
-            rows.as_slice(),
-        ),
-    }
-}
-
-fn picture_served(
-    alloc: Global,
-    client: ClientNo,
-    object: ItemId,
-    stamp: Stamp,
-    title: &Title,
-    content: &Content,
-) -> Result<Value, AllocError>
-    ensures { IfOk result (λ v. view v ≡ picture_served client object stamp title.now content.now) }
-{
-    let content = hex::encode(alloc, content.as_slice())?;
-    let object = item_json(alloc, object)?;
-    json!(in alloc; {
-        "answer": "served",
-        "client": client.number(),
-        "content": content,
-        "object": object,
-        "stamp": stamp.value(),
-        "title": title.as_str(),
     })
 }
 
@@ -328,18 +343,6 @@ fn why_word(why: Why) -> &'static str
         Why::Rounds => "rounds",
         Why::Wide => "wide",
     }
-}
-
-/// A write that ended, by the word that says how.
-fn ended_json(
-    alloc: Global,
-    client: ClientNo,
-    word: &str,
-    stamp: Stamp,
-) -> Result<Value, AllocError>
-    ensures { IfOk result (λ v. view v ≡ ended_json client word.now stamp) }
-{
-    json!(in alloc; {"answer": word, "client": client.number(), "stamp": stamp.value()})
 }
 
 fn unsettled_json(

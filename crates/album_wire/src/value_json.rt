@@ -1,6 +1,7 @@
 //! The JSON values of what items hold: whos, entries and members, and the values of items.
 ghost use Rattle.std.specs.Prelude.{◌≡◌, string_bytes, IfOk};
 ghost use Rattle.hex.specs.Hex.{encode_lower};
+ghost use Rattle.album_items.specs.ItemIds.{text_of};
 ghost use Rattle.serde_json.specs.View.{view};
 ghost use Rattle.album_lines.specs.Spelling.{type_word};
 ghost use Rattle.album_wire.specs.ValueJson.{owner_text, group_text, who_text, member_text, item_json, item_list_json, entry_json, entries_json, member_json, members_json, picture_json, album_json, list_json, group_json, value_json};
@@ -79,8 +80,16 @@ fn group_json(alloc: Global, group: &Group) -> Result<Value, AllocError>
 pub(crate) fn item_json(alloc: Global, item: ItemId) -> Result<Value, AllocError>
     ensures { IfOk result (λ v. view v ≡ item_json item) }
 {
+    let text = item_text(alloc, item)?;
+    Ok(Value::String(text))
+}
+
+/// The text of an item.
+pub(crate) fn item_text(alloc: Global, item: ItemId) -> Result<String, AllocError>
+    ensures { IfOk result (λ text. string_bytes text ≡ text_of item) }
+{
     match item.text(alloc) {
-        Ok(text) => Ok(Value::String(text)),
+        Ok(text) => Ok(text),
         // Only memory refuses it.
         Err(_) => Err(AllocError),
     }

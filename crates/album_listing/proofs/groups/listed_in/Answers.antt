@@ -11,7 +11,7 @@ returns c =
     let same = c.items-item-items.ensures in
     let all : length (items_read c.args.view.now.rows) ≤ c.loop-item.item-index =
     omega (arith, ap (λ (is : List ℕ). length is) same, c.loop-item-test.false) in
-    gathered-all c.args.view.now.rows c.loop-item.item-index (listed_in c.loop-item.groups) all
+    gathered-all c.args.principal.now c.args.view.now.rows c.loop-item.item-index (listed_in c.loop-item.groups) all
     (subst
-    (λ (is : List ℕ). IsGathered (seen c.args.view.now.rows) (take c.loop-item.item-index is) (listed_in c.loop-item.groups))
+    (λ (is : List ℕ). IsGathered c.args.principal.now (seen c.args.view.now.rows) (take c.loop-item.item-index is) (listed_in c.loop-item.groups))
     same c.loop-item.invariant)

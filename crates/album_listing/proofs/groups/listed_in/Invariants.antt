@@ -5,4 +5,4 @@ use Rattle.album_listing.proofs.Gathering.{IsGathered}
 use Rattle.album_listing.proofs.groups.listed_in.Given as goal
 
 abbrev pub invariant-loop-item : goal.invariant-loop-item
-invariant-loop-item l = IsGathered (seen l.view.rows) (take l.item-index l.item-items) (listed_in l.groups)
+invariant-loop-item l = IsGathered l.principal (seen l.view.rows) (take l.item-index l.item-items) (listed_in l.groups)
