@@ -91,7 +91,7 @@ fn command<'a>(alloc: Global) -> Result<Command<'a>, AllocError> {
         .subcommand(judge)?
         .subcommand(replay_command(alloc)?)?
         .subcommand(serve_command(alloc)?)?
-        .subcommand(explain_command(alloc, questions_arg(alloc))?)?
+        .subcommand(explain_command(alloc)?)?
         .subcommand(mask_command(alloc)?)?
         .subcommand(flags_command(alloc)?)
 }
