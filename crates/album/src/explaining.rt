@@ -1,5 +1,5 @@
-//! The subcommands that explain: `explain` with the lines that are, and `mask` and `flags`, which give names for numbers
-//! and back.
+//! The subcommands that explain: `explain` with the lines that are, and `mask` and `flags`, which give names for
+//! numbers and back.
 
 use crate::texts::{
     EVENT_ABOUT, EXPLAIN_ABOUT, EXPLAIN_HELP, FLAGS_ABOUT, JUDGE_ABOUT, LINES_HELP, MASK_ABOUT,

@@ -35,5 +35,6 @@ IsTelling number line is_refused text =
     IsReply number (read_of line) is_refused text ⊎ IsReply number (Err OutOfMemory) is_refused text
 
 -- that may be told of every line
-pub out_of_memory_told : (number : ℕ) (line : Line) → (is_refused : Bool) × (text : List ℕ) × IsTelling number line is_refused text
+pub out_of_memory_told : (number : ℕ) (line : Line)
+    → (is_refused : Bool) × (text : List ℕ) × IsTelling number line is_refused text
 out_of_memory_told number line = (true, line_text (refused_json number OutOfMemory None), inr (refl, (None, refl)))

@@ -2,7 +2,7 @@
 //! was decided.
 //!
 //! What comes in: a reader and a writer, as for `album_judge`, and an `Explainer`, which tells of one line. What goes
-//! out: of each line that is read, a line with its number; or a fault, before which a prefix of these lines was written.
+//! out: of each line that is read, a line with its number; or a fault, before which a prefix of these was written.
 //! The refusals and the verdicts of judge lines are those of `album_judge`. What the bits of masks and flags are called
 //! comes out too, and what is called so goes in. Other lines are explained by crates above, by the same engine.
 //!

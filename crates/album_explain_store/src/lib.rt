@@ -3,9 +3,9 @@
 //! What comes in: lines of openings with the events behind them, of events alone, or of a connection. What goes out: of
 //! each line that is read, a line with its number. It is refused, or taken, as the readers of `album_wire` do it.
 //!
-//! Read `events` first, then `talks`, where the first line says who talks, and `openings`, where lines have an order and
-//! make an opening together, and `scripts`, which tells of its end too. `telling` has the lines that are written; `places` finds where a refused line fails, by
-//! `places/tables`, which has the names of each line in the order of their tests.
+//! Read `events` first, then `talks`, where the first line says who talks; then `openings`, where lines have an order
+//! and make an opening together, and `scripts`, which tells of its end too. `telling` has the lines that are written.
+//! `places` finds where a refused line fails, by `places/tables`, which has the names of each line in their order.
 #![tactic(auto)]
 
 // What a line is, and the line that tells so.
