@@ -1,8 +1,13 @@
-//! The subcommands that explain: `explain judge`, and `mask` and `flags`, which give names for numbers and back.
+//! The subcommands that explain: `explain` with the lines that are, and `mask` and `flags`, which give names for
+//! numbers and back.
 
-use crate::texts::{EXPLAIN_ABOUT, EXPLAIN_HELP, FLAGS_ABOUT, JUDGE_ABOUT, MASK_ABOUT, NAMES_HELP};
+use crate::texts::{
+    EVENT_ABOUT, EXPLAIN_ABOUT, EXPLAIN_HELP, FLAGS_ABOUT, JUDGE_ABOUT, LINES_HELP, MASK_ABOUT,
+    NAMES_HELP, OPENING_ABOUT, TALK_ABOUT,
+};
 use crate::{TURNS, open, status};
-use album_explain::{explain, write_flags, write_mask};
+use album_explain::{JudgeLines, explain, write_flags, write_mask};
+use album_explain_store::{EventLines, TalkLines, explain_script};
 use album_server::{Fault, Refusal};
 use clap::{Arg, ArgMatches, Command};
 use std::alloc::{AllocError, Global};
@@ -10,18 +15,29 @@ use std::io::{Read, Write};
 use std::process::ExitCode;
 use std::rt::Files;
 
-pub(crate) fn explain_command<'a>(
-    alloc: Global,
-    files: Arg<'a>,
-) -> Result<Command<'a>, AllocError> {
-    let judge = Command::new(alloc, "judge")
-        .about(JUDGE_ABOUT)
-        .after_help(EXPLAIN_HELP)
-        .arg(files)?;
+pub(crate) fn explain_command<'a>(alloc: Global) -> Result<Command<'a>, AllocError> {
     Command::new(alloc, "explain")
         .about(EXPLAIN_ABOUT)
         .subcommand_required(true)
-        .subcommand(judge)
+        .subcommand(lines_command(alloc, "judge", JUDGE_ABOUT, EXPLAIN_HELP)?)?
+        .subcommand(lines_command(alloc, "opening", OPENING_ABOUT, LINES_HELP)?)?
+        .subcommand(lines_command(alloc, "event", EVENT_ABOUT, LINES_HELP)?)?
+        .subcommand(lines_command(alloc, "talk", TALK_ABOUT, LINES_HELP)?)
+}
+
+fn lines_command<'a>(
+    alloc: Global,
+    name: &'static str,
+    about: &'static str,
+    help: &'static str,
+) -> Result<Command<'a>, AllocError> {
+    let files = Arg::new(alloc, "FILE")
+        .help("Files of lines, in the place of standard input")
+        .num_args(0..);
+    Command::new(alloc, name)
+        .about(about)
+        .after_help(help)
+        .arg(files)
 }
 
 pub(crate) fn mask_command<'a>(alloc: Global) -> Result<Command<'a>, AllocError> {
@@ -69,21 +85,38 @@ fn explained<T: Files + Eprint, R: Read, W: Write>(
     writer: &mut W,
     matches: &ArgMatches<'_>,
 ) -> Result<bool, Fault> {
-    let named = matches
-        .subcommand_matches("explain")
-        .and_then(|m| m.subcommand_matches("judge"));
+    let named = matches.subcommand_matches("explain");
+    let lines = named.and_then(|m| m.subcommand_name()).unwrap_or("judge");
+    let files = named
+        .and_then(|m| m.subcommand_matches(lines))
+        .and_then(|m| m.get_strs("FILE"));
     let mut has_refused = false;
-    match named.and_then(|m| m.get_strs("FILE")) {
-        None => has_refused = explain(alloc, reader, writer, TURNS)?,
+    match files {
+        None => has_refused = explain_each(alloc, lines, reader, writer)?,
         Some(paths) => {
             for path in paths {
-                let refused = explain(alloc, &mut open(rt, path)?, writer, TURNS)?;
+                let refused = explain_each(alloc, lines, &mut open(rt, path)?, writer)?;
                 has_refused = has_refused || refused;
             }
         }
     }
     writer.flush().map_err(|_| Fault::Writing)?;
     Ok(has_refused)
+}
+
+/// Explains lines of this name to the end of the reader, and tells whether one was refused.
+fn explain_each<R: Read, W: Write>(
+    alloc: Global,
+    lines: &str,
+    reader: &mut R,
+    writer: &mut W,
+) -> Result<bool, Fault> {
+    match lines {
+        "opening" => explain_script(alloc, reader, writer, TURNS),
+        "event" => Ok(explain(alloc, reader, writer, EventLines, TURNS)?.has_refused),
+        "talk" => Ok(explain(alloc, reader, writer, TalkLines::Stranger, TURNS)?.has_refused),
+        _ => Ok(explain(alloc, reader, writer, JudgeLines, TURNS)?.has_refused),
+    }
 }
 
 /// Prints what the names, or the number, of `mask` or `flags` are.

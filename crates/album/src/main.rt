@@ -106,7 +106,7 @@ fn command<'a>(alloc: Global) -> Result<Command<'a>, AllocError> {
         .subcommand(replay_command(alloc)?)?
         .subcommand(serve_command(alloc)?)?
         .subcommand(ask_command(alloc)?)?
-        .subcommand(explain_command(alloc, questions_arg(alloc))?)?
+        .subcommand(explain_command(alloc)?)?
         .subcommand(mask_command(alloc)?)?
         .subcommand(flags_command(alloc)?)
 }

@@ -128,6 +128,31 @@ pub(crate) const EXPLAIN_HELP: &str =
 The status is 1 where a line is refused. The lines of each FILE are explained in turn, in the place of
 standard input, and counted from 1 in each."#;
 
+pub(crate) const OPENING_ABOUT: &str =
+    "Tells of each line of an opening, and of the events behind it, what it is or where it is refused";
+
+pub(crate) const EVENT_ABOUT: &str = "Tells of each line what event it is, or where it is refused";
+
+pub(crate) const TALK_ABOUT: &str =
+    "Tells of each line of a connection what it says, or where it is refused";
+
+pub(crate) const LINES_HELP: &str =
+    r#"The lines are those of `album replay`, and of a connection to `album serve`. Each that isn't blank is
+explained by one line, with its number:
+
+  {"kind":"ask","line":3,"reads":"event"}
+  {"at":"ask.lists[0].entries[1].mask","line":4,"name":"BadMask","refused":5,"value":512}
+  {"at":"line 3: value.list","line":6,"name":"BadOpening","refused":22,"value":0}
+
+  kind     of a line that is taken the name in it that tells what it says
+  reads    as what it is read: opening, event or talk
+  at       of a refusal the part of the line that fails its test; the byte from which on it is no JSON; or, of
+           an opening that is refused as a whole, the line with the part that fails
+  value    the number that stands at the place, if one does
+
+The status is 1 where a line is refused. The lines of each FILE are explained in turn, in the place of
+standard input, and counted from 1 in each."#;
+
 pub(crate) const MASK_ABOUT: &str =
     "Tells the number of a mask's names, or the names of its number";
 

@@ -1,5 +1,5 @@
 pub mod Adding
 pub mod Floats
 pub mod Joining
-pub mod Judging
+pub mod Questions
 pub mod Rows

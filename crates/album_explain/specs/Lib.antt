@@ -2,3 +2,4 @@ pub mod Names
 pub mod Decisions
 pub mod Telling
 pub mod Explain
+pub mod Judging

@@ -6,9 +6,10 @@ mod shapes;
 mod values;
 
 use crate::places::bytes::bad_byte;
-use crate::places::shapes::bad_shape;
-use crate::places::values::bad_value;
+use crate::places::shapes::{bad_entries_form, bad_shape};
+use crate::places::values::{bad_entries_value, bad_value};
 use album_lines::{LineIn, data, whole};
+use album_lists::Holder;
 use album_stamps::{MAX_LINE, Refusal};
 use json::{Scratch, Value};
 use std::alloc::{AllocError, Global};
@@ -56,28 +57,34 @@ pub struct Found {
     pub value: Option<u64>,
 }
 
-/// Where the line fails its first test, if it fails one.
+/// Where the judge line fails its first test, if it fails one.
 pub(crate) fn find(
     alloc: Global,
     scratch: &mut Scratch,
     line: &LineIn,
 ) -> Result<Option<Found>, AllocError> {
     let LineIn::Text(bytes) = line else {
-        return at_byte(alloc, MAX_LINE);
+        return Ok(Some(find_byte(alloc, line)?));
     };
     match data(alloc, scratch, bytes) {
         Ok(value) => in_object(alloc, &value),
         Err(Refusal::OutOfMemory) => Err(AllocError),
-        Err(_) => {
-            let byte = bad_byte(alloc, bytes)?;
-            at_byte(alloc, byte)
-        }
+        Err(_) => Ok(Some(find_byte(alloc, line)?)),
     }
 }
 
-fn at_byte(alloc: Global, byte: usize) -> Result<Option<Found>, AllocError> {
+/// The byte from which on a line that is no JSON is none.
+///
+/// # Errors
+///
+/// `AllocError`.
+pub fn find_byte(alloc: Global, line: &LineIn) -> Result<Found, AllocError> {
+    let byte = match line {
+        LineIn::Text(bytes) => bad_byte(alloc, bytes)?,
+        LineIn::TooLong => MAX_LINE,
+    };
     let at = format!(in alloc; "byte {byte}")?;
-    Ok(Some(Found { at, value: None }))
+    Ok(Found { at, value: None })
 }
 
 fn in_object(alloc: Global, line: &Value<'_>) -> Result<Option<Found>, AllocError> {
@@ -85,6 +92,35 @@ fn in_object(alloc: Global, line: &Value<'_>) -> Result<Option<Found>, AllocErro
         Some(finding) => Some(finding),
         None => bad_value(line),
     };
+    told(alloc, found)
+}
+
+/// Where a list of entries, a value's member of this name, hasn't its form, if it hasn't.
+///
+/// # Errors
+///
+/// `AllocError`.
+pub fn find_entries_form(alloc: Global, value: &Value<'_>) -> Result<Option<Found>, AllocError> {
+    told(alloc, bad_entries_form(value))
+}
+
+/// Where one that has its form is none that such an object may carry, if it is none.
+///
+/// # Errors
+///
+/// `AllocError`.
+pub fn find_entries_value(
+    alloc: Global,
+    value: &Value<'_>,
+    holder: Holder,
+) -> Result<Option<Found>, AllocError> {
+    told(
+        alloc,
+        bad_entries_value(value, matches!(holder, Holder::Folder)),
+    )
+}
+
+fn told(alloc: Global, found: Option<Finding<'_>>) -> Result<Option<Found>, AllocError> {
     match found {
         None => Ok(None),
         Some(finding) => {

@@ -27,8 +27,12 @@ pub struct BitRow {
 }
 
 /// The line of a refusal: its number, where it is, the refusal's name and number, and the number that stands there.
+///
+/// # Errors
+///
+/// `AllocError`.
 #[tactic(auto, using(crate::proofs::Floats::no_float_in_refused))]
-pub(crate) fn write_refused(
+pub fn write_refused(
     alloc: Global,
     number: u64,
     refusal: Refusal,
@@ -188,7 +192,11 @@ fn decision_at(alloc: Global, decision: Decision) -> Result<Value, AllocError>
 }
 
 /// The line of a value that has no float.
-pub(crate) fn line(alloc: Global, value: &Value) -> Result<Vec<u8>, AllocError>
+///
+/// # Errors
+///
+/// `AllocError`.
+pub fn line(alloc: Global, value: &Value) -> Result<Vec<u8>, AllocError>
     requires { has_float (view value.now) ≡ false }
     ensures { IfOk result (λ bytes. bytes.items ≡ line_text (view value.now)) }
 {

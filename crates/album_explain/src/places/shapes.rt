@@ -48,7 +48,7 @@ fn bad_member<'a>(
         });
     };
     match name {
-        "entries" => Ok(bad_entries(value)),
+        "entries" => Ok(bad_entries_form(value)),
         "groups" => bad_groups(alloc, value),
         "kind" => Ok(unless(is_kind(value), place, value)),
         "policy" => Ok(unless(is_policy(value), place, value)),
@@ -77,7 +77,7 @@ fn is_policy(value: &Value<'_>) -> bool {
     }
 }
 
-fn bad_entries<'a>(value: &Value<'a>) -> Option<Finding<'a>> {
+pub(crate) fn bad_entries_form<'a>(value: &Value<'a>) -> Option<Finding<'a>> {
     let Ok(entries) = list(value) else {
         return Some(Finding::new(Place::Member("entries"), value));
     };

@@ -17,7 +17,7 @@ pub(crate) fn bad_value<'a>(line: &Value<'a>) -> Option<Finding<'a>> {
     for name in NAMES {
         if let Some(value) = member(line, name) {
             let found = match name {
-                "entries" => bad_entries(value, is_album),
+                "entries" => bad_entries_value(value, is_album),
                 "groups" => bad_groups(value),
                 _ => bad_member(name, value),
             };
@@ -75,7 +75,7 @@ fn number(value: &Value<'_>) -> Option<u32> {
 }
 
 /// How many entries there are, then each of them, then whether all are of use, and whether the object may carry them.
-fn bad_entries<'a>(value: &Value<'_>, is_album: bool) -> Option<Finding<'a>> {
+pub(crate) fn bad_entries_value<'a>(value: &Value<'_>, is_album: bool) -> Option<Finding<'a>> {
     let entries = list(value).ok()?;
     if entries.len() > MAX_ENTRIES {
         return Some(Finding::new(Place::Member("entries"), value));

@@ -5,8 +5,8 @@ use Rattle.album_eval.specs.Groups.{listed_in}
 use Rattle.album_lines.specs.JudgeLine.{question}
 use Rattle.album_lines.specs.Output.{line_text}
 use Rattle.album_explain.specs.Telling.{told_json, bit_row}
-use Rattle.album_explain.proofs.Judging.{told_on}
-use Rattle.album_explain.proofs.explaining.tell.Goals as goal
+use Rattle.album_explain.proofs.Questions.{told_on}
+use Rattle.album_explain.proofs.judging.tell.Goals as goal
 
 pub returns-clause-told : goal.returns-clause-told
 returns-clause-told c =

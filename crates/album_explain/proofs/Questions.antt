@@ -9,7 +9,7 @@ use Rattle.album_lines.specs.JudgeLine.{Question}
 use Rattle.album_lines.specs.Output.{line_text}
 use Rattle.album_judge.specs.Judge.{listed_by, case_by}
 use Rattle.album_explain.specs.Telling.{told_json, bit_rows}
-use Rattle.album_explain.specs.Explain.{IsTold}
+use Rattle.album_explain.specs.Judging.{IsTold}
 
 -- what is told of the groups of the map is told of those of the line
 pub told_on : (number : ℕ) (q : Question) (v : Verdict) (listed : ℕ → List Member) (is_in : ℕ → Bool) (text : List ℕ)

@@ -1,0 +1,109 @@
+//! What is told of judge lines: the verdict, with how each bit is decided, or the refusal.
+ghost use Rattle.std.specs.Prelude.{◌≡◌, ◌≢◌, Err, IfOk, IfErr, IsOkAnd, IsOkUnless};
+ghost use Rattle.album_stamps.specs.declared.refusals.Refusal.TheVariants.{OutOfMemory};
+ghost use Rattle.album_lines.specs.JudgeLine.{question};
+ghost use Rattle.album_lines.specs.Lines.{said};
+ghost use Rattle.album_judge.specs.Judge.{read_of};
+ghost use Rattle.album_explain.specs.Judging.{IsTold, IsTelling};
+
+use crate::explainer::Explainer;
+use crate::places::find;
+use crate::telling::{bit_rows, write_refused, write_told};
+use album_eval::{Facts, evaluate, members};
+use album_judge::group_map;
+use album_lines::{JudgeLine, LineIn, read_judge};
+use album_stamps::Refusal;
+use json::Scratch;
+use std::alloc::Global;
+
+/// Tells of judge lines.
+#[derive(Clone, Copy, Debug)]
+pub struct JudgeLines;
+
+impl Explainer for JudgeLines {
+    ghost use Rattle.album_explain.specs.Judging.{IsTelling, out_of_memory_told};
+
+    ghost Tells = { λ old number line is_refused text new. IsTelling number line is_refused text };
+
+    fn tell(
+        &mut self,
+        alloc: Global,
+        scratch: &mut Scratch,
+        line: &LineIn,
+        number: u64,
+    ) -> Result<(Vec<u8>, bool), Refusal> {
+        explanation(alloc, scratch, line, number)
+    }
+
+    ghost goes_on = { λ old number line.
+        let out = out_of_memory_told number line in (out.0, out.1, old, out.2) };
+}
+
+/// The explanation of a line that isn't blank, and whether it is refused.
+fn explanation(
+    alloc: Global,
+    scratch: &mut Scratch,
+    line: &LineIn,
+    number: u64,
+) -> Result<(Vec<u8>, bool), Refusal>
+    ensures { IfOk result (λ reply. IsTelling number (said line.now) reply.1 reply.0.items) }
+{
+    match told(alloc, scratch, line, number) {
+        Ok(text) => Ok((text, false)),
+        Err(Refusal::OutOfMemory) => {
+            let text = write_refused(alloc, number, Refusal::OutOfMemory, None)?;
+            Ok((text, true))
+        }
+        Err(refusal) => {
+            let found = find(alloc, scratch, line)?;
+            let text = write_refused(alloc, number, refusal, found.as_ref())?;
+            Ok((text, true))
+        }
+    }
+}
+
+/// The line of the verdict, or the refusal.
+fn told(
+    alloc: Global,
+    scratch: &mut Scratch,
+    line: &LineIn,
+    number: u64,
+) -> Result<Vec<u8>, Refusal>
+    ensures told { IfOk result (λ text.
+        IsOkAnd (read_of (said line.now)) (λ q. IsTold number q text.items)) }
+    ensures refused { IfErr result (λ e. e ≢ OutOfMemory → read_of (said line.now) ≡ Err e) }
+{
+    let question = read_judge(alloc, scratch, line.bytes()?)?;
+    tell(alloc, question, number)
+}
+
+/// The line of the verdict that a judge line asks for: judged with exactly the groups of the line that its principal is
+/// in.
+fn tell(alloc: Global, line: JudgeLine, number: u64) -> Result<Vec<u8>, Refusal>
+    ensures told { IfOk result (λ text. IsTold number (question line) text.items) }
+    ensures memory { IsOkUnless result Refusal.OutOfMemory }
+{
+    let JudgeLine {
+        list,
+        holder,
+        head_group,
+        groups,
+        owner,
+        who,
+        mask,
+        policy,
+    } = line;
+    let by_number = group_map(alloc, groups)?;
+    let found = members(alloc, &by_number, &who)?;
+    let facts = Facts {
+        policy,
+        principal: &who,
+        owner: &owner,
+        head_group,
+        groups: &found,
+    };
+    let verdict = evaluate(&list, &facts, mask);
+    let rows = bit_rows(alloc, &list, &facts, holder, mask)?;
+    let text = write_told(alloc, number, verdict, &rows)?;
+    Ok(text)
+}

@@ -1,0 +1,5 @@
+pub mod Telling
+pub mod Readings
+pub mod Steps
+pub mod Openings
+pub mod Scripts

@@ -1,0 +1,84 @@
+-- What comes of the lines of a script: first those of its opening, then the events behind it.
+use Rattle.std.specs.Prelude.{◌++◌, ◌∷◌, [], ℕ, List, Bool, true, false, None, if◌then◌else◌, Result, Ok, Err, refl}
+use Rattle.std.proofs.Common.{inr}
+use Rattle.album_stamps.specs.declared.refusals.Refusal.{Refusal}
+use Rattle.album_stamps.specs.declared.refusals.Refusal.TheVariants.{OutOfMemory, BadRequest, BadOpening}
+use Rattle.album_items.specs.Openings.{Row, is_opening}
+use Rattle.album_lines.specs.Lines.{Line}
+use Rattle.album_lines.specs.Output.{line_text}
+use Rattle.album_wire.specs.OpeningLine.{opening_line_of}
+use Rattle.album_wire.specs.declared.opening_line.OpeningLine.{OpeningLine}
+use Rattle.album_wire.specs.declared.opening_line.OpeningLine.TheVariants as line
+use Rattle.album_wire.specs.declared.opening_shape.Header.{Header}
+use Rattle.album_wire.specs.declared.opening_shape.TheConstants.{DEFAULT_LIMIT, DEFAULT_POLICY}
+use Rattle.album_explain.specs.Telling.{refused_json}
+use Rattle.album_explain_store.specs.declared.openings.OpeningLines.{OpeningLines}
+use Rattle.album_explain_store.specs.declared.openings.OpeningLines.TheVariants as kept
+use Rattle.album_explain_store.specs.declared.telling.Kind.{Kind}
+use Rattle.album_explain_store.specs.declared.telling.Kind.TheVariants as kind
+use Rattle.album_explain_store.specs.declared.telling.Lines.TheVariants as lines
+use Rattle.album_explain_store.specs.declared.telling.Taken.{Taken}
+use Rattle.album_explain_store.specs.Readings.{read_by, event_reading}
+use Rattle.album_explain_store.specs.Telling.{Step, TellsBy}
+
+-- where it stands between two lines: no line was read; it is being opened, with these items so far; or all are there
+pub data Stage : Type 0 where
+  Unopened : Stage
+  BeingOpened : Header → List Row → Stage
+  Begun : Stage
+
+abbrev pub stage_of : OpeningLines → Stage
+stage_of kept.Unopened = Unopened
+stage_of (kept.BeingOpened so_far) = BeingOpened so_far.header so_far.rows.items
+stage_of kept.Begun = Begun
+
+abbrev pub has_begun : Stage → Bool
+has_begun Unopened = false
+has_begun (BeingOpened header rows) = false
+has_begun Begun = true
+
+abbrev pub taken_opening : Kind → Taken
+taken_opening kind = record { lines = lines.Opening; kind = kind }
+
+-- a header that is one, which is gone on with where the first line is refused
+abbrev pub any_header : Header
+any_header = record { parts = 1; limit = DEFAULT_LIMIT; policy = DEFAULT_POLICY; trace = false }
+
+-- the header comes first
+abbrev pub first_step : Result OpeningLine Refusal → Step Stage
+first_step (Ok (line.Open header)) =
+    record { reading = Ok (taken_opening kind.Open); next = BeingOpened header [] }
+first_step (Ok (line.Item item value)) = record { reading = Err BadRequest; next = BeingOpened any_header [] }
+first_step (Ok line.Begin) = record { reading = Err BadRequest; next = BeingOpened any_header [] }
+first_step (Err refusal) = record { reading = Err refusal; next = BeingOpened any_header [] }
+
+-- the items that were taken are an opening
+abbrev pub begin_reading : Header → List Row → Result Taken Refusal
+begin_reading header rows =
+    if is_opening (record { parts = header.parts; limit = header.limit; policy = header.policy; items = rows })
+    then Ok (taken_opening kind.Begin)
+    else Err BadOpening
+
+-- then come the items, and then that these are all; a line that is refused is left out
+abbrev pub later_step : Header → List Row → Result OpeningLine Refusal → Step Stage
+later_step header rows (Ok (line.Open other)) = record { reading = Err BadRequest; next = BeingOpened header rows }
+later_step header rows (Ok (line.Item item value)) =
+    record { reading = Ok (taken_opening kind.Item); next = BeingOpened header (rows ++ (item, value) ∷ []) }
+later_step header rows (Ok line.Begin) = record { reading = begin_reading header rows; next = Begun }
+later_step header rows (Err refusal) = record { reading = Err refusal; next = BeingOpened header rows }
+
+-- behind it stand events, whether it was one or not
+abbrev pub opening_step : Stage → Line → Step Stage
+opening_step Unopened line = first_step (read_by opening_line_of line)
+opening_step (BeingOpened header rows) line = later_step header rows (read_by opening_line_of line)
+opening_step Begun line = record { reading = event_reading line; next = Begun }
+
+abbrev pub OpeningTells : OpeningLines → ℕ → Line → Bool → List ℕ → OpeningLines → Type 0
+OpeningTells old number line is_refused text new =
+    TellsBy (opening_step (stage_of old) line) (stage_of old) number is_refused text (stage_of new)
+
+-- that memory ran out may be told of every line
+pub opening_told : (old : OpeningLines) (number : ℕ) (line : Line)
+    → (is_refused : Bool) × (text : List ℕ) × (new : OpeningLines) × OpeningTells old number line is_refused text new
+opening_told old number line =
+    (true, line_text (refused_json number OutOfMemory None), old, inr ((refl, (None, refl)), refl))

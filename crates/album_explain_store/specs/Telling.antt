@@ -1,0 +1,64 @@
+-- The lines that tell of a store's lines.
+use Rattle.std.specs.Prelude.{◌≡◌, ◌⊎◌, ℕ, List, codes, Bool, true, false, None, Result, Ok, Err, refl}
+use Rattle.std.proofs.Common.{inr}
+use Rattle.serde_json.specs.Data.{Data, string, object, no_members, member}
+use Rattle.album_stamps.specs.declared.refusals.Refusal.{Refusal}
+use Rattle.album_stamps.specs.declared.refusals.Refusal.TheVariants.{OutOfMemory}
+use Rattle.album_lines.specs.Output.{line_text}
+use Rattle.album_lines.specs.Spelling.{whole_data}
+use Rattle.album_explain.specs.Telling.{refused_json}
+use Rattle.album_explain.specs.Judging.{IsRefused}
+use Rattle.album_explain_store.specs.declared.telling.Lines.{Lines}
+use Rattle.album_explain_store.specs.declared.telling.Lines.TheVariants as lines
+use Rattle.album_explain_store.specs.declared.telling.Kind.{Kind}
+use Rattle.album_explain_store.specs.declared.telling.Kind.TheVariants as kind
+use Rattle.album_explain_store.specs.declared.telling.Taken.{Taken}
+
+-- the name in a line that tells what it says
+abbrev pub kind_word : Kind → List ℕ
+kind_word kind.Open = codes "open"
+kind_word kind.Item = codes "item"
+kind_word kind.Begin = codes "begin"
+kind_word kind.Ask = codes "ask"
+kind_word kind.Deliver = codes "deliver"
+kind_word kind.Sweep = codes "sweep"
+kind_word kind.Stop = codes "stop"
+kind_word kind.Trim = codes "trim"
+kind_word kind.Who = codes "who"
+kind_word kind.Pending = codes "pending"
+
+-- as what a line is read
+abbrev pub lines_word : Lines → List ℕ
+lines_word lines.Opening = codes "opening"
+lines_word lines.Events = codes "event"
+lines_word lines.Talk = codes "talk"
+
+-- a line of this number is taken, as this
+abbrev pub taken_json : ℕ → Taken → Data
+taken_json number taken = object (
+    member (codes "kind") (string (kind_word taken.kind)) (
+    member (codes "line") (whole_data number) (
+    member (codes "reads") (string (lines_word taken.lines)) no_members)))
+
+-- the line for what was read, and whether that is a refusal; of which the place is left open
+abbrev pub IsReply : ℕ → Result Taken Refusal → Bool → List ℕ → Type 0
+IsReply number (Ok taken) is_refused text =
+    (is_refused ≡ false) × (text ≡ line_text (taken_json number taken))
+IsReply number (Err refusal) is_refused text = (is_refused ≡ true) × IsRefused number refusal text
+
+-- what comes of a line: what it is, or its refusal; and where its explainer stands then
+pub record Step (S : Type 0) : Type 0 where
+  pub reading : Result Taken Refusal
+  pub next : S
+
+-- What is told of a line is what comes of it; or that memory ran out on it, which changes nothing.
+abbrev pub TellsBy : {S : Type 0} → Step S → S → ℕ → Bool → List ℕ → S → Type 0
+TellsBy step old number is_refused text new =
+    (IsReply number step.reading is_refused text × (new ≡ step.next))
+    ⊎ (IsReply number (Err OutOfMemory) is_refused text × (new ≡ old))
+
+-- that memory ran out may be told of every line
+pub out_of_memory_told : {S : Type 0} (step : Step S) (old : S) (number : ℕ)
+    → (is_refused : Bool) × (text : List ℕ) × (new : S) × TellsBy step old number is_refused text new
+out_of_memory_told step old number =
+    (true, line_text (refused_json number OutOfMemory None), old, inr ((refl, (None, refl)), refl))

@@ -1,0 +1,76 @@
+//! What is told of the lines of events.
+ghost use Rattle.std.specs.Prelude.{◌≡◌};
+ghost use Rattle.album_stamps.specs.Outcome.{Gives};
+ghost use Rattle.album_lines.specs.Lines.{said};
+ghost use Rattle.album_explain_store.specs.Readings.{event_reading, kind_of_event, kind_of_events};
+
+use crate::places::tables::Table;
+use crate::telling::{Kind, Lines, Taken, tell_reading};
+use album_explain::Explainer;
+use album_lines::LineIn;
+use album_permits::Event;
+use album_stamps::Refusal;
+use album_wire::{Spelled, read_event};
+use json::Scratch;
+use std::alloc::Global;
+
+/// Tells of lines of events, each by itself.
+#[derive(Clone, Copy, Debug)]
+pub struct EventLines;
+
+impl Explainer for EventLines {
+    ghost use Rattle.album_explain_store.specs.Telling.{TellsBy, out_of_memory_told};
+    ghost use Rattle.album_explain_store.specs.Steps.{event_step};
+
+    ghost Tells = { λ old number line is_refused text new.
+        TellsBy (event_step old line) old number is_refused text new };
+
+    fn tell(
+        &mut self,
+        alloc: Global,
+        scratch: &mut Scratch,
+        line: &LineIn,
+        number: u64,
+    ) -> Result<(Vec<u8>, bool), Refusal> {
+        let reading = event_reading(alloc, scratch, line);
+        tell_reading(alloc, scratch, line, number, Table::Event, reading)
+    }
+
+    ghost goes_on = { λ old number line. out_of_memory_told (event_step old line) old number };
+}
+
+/// What the line of an event is.
+pub(crate) fn event_reading(
+    alloc: Global,
+    scratch: &mut Scratch,
+    line: &LineIn,
+) -> Result<Taken, Refusal>
+    ensures { Gives (λ taken. taken) result (event_reading (said line.now)) }
+{
+    let events = read_event(alloc, scratch, line.bytes()?)?;
+    Ok(Taken {
+        lines: Lines::Events,
+        kind: kind_of_events(&events),
+    })
+}
+
+fn kind_of_events(events: &Spelled) -> Kind
+    ensures { result ≡ kind_of_events events.now }
+{
+    match events {
+        Spelled::One(event) => kind_of_event(event),
+        Spelled::Range(..) => Kind::Deliver,
+    }
+}
+
+fn kind_of_event(event: &Event) -> Kind
+    ensures { result ≡ kind_of_event event.now }
+{
+    match event {
+        Event::Ask(..) => Kind::Ask,
+        Event::Deliver(_) => Kind::Deliver,
+        Event::Sweep(..) => Kind::Sweep,
+        Event::Stop(_) => Kind::Stop,
+        Event::Trim(..) => Kind::Trim,
+    }
+}

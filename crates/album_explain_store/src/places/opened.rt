@@ -1,0 +1,189 @@
+//! Where an opening as a whole is none: the line, and its part. The header is tested first, then how many items there
+//! are, then each item by itself, and then the items together.
+use album_access::AceFlags;
+use album_explain::Found;
+use album_items::{ItemId, Opening, Value, has_own_value};
+use album_lists::Ace;
+use album_stamps::{
+    MAX_CHILDREN, MAX_MARKS, MAX_OPENING_ITEMS, MAX_OPENING_NUMBER, MAX_PARTS, MIN_MARKS,
+};
+use bitflags::Flags;
+use std::alloc::{AllocError, Global};
+
+/// Where the opening fails its first test, if it fails one. Its header is in one line, each of its items in another.
+pub(crate) fn bad_opening(
+    alloc: Global,
+    opening: &Opening,
+    header_line: u64,
+    lines: &[u64],
+) -> Result<Option<Found>, AllocError> {
+    if let Some((part, value)) = bad_header(opening) {
+        return at_line(alloc, header_line, part, Some(value));
+    }
+    let rows = opening.items.as_slice();
+    if rows.len() > MAX_OPENING_ITEMS {
+        let at = format!(in alloc; "line {}", line_of(lines, MAX_OPENING_ITEMS))?;
+        return Ok(Some(Found { at, value: None }));
+    }
+    for (index, row) in rows.iter().enumerate() {
+        let found = bad_row(alloc, line_of(lines, index), row)?;
+        if found.is_some() {
+            return Ok(found);
+        }
+    }
+    bad_pair(alloc, rows, lines)
+}
+
+fn line_of(lines: &[u64], index: usize) -> u64 {
+    lines.get(index).copied().unwrap_or(0)
+}
+
+/// A part of a line.
+fn at_line(
+    alloc: Global,
+    line: u64,
+    part: &str,
+    value: Option<u64>,
+) -> Result<Option<Found>, AllocError> {
+    let at = format!(in alloc; "line {line}: {part}")?;
+    Ok(Some(Found { at, value }))
+}
+
+/// The number of the header that is none.
+fn bad_header(opening: &Opening) -> Option<(&'static str, u64)> {
+    if !(1..=u64::from(MAX_PARTS)).contains(&opening.parts) {
+        return Some(("open.parts", opening.parts));
+    }
+    if !(MIN_MARKS..=MAX_MARKS).contains(&opening.limit) {
+        return Some(("open.limit", opening.limit));
+    }
+    if !matches!(opening.policy, 1 | 2) {
+        return Some(("open.policy", opening.policy));
+    }
+    None
+}
+
+/// What is wrong with an item by itself.
+fn bad_row(alloc: Global, line: u64, row: &(ItemId, Value)) -> Result<Option<Found>, AllocError> {
+    if !has_own_value(row) {
+        return at_line(alloc, line, "value", None);
+    }
+    if row.0.number() > MAX_OPENING_NUMBER {
+        return at_line(alloc, line, "item", None);
+    }
+    if let Some((part, value)) = bad_number(&row.1) {
+        return at_line(alloc, line, part, Some(value));
+    }
+    bad_children(alloc, line, row.1.children())
+}
+
+/// The number of a list or of a home that is too great.
+fn bad_number(value: &Value) -> Option<(&'static str, u64)> {
+    let home = match value {
+        Value::Picture(picture) => Some(picture.home),
+        Value::Album(album) => album.home,
+        Value::Missing | Value::List(_) | Value::Group(_) => None,
+    };
+    if let Some(head) = value.head() {
+        if head.list > MAX_OPENING_NUMBER {
+            return Some(("value.list", head.list));
+        }
+    }
+    match home {
+        Some(home) if home > MAX_OPENING_NUMBER => Some(("value.home", home)),
+        _ => None,
+    }
+}
+
+/// A child whose number is too great, more children than there may be, or one that stands there before.
+fn bad_children(
+    alloc: Global,
+    line: u64,
+    children: &[ItemId],
+) -> Result<Option<Found>, AllocError> {
+    for (index, child) in children.iter().enumerate() {
+        if child.number() > MAX_OPENING_NUMBER {
+            return at_child(alloc, line, index);
+        }
+    }
+    if children.len() > MAX_CHILDREN {
+        return at_line(alloc, line, "value.children", None);
+    }
+    for (index, child) in children.iter().enumerate() {
+        if children[..index].iter().any(|other| other.is(*child)) {
+            return at_child(alloc, line, index);
+        }
+    }
+    Ok(None)
+}
+
+fn at_child(alloc: Global, line: u64, index: usize) -> Result<Option<Found>, AllocError> {
+    let at = format!(in alloc; "line {line}: value.children[{index}]")?;
+    Ok(Some(Found { at, value: None }))
+}
+
+/// What is wrong with two items: both are one, both heads name one list, or a list doesn't fit what carries it.
+fn bad_pair(
+    alloc: Global,
+    rows: &[(ItemId, Value)],
+    lines: &[u64],
+) -> Result<Option<Found>, AllocError> {
+    for (index, row) in rows.iter().enumerate() {
+        if rows[..index].iter().any(|other| other.0.is(row.0)) {
+            return at_line(alloc, line_of(lines, index), "item", None);
+        }
+    }
+    for (index, row) in rows.iter().enumerate() {
+        if let Some(head) = row.1.head() {
+            if rows[..index]
+                .iter()
+                .any(|other| names_list(&other.1, head.list))
+            {
+                let line = line_of(lines, index);
+                return at_line(alloc, line, "value.list", Some(head.list));
+            }
+        }
+    }
+    for (index, row) in rows.iter().enumerate() {
+        let is_plain = rows.iter().any(|other| is_plain_list(&other.1, row.0));
+        if let Some((at, flags)) = inherited(row.1.entries()) {
+            if is_plain {
+                let line = line_of(lines, index);
+                let at = format!(in alloc; "line {line}: value.entries[{at}].flags")?;
+                let value = Some(flags);
+                return Ok(Some(Found { at, value }));
+            }
+        }
+    }
+    Ok(None)
+}
+
+fn names_list(value: &Value, list: u64) -> bool {
+    match value.head() {
+        Some(head) => head.list == list,
+        None => false,
+    }
+}
+
+/// Whether the item is the list of this picture or group.
+fn is_plain_list(value: &Value, item: ItemId) -> bool {
+    match value {
+        Value::Picture(picture) => picture.head.list == item.number(),
+        Value::Group(group) => group.head.list == item.number(),
+        Value::Missing | Value::Album(_) | Value::List(_) => false,
+    }
+}
+
+/// The first entry that only an album may carry, with its flags.
+fn inherited(entries: &[Ace]) -> Option<(usize, u64)> {
+    let inheritance = AceFlags::FILE_INHERIT
+        .union(AceFlags::DIRECTORY_INHERIT)
+        .union(AceFlags::NO_PROPAGATE_INHERIT)
+        .union(AceFlags::INHERIT_ONLY);
+    for (index, entry) in entries.iter().enumerate() {
+        if entry.flags.intersects(inheritance) {
+            return Some((index, u64::from(entry.flags.bits())));
+        }
+    }
+    None
+}

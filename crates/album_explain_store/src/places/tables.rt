@@ -1,0 +1,212 @@
+//! What stands in each line: the names of its members, and of those of the objects within it, in the order in which
+//! their forms are tested.
+use album_lines::{field, has, text};
+use json::Value;
+
+/// What stands under a name.
+#[derive(Clone, Copy, Debug)]
+pub(crate) enum Form {
+    /// The word of an ask, or another text that nothing more is asked of.
+    Word,
+    Title,
+    Content,
+    Owner,
+    /// A principal.
+    Who,
+    /// A number.
+    Whole,
+    /// A number that may be left out.
+    PerhapsWhole,
+    /// True or false, which may be left out.
+    PerhapsTruth,
+    /// True.
+    True,
+    /// A number, or null.
+    Home,
+    /// The number of a client, or of a partition.
+    Client,
+    Part,
+    Stamp,
+    Item,
+    /// Pictures and albums.
+    Children,
+    Members,
+    Entries,
+    /// Objects with the entries that they are to have.
+    Lists,
+    /// The number of a message, or a range of them.
+    Deliver,
+}
+
+/// What stands under a name of a whole line.
+#[derive(Clone, Copy, Debug)]
+pub(crate) enum Part {
+    Plain(Form),
+    Open,
+    Sweep,
+    Trim,
+    /// An ask, whose word tells which members it has.
+    Ask,
+    /// The value of an item, whose names tell which members it has.
+    Value,
+}
+
+pub(crate) type Rows = &'static [(&'static str, Form)];
+
+pub(crate) type Parts = &'static [(&'static str, Part)];
+
+/// Which lines are tested.
+#[derive(Clone, Copy, Debug)]
+pub(crate) enum Table {
+    Opening,
+    Event,
+    /// The first line of a connection.
+    Hello,
+    /// A later one.
+    Talk,
+}
+
+const OPEN: Rows = &[
+    ("parts", Form::Whole),
+    ("limit", Form::PerhapsWhole),
+    ("policy", Form::PerhapsWhole),
+    ("trace", Form::PerhapsTruth),
+];
+
+const SWEEP: Rows = &[("part", Form::Part), ("stamp", Form::Stamp)];
+
+const TRIM: Rows = &[("item", Form::Item), ("part", Form::Part)];
+
+const PICTURE: Rows = &[
+    ("title", Form::Title),
+    ("content", Form::Content),
+    ("owner", Form::Owner),
+    ("group", Form::Whole),
+    ("list", Form::Whole),
+    ("home", Form::Whole),
+];
+
+const ALBUM: Rows = &[
+    ("title", Form::Title),
+    ("owner", Form::Owner),
+    ("group", Form::Whole),
+    ("list", Form::Whole),
+    ("home", Form::Home),
+    ("children", Form::Children),
+];
+
+const LIST: Rows = &[("entries", Form::Entries)];
+
+const GROUP: Rows = &[
+    ("owner", Form::Owner),
+    ("group", Form::Whole),
+    ("list", Form::Whole),
+    ("members", Form::Members),
+];
+
+/// The members of a line, in the order in which their forms are tested. Which line it is, its names tell.
+pub(crate) fn parts_of(table: Table, line: &Value<'_>) -> Parts {
+    match table {
+        Table::Opening if has(line, "open") => &[("open", Part::Open)],
+        Table::Opening if has(line, "item") => {
+            &[("item", Part::Plain(Form::Item)), ("value", Part::Value)]
+        }
+        Table::Opening => &[("begin", Part::Plain(Form::True))],
+        Table::Event if has(line, "ask") => &[
+            ("ask", Part::Ask),
+            ("client", Part::Plain(Form::Client)),
+            ("who", Part::Plain(Form::Who)),
+        ],
+        Table::Event if has(line, "deliver") => &[("deliver", Part::Plain(Form::Deliver))],
+        Table::Event if has(line, "sweep") => &[("sweep", Part::Sweep)],
+        Table::Event if has(line, "stop") => &[("stop", Part::Plain(Form::Client))],
+        Table::Event => &[("trim", Part::Trim)],
+        Table::Hello => &[("who", Part::Plain(Form::Who))],
+        Table::Talk if has(line, "ask") => &[("ask", Part::Ask)],
+        Table::Talk if has(line, "pending") => &[("pending", Part::Plain(Form::Part))],
+        Table::Talk if has(line, "sweep") => &[("sweep", Part::Sweep)],
+        Table::Talk => &[("trim", Part::Trim)],
+    }
+}
+
+/// The same, in the order in which their values are tested: who asks comes before what is asked.
+pub(crate) fn valued_parts_of(table: Table, line: &Value<'_>) -> Parts {
+    match table {
+        Table::Event if has(line, "ask") => {
+            &[("who", Part::Plain(Form::Who)), ("ask", Part::Ask)]
+        }
+        _ => parts_of(table, line),
+    }
+}
+
+/// The members of the part, in the order in which they are tested. None are known of an ask whose word is none, and a
+/// plain part has none.
+pub(crate) fn rows_of(part: Part, value: &Value<'_>) -> Option<Rows> {
+    match part {
+        Part::Plain(_) => None,
+        Part::Open => Some(OPEN),
+        Part::Sweep => Some(SWEEP),
+        Part::Trim => Some(TRIM),
+        Part::Ask => ask_rows(value),
+        Part::Value => Some(value_rows(value)),
+    }
+}
+
+fn ask_rows(ask: &Value<'_>) -> Option<Rows> {
+    let word = text(field(ask, "do").ok()?).ok()?;
+    match word {
+        "read" | "get_list" | "delete" => Some(&[("do", Form::Word), ("object", Form::Item)]),
+        "list" => Some(&[("do", Form::Word), ("album", Form::Item)]),
+        "add_picture" => Some(&[
+            ("do", Form::Word),
+            ("album", Form::Item),
+            ("title", Form::Title),
+            ("content", Form::Content),
+        ]),
+        "add_album" => Some(&[
+            ("do", Form::Word),
+            ("album", Form::Item),
+            ("title", Form::Title),
+        ]),
+        "retitle" => Some(&[
+            ("do", Form::Word),
+            ("object", Form::Item),
+            ("title", Form::Title),
+        ]),
+        "replace" => Some(&[
+            ("do", Form::Word),
+            ("object", Form::Item),
+            ("content", Form::Content),
+        ]),
+        "move" => Some(&[
+            ("do", Form::Word),
+            ("object", Form::Item),
+            ("to", Form::Item),
+        ]),
+        "set_lists" => Some(&[("do", Form::Word), ("lists", Form::Lists)]),
+        "set_owner" => Some(&[
+            ("do", Form::Word),
+            ("object", Form::Item),
+            ("owner", Form::Owner),
+            ("group", Form::Whole),
+        ]),
+        "set_members" => Some(&[
+            ("do", Form::Word),
+            ("object", Form::Item),
+            ("members", Form::Members),
+        ]),
+        _ => None,
+    }
+}
+
+fn value_rows(value: &Value<'_>) -> Rows {
+    if has(value, "entries") {
+        LIST
+    } else if has(value, "members") {
+        GROUP
+    } else if has(value, "children") {
+        ALBUM
+    } else {
+        PICTURE
+    }
+}

@@ -1,0 +1,127 @@
+//! What a line is, and the line that tells so: {"kind", "line", "reads"}. That of a refusal is `album_explain`'s.
+ghost use Rattle.std.specs.Prelude.{◌≡◌, Err, IfOk};
+ghost use Rattle.serde_json.specs.View.{view};
+ghost use Rattle.album_lines.specs.Output.{line_text};
+ghost use Rattle.album_explain_store.specs.Telling.{kind_word, lines_word, taken_json, IsReply};
+
+use crate::places::find;
+use crate::places::tables::Table;
+use album_explain::{Found, line, write_refused};
+use album_lines::LineIn;
+use album_stamps::Refusal;
+use json::Scratch;
+use serde_json::{Value, json};
+use std::alloc::{AllocError, Global};
+
+/// Where a line stands: in an opening, among the events of a script, or in a connection.
+#[derive(Clone, Copy, Debug, PartialEq, Eq)]
+pub enum Lines {
+    Opening,
+    Events,
+    Talk,
+}
+
+/// What a line says: which of its names tells so.
+#[derive(Clone, Copy, Debug, PartialEq, Eq)]
+pub enum Kind {
+    Open,
+    Item,
+    Begin,
+    Ask,
+    Deliver,
+    Sweep,
+    Stop,
+    Trim,
+    Who,
+    Pending,
+}
+
+/// A line that is taken.
+#[derive(Clone, Copy, Debug, PartialEq, Eq)]
+pub struct Taken {
+    pub lines: Lines,
+    pub kind: Kind,
+}
+
+/// The line that tells of what was read, and whether that is a refusal. Where it is refused, `table` finds.
+pub(crate) fn tell_reading(
+    alloc: Global,
+    scratch: &mut Scratch,
+    line: &LineIn,
+    number: u64,
+    table: Table,
+    reading: Result<Taken, Refusal>,
+) -> Result<(Vec<u8>, bool), Refusal>
+    ensures { IfOk result (λ told. IsReply number reading told.1 told.0.items) }
+{
+    match reading {
+        Ok(taken) => tell_taken(alloc, number, taken),
+        Err(Refusal::OutOfMemory) => tell_refused(alloc, number, Refusal::OutOfMemory, None),
+        Err(refusal) => {
+            let found = find(alloc, scratch, line, table)?;
+            tell_refused(alloc, number, refusal, Some(&found))
+        }
+    }
+}
+
+/// The line of a refusal, told where it is found.
+pub(crate) fn tell_refused(
+    alloc: Global,
+    number: u64,
+    refusal: Refusal,
+    found: Option<&Found>,
+) -> Result<(Vec<u8>, bool), Refusal>
+    ensures { IfOk result (λ told. IsReply number (Err refusal) told.1 told.0.items) }
+{
+    let text = write_refused(alloc, number, refusal, found)?;
+    Ok((text, true))
+}
+
+/// The line of a line that is taken.
+#[tactic(auto, using(crate::proofs::Floats::no_float_in_taken))]
+pub(crate) fn tell_taken(
+    alloc: Global,
+    number: u64,
+    taken: Taken,
+) -> Result<(Vec<u8>, bool), Refusal>
+    ensures { IfOk result (λ told. IsReply number (Ok taken) told.1 told.0.items) }
+{
+    let value = taken_json(alloc, number, taken)?;
+    let text = line(alloc, &value)?;
+    Ok((text, false))
+}
+
+fn taken_json(alloc: Global, number: u64, taken: Taken) -> Result<Value, AllocError>
+    ensures { IfOk result (λ v. view v ≡ taken_json number taken) }
+{
+    let kind = kind_word(taken.kind);
+    let lines = lines_word(taken.lines);
+    json!(in alloc; {"kind": kind, "line": number, "reads": lines})
+}
+
+fn kind_word(kind: Kind) -> &'static str
+    ensures { result.now ≡ kind_word kind }
+{
+    match kind {
+        Kind::Open => "open",
+        Kind::Item => "item",
+        Kind::Begin => "begin",
+        Kind::Ask => "ask",
+        Kind::Deliver => "deliver",
+        Kind::Sweep => "sweep",
+        Kind::Stop => "stop",
+        Kind::Trim => "trim",
+        Kind::Who => "who",
+        Kind::Pending => "pending",
+    }
+}
+
+fn lines_word(lines: Lines) -> &'static str
+    ensures { result.now ≡ lines_word lines }
+{
+    match lines {
+        Lines::Opening => "opening",
+        Lines::Events => "event",
+        Lines::Talk => "talk",
+    }
+}
