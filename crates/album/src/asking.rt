@@ -18,7 +18,9 @@ pub(crate) fn ask_command<'a>(alloc: Global) -> Result<Command<'a>, AllocError> 
         .required(true);
     let text = Arg::new(alloc, "text")
         .long("text")
-        .help("Spells answers out: contents as text, masks and flags by name, and a new object by its name")
+        .help(
+            "Spells answers out: contents as text, masks and flags by name, and a new object by its name",
+        )
         .action(ArgAction::SetTrue);
     Command::new(alloc, "ask")
         .about(ASK_ABOUT)

@@ -38,7 +38,6 @@ pub use album_permits::{Answer, Out};
 pub use album_threads::{OwnedSession, Service, ServiceNames, Session, Visit, with_service};
 pub use album_views::Ask;
 pub use album_wire::write_out;
-
 pub use engines::converse::{converse, converse_with};
 pub use engines::replay::replay;
 pub use engines::serve::{

@@ -1,6 +1,7 @@
 //! The opening of a service, read up to the line with which it is whole.
 ghost use Rattle.std.specs.Prelude.{◌≡◌, true, IfOk};
 ghost use Rattle.album_items.specs.Openings.{is_opening};
+
 use crate::openings::{SoFar, first_line, later_line, opening_of};
 use album_items::Opening;
 use album_judge::{Fault, PIECE};
