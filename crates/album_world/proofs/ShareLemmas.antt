@@ -1,12 +1,10 @@
 -- No view holds a part of a share (`no_part`), since views are read atomic and writes are granted.
-use Rattle.std.proofs.Common.{◌≡◌, ◌<◌, ◌≤◌, ◌+◌, ◌*◌, ℕ, Bool, true, false, List, Some, Contains, is_some, nat_lt, ⊎_elim, refl, sym, ap, ◌∙◌, subst, arith, ltb-true, ltb-false}
+use Rattle.std.proofs.Common.{◌≡◌, ◌≤◌, ℕ, Bool, true, false, List, Contains, is_some, nat_lt, ⊎_elim, refl, sym, ap, ◌∙◌, subst, arith, ltb-true, ltb-false}
 use Rattle.std.proofs.lemmas.Bool.{and_parts}
-use Rattle.album_stamps.specs.Stamps.{is_client}
 use Rattle.album_stamps.specs.declared.limits.TheConstants.{CLIENTS}
 use Rattle.album_items.specs.Openings.{Row, is_opening}
 use Rattle.album_items.specs.Transactions.{items_written}
 use Rattle.album_items.specs.declared.openings.Opening.{Opening}
-use Rattle.album_items.specs.declared.values.Value.{Value}
 use Rattle.album_partition.specs.Marks.{value_in, first_value}
 use Rattle.album_reader.specs.Answers.{ReadVersion}
 use Rattle.album_reader.specs.Atomic.{IsReadAtomic, IsWrittenBy}
@@ -14,7 +12,6 @@ use Rattle.album_views.specs.Seen.{seen}
 use Rattle.album_views.specs.declared.asks.NewList.{NewList}
 use Rattle.album_views.specs.declared.asks.NewMembership.{NewMembership}
 use Rattle.album_permits.proofs.Sharing.{share-writes}
-use Rattle.album_permits.specs.Effects.{effect_of}
 use Rattle.album_permits.specs.Meaning.{items_shared}
 use Rattle.album_permits.specs.declared.events.Event.{Event}
 use Rattle.album_client.specs.Steps.{Transaction}

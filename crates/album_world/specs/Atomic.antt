@@ -1,5 +1,5 @@
 -- Views are read atomic: no transaction is seen by halves.
-use Rattle.std.specs.Prelude.{◌≡◌, ◌≤◌, ℕ, List, Some, Contains}
+use Rattle.std.specs.Prelude.{◌≡◌, ◌≤◌, List, Some, Contains}
 use Rattle.album_items.specs.declared.openings.Opening.{Opening}
 use Rattle.album_partition.specs.Marks.{value_in, first_value}
 use Rattle.album_reader.specs.Answers.{ReadVersion}
