@@ -184,6 +184,11 @@ fn ask_rows(ask: &Value<'_>) -> Option<Rows> {
             ("to", Form::Item),
         ]),
         "set_lists" => Some(&[("do", Form::Word), ("lists", Form::Lists)]),
+        "share" => Some(&[
+            ("do", Form::Word),
+            ("lists", Form::Lists),
+            ("members", Form::Memberships),
+        ]),
         "set_owner" => Some(&[
             ("do", Form::Word),
             ("object", Form::Item),
