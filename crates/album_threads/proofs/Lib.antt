@@ -7,6 +7,7 @@ pub mod StartLemmas
 pub mod SessionLemmas
 pub mod GrantedLemmas
 pub mod RoundLemmas
+pub mod GetLemmas
 pub mod TrimLemmas
 pub mod EndLemmas
 pub mod LookLemmas

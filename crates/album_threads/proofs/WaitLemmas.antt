@@ -1,7 +1,6 @@
--- A reply that ends no round of a read is taken in place, and the ask is under way as before: `waits_on`, for
--- `Session::waits_once`.
-use Rattle.std.proofs.Common.{◌≡◌, ℕ, Bool, true, false, not, List, Option, Some, None, Result, Ok, Err, IfOk, IsSome, sym, ap, ◌∙◌, subst}
-use Rattle.std.specs.Prelude.{IsOkAnd, IfSome, IfNone, IfErr}
+-- A reply that ends no round of a read is taken in place, and the ask is under way as before: `waits_on`. What follows of
+-- it for replies that come together `Session::takes` cites, and `Session::waits`.
+use Rattle.std.proofs.Common.{◌≡◌, ℕ, ◌≤◌, true, not, List, IsTrue, refl, sym, ap, ◌∙◌, subst}
 use Rattle.album_calls.specs.declared.messages.Message.{Message}
 use Rattle.album_client.specs.PendingAsks.{PendingAsk}
 use Rattle.album_client.specs.Clients.{Client}
@@ -10,18 +9,47 @@ use Rattle.album_client.specs.Steps.{TransitionState, is_waiting, read_transitio
 use Rattle.album_client.specs.declared.clients.Phase.{Phase}
 use Rattle.album_client.specs.declared.clients.Phase.TheVariants as phase
 use Rattle.album_eval.specs.declared.policies.Policy.{Policy}
-use Rattle.album_passes.specs.Cuts.{Cut, Extends}
-use Rattle.album_passes.proofs.CutLemmas.{extends_trans}
+use Rattle.album_passes.specs.Cuts.{Cut, IsSound, Extends}
+use Rattle.album_passes.proofs.CutLemmas.{extends_self, extends_trans}
 use Rattle.album_reader.specs.Rounds.{RoundState, Step, is_end, stepped}
 use Rattle.album_reader.specs.Rounds.Step.{Same, Next, Done, Gone}
-use Rattle.album_stamps.specs.declared.refusals.Refusal.{Refusal}
 use Rattle.album_threads.specs.Asks.{IsHeard}
 use Rattle.album_threads.specs.Phases.{Outset, IsReading, IsUnderWay}
 use Rattle.album_threads.specs.Replies.{IsReplied, Leads}
-use Rattle.album_threads.specs.Sessions.{SessionState}
-use Rattle.album_threads.specs.Steps.{client_step_in, terms_in}
+use Rattle.album_stamps.specs.Stamps.{is_client}
+use Rattle.album_threads.specs.Sessions.{SessionState, IsAhead}
+use Rattle.album_threads.specs.Steps.{client_step_in, terms_in, IsWaited}
 use Rattle.album_threads.proofs.TransitionLemmas.{on_heard, adds_heard}
 use Rattle.album_threads.proofs.RoundLemmas.{leads}
+
+-- it has heard nothing since
+pub heard_self : (a : SessionState) → IsSound a.cut → IsAhead a.client a.counter a.cut → 1 ≤ a.cut.parts → IsTrue (is_client a.client)
+    → IsHeard a a
+heard_self a sound ahead some own = record {
+  client = refl;
+  counter = refl;
+  share = refl;
+  grown = extends_self a.cut;
+  silent = λ t mine. refl;
+  sound = sound;
+  ahead = ahead;
+  some = some;
+  own = own;
+}
+
+-- what was heard first, and what was heard then
+heard_trans : (a b c : SessionState) → IsHeard a b → IsHeard b c → IsHeard a c
+heard_trans a b c x y = record {
+  client = y.client ∙ x.client;
+  counter = y.counter ∙ x.counter;
+  share = y.share ∙ x.share;
+  grown = extends_trans a.cut b.cut c.cut x.grown y.grown;
+  silent = λ t mine. y.silent t (mine ∙ sym x.client) ∙ x.silent t mine;
+  sound = y.sound;
+  ahead = y.ahead;
+  some = y.some;
+  own = y.own;
+}
 
 module _ (limit : ℕ) (policy : Policy) (o : Outset) (now next : SessionState) (at : Cut) (sent : List Message) (m : Message)
     (h : IsHeard now next) (r : IsReplied limit at next.cut sent m) where
@@ -80,30 +108,18 @@ module _ (limit : ℕ) (policy : Policy) (o : Outset) (now next : SessionState) 
   waits_on (phase.Prepares writing) new w waits taken = absurd (cc)
   waits_on (phase.Commits writing) new w waits taken = absurd (cc)
 
--- the reply that was heard was taken so
-pub waited_on : (limit : ℕ) (policy : Policy) (o : Outset) (now next : SessionState) (at : Cut) (sent : List Message) (d new : Phase)
-    (heard : Result Message Refusal) → IsHeard now next → IfOk heard (IsReplied limit at next.cut sent)
-    → IsOkAnd heard (λ reply. (is_waiting d reply ≡ true) × IsTakenBy d reply new)
-    → IsUnderWay policy o now at sent d → IsUnderWay policy o next at sent new
-waited_on limit policy o now next at sent d new (Ok m) h r (waits, taken) w =
-    waits_on limit policy o now next at sent m h r d new w waits taken
-waited_on limit policy o now next at sent d new (Err why) h r is w = absurd is
+-- it is so still, once more is heard
+pub waited_more : (policy : Policy) (o : Outset) (now next : SessionState) (at : Cut) (sent : List Message) (d : Phase)
+    → IsHeard now next → IsWaited policy o now at sent d → IsWaited policy o next at sent d
+waited_more policy o now next at sent d h w =
+    record { before = w.before; way = w.way; heard = heard_trans w.before now next w.heard h }
 
--- where nothing is given, the reply that was heard was taken
-pub none_on : (limit : ℕ) (policy : Policy) (now next : SessionState) (at : Cut) (sent : List Message) (d new : Phase)
-    (heard : Result Message Refusal) (given : Option (Result Message Refusal))
-    → IsHeard now next → IfOk heard (IsReplied limit at next.cut sent)
-    → IfNone given (IsOkAnd heard (λ reply. (is_waiting d reply ≡ true) × IsTakenBy d reply new))
-    → IfNone given ((o : Outset) → IsUnderWay policy o now at sent d → IsUnderWay policy o next at sent new)
-none_on limit policy now next at sent d new heard None h r is = λ o w.
-    waited_on limit policy o now next at sent d new heard h r is w
-none_on limit policy now next at sent d new heard (Some given) h r is = tt
-
--- what is given was heard
-pub given_so : (limit : ℕ) (now : Cut) (at : Cut) (sent : List Message) (heard : Result Message Refusal)
-    (given : Option (Result Message Refusal)) → IfOk heard (IsReplied limit at now sent)
-    → IfSome given (λ g. IfOk g (λ reply. heard ≡ Ok reply))
-    → IfSome given (λ g. IfOk g (IsReplied limit at now sent))
-given_so limit now at sent heard None r is = tt
-given_so limit now at sent heard (Some (Ok reply)) r is = subst (λ (z : Result Message Refusal). IfOk z (IsReplied limit at now sent)) is r
-given_so limit now at sent heard (Some (Err why)) r is = tt
+-- and once a reply is taken
+pub waited_on : (limit : ℕ) (policy : Policy) (o : Outset) (now : SessionState) (at : Cut) (sent : List Message) (m : Message)
+    (d new : Phase) → IsHeard now now → IsReplied limit at now.cut sent m → is_waiting d m ≡ true → IsTakenBy d m new
+    → IsWaited policy o now at sent d → IsWaited policy o now at sent new
+waited_on limit policy o now at sent m d new h r waits taken w = record {
+  before = now;
+  way = waits_on limit policy o w.before now at sent m w.heard r d new w.way waits taken;
+  heard = h;
+}

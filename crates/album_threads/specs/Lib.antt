@@ -1,5 +1,6 @@
 pub mod ServiceNames
 pub mod Envelopes
+pub mod Gets
 pub mod Controls
 pub mod Keepers
 pub mod Opened

@@ -32,6 +32,7 @@ mod partition;
 // What goes between sessions and threads: messages with their passes, and requests of whoever runs the service.
 mod control;
 mod envelopes;
+mod gets;
 mod mailbox;
 
 // What holds of the answers.

@@ -2,6 +2,7 @@
 use crate::breakage::Breakage;
 use crate::control::{ControlReply, ControlRequest};
 use crate::envelopes::{ReplyEnvelope, RequestEnvelope};
+use crate::gets::{GetsEnvelope, RepliesEnvelope};
 use crate::service_names::ServiceNames;
 use album_partition::Figures;
 use crossbeam_channel::{Receiver, RecvTimeoutError, Sender};
@@ -26,8 +27,12 @@ const LATE: u64 = 1_000;
 /// How many milliseconds a session waits for a reply until it looks whether the service is broken.
 const PATIENCE: u64 = 100;
 
-/// How many times a thread that was let run late sleeps at once, before it looks again.
+/// How many times a thread that was let run late sleeps at once, before it looks again. Each time that it is late again at
+/// its first look, it sleeps so twice as often, up to `MAX_NAPS`: it takes some milliseconds to find out.
 const NAPS: u32 = 256;
+
+/// The same at most: less than a second of a busy service.
+const MAX_NAPS: u32 = 16_384;
 
 /// A mail to a partition. Large ones are boxed, since a mailbox moves what it takes.
 #[derive(Drop)]
@@ -36,6 +41,8 @@ pub(crate) enum PartitionMail<J: ServiceNames> {
     Register(u16, Sender<SessionMail<J>>),
     /// Messages of one session, or one of another partition: those of a round that go to this partition, in order.
     Envelopes(Vec<RequestEnvelope<J>>),
+    /// Those of a round of a session's read that go to this partition.
+    Gets(Box<GetsEnvelope<J>, Global>),
     /// A control request of a session.
     ControlRequest(Box<ControlRequest<J>, Global>),
     /// Asks for the figures of the partition, which are sent here.
@@ -51,6 +58,8 @@ pub(crate) enum PartitionMail<J: ServiceNames> {
 pub(crate) enum SessionMail<J: ServiceNames> {
     /// The replies to the messages of one mail, in order.
     Replies(VecDeque<ReplyEnvelope<J>>),
+    /// The replies to the Gets of one mail.
+    GetReplies(Box<RepliesEnvelope<J>, Global>),
     /// The reply to a control request.
     ControlReply(Box<ControlReply<J>, Global>),
     /// The partition had no memory for a message of the round of this tag, and has done nothing for it.
@@ -63,12 +72,18 @@ pub(crate) struct Inbox<T> {
     from: Receiver<T>,
     /// How many times more it sleeps at once.
     naps: u32,
+    /// How many times it does so when it is let run late next.
+    next_naps: u32,
 }
 
 impl<T: Drop> Inbox<T> {
     /// What comes here.
     pub(crate) fn new(from: Receiver<T>) -> Inbox<T> {
-        Inbox { from, naps: 0 }
+        Inbox {
+            from,
+            naps: 0,
+            next_naps: NAPS,
+        }
     }
 
     /// What comes next, or `None` where all who could send it are gone.
@@ -122,9 +137,11 @@ impl<T: Drop> Inbox<T> {
             thread::yield_now();
             let now = Instant::now(rt).ok()?;
             if now.duration_since(before) > Duration::from_micros(LATE) {
-                self.naps = NAPS;
+                self.naps = self.next_naps;
+                self.next_naps = self.naps.saturating_mul(2).min(MAX_NAPS);
                 return None;
             }
+            self.next_naps = NAPS;
             before = now;
         }
         None

@@ -2,14 +2,17 @@
 ghost use Rattle.std.specs.Prelude.{◌≡◌, ◌≢◌, ◌<◌, ℕ, length, map, All, option_map, None, Ok, Err, IfOk, IfErr, IfSome, OnOk, OnErr, IsOkUnless};
 ghost use Rattle.album_partition.specs.Answers.{after, answer};
 ghost use Rattle.album_partition.specs.Marks.{pending_stamps};
+ghost use Rattle.album_partition.specs.Partition.{IsPartition};
 ghost use Rattle.album_partition.specs.Sweeps.{swept};
 ghost use Rattle.album_passes.specs.Cuts.{Extends, IsSound, prefix_at};
 ghost use Rattle.album_threads.specs.Controls.{Answers, AnswersPending, AnswersTrimmed};
 ghost use Rattle.album_threads.specs.Keepers.{IsKeeper, IsNext};
 ghost use Rattle.album_threads.specs.Envelopes.{Shows, IsAnswered};
+ghost use Rattle.album_threads.specs.Gets.{get_to};
 
 use crate::control::{Control, ControlAnswer, ControlReply, ControlRequest};
 use crate::envelopes::{ReplyEnvelope, RequestEnvelope};
+use crate::gets::{Gets, GetsEnvelope, RepliesEnvelope};
 use crate::service_names::ServiceNames;
 use album_calls::{Message, Stamps};
 use album_items::ItemId;
@@ -90,6 +93,49 @@ impl<J: ServiceNames> PartitionKeeper<J> {
                 Ok(Some(ReplyEnvelope::new(message, reply, pass)))
             }
         }
+    }
+
+    /// Takes in the envelope's pass, and replies to each of its Gets, which change nothing. The pass of the replies shows
+    /// the partition as it is, and all that the envelope's pass has seen.
+    ///
+    /// # Errors
+    ///
+    /// `OutOfMemory`.
+    pub(crate) fn look_up(
+        &mut self,
+        alloc: Global,
+        desk: &Desk,
+        envelope: GetsEnvelope<J>,
+    ) -> Result<RepliesEnvelope<J>, Refusal>
+        requires { desk.now.table ≡ J.table }
+        ensures partition { self.new.partition ≡ self.old.partition }
+        ensures gets { IfOk result (λ replies. replies.gets ≡ envelope.gets) }
+        ensures point { IfOk result (λ replies. replies.pass.cut ≡ self.new.owner.cut) }
+        ensures grown { Extends self.old.owner.cut self.new.owner.cut }
+        ensures heard { Extends envelope.pass.cut self.new.owner.cut }
+        ensures memory { IsOkUnless result Refusal.OutOfMemory }
+    {
+        let (gets, pass) = envelope.open();
+        self.hear(desk, pass);
+        self.replies(alloc, desk, gets)
+    }
+
+    /// The replies to the Gets, with a pass.
+    fn replies(
+        &mut self,
+        alloc: Global,
+        desk: &Desk,
+        gets: Gets,
+    ) -> Result<RepliesEnvelope<J>, Refusal>
+        requires { desk.now.table ≡ J.table }
+        ensures same { self.new ≡ self.old }
+        ensures gets { IfOk result (λ replies. replies.gets ≡ gets) }
+        ensures point { IfOk result (λ replies. replies.pass.cut ≡ self.old.owner.cut) }
+        ensures memory { IsOkUnless result Refusal.OutOfMemory }
+    {
+        let replies = replies_to(alloc, &mut self.partition, self.part, &gets)?;
+        let pass = self.owner.split(desk);
+        Ok(RepliesEnvelope::new(self.part, gets, replies, pass))
     }
 
     /// How much the partition has.
@@ -242,6 +288,46 @@ impl<J: ServiceNames> PartitionKeeper<J> {
             }
         }
     }
+}
+
+/// What the partition of this number replies to each of the Gets, beside its item.
+fn replies_to(
+    alloc: Global,
+    partition: &mut Partition,
+    part: u16,
+    gets: &Gets,
+) -> Result<Vec<(ItemId, Message)>, Refusal>
+    ensures replied { IfOk result (λ replies.
+        All (λ told. answer partition.old (get_to part gets.now told.0) ≡ Some told.1) replies.items) }
+    ensures proper { OnOk result (IsPartition partition.old) }
+    ensures same { partition.new ≡ partition.old }
+    ensures memory { IsOkUnless result Refusal.OutOfMemory }
+{
+    let mut replies = Vec::with_capacity(alloc, gets.items.len())?;
+    for item in &gets.items {
+        match reply_to(partition, part, gets, *item)? {
+            Some(reply) => replies.push((*item, reply))?,
+            None => {}
+        }
+    }
+    // What is true of each partition is known once it is looked at.
+    let _marks = partition.history();
+    Ok(replies)
+}
+
+/// What the partition replies to the Get of the item, which leaves it as it is.
+fn reply_to(
+    partition: &mut Partition,
+    part: u16,
+    gets: &Gets,
+    item: ItemId,
+) -> Result<Option<Message>, Refusal>
+    ensures reply { IfOk result (λ reply. reply ≡ answer partition.old (get_to part gets.now item)) }
+    ensures same { partition.new ≡ partition.old }
+    ensures memory { IsOkUnless result Refusal.OutOfMemory }
+{
+    let get = gets.get_to(part, item)?;
+    partition.receive(&get)
 }
 
 /// The messages as envelopes, with passes of the owner's.

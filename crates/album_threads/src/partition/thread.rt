@@ -6,12 +6,13 @@ use crate::breakage::Breakage;
 use crate::control::{ControlReply, ControlRequest};
 use crate::envelopes::{ReplyEnvelope, RequestEnvelope};
 use crate::gate::Gate;
+use crate::gets::{GetsEnvelope, RepliesEnvelope};
 use crate::mailbox::{Inbox, PartitionMail, SessionMail};
 use crate::partition::keeper::PartitionKeeper;
 use crate::service_names::ServiceNames;
 use album_calls::Node;
 use album_passes::Desk;
-use album_stamps::ClientNo;
+use album_stamps::{ClientNo, Refusal};
 use crossbeam_channel::{SendError, Sender};
 use std::alloc::{AllocError, Global};
 use std::collections::{BTreeMap, VecDeque};
@@ -205,6 +206,9 @@ impl<J: ServiceNames> PartitionLoop<J> {
             PartitionMail::Envelopes(envelopes) => {
                 self.receive_all(rt, alloc, desk, gate, envelopes)?;
             }
+            PartitionMail::Gets(envelope) => {
+                self.look_up(rt, alloc, desk, gate, Box::into_inner(envelope))?;
+            }
         }
         Ok(true)
     }
@@ -238,6 +242,52 @@ impl<J: ServiceNames> PartitionLoop<J> {
             number = number.saturating_add(1);
         }
         Ok(())
+    }
+
+    /// Replies to the Gets of a mail by one mail. Where there is no memory for that, they are refused.
+    ///
+    /// # Errors
+    ///
+    /// `AllocError`, where that can't be sent.
+    fn look_up<R: Wait, G: Gate>(
+        &mut self,
+        rt: &R,
+        alloc: Global,
+        desk: &Desk,
+        gate: &G,
+        envelope: GetsEnvelope<J>,
+    ) -> Result<(), AllocError>
+        requires { desk.now.table ≡ J.table }
+    {
+        let gets = &envelope.gets;
+        let (client, tag, count) = (gets.client, gets.tag, gets.items.len());
+        let mut number = self.number;
+        for _ in 0..count {
+            gate.enter(self.part, self.number);
+            self.number = self.number.saturating_add(1);
+        }
+        match self.replies(alloc, desk, envelope) {
+            Ok(replies) => self.outbox.send_to(rt, client, SessionMail::GetReplies(replies))?,
+            Err(_) => self.outbox.refuse(rt, Node::Client(client), tag)?,
+        }
+        for _ in 0..count {
+            gate.leave(self.part, number);
+            number = number.saturating_add(1);
+        }
+        Ok(())
+    }
+
+    /// The replies to the Gets.
+    fn replies(
+        &mut self,
+        alloc: Global,
+        desk: &Desk,
+        envelope: GetsEnvelope<J>,
+    ) -> Result<Box<RepliesEnvelope<J>, Global>, Refusal>
+        requires { desk.now.table ≡ J.table }
+    {
+        let replies = self.keeper.look_up(alloc, desk, envelope)?;
+        Ok(Box::new(alloc, replies)?)
     }
 
     /// Takes an envelope, and adds its reply, if there is one. An envelope for which there is no memory is refused, and

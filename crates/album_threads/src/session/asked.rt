@@ -1,8 +1,11 @@
 //! What was asked in one round.
-ghost use Rattle.std.specs.Prelude.{◌≡◌, ◌≤◌, IsTrue, IfSome, Contains, length};
+ghost use Rattle.std.specs.Prelude.{◌≡◌, ◌≤◌, All, IsTrue, IfSome, Contains, length};
+ghost use Rattle.album_threads.specs.Gets.{get_to};
 ghost use Rattle.album_threads.specs.Replies.{IsLate};
 
-use album_calls::{Body, Message, Node, Request, same_items, same_values};
+use crate::gets::Gets;
+use album_calls::{Body, Message, Node, Request, Stamps, same_items, same_values};
+use album_items::ItemId;
 use album_passes::Pass;
 use album_stamps::{MAX_PARTS, Stamp};
 
@@ -43,6 +46,62 @@ impl Asked {
         None
     }
 
+    /// Whether all of these are replies to Gets that were sent to the partition, and each came, as the pass shows it, at or
+    /// past the marks with which the round began. A Get is looked for next to the one before it.
+    pub(crate) fn has_all(
+        &self,
+        part: u16,
+        gets: &Gets,
+        pass: &Pass,
+        replies: &[(ItemId, Message)],
+    ) -> bool
+        ensures sent { IsTrue result
+            → All (λ told. Contains self.now.sent.items (get_to part gets.now told.0)) replies.now }
+        ensures late { IsTrue result → All (λ told. IsLate self.now.begun.cut pass.now.cut told.1) replies.now }
+    {
+        let mut next = 0;
+        for told in replies {
+            if !self.is_before(&told.1, pass) {
+                return false;
+            }
+            match self.find_get(part, gets, told.0, next) {
+                Some(index) => next = index,
+                None => return false,
+            }
+        }
+        true
+    }
+
+    /// Where the Get stands among the messages. Looked for from `first` on, and then before it.
+    fn find_get(&self, part: u16, gets: &Gets, item: ItemId, first: usize) -> Option<usize>
+        ensures { IfSome result (λ _. Contains self.now.sent.items (get_to part gets.now item)) }
+    {
+        match self.find_get_among(part, gets, item, first, self.sent.len()) {
+            Some(index) => Some(index),
+            None => self.find_get_among(part, gets, item, 0, first.min(self.sent.len())),
+        }
+    }
+
+    /// Where it stands from `first` on and before `end`.
+    fn find_get_among(
+        &self,
+        part: u16,
+        gets: &Gets,
+        item: ItemId,
+        first: usize,
+        end: usize,
+    ) -> Option<usize>
+        requires { end ≤ length self.now.sent.items }
+        ensures { IfSome result (λ _. Contains self.now.sent.items (get_to part gets.now item)) }
+    {
+        for index in first..end {
+            if is_get(&self.sent[index], part, gets, item) {
+                return Some(index);
+            }
+        }
+        None
+    }
+
     /// Whether the reply's partition had by then, as the pass shows it, all marks with which the round began.
     pub(crate) fn is_before(&self, reply: &Message, pass: &Pass) -> bool
         ensures { IsTrue result → IsLate self.now.begun.cut pass.now.cut reply.now }
@@ -52,6 +111,23 @@ impl Asked {
             Node::Client(_) => false,
         }
     }
+}
+
+/// Whether the message is the Get of the item to the partition.
+fn is_get(message: &Message, part: u16, gets: &Gets, item: ItemId) -> bool
+    ensures { IsTrue result → message.now ≡ get_to part gets.now item }
+{
+    message.tag() == gets.tag
+        && message.from().is_client(gets.client)
+        && message.to().is_part(part)
+        && asks_for(message.body(), item, &gets.stamps)
+}
+
+fn asks_for(body: &Body, item: ItemId, stamps: &Stamps) -> bool
+    ensures { IsTrue result → body.now ≡ Body.Request (Request.Get item stamps.now) }
+{
+    matches!(body, Body::Request(Request::Get(of, with)) if of.is(item)
+        && are_same_stamps(stamps.as_slice(), with.as_slice()))
 }
 
 /// Whether these are one message, which requests something.

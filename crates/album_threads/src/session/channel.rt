@@ -11,6 +11,7 @@ ghost use Rattle.album_threads.specs.Sessions.{IsChannel, IsLater, IsClosedOrOut
 use crate::breakage::Breakage;
 use crate::control::{Control, ControlAnswer, ControlReply, ControlRequest};
 use crate::envelopes::ReplyEnvelope;
+use crate::gets::RepliesEnvelope;
 use crate::mailbox::{Inbox, PartitionMail, SessionMail};
 use crate::service_names::ServiceNames;
 use album_items::ItemId;
@@ -22,6 +23,15 @@ use std::collections::VecDeque;
 use std::marker::Model;
 use std::sync::{Arc, Wait};
 use std::time;
+
+/// What a session hears.
+#[derive(Drop)]
+pub(crate) enum Heard<J: ServiceNames> {
+    /// A mail for which nobody waits any more.
+    Nothing,
+    Reply(ReplyEnvelope<J>),
+    Replies(RepliesEnvelope<J>),
+}
 
 /// A session's channel to the partitions. Contracts see the client, and the cut of its pass.
 #[derive(Drop)]
@@ -205,29 +215,33 @@ impl<J: ServiceNames> PartitionChannel<J> {
         }
     }
 
-    /// The envelope that comes next, or `None` where a mail comes for which nobody waits any more.
+    /// What is heard next.
     ///
     /// # Errors
     ///
     /// `OutOfMemory` where a partition had none for a message of the round of this tag; `Closed`.
-    pub(crate) fn next_envelope<R: Wait + time::Clock>(
+    pub(crate) fn next_heard<R: Wait + time::Clock>(
         &mut self,
         rt: &R,
         tag: u64,
-    ) -> Result<Option<ReplyEnvelope<J>>, Refusal>
+    ) -> Result<Heard<J>, Refusal>
         ensures refused { IfErr result IsClosedOrOutOfMemory }
         ensures same { self.new ≡ self.old }
     {
         if let Some(envelope) = self.heard.pop_front() {
-            return Ok(Some(envelope));
+            return Ok(Heard::Reply(envelope));
         }
         match self.next(rt)? {
-            SessionMail::ControlReply(_) => Ok(None),
+            SessionMail::ControlReply(_) => Ok(Heard::Nothing),
             SessionMail::OutOfMemory(of) if of == tag => Err(Refusal::OutOfMemory),
-            SessionMail::OutOfMemory(_) => Ok(None),
+            SessionMail::OutOfMemory(_) => Ok(Heard::Nothing),
+            SessionMail::GetReplies(replies) => Ok(Heard::Replies(Box::into_inner(replies))),
             SessionMail::Replies(replies) => {
                 self.heard = replies;
-                Ok(self.heard.pop_front())
+                match self.heard.pop_front() {
+                    Some(envelope) => Ok(Heard::Reply(envelope)),
+                    None => Ok(Heard::Nothing),
+                }
             }
         }
     }
@@ -332,7 +346,8 @@ impl<J: ServiceNames> PartitionChannel<J> {
         ensures later { IsLater self.old self.new }
     {
         match self.next(rt)? {
-            SessionMail::Replies(_) | SessionMail::OutOfMemory(_) => Ok(None),
+            SessionMail::Replies(_) | SessionMail::GetReplies(_) => Ok(None),
+            SessionMail::OutOfMemory(_) => Ok(None),
             SessionMail::ControlReply(reply) => {
                 Ok(self.take_control_reply(part, tag, control, Box::into_inner(reply)))
             }

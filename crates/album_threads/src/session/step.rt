@@ -2,7 +2,7 @@
 ghost use Rattle.std.specs.Prelude.{◌≡◌, ◌≢◌, ◌≤◌, [], true, Some, None, Ok, Err, All, IfOk, IfErr, IfSome, IfNone, OnOk, OnErr, IsOkAnd, IsOkUnless};
 ghost use Rattle.album_client.specs.Clients.{stamp_at_work, IsProper};
 ghost use Rattle.album_client.specs.Transitions.{client_of, IsMoved};
-ghost use Rattle.album_client.specs.Steps.{is_waiting, transition_of, IsTakenBy};
+ghost use Rattle.album_client.specs.Steps.{transition_of};
 ghost use Rattle.album_stamps.specs.Clocks.{next_of};
 ghost use Rattle.album_stamps.specs.declared.limits.TheConstants.{MAX_COUNTER};
 ghost use Rattle.album_threads.specs.Asks.{IsHeard, IsOn, AreShared};
@@ -21,6 +21,7 @@ use album_calls::Message;
 use album_client::{Client, ClientStep, Phase, Transition};
 use album_permits::Answer;
 use album_stamps::{Clock, Refusal, Stamp};
+use std::collections::VecDeque;
 use std::sync::Wait;
 use std::time;
 
@@ -34,7 +35,8 @@ pub(crate) enum Reaction {
 }
 
 impl<J: ServiceNames> Session<J> {
-    /// Takes replies in place as long as they end no round of a read, which most don't, and gives the first other one.
+    /// Takes replies in place as long as they end no round of a read, which most don't, and gives the first other one. Those
+    /// that came with it, behind it, are let go: the round that they are to is over.
     ///
     /// # Errors
     ///
@@ -53,7 +55,7 @@ impl<J: ServiceNames> Session<J> {
         ensures refused { IfErr result IsClosedOrOutOfMemory }
         ensures on { IsOn self.old self.new }
     {
-        self.channel.is_sound();
+        self.is_whole();
         for _ in rt.forever() {
             if let Some(heard) = self.waits_once(rt, asked, phase) {
                 return heard;
@@ -63,34 +65,40 @@ impl<J: ServiceNames> Session<J> {
         unreachable!()
     }
 
-    /// Hears one reply, and takes it, where it ends no round of a read; else gives it, or why none came or was taken.
+    /// Hears replies, and takes those that end no round of a read; else gives the first other one, or why none came or was
+    /// taken.
     fn waits_once<R: Wait + time::Clock>(
         &mut self,
         rt: &R,
         asked: &Asked,
         phase: &mut Phase,
     ) -> Option<Result<Message, Refusal>>
-        ensures way { IfNone result ((outset : Outset)
-            → IsUnderWay J.policy outset self.old asked.now.begun.cut asked.now.sent.items phase.old
-            → IsUnderWay J.policy outset self.new asked.now.begun.cut asked.now.sent.items phase.new) }
-        ensures left { IfSome result (λ _. phase.new ≡ phase.old) }
+        ensures way { (outset : Outset)
+            → IsWaited J.policy outset self.old asked.now.begun.cut asked.now.sent.items phase.old
+            → IsWaited J.policy outset self.new asked.now.begun.cut asked.now.sent.items phase.new }
         ensures replied { IfSome result (λ heard. IfOk heard
             (IsReplied J.terms.limit asked.now.begun.cut self.new.cut asked.now.sent.items)) }
         ensures refused { IfSome result (λ heard. IfErr heard IsClosedOrOutOfMemory) }
         ensures heard { IsHeard self.old self.new }
     {
-        let heard = self.hears(rt, asked);
-        waited(phase, heard)
+        match self.hears(rt, asked) {
+            Ok(replies) => self.takes(asked, phase, replies),
+            Err(why) => Some(Err(why)),
+        }
     }
 
-    /// Waits for one reply.
+    /// Waits for replies.
     ///
     /// # Errors
     ///
     /// `Closed` or `OutOfMemory`.
-    fn hears<R: Wait + time::Clock>(&mut self, rt: &R, asked: &Asked) -> Result<Message, Refusal>
-        ensures replied { IfOk result
-            (IsReplied J.terms.limit asked.now.begun.cut self.new.cut asked.now.sent.items) }
+    fn hears<R: Wait + time::Clock>(
+        &mut self,
+        rt: &R,
+        asked: &Asked,
+    ) -> Result<Vec<Message>, Refusal>
+        ensures replied { IfOk result (λ replies. All
+            (IsReplied J.terms.limit asked.now.begun.cut self.new.cut asked.now.sent.items) replies.items) }
         ensures refused { IfErr result IsClosedOrOutOfMemory }
         ensures heard { IsHeard self.old self.new }
     {
@@ -99,6 +107,45 @@ impl<J: ServiceNames> Session<J> {
         // What is true of each session is known once it is looked at.
         let _actor = self.client_step();
         heard
+    }
+
+    /// For contracts alone: what is so of each session, whatever it has heard. Nothing is computed.
+    #[tactic(auto, using(crate::proofs::WaitLemmas::heard_self))]
+    fn is_whole(&self)
+        ensures { IsHeard self.now self.now }
+    {
+        self.channel.is_sound();
+        let _actor = self.client_step();
+    }
+
+    /// Takes the replies as long as they end no round of a read, and gives the first other one, or why it wasn't taken.
+    fn takes(
+        &self,
+        asked: &Asked,
+        phase: &mut Phase,
+        replies: Vec<Message>,
+    ) -> Option<Result<Message, Refusal>>
+        requires replied { All
+            (IsReplied J.terms.limit asked.now.begun.cut self.now.cut asked.now.sent.items) replies.items }
+        ensures way { (outset : Outset)
+            → IsWaited J.policy outset self.now asked.now.begun.cut asked.now.sent.items phase.old
+            → IsWaited J.policy outset self.now asked.now.begun.cut asked.now.sent.items phase.new }
+        ensures replied { IfSome result (λ given. IfOk given
+            (IsReplied J.terms.limit asked.now.begun.cut self.now.cut asked.now.sent.items)) }
+        ensures refused { IfSome result (λ given. IfErr given IsClosedOrOutOfMemory) }
+    {
+        // What was asked is for the contract alone.
+        let _asked = asked;
+        self.is_whole();
+        let mut replies = VecDeque::from_vec(replies);
+        while let Some(reply) = replies.pop_front() {
+            match phase.take_in_place(&reply) {
+                Ok(true) => {}
+                Ok(false) => return Some(Ok(reply)),
+                Err(why) => return Some(Err(why)),
+            }
+        }
+        None
     }
 
     /// Gives the reply to the client.
@@ -207,26 +254,6 @@ impl<J: ServiceNames> Session<J> {
     {
         self.channel.announce_first(sent);
         self.channel.is_sound();
-    }
-}
-
-/// Takes the reply, where it ends no round of a read; else gives it, or why none came or was taken.
-fn waited(phase: &mut Phase, heard: Result<Message, Refusal>) -> Option<Result<Message, Refusal>>
-    requires { IfErr heard IsClosedOrOutOfMemory }
-    ensures taken { IfNone result (IsOkAnd heard (λ reply.
-        (is_waiting phase.old reply ≡ true) × IsTakenBy phase.old reply phase.new)) }
-    ensures left { IfSome result (λ _. phase.new ≡ phase.old) }
-    ensures same { IfSome result (λ given. IfOk given (λ reply. heard ≡ Ok reply)) }
-    ensures refused { IfSome result (λ given. IfErr given IsClosedOrOutOfMemory) }
-{
-    let reply = match heard {
-        Ok(reply) => reply,
-        Err(why) => return Some(Err(why)),
-    };
-    match phase.take_in_place(&reply) {
-        Ok(true) => None,
-        Ok(false) => Some(Ok(reply)),
-        Err(why) => Some(Err(why)),
     }
 }
 
