@@ -8,7 +8,7 @@ use std::sync::Wait;
 
 /// Writes what was noted before it is answered.
 pub trait Journal {
-    /// Writes all that was noted and isn't written yet. An answer of this session is written next: what was noted of its
+    /// Writes what was noted and isn't written yet. An answer of this session is written next: what was noted of its
     /// request is noted by now. Who talks is known from its first line on.
     ///
     /// # Errors

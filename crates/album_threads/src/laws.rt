@@ -19,8 +19,8 @@ pub fn grounds_stay()
         → Extends old new → IsWithoutRoom limit old permit stamp → IsWithoutRoom limit new permit stamp }
 {}
 
-/// A law: no read goes back (monotonic reads), and a session reads its own writes. What was seen in a cut isn't older in
-/// a read that begins with that cut or with one that extends it; and such a read has what was kept in the cut, or newer.
+/// A law: no read goes back (monotonic reads), and a session reads its own writes. What a cut has shown isn't older in
+/// a read that begins with that cut or with one that extends it; such a read has what was kept in the cut, or newer.
 /// The two reads may be of two sessions, where the later has met the earlier.
 pub fn reads_go_on()
     ensures no_older { (begun old later new : Cut) (first second : List ReadVersion) → IsSound old → IsSound new

@@ -405,7 +405,7 @@ where
     });
 }
 
-/// Watches the figures in a thread, until the sender to `ended` is let go. Where there is no thread, nothing is watched.
+/// Watches the figures in a thread, until the sender to `ended` is let go. Without a thread, nothing is watched.
 fn watch_within<'s, J, T, E>(
     rt: T,
     alloc: Global,

@@ -201,7 +201,7 @@ impl<J: ServiceNames> Session<J> {
         }
     }
 
-    /// Goes on by what was heard. Once a write has begun, what cuts it off is its answer. While a hint is tried, nothing
+    /// Goes on by what was heard. Once a write has begun, what cuts it off is its answer. While a hint is tried nothing
     /// is taken over of what comes of no view, nor is the ask refused.
     ///
     /// # Errors
