@@ -57,8 +57,8 @@ messages are given to whom they are sent:
   {"deliver":[1,4]}
 
   ask      who is name@users or ANONYMOUS@, client a number from 1 to 65535, and do one of read, list,
-           get_list, add_picture, add_album, retitle, replace, delete, move, set_lists, set_owner and
-           set_members, each with fields of its own (docs/FORMATS.md has all)
+           get_list, add_picture, add_album, retitle, replace, delete, move, set_lists, set_owner,
+           set_members and share, each with fields of its own (docs/FORMATS.md has all)
   deliver  the number of a message, the first that is sent being 1; or [first, last], at most 10000 of them
   sweep    part and stamp: the partition asks the others how a write stands that is pending there
   stop     the number of a client, which stops for good

@@ -49,6 +49,7 @@ served_is permit (ask.Move object to) e given h = absurd (none-some _ h)
 served_is permit (ask.SetLists lists) e given h = absurd (none-some _ h)
 served_is permit (ask.SetOwner object owner group) e given h = absurd (none-some _ h)
 served_is permit (ask.SetMembers object members) e given h = absurd (none-some _ h)
+served_is permit (ask.Share lists members) e given h = absurd (none-some _ h)
 
 -- where nothing is, the ask writes
 pub unserved_writes : (permit : PermitState) (a : Ask) → served_for permit a ≡ None → is_write a ≡ true
@@ -64,6 +65,7 @@ unserved_writes permit (ask.Move object to) h = refl
 unserved_writes permit (ask.SetLists lists) h = refl
 unserved_writes permit (ask.SetOwner object owner group) h = refl
 unserved_writes permit (ask.SetMembers object members) h = refl
+unserved_writes permit (ask.Share lists members) h = refl
 
 -- an ask that a principal may ask has no flaw
 pub taken_flawless : (a : Ask) (who : Principal) → refusal_of a who ≡ None → flaw_of a ≡ None

@@ -180,6 +180,7 @@ subjects-back lookup (ask.Move object to) item c =
 subjects-back lookup (ask.SetLists lists) item c = c
 subjects-back lookup (ask.SetOwner object owner number) item c = c
 subjects-back lookup (ask.SetMembers object members) item c = c
+subjects-back lookup (ask.Share lists members) item c = c
 
 pub agree-bared :
     (asked inner : Ask) (one other : List ReadVersion)

@@ -13,6 +13,7 @@ use Rattle.album_items.specs.Values.{head_of, home_of, children_of, entries_of, 
 use Rattle.album_items.specs.declared.values.Head.{Head}
 use Rattle.album_items.specs.declared.values.Value.{Value}
 use Rattle.album_reader.specs.Answers.{ReadVersion}
+use Rattle.album_views.proofs.Flaws.{objects_lists, list-shared, group-shared}
 use Rattle.album_views.specs.Asks.{objects_of}
 use Rattle.album_views.specs.ReadSets.{IsNamed, subjects_of}
 use Rattle.album_views.specs.ReadSets.IsNamed.{Subject, ListOf, HeadGroupOf, GroupInListOf}
@@ -20,9 +21,10 @@ use Rattle.album_views.specs.Seen.{seen}
 use Rattle.album_views.specs.declared.asks.Ask.{Ask}
 use Rattle.album_views.specs.declared.asks.Ask.TheVariants as ask
 use Rattle.album_views.specs.declared.asks.NewList.{NewList}
+use Rattle.album_views.specs.declared.asks.NewMembership.{NewMembership}
 use Rattle.album_listing.specs.Agreement.{AgreeOn}
 use Rattle.album_listing.specs.Basis.{Basis, IsBasis}
-use Rattle.album_listing.specs.Masks.{DELETE, DELETE_CHILD, WRITE_ACL}
+use Rattle.album_listing.specs.Masks.{WRITE_DATA, DELETE, DELETE_CHILD, WRITE_ACL}
 use Rattle.album_listing.specs.Reasons.{on, case_on, verdict_on, with_verdict, reason_of, is_grant}
 use Rattle.album_listing.specs.declared.reasons.Alternative.{Alternative}
 use Rattle.album_listing.specs.declared.reasons.Reason.{Reason}
@@ -54,13 +56,29 @@ homes-on subjects (home ∷ homes) mask each =
 
 lists-on :
     (subjects : List ℕ) (lists : List NewList)
-    → ((object : ℕ) → Contains (objects_of (ask.SetLists lists)) object → Contains subjects object)
+    → ((object : ℕ) → Contains (map (λ (new : NewList). new.object) lists) object → Contains subjects object)
     → AllOn subjects (map (λ (new : NewList). just new.object WRITE_ACL) lists)
 lists-on subjects [] each = tt
 lists-on subjects (new ∷ lists) each = (
-  (each new.object (first-of new.object (objects_of (ask.SetLists lists))), tt),
+  (each new.object (first-of new.object (map (λ (new : NewList). new.object) lists)), tt),
   lists-on subjects lists (λ x c. each x (suc c.0, omega (arith, c.1), c.2)),
 )
+
+groups-on :
+    (subjects : List ℕ) (members : List NewMembership)
+    → ((object : ℕ) → Contains (map (λ (new : NewMembership). new.object) members) object → Contains subjects object)
+    → AllOn subjects (map (λ (new : NewMembership). just new.object WRITE_DATA) members)
+groups-on subjects [] each = tt
+groups-on subjects (new ∷ members) each = (
+  (each new.object (first-of new.object (map (λ (new : NewMembership). new.object) members)), tt),
+  groups-on subjects members (λ x c. each x (suc c.0, omega (arith, c.1), c.2)),
+)
+
+both-on :
+    (subjects : List ℕ) (needs more : List (List Alternative)) → AllOn subjects needs → AllOn subjects more
+    → AllOn subjects (needs ++ more)
+both-on subjects [] more h l = l
+both-on subjects (need ∷ needs) more h l = (h.0, both-on subjects needs more h.1 l)
 
 deletion-on :
     (lookup : ℕ → Value) (object : ℕ) (firsts : List ℕ) → Contains (firsts ++ home_of (lookup object)) object
@@ -87,9 +105,18 @@ needs-on lookup (ask.Move object to) = (
 )
 needs-on lookup (ask.SetLists lists) =
     lists-on (objects_of (ask.SetLists lists) ++ []) lists
-    (λ object c. Contains-append_left (objects_of (ask.SetLists lists)) [] object c)
+    (λ object c. Contains-append_left (objects_of (ask.SetLists lists)) [] object
+    (subst (λ (xs : List ℕ). Contains xs object) (sym (objects_lists lists)) c))
 needs-on lookup (ask.SetOwner object owner number) = ((first-of object [], tt), tt)
 needs-on lookup (ask.SetMembers object members) = ((first-of object [], tt), tt)
+needs-on lookup (ask.Share lists members) =
+    let objects : List ℕ = objects_of (ask.Share lists members) in
+    both-on (objects ++ []) (map (λ (new : NewList). just new.object WRITE_ACL) lists)
+    (map (λ (new : NewMembership). just new.object WRITE_DATA) members)
+    (lists-on (objects ++ []) lists
+    (λ object c. Contains-append_left objects [] object (list-shared lists members object c)))
+    (groups-on (objects ++ []) members
+    (λ object c. Contains-append_left objects [] object (group-shared lists members object c)))
 
 -- the objects of reasons
 abbrev ReasonsOn : List ℕ → List Reason → Type 0
@@ -141,6 +168,7 @@ module _ (asked : Ask) (one other : List ReadVersion) (agree : AgreeOn asked one
   needs-alike (ask.SetLists lists) same = refl
   needs-alike (ask.SetOwner object owner number) same = refl
   needs-alike (ask.SetMembers object members) same = refl
+  needs-alike (ask.Share lists members) same = refl
 
   module _ (policy : Policy) (me : Principal) (i j : ℕ → Bool) (same : (number : ℕ) → IsNamed (seen one) asked (group number) → i number ≡ j number) where
     abbrev left : Basis

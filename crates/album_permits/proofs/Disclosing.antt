@@ -62,6 +62,7 @@ needs-bare lookup (ask.Move object to) =
 needs-bare lookup (ask.SetLists lists) = refl
 needs-bare lookup (ask.SetOwner object owner number) = refl
 needs-bare lookup (ask.SetMembers object members) = refl
+needs-bare lookup (ask.Share lists members) = refl
 
 module _ (basis : Basis) where
   missing-bare : (need : List Alternative) → missing_in (bare_basis basis) need ≡ missing_in basis need
@@ -216,3 +217,4 @@ served-alike policy me (ask.Move object to) one other given more alike kept l m 
 served-alike policy me (ask.SetLists lists) one other given more alike kept l m = absurd l
 served-alike policy me (ask.SetOwner object owner number) one other given more alike kept l m = absurd l
 served-alike policy me (ask.SetMembers object members) one other given more alike kept l m = absurd l
+served-alike policy me (ask.Share lists members) one other given more alike kept l m = absurd l

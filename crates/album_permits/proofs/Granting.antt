@@ -4,6 +4,7 @@
 use Rattle.std.proofs.Common.{◌≡◌, ◌⊎◌, ◌==◌, ◌++◌, ◌<◌, ◌&&◌, ◌||◌, ℕ, zero, suc, List, [], ◌∷◌, Bool, true, false, not, Some, Contains, IsTrue, map, inl, inr, refl, sym, ap, subst, ◌∙◌, arith}
 use Rattle.std.specs.List.{list_any, list_all, flat_map, slice_index_or}
 use Rattle.std.proofs.lemmas.Bool.{and_parts, or_left, not-true, both_ways, eqb-true}
+use Rattle.std.proofs.lemmas.List.Folds.{list_all-append}
 use Rattle.album_access.specs.declared.masks.Mask.{Mask}
 use Rattle.album_eval.specs.declared.facts.Principal.{Principal}
 use Rattle.album_lists.specs.declared.lists.Ace.{Ace}
@@ -20,6 +21,7 @@ use Rattle.album_views.specs.Seen.{seen}
 use Rattle.album_views.specs.declared.asks.Ask.{Ask}
 use Rattle.album_views.specs.declared.asks.Ask.TheVariants as ask
 use Rattle.album_views.specs.declared.asks.NewList.{NewList}
+use Rattle.album_views.specs.declared.asks.NewMembership.{NewMembership}
 use Rattle.album_listing.specs.Basis.{Basis}
 use Rattle.album_listing.specs.GroupsFound.{basis_on}
 use Rattle.album_listing.specs.Masks.{READ_DATA, WRITE_DATA, LIST_DIRECTORY, ADD_FILE, ADD_SUBDIRECTORY, DELETE_CHILD, WRITE_ATTRIBUTES, DELETE, READ_ACL, WRITE_ACL, WRITE_OWNER}
@@ -30,7 +32,7 @@ use Rattle.album_listing.specs.declared.reasons.Alternative.{Alternative}
 use Rattle.album_listing.specs.declared.rows.Row.{Row}
 use Rattle.album_listing.proofs.GroupsFoundLemmas.{basis-based}
 use Rattle.album_permits.specs.Changes.{with_title, with_content, with_home, with_owner, with_members, without_child, with_child}
-use Rattle.album_permits.specs.Effects.{Write, list_dropped, taken_out, list_written, written, effect_of}
+use Rattle.album_permits.specs.Effects.{Write, list_dropped, taken_out, list_written, members_written, written, effect_of}
 use Rattle.album_permits.specs.Findings.{is_missing}
 use Rattle.album_permits.specs.Meaning.{is_need_met, has_needs_met}
 use Rattle.album_permits.specs.Needs.{just, deletion}
@@ -238,6 +240,19 @@ module _ (permit : PermitState) (stamp : ℕ) where
       (λ item c. is-listed new.object item new.list c granted))
       (lists-right lists parts.1)
 
+  members-right :
+      (members : List NewMembership)
+      → list_all (is_need_met (basis_for permit)) (map (λ (new : NewMembership). just new.object WRITE_DATA) members) ≡ true
+      → Each IsGranted (map (members_written shown) members)
+  members-right [] met = tt
+  members-right (new ∷ members) met =
+      let parts = and_parts (is_need_met (basis_for permit) (just new.object WRITE_DATA)) _ met in
+      let granted = just-met (basis_for permit) new.object WRITE_DATA parts.0 in (
+        granted-change permit new.object (shown new.object) (with_members new.members (shown new.object))
+            (remembered permit new.object new.members (shown new.object) granted.0 granted.1),
+        members-right members parts.1,
+      )
+
   out-right : (object : ℕ) → IsDeleted permit object → Each IsGranted (taken_out shown object)
   out-right object may =
       each-mapped IsGranted (λ home. without_child object (shown home)) (home_of (shown object))
@@ -342,6 +357,15 @@ module _ (permit : PermitState) (stamp : ℕ) where
             (remembered permit object members (shown object) granted.0 granted.1)),
         tt,
       )
+  written-right me (ask.Share lists members) met kinds =
+      let acl : List (List Alternative) = map (λ (new : NewList). just new.object WRITE_ACL) lists in
+      let data_needs : List (List Alternative) = map (λ (new : NewMembership). just new.object WRITE_DATA) members in
+      let parts = and_parts (list_all (is_need_met (basis_for permit)) acl)
+      (list_all (is_need_met (basis_for permit)) data_needs)
+      (sym (list_all-append (is_need_met (basis_for permit)) acl data_needs) ∙ met) in
+      right (ask.Share lists members) (flat_map (list_written shown) lists ++ map (members_written shown) members)
+      (each-append IsGranted (flat_map (list_written shown) lists) (map (members_written shown) members)
+      (lists-right lists parts.0) (members-right members parts.1))
 
 pub effect-granted :
     (permit : PermitState) (stamp item : ℕ) (is : Value) → IsRewritten permit stamp item is
@@ -408,6 +432,7 @@ module _ (permit : PermitState) where
   picture-for object stamp title content (ask.SetLists lists) met l = absurd l
   picture-for object stamp title content (ask.SetOwner other owner number) met l = absurd l
   picture-for object stamp title content (ask.SetMembers other members) met l = absurd l
+  picture-for object stamp title content (ask.Share lists members) met l = absurd l
 
   abbrev IsReadGroup : ℕ → List Member → Type 0
   IsReadGroup object members =
@@ -451,6 +476,7 @@ module _ (permit : PermitState) where
   group-for object stamp members (ask.SetLists lists) met l = absurd l
   group-for object stamp members (ask.SetOwner other owner number) met l = absurd l
   group-for object stamp members (ask.SetMembers other more) met l = absurd l
+  group-for object stamp members (ask.Share lists more) met l = absurd l
 
   -- what a read is served is no listing and no list
   read-rows :
@@ -491,6 +517,7 @@ module _ (permit : PermitState) where
   rows-for album stamp rows (ask.SetLists lists) met l = absurd l
   rows-for album stamp rows (ask.SetOwner other owner number) met l = absurd l
   rows-for album stamp rows (ask.SetMembers other members) met l = absurd l
+  rows-for album stamp rows (ask.Share lists members) met l = absurd l
 
   abbrev IsReadList : ℕ → List Ace → Type 0
   IsReadList object entries =
@@ -521,6 +548,7 @@ module _ (permit : PermitState) where
   entries-for object stamp entries (ask.SetLists lists) met l = absurd l
   entries-for object stamp entries (ask.SetOwner other owner number) met l = absurd l
   entries-for object stamp entries (ask.SetMembers other members) met l = absurd l
+  entries-for object stamp entries (ask.Share lists members) met l = absurd l
 
 pub picture-granted :
     (permit : PermitState) (object stamp : ℕ) (title content : List ℕ) → IsPermit permit

@@ -11,3 +11,4 @@ pub mod Changing
 pub mod Granting
 pub mod Disclosing
 pub mod Completing
+pub mod Sharing

@@ -1,7 +1,8 @@
 -- What is written stands among what an ask may write (`written-may`, `effect-may`), for the law
 -- `what_is_written_is_needed`.
-use Rattle.std.proofs.Common.{◌≡◌, ◌<◌, ◌==◌, ℕ, zero, suc, List, [], ◌∷◌, ◌++◌, Bool, true, false, Contains, map, filter, fold, length, refl, subst, arith, if◌then◌else◌}
+use Rattle.std.proofs.Common.{◌≡◌, ◌<◌, ◌==◌, ℕ, zero, suc, List, [], ◌∷◌, ◌++◌, Bool, true, false, Contains, map, filter, fold, length, refl, sym, ap, subst, ◌∙◌, arith, if◌then◌else◌}
 use Rattle.std.specs.List.{flat_map, slice_index_or}
+use Rattle.std.proofs.lemmas.List.Elements.{Contains-append_left, Contains-append_right}
 use Rattle.album_eval.specs.declared.facts.Principal.{Principal}
 use Rattle.album_items.specs.ItemIds.{picture, album, list}
 use Rattle.album_items.specs.Values.{home_of, list_of}
@@ -11,14 +12,16 @@ use Rattle.album_views.specs.Seen.{seen}
 use Rattle.album_views.specs.declared.asks.Ask.{Ask}
 use Rattle.album_views.specs.declared.asks.Ask.TheVariants as ask
 use Rattle.album_views.specs.declared.asks.NewList.{NewList}
-use Rattle.album_listing.specs.Masks.{DELETE_CHILD, ADD_FILE}
+use Rattle.album_views.specs.declared.asks.NewMembership.{NewMembership}
+use Rattle.album_listing.specs.Masks.{WRITE_DATA, DELETE_CHILD, ADD_FILE, WRITE_ACL}
 use Rattle.album_listing.specs.Reasons.{on}
 use Rattle.album_listing.specs.declared.reasons.Alternative.{Alternative}
 use Rattle.album_listing.proofs.Judging.{first-of}
 use Rattle.album_permits.specs.Changes.{with_child, without_child}
-use Rattle.album_permits.specs.Effects.{Write, list_written, list_dropped, taken_out, written, put, effect_of}
+use Rattle.album_permits.specs.Effects.{Write, list_written, members_written, list_dropped, taken_out, written, put, effect_of}
 use Rattle.album_permits.specs.Meaning.{is_of_change, objects_changed, MayWrite}
 use Rattle.album_permits.specs.Meaning.MayWrite.{New, Object, ListOf}
+use Rattle.album_permits.specs.Needs.{just}
 use Rattle.album_permits.specs.Permits.{PermitState}
 
 -- each of the writes is of an item that passes
@@ -88,22 +91,70 @@ behind-homes [] more object c = c
 behind-homes (h ∷ homes) more object c =
     let d = behind-homes homes more object c in (suc d.0, omega (arith, d.1), d.2)
 
+-- the objects of new lists, and the groups of new members
+abbrev acl_needs : List NewList → List (List Alternative)
+acl_needs lists = map (λ (new : NewList). just new.object WRITE_ACL) lists
+
+abbrev data_needs : List NewMembership → List (List Alternative)
+data_needs members = map (λ (new : NewMembership). just new.object WRITE_DATA) members
+
+abbrev list_objects : List NewList → List ℕ
+list_objects lists = map (λ (new : NewList). new.object) lists
+
+abbrev groups : List NewMembership → List ℕ
+groups members = map (λ (new : NewMembership). new.object) members
+
+lists-changed :
+    (lists : List NewList) (more : List (List Alternative))
+    → changed (flat_map (λ (need : List Alternative). need) (acl_needs lists ++ more))
+    ≡ list_objects lists ++ changed (flat_map (λ (need : List Alternative). need) more)
+lists-changed [] more = refl
+lists-changed (new ∷ lists) more = ap (λ (xs : List ℕ). new.object ∷ xs) (lists-changed lists more)
+
+only-lists-changed :
+    (lists : List NewList)
+    → changed (flat_map (λ (need : List Alternative). need) (acl_needs lists)) ≡ list_objects lists
+only-lists-changed [] = refl
+only-lists-changed (new ∷ lists) = ap (λ (xs : List ℕ). new.object ∷ xs) (only-lists-changed lists)
+
+groups-changed :
+    (members : List NewMembership)
+    → changed (flat_map (λ (need : List Alternative). need) (data_needs members)) ≡ groups members
+groups-changed [] = refl
+groups-changed (new ∷ members) = ap (λ (xs : List ℕ). new.object ∷ xs) (groups-changed members)
+
+share-changed :
+    (lists : List NewList) (members : List NewMembership)
+    → changed (flat_map (λ (need : List Alternative). need) (acl_needs lists ++ data_needs members))
+    ≡ list_objects lists ++ groups members
+share-changed lists members =
+    lists-changed lists (data_needs members)
+    ∙ ap (λ (xs : List ℕ). list_objects lists ++ xs) (groups-changed members)
+
 module _ (lookup : ℕ → Value) (me : Principal) (stamp : ℕ) where
   abbrev May : Ask → ℕ → Type 0
   May asked = MayWrite lookup stamp asked
 
   lists-may :
-      (lists all : List NewList)
-      → ((object : ℕ) → Contains (objects_changed lookup (ask.SetLists lists)) object
-      → Contains (objects_changed lookup (ask.SetLists all)) object)
-      → AllOf (May (ask.SetLists all)) (flat_map (list_written lookup) lists)
-  lists-may [] all each = tt
-  lists-may (new ∷ lists) all each =
-      append-of (May (ask.SetLists all)) (list_written lookup new) (flat_map (list_written lookup) lists)
-      (mapped-of (May (ask.SetLists all)) (λ item. value.List new.list) (list_of (lookup new.object))
-      (λ item c. ListOf new.object item
-      (each new.object (first-of new.object (objects_changed lookup (ask.SetLists lists)))) c))
-      (lists-may lists all (λ object c. each object (suc c.0, omega (arith, c.1), c.2)))
+      (asked : Ask) (lists : List NewList)
+      → ((object : ℕ) → Contains (list_objects lists) object → Contains (objects_changed lookup asked) object)
+      → AllOf (May asked) (flat_map (list_written lookup) lists)
+  lists-may asked [] each = tt
+  lists-may asked (new ∷ lists) each =
+      append-of (May asked) (list_written lookup new) (flat_map (list_written lookup) lists)
+      (mapped-of (May asked) (λ item. value.List new.list) (list_of (lookup new.object))
+      (λ item c. ListOf new.object item (each new.object (first-of new.object (list_objects lists))) c))
+      (lists-may asked lists (λ object c. each object (suc c.0, omega (arith, c.1), c.2)))
+
+  members-may :
+      (asked : Ask) (members : List NewMembership)
+      → ((object : ℕ) → Contains (groups members) object → Contains (objects_changed lookup asked) object)
+      → AllOf (May asked) (map (members_written lookup) members)
+  members-may asked [] each = tt
+  members-may asked (new ∷ members) each = (
+    Object new.object (each new.object (first-of new.object (groups members))),
+    members-may asked members (λ object c. each object (suc c.0, omega (arith, c.1), c.2)),
+  )
 
   written-may : (asked : Ask) → AllOf (May asked) (written lookup me stamp asked)
   written-may (ask.Read object) = tt
@@ -142,9 +193,20 @@ module _ (lookup : ℕ → Value) (me : Principal) (stamp : ℕ) where
           tt,
         ),
   )
-  written-may (ask.SetLists lists) = lists-may lists lists (λ object c. c)
+  written-may (ask.SetLists lists) =
+      lists-may (ask.SetLists lists) lists
+      (λ object c. subst (λ (xs : List ℕ). Contains xs object) (sym (only-lists-changed lists)) c)
   written-may (ask.SetOwner object owner number) = (Object object (first-of object []), tt)
   written-may (ask.SetMembers object members) = (Object object (first-of object []), tt)
+  written-may (ask.Share lists members) =
+      append-of (May (ask.Share lists members)) (flat_map (list_written lookup) lists)
+      (map (members_written lookup) members)
+      (lists-may (ask.Share lists members) lists
+      (λ object c. subst (λ (xs : List ℕ). Contains xs object) (sym (share-changed lists members))
+      (Contains-append_left (list_objects lists) (groups members) object c)))
+      (members-may (ask.Share lists members) members
+      (λ object c. subst (λ (xs : List ℕ). Contains xs object) (sym (share-changed lists members))
+      (Contains-append_right (list_objects lists) (groups members) object c)))
 
 pub effect-may :
     (permit : PermitState) (stamp : ℕ) (write : Write) → Contains (effect_of permit stamp) write

@@ -15,6 +15,7 @@ use Rattle.album_items.specs.declared.values.Head.{Head}
 use Rattle.album_items.specs.declared.values.Value.{Value}
 use Rattle.album_items.specs.declared.values.Value.TheVariants as value
 use Rattle.album_reader.specs.Answers.{ReadVersion}
+use Rattle.album_views.proofs.Flaws.{objects_lists, list-shared, group-shared}
 use Rattle.album_views.specs.Asks.{objects_of}
 use Rattle.album_views.specs.ReadSets.{IsNamed, subjects_of}
 use Rattle.album_views.specs.ReadSets.IsNamed.{Subject, ListOf}
@@ -22,12 +23,13 @@ use Rattle.album_views.specs.Seen.{seen}
 use Rattle.album_views.specs.declared.asks.Ask.{Ask}
 use Rattle.album_views.specs.declared.asks.Ask.TheVariants as ask
 use Rattle.album_views.specs.declared.asks.NewList.{NewList}
+use Rattle.album_views.specs.declared.asks.NewMembership.{NewMembership}
 use Rattle.album_listing.specs.Agreement.{AgreeOn}
 use Rattle.album_listing.specs.ViewLookups.{stamp_seen, entries_named, stamp_named}
 use Rattle.album_listing.proofs.Judging.{first-of}
 use Rattle.album_listing.proofs.Looking.{seen-alike, listings-alike}
 use Rattle.album_permits.specs.Changes.{with_title, with_content, with_home, with_owner, with_members, without_child, with_child}
-use Rattle.album_permits.specs.Effects.{Write, name_of, head_group_seen, list_dropped, taken_out, list_written, written, merged, effect_of, has_most_others, is_album_full, is_full_for}
+use Rattle.album_permits.specs.Effects.{Write, name_of, head_group_seen, list_dropped, taken_out, list_written, members_written, written, merged, effect_of, has_most_others, is_album_full, is_full_for}
 use Rattle.album_permits.specs.Permits.{permit_on}
 use Rattle.album_permits.specs.Serving.{read_of, IsServed}
 use Rattle.album_permits.specs.declared.serving.Served.{Served}
@@ -41,14 +43,25 @@ map-same f g (x ∷ xs) same =
 
 lists-same :
     (one other : ℕ → Value) (lists : List NewList)
-    → ((object : ℕ) → Contains (objects_of (ask.SetLists lists)) object → one object ≡ other object)
+    → ((object : ℕ) → Contains (map (λ (new : NewList). new.object) lists) object → one object ≡ other object)
     → flat_map (list_written one) lists ≡ flat_map (list_written other) lists
 lists-same one other [] same = refl
 lists-same one other (new ∷ lists) same =
     ap (λ (v : Value). map (λ item. (item, value.List new.list)) (list_of v) ++ flat_map (list_written one) lists)
-    (same new.object (first-of new.object (objects_of (ask.SetLists lists))))
+    (same new.object (first-of new.object (map (λ (new : NewList). new.object) lists)))
     ∙ ap (λ (ws : List Write). list_written other new ++ ws)
     (lists-same one other lists (λ x c. same x (suc c.0, omega (arith, c.1), c.2)))
+
+members-same :
+    (one other : ℕ → Value) (members : List NewMembership)
+    → ((object : ℕ) → Contains (map (λ (new : NewMembership). new.object) members) object → one object ≡ other object)
+    → map (members_written one) members ≡ map (members_written other) members
+members-same one other [] same = refl
+members-same one other (new ∷ members) same =
+    ap (λ (v : Value). (new.object, with_members new.members v) ∷ map (members_written one) members)
+    (same new.object (first-of new.object (map (λ (new : NewMembership). new.object) members)))
+    ∙ ap (λ (ws : List Write). members_written other new ∷ ws)
+    (members-same one other members (λ x c. same x (suc c.0, omega (arith, c.1), c.2)))
 
 module _ (asked : Ask) (one other : List ReadVersion) (agree : AgreeOn asked one other) where
   same : (item : ℕ) → Contains (subjects_of (seen one) asked) item → seen one item ≡ seen other item
@@ -168,13 +181,22 @@ module _ (me : Principal) (stamp : ℕ) where
   written-alike (ask.SetLists lists) one other agree =
       lists-same (seen one) (seen other) lists
       (λ object c. same (ask.SetLists lists) one other agree object
-      (Contains-append_left (objects_of (ask.SetLists lists)) [] object c))
+      (Contains-append_left (objects_of (ask.SetLists lists)) [] object
+      (subst (λ (xs : List ℕ). Contains xs object) (sym (objects_lists lists)) c)))
   written-alike (ask.SetOwner object owner number) one other agree =
       ap (λ (v : Value). (object, with_owner owner number v) ∷ [])
       (same (ask.SetOwner object owner number) one other agree object (first-of object []))
   written-alike (ask.SetMembers object members) one other agree =
       ap (λ (v : Value). (object, with_members members v) ∷ [])
       (same (ask.SetMembers object members) one other agree object (first-of object []))
+  written-alike (ask.Share lists members) one other agree =
+      let at : (object : ℕ) → Contains (objects_of (ask.Share lists members)) object → seen one object ≡ seen other object =
+      λ object c. same (ask.Share lists members) one other agree object
+      (Contains-append_left (objects_of (ask.Share lists members)) [] object c) in
+      ap (λ (ws : List Write). ws ++ map (members_written (seen one)) members)
+      (lists-same (seen one) (seen other) lists (λ object c. at object (list-shared lists members object c)))
+      ∙ ap (λ (ws : List Write). flat_map (list_written (seen other)) lists ++ ws)
+      (members-same (seen one) (seen other) members (λ object c. at object (group-shared lists members object c)))
 
   full-alike :
       (asked : Ask) (one other : List ReadVersion) → AgreeOn asked one other
@@ -194,6 +216,7 @@ module _ (me : Principal) (stamp : ℕ) where
   full-alike (ask.SetLists lists) one other agree = refl
   full-alike (ask.SetOwner object owner number) one other agree = refl
   full-alike (ask.SetMembers object members) one other agree = refl
+  full-alike (ask.Share lists members) one other agree = refl
 
 pub effect-alike :
     (policy : Policy) (me : Principal) (asked : Ask) (one other : List ReadVersion) (stamp : ℕ) → AgreeOn asked one other
@@ -239,3 +262,4 @@ served-alike policy me (ask.Move object to) one other given more agree l m = abs
 served-alike policy me (ask.SetLists lists) one other given more agree l m = absurd l
 served-alike policy me (ask.SetOwner object owner number) one other given more agree l m = absurd l
 served-alike policy me (ask.SetMembers object members) one other given more agree l m = absurd l
+served-alike policy me (ask.Share lists members) one other given more agree l m = absurd l

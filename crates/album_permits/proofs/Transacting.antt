@@ -19,17 +19,18 @@ use Rattle.album_items.specs.declared.values.Value.{Value}
 use Rattle.album_items.specs.declared.values.Value.TheVariants as value
 use Rattle.album_reader.specs.Answers.{ReadVersion}
 use Rattle.album_reader.specs.Snapshots.{version_of}
-use Rattle.album_views.proofs.Flaws.{asks_objects, objects_few}
-use Rattle.album_views.specs.Asks.{objects_of, is_write}
+use Rattle.album_views.proofs.Flaws.{asks_objects, named_few, count_share}
+use Rattle.album_views.specs.Asks.{wanted, objects_of, is_write}
 use Rattle.album_views.specs.Checks.{flaw_of, owner_flaw, refusal_of}
 use Rattle.album_views.specs.Seen.{seen}
 use Rattle.album_views.specs.declared.asks.Ask.{Ask}
 use Rattle.album_views.specs.declared.asks.Ask.TheVariants as ask
 use Rattle.album_views.specs.declared.asks.NewList.{NewList}
+use Rattle.album_views.specs.declared.asks.NewMembership.{NewMembership}
 use Rattle.album_listing.specs.Basis.{Basis}
 use Rattle.album_listing.specs.Masks.{WRITE_ACL}
 use Rattle.album_permits.specs.Changes.{with_title, with_content, with_home, with_owner, with_members, without_child, with_child}
-use Rattle.album_permits.specs.Effects.{Write, new_head, heritage, list_dropped, taken_out, list_written, written, put, merged, effect_of}
+use Rattle.album_permits.specs.Effects.{Write, new_head, heritage, list_dropped, taken_out, list_written, members_written, written, put, merged, effect_of}
 use Rattle.album_permits.specs.Findings.{and_then_found, reasons_of, found_by, need_found, needs_found, ruling_of}
 use Rattle.album_permits.specs.Kinds.{shows_right_kinds}
 use Rattle.album_permits.specs.Needs.{just, needs_of}
@@ -172,11 +173,11 @@ module _ (shown : ℕ → Value) (p : Principal) (stamp : ℕ) where
   few-moved object to (value.List x) = omega arith
   few-moved object to (value.Group x) = omega arith
 
-  same-count : (lists : List NewList) → length (objects_of (ask.SetLists lists)) ≡ length lists
+  same-count : (lists : List NewList) → length (wanted (ask.SetLists lists)) ≡ length lists
   same-count [] = refl
   same-count (new ∷ lists) = ap suc (same-count lists)
 
-  few-written : (asked : Ask) → length (objects_of asked) ≤ 16 → length (written shown p stamp asked) ≤ 16
+  few-written : (asked : Ask) → length (wanted asked) ≤ 16 → length (written shown p stamp asked) ≤ 16
   few-written (ask.Read object) few = omega arith
   few-written (ask.List object) few = omega arith
   few-written (ask.GetList object) few = omega arith
@@ -189,6 +190,15 @@ module _ (shown : ℕ → Value) (p : Principal) (stamp : ℕ) where
   few-written (ask.SetLists lists) few = omega (arith, few-lists lists, few, same-count lists)
   few-written (ask.SetOwner object owner group) few = omega arith
   few-written (ask.SetMembers object members) few = omega arith
+  few-written (ask.Share lists members) few =
+      omega (
+        arith,
+        few-lists lists,
+        few,
+        count_share lists members,
+        length-map members (members_written shown),
+        length-append (flat_map (list_written shown) lists) (map (members_written shown) members),
+      )
 
 -- ---- something is written
 
@@ -240,6 +250,20 @@ module _ (basis : Basis) (p : Principal) (stamp : ℕ) where
       )
   some-written (ask.SetOwner object owner group) change some granted = omega arith
   some-written (ask.SetMembers object members) change some granted = omega arith
+  some-written (ask.Share [] []) change some granted = absurd (some refl)
+  some-written (ask.Share [] (new ∷ members)) change some granted = omega arith
+  some-written (ask.Share (new ∷ lists) members) change some granted =
+      let met : need_found basis (just new.object WRITE_ACL) ≡ Granted =
+      need-met (need_found basis (just new.object WRITE_ACL))
+      (needs_found basis (needs_of basis.seen (ask.Share lists members))) granted
+      in
+      omega (
+        arith,
+        some-at new met,
+        length-append (list_written basis.seen new) (flat_map (list_written basis.seen) lists),
+        length-append (list_written basis.seen new ++ flat_map (list_written basis.seen) lists)
+            (map (members_written basis.seen) members),
+      )
 
 -- ---- the kinds of what is written
 
@@ -363,6 +387,12 @@ module _
     lists-right (new ∷ lists) =
         both-right (list_written shown new) (flat_map (list_written shown) lists) (listed-right new) (lists-right lists)
 
+    groups-right : (members : List NewMembership) → list_all has_right_kind (map (members_written shown) members) ≡ true
+    groups-right [] = refl
+    groups-right (new ∷ members) =
+        all-right (members_written shown new) (map (members_written shown) members)
+        (kept-members new.members (shown new.object) (kind_of new.object) (right new.object)) (groups-right members)
+
     added-right :
         (into child : ℕ) (made heritage : Write) → has_right_kind made ≡ true → has_right_kind heritage ≡ true
         → list_all has_right_kind (made ∷ heritage ∷ (into, with_child child (shown into)) ∷ []) ≡ true
@@ -423,6 +453,9 @@ module _
     written-right (ask.SetMembers object members) =
         one-right (object, with_members members (shown object))
         (kept-members members (shown object) (kind_of object) (right object))
+    written-right (ask.Share lists members) =
+        both-right (flat_map (list_written shown) lists) (map (members_written shown) members) (lists-right lists)
+        (groups-right members)
 
 -- ---- what is seen is of its item's kind
 
@@ -469,7 +502,7 @@ effect_items permit stamp kept change =
     subst (λ (s : ℕ → Value). 1 ≤ length (written s permit.principal stamp asked)) kept.based.shown
     (some-written kept.basis permit.principal stamp asked change (asks_objects asked flawless).0 kept.granted)
     in
-    let few : length ws ≤ 16 = few-written shown permit.principal stamp asked (objects_few asked flawless) in
+    let few : length ws ≤ 16 = few-written shown permit.principal stamp asked (named_few asked flawless) in
     counted (merged ws) (some-merged ws some) (omega (arith, few, few-fold ws [])) (single-fold ws [] refl)
   where
     counted :

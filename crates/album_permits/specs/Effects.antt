@@ -18,6 +18,7 @@ use Rattle.album_views.specs.Seen.{seen}
 use Rattle.album_views.specs.declared.asks.Ask.{Ask}
 use Rattle.album_views.specs.declared.asks.Ask.TheVariants as ask
 use Rattle.album_views.specs.declared.asks.NewList.{NewList}
+use Rattle.album_views.specs.declared.asks.NewMembership.{NewMembership}
 use Rattle.album_listing.specs.ViewLookups.{entries_named}
 use Rattle.album_permits.specs.Changes.{with_title, with_content, with_home, with_owner, with_members, without_child, with_child}
 use Rattle.album_permits.specs.Permits.{PermitState}
@@ -57,6 +58,10 @@ taken_out seen picture = map (λ home. (home, without_child picture (seen home))
 -- the list that the object's head names has these entries
 abbrev pub list_written : (ℕ → Value) → NewList → List Write
 list_written seen new = map (λ list. (list, value.List new.list)) (list_of (seen new.object))
+
+-- the group has these members
+abbrev pub members_written : (ℕ → Value) → NewMembership → Write
+members_written seen new = (new.object, with_members new.members (seen new.object))
 
 -- ---- the table
 
@@ -99,6 +104,8 @@ written seen principal stamp (ask.Move object to) =
 written seen principal stamp (ask.SetLists lists) = flat_map (list_written seen) lists
 written seen principal stamp (ask.SetOwner object owner group) = (object, with_owner owner group (seen object)) ∷ []
 written seen principal stamp (ask.SetMembers object members) = (object, with_members members (seen object)) ∷ []
+written seen principal stamp (ask.Share lists members) =
+    flat_map (list_written seen) lists ++ map (members_written seen) members
 
 -- a write in the place of an earlier one of its item, or else last
 abbrev pub put : List Write → Write → List Write
@@ -133,6 +140,7 @@ is_album_full seen stamp (ask.Move object to) = has_most_others object (seen to)
 is_album_full seen stamp (ask.SetLists lists) = false
 is_album_full seen stamp (ask.SetOwner object owner group) = false
 is_album_full seen stamp (ask.SetMembers object members) = false
+is_album_full seen stamp (ask.Share lists members) = false
 
 -- the same, of the ask of a permit
 abbrev pub is_full_for : PermitState → ℕ → Bool

@@ -1,5 +1,5 @@
 -- What a ruling and its notes mean, what a grant means, and what it lets be written.
-use Rattle.std.specs.Prelude.{◌≡◌, ℕ, List, [], ◌∷◌, Bool, not, ◌&&◌, ◌==◌, IsTrue, Contains, map, filter}
+use Rattle.std.specs.Prelude.{◌≡◌, ℕ, List, [], ◌∷◌, ◌++◌, Bool, not, ◌&&◌, ◌==◌, IsTrue, Contains, map, filter}
 use Rattle.std.specs.List.{list_all, list_any, flat_map}
 use Rattle.album_access.specs.declared.masks.Mask.{Mask}
 use Rattle.album_items.specs.ItemIds.{picture, album, list}
@@ -7,6 +7,8 @@ use Rattle.album_items.specs.Values.{list_of}
 use Rattle.album_items.specs.declared.values.Value.{Value}
 use Rattle.album_views.specs.Asks.{is_adding}
 use Rattle.album_views.specs.declared.asks.Ask.{Ask}
+use Rattle.album_views.specs.declared.asks.NewList.{NewList}
+use Rattle.album_views.specs.declared.asks.NewMembership.{NewMembership}
 use Rattle.album_listing.specs.Basis.{Basis, IsBasis}
 use Rattle.album_listing.specs.Masks.{READ_DATA, READ_ATTRIBUTES, READ_ACL}
 use Rattle.album_listing.specs.Reasons.{is_granted_on}
@@ -66,3 +68,9 @@ pub data MayWrite (seen : ℕ → Value) (stamp : ℕ) (ask : Ask) : ℕ → Typ
   ListOf :
       (object item : ℕ) → Contains (objects_changed seen ask) object → Contains (list_of (seen object)) item
       → MayWrite seen stamp ask item
+
+-- the items that a share writes: the list of each of its objects, and each of its groups
+abbrev pub items_shared : (ℕ → Value) → List NewList → List NewMembership → List ℕ
+items_shared seen lists members =
+    flat_map (λ (new : NewList). list_of (seen new.object)) lists
+    ++ map (λ (new : NewMembership). new.object) members

@@ -1,11 +1,12 @@
 -- What an ask needs.
-use Rattle.std.specs.Prelude.{ℕ, List, [], ◌∷◌, map}
+use Rattle.std.specs.Prelude.{ℕ, List, [], ◌∷◌, ◌++◌, map}
 use Rattle.album_access.specs.declared.masks.Mask.{Mask}
 use Rattle.album_items.specs.Values.{home_of}
 use Rattle.album_items.specs.declared.values.Value.{Value}
 use Rattle.album_views.specs.declared.asks.Ask.{Ask}
 use Rattle.album_views.specs.declared.asks.Ask.TheVariants as ask
 use Rattle.album_views.specs.declared.asks.NewList.{NewList}
+use Rattle.album_views.specs.declared.asks.NewMembership.{NewMembership}
 use Rattle.album_listing.specs.Masks.{READ_DATA, WRITE_DATA, LIST_DIRECTORY, ADD_FILE, ADD_SUBDIRECTORY, DELETE_CHILD, WRITE_ATTRIBUTES, DELETE, READ_ACL, WRITE_ACL, WRITE_OWNER}
 use Rattle.album_listing.specs.Reasons.{on}
 use Rattle.album_listing.specs.declared.reasons.Alternative.{Alternative}
@@ -32,3 +33,6 @@ needs_of seen (ask.Move object to) = deletion seen object ∷ just to ADD_FILE �
 needs_of seen (ask.SetLists lists) = map (λ (new : NewList). just new.object WRITE_ACL) lists
 needs_of seen (ask.SetOwner object owner group) = just object WRITE_OWNER ∷ []
 needs_of seen (ask.SetMembers object members) = just object WRITE_DATA ∷ []
+needs_of seen (ask.Share lists members) =
+    map (λ (new : NewList). just new.object WRITE_ACL) lists
+    ++ map (λ (new : NewMembership). just new.object WRITE_DATA) members

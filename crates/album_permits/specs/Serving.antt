@@ -44,6 +44,7 @@ IsServedFor permit given (ask.Move object to) = ⊥
 IsServedFor permit given (ask.SetLists lists) = ⊥
 IsServedFor permit given (ask.SetOwner object owner group) = ⊥
 IsServedFor permit given (ask.SetMembers object members) = ⊥
+IsServedFor permit given (ask.Share lists members) = ⊥
 
 -- the ask of the permit is served
 abbrev pub IsServed : PermitState → Served → Type 0

@@ -1,5 +1,5 @@
 //! What a permit is spent on when its ask writes.
-ghost use Rattle.std.specs.Prelude.{◌≡◌, ◌++◌, ◌∷◌, [], None, IfOk, IfErr, OnOk, IsTrue, IsOkUnless, false, not, ◌==◌, count_by, if◌then◌else◌};
+ghost use Rattle.std.specs.Prelude.{◌≡◌, ◌++◌, ◌∷◌, [], None, IfOk, IfErr, OnOk, IsTrue, IsOkUnless, false, not, ◌==◌, count_by, map, if◌then◌else◌};
 ghost use Rattle.std.specs.List.{flat_map};
 ghost use Rattle.album_stamps.specs.declared.refusals.Refusal.TheVariants.{OutOfMemory, AlbumFull};
 ghost use Rattle.album_views.specs.Asks.{is_write};
@@ -8,7 +8,7 @@ ghost use Rattle.album_views.specs.Seen.{seen};
 ghost use Rattle.album_items.specs.ItemIds.{number_of};
 ghost use Rattle.album_items.specs.Transactions.{items_written, are_items};
 ghost use Rattle.album_permits.specs.Changes.{with_home, with_child};
-ghost use Rattle.album_permits.specs.Effects.{written, list_dropped, taken_out, list_written, effect_of, has_most_others, is_album_full, is_full_for};
+ghost use Rattle.album_permits.specs.Effects.{written, list_dropped, taken_out, list_written, members_written, effect_of, has_most_others, is_album_full, is_full_for};
 
 use crate::additions::{album_added, album_at, picture_added, picture_at};
 use crate::changes::{
@@ -21,7 +21,7 @@ use album_eval::Principal;
 use album_items::{ItemId, ItemValues, Kind, Value};
 use album_listing::ViewLookup;
 use album_stamps::{MAX_CHILDREN, Refusal, Refused, Stamp};
-use album_views::{Ask, NewList};
+use album_views::{Ask, NewList, NewMembership};
 use std::alloc::{AllocError, Global};
 
 impl Permit {
@@ -82,6 +82,7 @@ fn is_album_full(lookup: &ViewLookup, stamp: Stamp, ask: &Ask) -> bool
         Ask::Read { .. } | Ask::List { .. } | Ask::GetList { .. } => false,
         Ask::Retitle { .. } | Ask::Replace { .. } | Ask::Delete { .. } => false,
         Ask::SetLists { .. } | Ask::SetOwner { .. } | Ask::SetMembers { .. } => false,
+        Ask::Share { .. } => false,
     }
 }
 
@@ -169,6 +170,9 @@ fn written(
                 *object,
                 with_members(lookup.value(*object), members)?,
             )
+        }
+        Ask::Share { lists, members } => {
+            shared(alloc, lookup, lists.as_slice(), members.as_slice())
         }
     }
 }
@@ -282,6 +286,40 @@ fn add_list(
     if let Some(head) = lookup.value(new.object).head() {
         let list = new.list.copy()?;
         writes.push((ItemId::new(Kind::List, head.list), Value::List(list)))?;
+    }
+    Ok(())
+}
+
+/// Each of the lists, and then each of the groups with its members.
+fn shared(
+    alloc: Global,
+    lookup: &ViewLookup,
+    lists: &[NewList],
+    members: &[NewMembership],
+) -> Result<Vec<(ItemId, Value)>, Refusal>
+    ensures writes { IfOk result (λ writes.
+        writes.items ≡ flat_map (list_written (seen lookup.now.view.now.rows)) lists.now
+        ++ map (members_written (seen lookup.now.view.now.rows)) members.now) }
+    ensures memory { IsOkUnless result Refusal.OutOfMemory }
+{
+    let mut writes = lists_written(alloc, lookup, lists)?;
+    add_members(&mut writes, lookup, members)?;
+    Ok(writes)
+}
+
+/// Adds each of the groups with its members.
+fn add_members(
+    writes: &mut Vec<(ItemId, Value)>,
+    lookup: &ViewLookup,
+    members: &[NewMembership],
+) -> Result<(), Refusal>
+    ensures writes { OnOk result (writes.new.items
+        ≡ writes.old.items ++ map (members_written (seen lookup.now.view.now.rows)) members.now) }
+    ensures memory { IsOkUnless result Refusal.OutOfMemory }
+{
+    for new in members {
+        let value = with_members(lookup.value(new.object), &new.members)?;
+        writes.push((new.object, value))?;
     }
     Ok(())
 }

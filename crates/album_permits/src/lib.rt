@@ -44,7 +44,9 @@ pub use disclosure::{answers_disclose_nothing, secrets_decide_nothing};
 pub use effect_laws::an_effect_is_one_transaction;
 pub use events::Event;
 pub use findings::{Denial, Finding};
-pub use grant_laws::{granted_where_each_need_is_met, what_is_written_is_needed};
+pub use grant_laws::{
+    a_share_writes_each_of_its_items, granted_where_each_need_is_met, what_is_written_is_needed,
+};
 pub use note_laws::{notes_go_with_the_ruling, notes_say_the_verdict, what_takes_note_is_noted};
 pub use notes::Note;
 pub use outs::Out;

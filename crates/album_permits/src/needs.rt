@@ -1,13 +1,13 @@
 //! What an ask needs.
-ghost use Rattle.std.specs.Prelude.{◌≡◌, [], ◌∷◌, map, IfOk};
-ghost use Rattle.album_listing.specs.Masks.{WRITE_ACL};
+ghost use Rattle.std.specs.Prelude.{◌≡◌, [], ◌∷◌, ◌++◌, map, IfOk, OnOk};
+ghost use Rattle.album_listing.specs.Masks.{WRITE_ACL, WRITE_DATA};
 ghost use Rattle.album_views.specs.Seen.{seen};
 ghost use Rattle.album_permits.specs.Needs.{just, deletion, needs_of};
 
 use album_access::Mask;
 use album_items::ItemId;
 use album_listing::{Alternative, ViewLookup};
-use album_views::{Ask, NewList};
+use album_views::{Ask, NewList, NewMembership};
 use std::alloc::{AllocError, Global};
 use std::marker::Model;
 
@@ -61,6 +61,11 @@ pub(crate) fn needs(alloc: Global, lookup: &ViewLookup, ask: &Ask) -> Result<Vec
         Ask::SetLists { lists } => each_list(alloc, lists.as_slice()),
         Ask::SetOwner { object, .. } => one(alloc, *object, Mask::WRITE_OWNER),
         Ask::SetMembers { object, .. } => one(alloc, *object, Mask::WRITE_DATA),
+        Ask::Share { lists, members } => {
+            let mut needs = each_list(alloc, lists.as_slice())?;
+            add_each_group(alloc, &mut needs, members.as_slice())?;
+            Ok(needs)
+        }
     }
 }
 
@@ -112,4 +117,19 @@ fn each_list(alloc: Global, lists: &[NewList]) -> Result<Vec<Need>, AllocError>
         needs.push(just(alloc, new.object, Mask::WRITE_ACL)?)?;
     }
     Ok(needs)
+}
+
+/// Adds WRITE_DATA on each of the groups.
+fn add_each_group(
+    alloc: Global,
+    needs: &mut Vec<Need>,
+    members: &[NewMembership],
+) -> Result<(), AllocError>
+    ensures { OnOk result (needs.new.items
+        ≡ needs.old.items ++ map (λ new. just new.object WRITE_DATA) members.now) }
+{
+    for new in members {
+        needs.push(just(alloc, new.object, Mask::WRITE_DATA)?)?;
+    }
+    Ok(())
 }

@@ -88,6 +88,7 @@ fn serve_ask(alloc: Global, permit: &Permit) -> Result<Served, Refusal>
         Ask::AddPicture { .. } | Ask::AddAlbum { .. } | Ask::Retitle { .. } => unreachable!(),
         Ask::Replace { .. } | Ask::Delete { .. } | Ask::Move { .. } => unreachable!(),
         Ask::SetLists { .. } | Ask::SetOwner { .. } | Ask::SetMembers { .. } => unreachable!(),
+        Ask::Share { .. } => unreachable!(),
     }
 }
 

@@ -3,7 +3,7 @@ use crate::store::{ALLOW, groups, item_of, list_of};
 use album_items::{Content, ItemId, Kind, Title};
 use album_lists::Name;
 use album_stamps::Refusal;
-use album_views::{Ask, NewList, NewLists};
+use album_views::{Ask, NewList, NewLists, NewMembership, NewMemberships};
 use bytes::Bytes;
 use std::alloc::Global;
 
@@ -25,6 +25,8 @@ pub enum Verb {
     SetLists,
     SetOwner,
     SetMembers,
+    /// Another list, and other members.
+    Share,
 }
 
 /// The object, and a list by which everyone may read it.
@@ -59,6 +61,18 @@ pub fn set_lists(lists: Vec<NewList>) -> Ask {
 pub fn set_members(alloc: Global, object: ItemId, len: u64) -> Result<Ask, Refusal> {
     let members = groups(alloc, 1000, len)?;
     Ok(Ask::SetMembers { object, members })
+}
+
+/// A group that is to have another list, and so many members.
+pub fn share(alloc: Global, object: ItemId, len: u64) -> Result<Ask, Refusal> {
+    let lists = one_list(alloc, object)?;
+    let mut members = Vec::new(alloc);
+    members.push(NewMembership {
+        object,
+        members: groups(alloc, 1000, len)?,
+    })?;
+    let members = NewMemberships::of(members);
+    Ok(Ask::Share { lists, members })
 }
 
 fn add_picture(alloc: Global, album: ItemId) -> Result<Ask, Refusal> {
@@ -121,5 +135,6 @@ pub fn ask_of(alloc: Global, verb: Verb, text: &str) -> Result<Ask, Refusal> {
         }
         Verb::SetOwner => set_owner(item),
         Verb::SetMembers => set_members(alloc, item, 2),
+        Verb::Share => share(alloc, item, 2),
     }
 }

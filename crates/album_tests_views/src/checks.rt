@@ -1,5 +1,5 @@
 //! Asks that no line spells, and their copies (docs/PROTOCOL.md, "Asks").
-use crate::asks::{Verb, ask_of, set_members};
+use crate::asks::{Verb, ask_of, set_members, share};
 use album_eval::Principal;
 use album_items::{ItemId, Kind};
 use album_stamps::Refusal;
@@ -19,6 +19,20 @@ fn numbers_of_members(rt: HostRuntime) {
     assert_eq!(rt; members_checked(rt.alloc(), 129), Err(Refusal::ListFull));
 }
 
+fn share_checked(alloc: Global, len: u64) -> Result<(), Refusal> {
+    let ask = share(alloc, ItemId::new(Kind::Group, 1), len)?;
+    let checked = ask.check(&Principal::Anonymous);
+    drop(ask);
+    checked
+}
+
+/// So has a group of a share. Its own list is set too: it is named twice, and may be.
+#[test]
+fn numbers_of_members_of_a_share(rt: HostRuntime) {
+    assert_eq!(rt; share_checked(rt.alloc(), 128), Ok(()));
+    assert_eq!(rt; share_checked(rt.alloc(), 129), Err(Refusal::ListFull));
+}
+
 /// What is asked of one item.
 const VERBS: &[Verb] = &[
     Verb::Read,
@@ -34,6 +48,7 @@ const VERBS: &[Verb] = &[
     Verb::SetLists,
     Verb::SetOwner,
     Verb::SetMembers,
+    Verb::Share,
 ];
 
 /// The text that tells all of an ask.

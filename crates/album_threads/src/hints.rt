@@ -179,6 +179,10 @@ fn first_object(ask: &Ask) -> Option<ItemId> {
         Ask::SetLists { lists } => lists.as_slice().first().map(|new| new.object),
         Ask::SetOwner { object, .. } => Some(*object),
         Ask::SetMembers { object, .. } => Some(*object),
+        Ask::Share { lists, members } => match lists.as_slice().first() {
+            Some(new) => Some(new.object),
+            None => members.as_slice().first().map(|new| new.object),
+        },
     }
 }
 
@@ -191,5 +195,6 @@ fn relatives_of(ask: &Ask) -> Relatives {
         Ask::AddPicture { .. } | Ask::AddAlbum { .. } => Relatives::None,
         Ask::Retitle { .. } | Ask::Replace { .. } => Relatives::None,
         Ask::SetLists { .. } | Ask::SetOwner { .. } | Ask::SetMembers { .. } => Relatives::None,
+        Ask::Share { .. } => Relatives::None,
     }
 }

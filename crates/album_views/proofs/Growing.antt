@@ -9,7 +9,8 @@ use Rattle.indexmap.specs.IndexSet.{insert_key, insert_all}
 use Rattle.album_stamps.specs.Distinct.{are_distinct}
 use Rattle.album_items.specs.Values.{list_of, head_group_of, groups_in_list, groups_in_group}
 use Rattle.album_items.specs.declared.values.Value.{Value}
-use Rattle.album_views.specs.ReadSets.{IsNamed, subjects_of, named_by_head, named_by_list, first_names, once, grown}
+use Rattle.album_views.specs.Asks.{once}
+use Rattle.album_views.specs.ReadSets.{IsNamed, subjects_of, named_by_head, named_by_list, first_names, grown}
 use Rattle.album_views.specs.ReadSets.IsNamed.{Subject, ListOf, HeadGroupOf, GroupInListOf, GroupInGroup}
 use Rattle.album_views.specs.declared.asks.Ask.{Ask}
 use Rattle.album_views.proofs.Sets.{has, has-Contains, Contains-has, in-append, in-left, in-right, in-here, in-flat_map, flat_map-in, all-new, all-only, all-more, all-single, single-apart}

@@ -1,10 +1,10 @@
 -- What is among the keys of a set as keys are inserted, for the names (`Growing`, `Turns`): nothing is lost (`all-old`),
--- all is taken (`all-new`), nothing else is (`all-only`), keys go behind those that are there (`all-more`), and none
--- stands twice (`all-single`).
-use Rattle.std.proofs.Common.{◌≡◌, ◌<◌, ℕ, zero, suc, Bool, true, false, not, ◌||◌, ◌==◌, List, [], ◌∷◌, ◌++◌, length, get_or, if◌then◌else◌, Contains, inl, inr, ◌⊎◌, refl, sym, ap, subst, ◌∙◌, arith}
+-- all is taken (`all-new`), nothing else is (`all-only`), keys go behind those that are there (`all-more`), none stands
+-- twice (`all-single`), and they are no more than what is inserted (`all-few`).
+use Rattle.std.proofs.Common.{◌≡◌, ◌<◌, ◌≤◌, ◌+◌, ℕ, zero, suc, Bool, true, false, not, ◌||◌, ◌==◌, List, [], ◌∷◌, ◌++◌, length, get_or, if◌then◌else◌, Contains, inl, inr, ◌⊎◌, refl, sym, ap, subst, ◌∙◌, arith}
 use Rattle.std.specs.List.{list_any, flat_map}
 use Rattle.std.proofs.lemmas.Bool.{and_parts, and_from, or_parts, or_from, or_left, or_right, not-true, eqb-true, eq-eqb}
-use Rattle.std.proofs.lemmas.List.{append_assoc, append-nil}
+use Rattle.std.proofs.lemmas.List.{append_assoc, append-nil, length-append}
 use Rattle.std.proofs.lemmas.List.Folds.{list_any-append}
 use Rattle.std.proofs.lemmas.Map.Views.{Contains-from_any}
 use Rattle.indexmap.specs.IndexSet.{insert_key, insert_all}
@@ -176,6 +176,15 @@ pub all-single :
     (keys items : List ℕ) → are_distinct keys ≡ true → are_distinct (insert_all ◌==◌ keys items) ≡ true
 all-single keys [] single = single
 all-single keys (x ∷ xs) single = all-single (insert_key ◌==◌ keys x) xs (key-single keys x single)
+
+key-few : (keys : List ℕ) (key : ℕ) → length (insert_key ◌==◌ keys key) ≤ length keys + 1
+key-few keys key =
+    key-by (λ ks. length ks ≤ length keys + 1) keys key (λ e. omega arith)
+    (λ e. omega (arith, length-append keys (key ∷ [])))
+
+pub all-few : (keys items : List ℕ) → length (insert_all ◌==◌ keys items) ≤ length keys + length items
+all-few keys [] = omega arith
+all-few keys (x ∷ xs) = omega (arith, all-few (insert_key ◌==◌ keys x) xs, key-few keys x)
 
 -- where none stands twice, what stands behind the others is none of them
 pub single-apart :

@@ -1,10 +1,12 @@
 -- What a client asks: of which items, of what kinds they may be, and whether it lists, writes or makes something.
-use Rattle.std.specs.Prelude.{ℕ, List, [], ◌∷◌, Bool, true, false, map}
+use Rattle.std.specs.Prelude.{ℕ, ◌==◌, List, [], ◌∷◌, ◌++◌, Bool, true, false, map}
+use Rattle.indexmap.specs.IndexSet.{insert_all}
 use Rattle.album_items.specs.declared.item_ids.Kind.{Kind}
 use Rattle.album_items.specs.declared.item_ids.Kind.TheVariants.{Picture, Album, Group}
 use Rattle.album_views.specs.declared.asks.Ask.{Ask}
 use Rattle.album_views.specs.declared.asks.Ask.TheVariants as ask
 use Rattle.album_views.specs.declared.asks.NewList.{NewList}
+use Rattle.album_views.specs.declared.asks.NewMembership.{NewMembership}
 
 -- an item that is asked for, and the kinds of which it may be
 pub record Wanted : Type 0 where
@@ -18,7 +20,7 @@ want kinds object = record { object = object; kinds = kinds }
 abbrev pub headed : List Kind
 headed = Picture ∷ Album ∷ Group ∷ []
 
--- the objects of an ask, in the order of its fields, each with the kinds of which it may be
+-- what an ask names, in the order of its fields, each item with the kinds of which it may be
 abbrev pub wanted : Ask → List Wanted
 wanted (ask.Read object) = want (Picture ∷ Group ∷ []) object ∷ []
 wanted (ask.List album) = want (Album ∷ []) album ∷ []
@@ -32,9 +34,18 @@ wanted (ask.Move object to) = want (Picture ∷ []) object ∷ want (Album ∷ [
 wanted (ask.SetLists lists) = map (λ (new : NewList). want headed new.object) lists
 wanted (ask.SetOwner object owner group) = want headed object ∷ []
 wanted (ask.SetMembers object members) = want (Group ∷ []) object ∷ []
+wanted (ask.Share lists members) =
+    map (λ (new : NewList). want headed new.object) lists
+    ++ map (λ (new : NewMembership). want (Group ∷ []) new.object) members
 
--- the objects of an ask
+-- each item once, at its first index
+abbrev pub once : List ℕ → List ℕ
+once items = insert_all ◌==◌ [] items
+
+-- the objects of an ask: what it names. A group that a share names twice, for its list and for its members, is one.
 abbrev pub objects_of : Ask → List ℕ
+objects_of (ask.Share lists members) =
+    once (map (λ (new : NewList). new.object) lists ++ map (λ (new : NewMembership). new.object) members)
 objects_of ask = map (λ wanted. wanted.object) (wanted ask)
 
 -- the ask is to list an album
@@ -51,6 +62,7 @@ is_list (ask.Move object to) = false
 is_list (ask.SetLists lists) = false
 is_list (ask.SetOwner object owner group) = false
 is_list (ask.SetMembers object members) = false
+is_list (ask.Share lists members) = false
 
 -- the ask writes
 abbrev pub is_write : Ask → Bool
@@ -66,6 +78,7 @@ is_write (ask.Move object to) = true
 is_write (ask.SetLists lists) = true
 is_write (ask.SetOwner object owner group) = true
 is_write (ask.SetMembers object members) = true
+is_write (ask.Share lists members) = true
 
 -- the ask makes a new object
 abbrev pub is_adding : Ask → Bool
@@ -81,3 +94,4 @@ is_adding (ask.Move object to) = false
 is_adding (ask.SetLists lists) = false
 is_adding (ask.SetOwner object owner group) = false
 is_adding (ask.SetMembers object members) = false
+is_adding (ask.Share lists members) = false

@@ -1,5 +1,5 @@
 -- Which asks are refused before anything is read, and why.
-use Rattle.std.specs.Prelude.{ℕ, List, [], Bool, not, ◌&&◌, ◌==◌, nat_lt, length, Option, Some, None, if◌then◌else◌}
+use Rattle.std.specs.Prelude.{ℕ, List, [], ◌∷◌, Bool, not, ◌&&◌, ◌==◌, nat_le, nat_lt, length, map, Option, Some, None, if◌then◌else◌}
 use Rattle.std.specs.List.{list_all, list_any}
 use Rattle.album_stamps.specs.Distinct.{are_distinct}
 use Rattle.album_stamps.specs.declared.limits.TheConstants.{MAX_TRANSACTION_ITEMS, MAX_MEMBERS}
@@ -17,26 +17,34 @@ use Rattle.album_items.specs.declared.item_ids.Kind.{Kind}
 use Rattle.album_views.specs.declared.asks.Ask.{Ask}
 use Rattle.album_views.specs.declared.asks.Ask.TheVariants as ask
 use Rattle.album_views.specs.declared.asks.NewList.{NewList}
+use Rattle.album_views.specs.declared.asks.NewMembership.{NewMembership}
 use Rattle.album_views.specs.Asks.{wanted, objects_of, is_adding}
 
 -- the item is of one of the kinds
 abbrev pub is_one_of : List Kind → ℕ → Bool
 is_one_of kinds item = list_any (λ kind. code_of kind == kind_of item) kinds
 
--- each object is of a kind of which it may be
+-- each item that is named is of a kind of which it may be
 abbrev pub has_kinds : Ask → Bool
 has_kinds ask = list_all (λ wanted. is_one_of wanted.kinds wanted.object) (wanted ask)
 
--- the ask has an object, and none twice
+-- the ask names an item, and none twice, but that a share may name a group for its list and for its members
 abbrev pub has_single_objects : Ask → Bool
+has_single_objects (ask.Share lists members) =
+    not (length (wanted (ask.Share lists members)) == 0)
+    && (are_distinct (map (λ (new : NewList). new.object) lists)
+    && are_distinct (map (λ (new : NewMembership). new.object) members))
 has_single_objects ask = not (length (objects_of ask) == 0) && are_distinct (objects_of ask)
 
 -- both are for one object
 abbrev pub same_object : NewList → NewList → Bool
 same_object a b = a.object == b.object
 
--- the members that a group is to have
-abbrev pub new_members : Ask → List Member
+abbrev pub same_group : NewMembership → NewMembership → Bool
+same_group a b = a.object == b.object
+
+-- the members that groups are to have
+abbrev pub new_members : Ask → List NewMembership
 new_members (ask.Read object) = []
 new_members (ask.List album) = []
 new_members (ask.GetList object) = []
@@ -48,7 +56,8 @@ new_members (ask.Delete object) = []
 new_members (ask.Move object to) = []
 new_members (ask.SetLists lists) = []
 new_members (ask.SetOwner object owner group) = []
-new_members (ask.SetMembers object members) = members
+new_members (ask.SetMembers object members) = record { object = object; members = members } ∷ []
+new_members (ask.Share lists members) = members
 
 -- the lists that objects are to have
 abbrev pub new_lists : Ask → List NewList
@@ -64,6 +73,15 @@ new_lists (ask.Move object to) = []
 new_lists (ask.SetLists lists) = lists
 new_lists (ask.SetOwner object owner group) = []
 new_lists (ask.SetMembers object members) = []
+new_lists (ask.Share lists members) = lists
+
+-- a group may have these members
+abbrev pub is_room_for : List Member → Bool
+is_room_for members = nat_le (length members) MAX_MEMBERS
+
+-- each group has room for its members
+abbrev pub has_room : Ask → Bool
+has_room ask = list_all (λ (new : NewMembership). is_room_for new.members) (new_members ask)
 
 -- what carries the list of an item: an album is a folder
 abbrev pub holder_of : ℕ → Holder
@@ -77,8 +95,8 @@ has_fitting_lists ask = list_all (λ (new : NewList). fits (holder_of new.object
 unfoldable pub flaw_of : Ask → Option Refusal
 flaw_of ask =
     if not (has_kinds ask && has_single_objects ask) then Some BadRequest
-    else if nat_lt MAX_TRANSACTION_ITEMS (length (objects_of ask)) then Some TooManyItems
-    else if nat_lt MAX_MEMBERS (length (new_members ask)) then Some ListFull
+    else if nat_lt MAX_TRANSACTION_ITEMS (length (wanted ask)) then Some TooManyItems
+    else if not (has_room ask) then Some ListFull
     else if not (has_fitting_lists ask) then Some BadFlags
     else None
 

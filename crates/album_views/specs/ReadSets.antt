@@ -1,14 +1,13 @@
 -- Which items a ruling looks at.
-use Rattle.std.specs.Prelude.{ℕ, ◌+◌, ◌==◌, List, [], ◌++◌, length, Contains}
+use Rattle.std.specs.Prelude.{ℕ, ◌+◌, List, [], ◌++◌, length, Contains}
 use Rattle.std.specs.Fn.{iterate}
 use Rattle.std.specs.List.{flat_map}
-use Rattle.indexmap.specs.IndexSet.{insert_all}
 use Rattle.album_items.specs.Values.{home_of, children_of, list_of, head_group_of, groups_in_list, groups_in_group}
 use Rattle.album_items.specs.declared.values.Value.{Value}
 use Rattle.album_reader.specs.Answers.{ReadVersion}
 use Rattle.album_views.specs.declared.asks.Ask.{Ask}
 use Rattle.album_views.specs.declared.asks.Ask.TheVariants as ask
-use Rattle.album_views.specs.Asks.{objects_of}
+use Rattle.album_views.specs.Asks.{once, objects_of}
 use Rattle.album_views.specs.Seen.{seen}
 
 -- what an ask looks at beside its objects: the home of a picture that is deleted or moved, the children of an album
@@ -26,6 +25,7 @@ relatives_of seen (ask.Move object to) = home_of (seen object)
 relatives_of seen (ask.SetLists lists) = []
 relatives_of seen (ask.SetOwner object owner group) = []
 relatives_of seen (ask.SetMembers object members) = []
+relatives_of seen (ask.Share lists members) = []
 
 -- what is ruled on: the objects of the ask, and these
 abbrev pub subjects_of : (ℕ → Value) → Ask → List ℕ
@@ -67,10 +67,6 @@ unfoldable pub first_names : (ℕ → Value) → Ask → List ℕ
 first_names seen ask =
     subjects_of seen ask
     ++ (flat_map (named_by_head seen) (subjects_of seen ask) ++ flat_map (named_by_list seen) (subjects_of seen ask))
-
--- each item once, at its first index
-abbrev pub once : List ℕ → List ℕ
-once items = insert_all ◌==◌ [] items
 
 -- what names lead to: the first names, and behind them the groups among the members of each of the names
 abbrev pub grown : (ℕ → Value) → Ask → List ℕ → List ℕ

@@ -1,10 +1,11 @@
 //! What a client asks.
-ghost use Rattle.std.specs.Prelude.{◌≡◌, List, IfOk, IsOkUnless, map};
-ghost use Rattle.album_views.specs.Asks.{objects_of, is_list, is_write, is_adding};
+ghost use Rattle.std.specs.Prelude.{◌≡◌, ◌++◌, List, IfOk, IsOkUnless, map};
+ghost use Rattle.album_views.specs.Asks.{once, objects_of, is_list, is_write, is_adding};
 
 use album_items::{Content, ItemId, Members, Title};
 use album_lists::{AccessList, Name};
 use album_stamps::Refusal;
+use indexmap::IndexSet;
 use std::alloc::{AllocError, Global};
 use std::marker::Model;
 
@@ -44,6 +45,45 @@ impl NewLists {
         ensures { result.now ≡ self.now }
     {
         self.lists.as_slice()
+    }
+}
+
+/// A group, and the members that it is to have.
+#[derive(Clone, Debug, Drop)]
+pub struct NewMembership {
+    pub object: ItemId,
+    /// All the members that take the place of the group's.
+    pub members: Members,
+}
+
+/// Groups, each with the members that it is to have. Contracts see them in order.
+#[derive(Clone, Debug, Drop)]
+pub struct NewMemberships {
+    members: Vec<NewMembership>,
+}
+
+impl Model for NewMemberships {
+    ghost use Rattle.std.specs.Prelude.{List};
+    ghost use Rattle.album_views.specs.declared.asks.NewMembership.{NewMembership};
+
+    ghost Value = { List NewMembership };
+
+    ghost view = { λ m. m.members.items };
+}
+
+impl NewMemberships {
+    /// These groups with their members.
+    pub fn of(members: Vec<NewMembership>) -> NewMemberships
+        ensures { result ≡ members.items }
+    {
+        NewMemberships { members }
+    }
+
+    /// The groups with their members, in order.
+    pub fn as_slice(&self) -> &[NewMembership]
+        ensures { result.now ≡ self.now }
+    {
+        self.members.as_slice()
     }
 }
 
@@ -107,10 +147,15 @@ pub enum Ask {
         object: ItemId,
         members: Members,
     },
+    /// Other access lists of objects and other members of groups, all at once. A group may be named for both.
+    Share {
+        lists: NewLists,
+        members: NewMemberships,
+    },
 }
 
 impl Ask {
-    /// The objects, in the order of the fields.
+    /// The objects, in the order of the fields, each once.
     #[tactic(auto, using(crate::proofs::Flaws::objects_lists))]
     pub(crate) fn objects(&self, alloc: Global) -> Result<Vec<ItemId>, AllocError>
         ensures { IfOk result (λ objects. objects.items ≡ objects_of self.now) }
@@ -128,6 +173,9 @@ impl Ask {
             Ask::SetLists { lists } => objects_of(alloc, lists.as_slice()),
             Ask::SetOwner { object, .. } => Ok(vec![in alloc; *object]?),
             Ask::SetMembers { object, .. } => Ok(vec![in alloc; *object]?),
+            Ask::Share { lists, members } => {
+                objects_of_share(alloc, lists.as_slice(), members.as_slice())
+            }
         }
     }
 
@@ -141,6 +189,7 @@ impl Ask {
             Ask::AddPicture { .. } | Ask::AddAlbum { .. } | Ask::Retitle { .. } => false,
             Ask::Replace { .. } | Ask::Delete { .. } | Ask::Move { .. } => false,
             Ask::SetLists { .. } | Ask::SetOwner { .. } | Ask::SetMembers { .. } => false,
+            Ask::Share { .. } => false,
         }
     }
 
@@ -153,6 +202,7 @@ impl Ask {
             Ask::AddPicture { .. } | Ask::AddAlbum { .. } | Ask::Retitle { .. } => true,
             Ask::Replace { .. } | Ask::Delete { .. } | Ask::Move { .. } => true,
             Ask::SetLists { .. } | Ask::SetOwner { .. } | Ask::SetMembers { .. } => true,
+            Ask::Share { .. } => true,
         }
     }
 
@@ -165,7 +215,7 @@ impl Ask {
             Ask::Read { .. } | Ask::List { .. } | Ask::GetList { .. } => false,
             Ask::Retitle { .. } | Ask::Replace { .. } | Ask::Delete { .. } => false,
             Ask::Move { .. } | Ask::SetLists { .. } => false,
-            Ask::SetOwner { .. } | Ask::SetMembers { .. } => false,
+            Ask::SetOwner { .. } | Ask::SetMembers { .. } | Ask::Share { .. } => false,
         }
     }
 
@@ -186,4 +236,20 @@ fn objects_of(alloc: Global, lists: &[NewList]) -> Result<Vec<ItemId>, AllocErro
     ensures { IfOk result (λ objects. objects.items ≡ map (λ new. new.object) lists.now) }
 {
     lists.iter().map(|new| new.object).collect(alloc)
+}
+
+fn objects_of_share(
+    alloc: Global,
+    lists: &[NewList],
+    members: &[NewMembership],
+) -> Result<Vec<ItemId>, AllocError>
+    ensures { IfOk result (λ objects. objects.items
+        ≡ once (map (λ new. new.object) lists.now ++ map (λ new. new.object) members.now)) }
+{
+    let objects: IndexSet<ItemId> = lists
+        .iter()
+        .map(|new| new.object)
+        .chain(members.iter().map(|new| new.object))
+        .collect(alloc)?;
+    Vec::from_slice(alloc, objects.as_slice())
 }

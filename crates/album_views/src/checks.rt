@@ -1,14 +1,14 @@
 //! Which asks are refused before anything is read.
-ghost use Rattle.std.specs.Prelude.{◌≡◌, ◌==◌, ◌&&◌, None, Some, IfOk, MatchResult, length, map};
+ghost use Rattle.std.specs.Prelude.{◌≡◌, ◌==◌, ◌&&◌, ◌+◌, not, [], ◌∷◌, None, Some, IfOk, MatchResult, length, map};
 ghost use Rattle.std.specs.List.{list_all, list_any};
 ghost use Rattle.album_stamps.specs.Distinct.{no_two};
 ghost use Rattle.album_lists.specs.Entries.{fits};
-ghost use Rattle.album_views.specs.Asks.{headed, objects_of};
-ghost use Rattle.album_views.specs.Checks.{is_one_of, has_kinds, has_single_objects, same_object, new_members, new_lists, holder_of, has_fitting_lists, flaw_of, refusal_of};
+ghost use Rattle.album_views.specs.Asks.{headed, wanted};
+ghost use Rattle.album_views.specs.Checks.{is_one_of, has_kinds, has_single_objects, same_object, same_group, is_room_for, has_room, new_lists, holder_of, has_fitting_lists, flaw_of, refusal_of};
 
-use crate::asks::{Ask, NewList};
+use crate::asks::{Ask, NewList, NewMembership};
 use album_eval::Principal;
-use album_items::{ItemId, Kind};
+use album_items::{ItemId, Kind, Members};
 use album_lists::Holder;
 use album_stamps::{MAX_MEMBERS, MAX_TRANSACTION_ITEMS, Refusal};
 
@@ -23,7 +23,8 @@ impl Ask {
     /// By the first test that the ask fails: `BadRequest` where an object is of a kind of which it may not
     /// be, where there is none, or one stands twice; `TooManyItems` where there are more than
     /// `MAX_TRANSACTION_ITEMS`; `ListFull` where a group is to have more than `MAX_MEMBERS` members;
-    /// `BadFlags` where a list does not fit its object; `NoOwner` where Anonymous makes a new object.
+    /// `BadFlags` where a list does not fit its object; `NoOwner` where Anonymous makes a new object. A group that a
+    /// share names for its list and for its members counts as two, and doesn't stand twice.
     pub fn check(&self, principal: &Principal) -> Result<(), Refusal>
         ensures refusal { MatchResult result
             (λ _. refusal_of self.now principal.now ≡ None)
@@ -47,10 +48,10 @@ impl Ask {
         if !(self.has_kinds() && self.has_single_objects()) {
             return Err(Refusal::BadRequest);
         }
-        if self.objects_len() > MAX_TRANSACTION_ITEMS {
+        if self.named_len() > MAX_TRANSACTION_ITEMS {
             return Err(Refusal::TooManyItems);
         }
-        if self.new_members_len() > MAX_MEMBERS {
+        if !self.has_room() {
             return Err(Refusal::ListFull);
         }
         if !self.has_fitting_lists() {
@@ -60,7 +61,7 @@ impl Ask {
     }
 
     /// Whether each object is of a kind of which it may be.
-    #[tactic(auto, using(crate::proofs::Flaws::kinds_lists))]
+    #[tactic(auto, using(crate::proofs::Flaws::kinds_lists, crate::proofs::Flaws::kinds_share))]
     fn has_kinds(&self) -> bool
         ensures { result ≡ has_kinds self.now }
     {
@@ -79,17 +80,23 @@ impl Ask {
             Ask::SetLists { lists } => are_headed(lists.as_slice()),
             Ask::SetOwner { object, .. } => is_one_of(&HEADED, *object),
             Ask::SetMembers { object, .. } => is_one_of(&[Kind::Group], *object),
+            Ask::Share { lists, members } => {
+                are_headed(lists.as_slice()) && are_groups(members.as_slice())
+            }
         }
     }
 
-    /// Whether there is an object, and none stands twice.
-    #[tactic(auto, using(crate::proofs::Flaws::single_lists))]
+    /// Whether there is an object, and none stands twice in one field.
+    #[tactic(auto, using(crate::proofs::Flaws::single_lists, crate::proofs::Flaws::single_share))]
     fn has_single_objects(&self) -> bool
         ensures { result ≡ has_single_objects self.now }
     {
         match self {
             Ask::SetLists { lists } => {
                 !lists.as_slice().is_empty() && have_single_objects(lists.as_slice())
+            }
+            Ask::Share { lists, members } => {
+                has_single_in_fields(lists.as_slice(), members.as_slice())
             }
             Ask::Move { object, to } => !object.is(*to),
             Ask::Read { .. } | Ask::List { .. } | Ask::GetList { .. } => true,
@@ -99,12 +106,14 @@ impl Ask {
         }
     }
 
-    /// How many objects there are.
-    fn objects_len(&self) -> usize
-        ensures { result ≡ length (objects_of self.now) }
+    /// How many items are named, one that is named in two fields twice.
+    #[tactic(auto, using(crate::proofs::Flaws::count_share))]
+    fn named_len(&self) -> usize
+        ensures { result ≡ length (wanted self.now) }
     {
         match self {
             Ask::SetLists { lists } => lists.as_slice().len(),
+            Ask::Share { lists, members } => lists.as_slice().len() + members.as_slice().len(),
             Ask::Move { .. } => 2,
             Ask::Read { .. } | Ask::List { .. } | Ask::GetList { .. } => 1,
             Ask::AddPicture { .. } | Ask::AddAlbum { .. } | Ask::Retitle { .. } => 1,
@@ -113,16 +122,20 @@ impl Ask {
         }
     }
 
-    /// How many members a group is to have.
-    fn new_members_len(&self) -> usize
-        ensures { result ≡ length (new_members self.now) }
+    /// Whether each group has room for the members that it is to have.
+    fn has_room(&self) -> bool
+        ensures { result ≡ has_room self.now }
     {
         match self {
-            Ask::SetMembers { members, .. } => members.as_slice().len(),
-            Ask::Read { .. } | Ask::List { .. } | Ask::GetList { .. } => 0,
-            Ask::AddPicture { .. } | Ask::AddAlbum { .. } | Ask::Retitle { .. } => 0,
-            Ask::Replace { .. } | Ask::Delete { .. } | Ask::Move { .. } => 0,
-            Ask::SetLists { .. } | Ask::SetOwner { .. } => 0,
+            Ask::SetMembers { members, .. } => is_room_for(members),
+            Ask::Share { members, .. } => members
+                .as_slice()
+                .iter()
+                .all(|new| is_room_for(&new.members)),
+            Ask::Read { .. } | Ask::List { .. } | Ask::GetList { .. } => true,
+            Ask::AddPicture { .. } | Ask::AddAlbum { .. } | Ask::Retitle { .. } => true,
+            Ask::Replace { .. } | Ask::Delete { .. } | Ask::Move { .. } => true,
+            Ask::SetLists { .. } | Ask::SetOwner { .. } => true,
         }
     }
 
@@ -132,6 +145,7 @@ impl Ask {
     {
         match self {
             Ask::SetLists { lists } => lists.as_slice(),
+            Ask::Share { lists, .. } => lists.as_slice(),
             Ask::Read { .. } | Ask::List { .. } | Ask::GetList { .. } => &[],
             Ask::AddPicture { .. } | Ask::AddAlbum { .. } | Ask::Retitle { .. } => &[],
             Ask::Replace { .. } | Ask::Delete { .. } | Ask::Move { .. } => &[],
@@ -162,6 +176,25 @@ fn are_headed(lists: &[NewList]) -> bool
     lists.iter().all(|new| is_one_of(&HEADED, new.object))
 }
 
+fn are_groups(members: &[NewMembership]) -> bool
+    ensures { result ≡ list_all (λ new. is_one_of (Kind.Group ∷ []) new.object) members.now }
+{
+    members
+        .iter()
+        .all(|new| is_one_of(&[Kind::Group], new.object))
+}
+
+/// Whether there is a list or a membership, and no two of either are for one object.
+fn has_single_in_fields(lists: &[NewList], members: &[NewMembership]) -> bool
+    ensures { result ≡ (not (length lists.now + length members.now == 0)
+        && (no_two same_object lists.now && no_two same_group members.now)) }
+{
+    if lists.is_empty() && members.is_empty() {
+        return false;
+    }
+    have_single_objects(lists) && have_single_groups(members)
+}
+
 /// Whether no object stands twice.
 fn have_single_objects(lists: &[NewList]) -> bool
     ensures { result ≡ no_two same_object lists.now }
@@ -179,6 +212,32 @@ fn names_object_of(lists: &[NewList], new: &NewList) -> bool
     ensures { result ≡ list_any (same_object new.now) lists.now }
 {
     lists.iter().any(|other| new.object.is(other.object))
+}
+
+/// Whether no group stands twice.
+fn have_single_groups(members: &[NewMembership]) -> bool
+    ensures { result ≡ no_two same_group members.now }
+{
+    for index in 0..members.len() {
+        if names_group_of(&members[index + 1..], &members[index]) {
+            return false;
+        }
+    }
+    true
+}
+
+/// Whether one of them is for the group of this one.
+fn names_group_of(members: &[NewMembership], new: &NewMembership) -> bool
+    ensures { result ≡ list_any (same_group new.now) members.now }
+{
+    members.iter().any(|other| new.object.is(other.object))
+}
+
+/// Whether a group may have these members.
+fn is_room_for(members: &Members) -> bool
+    ensures { result ≡ is_room_for members.now }
+{
+    members.as_slice().len() <= MAX_MEMBERS
 }
 
 /// What carries the list of an item: an album is a folder.

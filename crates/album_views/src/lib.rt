@@ -19,7 +19,7 @@ mod viewing;
 // What holds of them.
 mod laws;
 
-pub use asks::{Ask, NewList, NewLists};
+pub use asks::{Ask, NewList, NewLists, NewMembership, NewMemberships};
 pub use laws::{a_view_is_the_first_closed_read, asks_without_flaw, names_are_what_is_named};
 pub use read_set::names;
 pub use view::View;

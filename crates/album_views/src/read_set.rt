@@ -5,7 +5,8 @@ ghost use Rattle.std.specs.Option.{option_copied};
 ghost use Rattle.indexmap.specs.IndexSet.{insert_all};
 ghost use Rattle.album_items.specs.Values.{head_of, home_of, children_of, group_of_who, group_of_member, groups_in_group};
 ghost use Rattle.album_items.specs.declared.values.Value.TheVariants.{Missing};
-ghost use Rattle.album_views.specs.ReadSets.{relatives_of, subjects_of, named_by_head, named_by_list, first_names, once, names_of};
+ghost use Rattle.album_views.specs.Asks.{once};
+ghost use Rattle.album_views.specs.ReadSets.{relatives_of, subjects_of, named_by_head, named_by_list, first_names, names_of};
 ghost use Rattle.album_views.specs.Seen.{seen};
 
 use crate::asks::Ask;
@@ -81,6 +82,7 @@ fn add_relatives(
         Ask::AddPicture { .. } | Ask::AddAlbum { .. } => Ok(()),
         Ask::Retitle { .. } | Ask::Replace { .. } => Ok(()),
         Ask::SetLists { .. } | Ask::SetOwner { .. } | Ask::SetMembers { .. } => Ok(()),
+        Ask::Share { .. } => Ok(()),
     }
 }
 

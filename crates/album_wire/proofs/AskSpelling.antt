@@ -9,17 +9,18 @@ use Rattle.album_lists.specs.declared.whos.Member.{Member}
 use Rattle.album_views.specs.declared.asks.Ask.{Ask}
 use Rattle.album_views.specs.declared.asks.Ask.TheVariants as ask
 use Rattle.album_views.specs.declared.asks.NewList.{NewList}
+use Rattle.album_views.specs.declared.asks.NewMembership.{NewMembership}
 use Rattle.album_lines.specs.Fields.{sized, only_of, field_of, text_of}
 use Rattle.album_lines.specs.Shapes.{entry_shapes_of, texts_of}
 use Rattle.album_lines.specs.Values.{each_of, entries_read, members_read}
 use Rattle.album_wire.specs.ItemTexts.{owner_read, title_read, content_read}
 use Rattle.album_lines.specs.Spelling.{HasOnly, IsList, AreMembers, list_data}
 use Rattle.album_wire.specs.ItemShapes.{item_named}
-use Rattle.album_wire.specs.AskShape.{SpelledNewList, SpelledAsk, Read, ListAlbum, GetList, AddPicture, AddAlbum, Retitle, Replace, Delete, Move, SetLists, SetOwner, SetMembers, read_shape_of, list_shape_of, get_list_shape_of, add_picture_shape_of, add_album_shape_of, retitle_shape_of, replace_shape_of, delete_shape_of, move_shape_of, new_list_shape_of, set_lists_shape_of, set_owner_shape_of, set_members_shape_of, shape_by_word, ask_shape_of}
-use Rattle.album_wire.specs.EventLine.{new_list_read, ask_read}
+use Rattle.album_wire.specs.AskShape.{SpelledNewList, SpelledNewMembership, SpelledAsk, Read, ListAlbum, GetList, AddPicture, AddAlbum, Retitle, Replace, Delete, Move, SetLists, SetOwner, SetMembers, Share, read_shape_of, list_shape_of, get_list_shape_of, add_picture_shape_of, add_album_shape_of, retitle_shape_of, replace_shape_of, delete_shape_of, move_shape_of, new_list_shape_of, set_lists_shape_of, set_owner_shape_of, set_members_shape_of, new_membership_shape_of, share_shape_of, shape_by_word, ask_shape_of}
+use Rattle.album_wire.specs.EventLine.{new_list_read, new_membership_read, ask_read}
 use Rattle.album_wire.specs.ObjectSpelling.{HasMember}
 use Rattle.album_wire.specs.ItemSpelling.{IsItem, IsOwner, IsTitle, IsContent}
-use Rattle.album_wire.specs.AskSpelling.{IsNewList, IsAsk}
+use Rattle.album_wire.specs.AskSpelling.{IsNewList, IsNewMembership, IsAsk}
 use Rattle.album_lines.proofs.Steps.{step_taken, same_value, value_there, taken, there, each_of_read, read_each_of, zip_through, zip_between}
 use Rattle.album_lines.proofs.Json.{two, sized_read}
 use Rattle.album_lines.proofs.Entries.{members_spelled, members_parts}
@@ -432,6 +433,109 @@ module _ (reads : ReadsItems) where
       (known_then (codes "members") d texts_of texts.0 _ s texts.1 refl)) in
       (s, by_word (codes "set_members") s d is.0.does shape, step_then (members_read texts.0) _ members _ texts.2 refl)
 
+  -- ---- a share
+
+  new_membership_of_two : (a b : Data) (s : SpelledNewMembership) → new_membership_shape_of (list_data (a ∷ b ∷ [])) ≡ Ok s
+      → IsItem s.object a × (texts_of b ≡ Ok s.members)
+  unfolding new_membership_shape_of
+  new_membership_of_two a b s h =
+      let object = step_taken (item_named a) _ s h in
+      let members = step_taken (texts_of b) _ s object.2 in
+      let parts : SpelledNewMembership = record { object = object.0; members = members.0 } in
+      let same : parts ≡ s = same_value parts s members.2 in
+      let Spells : SpelledNewMembership → Type 0 = λ t. IsItem t.object a × (texts_of b ≡ Ok t.members) in
+      subst Spells same (item_form reads object.0 a object.1, members.1)
+
+  new_membership_spelled : (new : NewMembership) (s : SpelledNewMembership) (d : Data)
+      → new_membership_read s ≡ Ok new
+      → new_membership_shape_of d ≡ Ok s
+      → IsNewMembership new d
+  unfolding new_membership_read new_membership_shape_of
+  new_membership_spelled new s d g h =
+      let long = step_taken (sized 2 d) _ s h in
+      let items = sized_read 2 d long.0 long.1 in
+      let parts = two items.0 items.2 in
+      let is : d ≡ list_data (parts.0 ∷ parts.1 ∷ []) = items.1 ∙ ap array parts.2 in
+      let shape = new_membership_of_two parts.0 parts.1 s (ap new_membership_shape_of (sym is) ∙ h) in
+      let members = step_taken (members_read s.members) _ new g in
+      let made : NewMembership = record { object = s.object; members = members.0 } in
+      let spells : IsNewMembership made d = record {
+        object_data = parts.0;
+        members_data = parts.1;
+        items = is;
+        object = shape.0;
+        members = members_spelled members.0 s.members parts.1 shape.1 members.1;
+      } in
+      subst (λ n. IsNewMembership n d) (same_value made new members.2) spells
+
+  new_membership_parts : (new : NewMembership) (d : Data) → IsNewMembership new d
+      → (s : SpelledNewMembership) × (new_membership_read s ≡ Ok new) × (new_membership_shape_of d ≡ Ok s)
+  unfolding new_membership_read new_membership_shape_of
+  new_membership_parts new d is =
+      let texts = members_parts new.members is.members_data is.members in
+      let s : SpelledNewMembership = record { object = new.object; members = texts.0 } in
+      let read : new_membership_read s ≡ Ok new = step_then (members_read texts.0) _ new.members new texts.2 refl in
+      let shape : new_membership_shape_of (list_data (is.object_data ∷ is.members_data ∷ [])) ≡ Ok s =
+      step_then (item_named is.object_data) _ new.object s (read_item reads new.object is.object_data is.object)
+      (step_then (texts_of is.members_data) _ texts.0 s texts.1 refl) in
+      (s, read, ap new_membership_shape_of is.items ∙ shape)
+
+  share_spelled : (a : Ask) (s : SpelledAsk) (d : Data) → get (codes "do") d ≡ Some (string (codes "share"))
+      → share_shape_of d ≡ Ok s → ask_read s ≡ Ok a → IsAsk a d
+  unfolding share_shape_of ask_read
+  share_spelled a s d at h g =
+      let OfList : SpelledNewList → Data → Type 0 = λ l e. new_list_shape_of e ≡ Ok l in
+      let OfGroup : SpelledNewMembership → Data → Type 0 = λ l e. new_membership_shape_of e ≡ Ok l in
+      let names = names_taken (codes "do" ∷ codes "lists" ∷ codes "members" ∷ []) d _ s h in
+      let lists = list_taken (codes "lists") d new_list_shape_of OfList (λ l e read. read) _ s names.1 in
+      let members = list_taken (codes "members") d new_membership_shape_of OfGroup (λ l e read. read) _ s lists.2 in
+      let shape : Share lists.0 members.0 ≡ s = same_value _ _ members.2 in
+      let good_lists = step_taken (each_of new_list_read lists.0) _ a (ap ask_read shape ∙ g) in
+      let good_members = step_taken (each_of new_membership_read members.0) _ a good_lists.2 in
+      let same : ask.Share good_lists.0 good_members.0 ≡ a = same_value _ _ good_members.2 in
+      let each_list = each_of_read new_list_read lists.0 good_lists.0 good_lists.1 in
+      let each_group = each_of_read new_membership_read members.0 good_members.0 good_members.1 in
+      let listed =
+      member_as (codes "lists") d (IsList OfList lists.0) (IsList IsNewList good_lists.0)
+      (λ e e_is. (e_is.0, e_is.1, zip_through _ _ IsNewList new_list_spelled good_lists.0 lists.0 e_is.0 each_list e_is.2))
+      lists.1 in
+      let grouped =
+      member_as (codes "members") d (IsList OfGroup members.0) (IsList IsNewMembership good_members.0)
+      (λ e e_is. (
+        e_is.0,
+        e_is.1,
+        zip_through _ _ IsNewMembership new_membership_spelled good_members.0 members.0 e_is.0 each_group e_is.2,
+      ))
+      members.1 in
+      same_ask (ask.Share good_lists.0 good_members.0) a d same (record { does = at; names = names.0 }, listed, grouped)
+
+  share_parts : (lists : List NewList) (members : List NewMembership) (d : Data) → IsAsk (ask.Share lists members) d
+      → (s : SpelledAsk) × (ask_shape_of d ≡ Ok s) × (ask_read s ≡ Ok (ask.Share lists members))
+  unfolding share_shape_of ask_read
+  share_parts lists members d is =
+      let OfList : SpelledNewList → Data → Type 0 = λ l e. new_list_shape_of e ≡ Ok l in
+      let OfGroup : SpelledNewMembership → Data → Type 0 = λ l e. new_membership_shape_of e ≡ Ok l in
+      let listed = taken (get (codes "lists") d) (IsList IsNewList lists) is.1 in
+      let grouped = taken (get (codes "members") d) (IsList IsNewMembership members) is.2 in
+      let each_list = zip_between _ _ IsNewList new_list_parts lists listed.2.0 listed.2.2 in
+      let each_group = zip_between _ _ IsNewMembership new_membership_parts members grouped.2.0 grouped.2.2 in
+      let s : SpelledAsk = Share each_list.0 each_group.0 in
+      let shaped_lists : HasMember (codes "lists") (IsList OfList each_list.0) d =
+      there (get (codes "lists") d) listed.0 (IsList OfList each_list.0) listed.1 (listed.2.0, listed.2.1, each_list.2) in
+      let shaped_groups : HasMember (codes "members") (IsList OfGroup each_group.0) d =
+      there (get (codes "members") d) grouped.0 (IsList OfGroup each_group.0) grouped.1
+      (grouped.2.0, grouped.2.1, each_group.2) in
+      let shape : share_shape_of d ≡ Ok s =
+      names_then (codes "do" ∷ codes "lists" ∷ codes "members" ∷ []) d _ s is.0.names
+      (list_then (codes "lists") d new_list_shape_of OfList each_list.0 (λ l e read. read) _ s shaped_lists
+      (list_then (codes "members") d new_membership_shape_of OfGroup each_group.0 (λ l e read. read) _ s shaped_groups
+      refl)) in
+      let read : ask_read s ≡ Ok (ask.Share lists members) =
+      step_then (each_of new_list_read each_list.0) _ lists _ (read_each_of new_list_read each_list.0 lists each_list.1)
+      (step_then (each_of new_membership_read each_group.0) _ members _
+      (read_each_of new_membership_read each_group.0 members each_group.1) refl) in
+      (s, by_word (codes "share") s d is.0.does shape, read)
+
   -- ---- each ask
 
   by_shape : (a : Ask) (s : SpelledAsk) (word : List ℕ) (d : Data)
@@ -457,7 +561,9 @@ module _ (reads : ReadsItems) where
       (λ e h. set_owner_spelled a s d (said word _ d at e) h g)
       (λ h. on_test (bytes_eq word (codes "set_members")) _ _ s h
       (λ e h. set_members_spelled a s d (said word _ d at e) h g)
-      (λ h. cc))))))))))))
+      (λ h. on_test (bytes_eq word (codes "share")) _ _ s h
+      (λ e h. share_spelled a s d (said word _ d at e) h g)
+      (λ h. cc)))))))))))))
 
   pub ask_spelled : (a : Ask) (s : SpelledAsk) (d : Data) → ask_shape_of d ≡ Ok s → ask_read s ≡ Ok a → IsAsk a d
   ask_spelled a s d h g =
@@ -480,3 +586,4 @@ module _ (reads : ReadsItems) where
   ask_parts (ask.SetLists lists) d is = set_lists_parts lists d is
   ask_parts (ask.SetOwner object owner group) d is = set_owner_parts object owner group d is
   ask_parts (ask.SetMembers object members) d is = set_members_parts object members d is
+  ask_parts (ask.Share lists members) d is = share_parts lists members d is

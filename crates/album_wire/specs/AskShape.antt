@@ -8,6 +8,7 @@ use Rattle.album_lines.specs.Fields.{only_of, field_of, item_of, text_of, whole_
 use Rattle.album_lines.specs.Shapes.{SpelledEntry, spelled_entry, entry_shapes_of, texts_of}
 use Rattle.album_wire.specs.ItemShapes.{item_named}
 use Rattle.album_wire.specs.declared.ask_shape.NewListShape.{NewListShape}
+use Rattle.album_wire.specs.declared.ask_shape.NewMembershipShape.{NewMembershipShape}
 use Rattle.album_wire.specs.declared.ask_shape.AskShape.{AskShape}
 use Rattle.album_wire.specs.declared.ask_shape.AskShape.TheVariants as shape
 
@@ -15,6 +16,11 @@ use Rattle.album_wire.specs.declared.ask_shape.AskShape.TheVariants as shape
 pub record SpelledNewList : Type 0 where
   pub object : ℕ
   pub entries : List SpelledEntry
+
+-- a group, and the members that it is to have, as they are spelled
+pub record SpelledNewMembership : Type 0 where
+  pub object : ℕ
+  pub members : List (List ℕ)
 
 -- an ask as it is spelled
 pub data SpelledAsk : Type 0 where
@@ -30,9 +36,13 @@ pub data SpelledAsk : Type 0 where
   SetLists : List SpelledNewList → SpelledAsk
   SetOwner : (object : ℕ) → (owner : List ℕ) → (group : ℕ) → SpelledAsk
   SetMembers : (object : ℕ) → (members : List (List ℕ)) → SpelledAsk
+  Share : List SpelledNewList → List SpelledNewMembership → SpelledAsk
 
 abbrev pub spelled_new_list : NewListShape → SpelledNewList
 spelled_new_list new = record { object = new.object; entries = map spelled_entry new.entries.items }
+
+abbrev pub spelled_new_membership : NewMembershipShape → SpelledNewMembership
+spelled_new_membership new = record { object = new.object; members = map (λ text. text.now) new.members.items }
 
 abbrev pub spelled_ask : AskShape → SpelledAsk
 spelled_ask (shape.Read object) = Read object
@@ -47,6 +57,8 @@ spelled_ask (shape.Move object to) = Move object to
 spelled_ask (shape.SetLists lists) = SetLists (map spelled_new_list lists.items)
 spelled_ask (shape.SetOwner object owner group) = SetOwner object owner.now group
 spelled_ask (shape.SetMembers object members) = SetMembers object (map (λ text. text.now) members.items)
+spelled_ask (shape.Share lists members) =
+    Share (map spelled_new_list lists.items) (map spelled_new_membership members.items)
 
 -- ---- each ask: the names beside `do`, and what stands under each
 
@@ -150,6 +162,21 @@ set_members_shape_of d = do
   members ← field_of (codes "members") d >>= texts_of
   Ok (SetMembers object members)
 
+-- {lists, members}, the second a list of [group, members]
+unfoldable pub new_membership_shape_of : Data → Result SpelledNewMembership Refusal
+new_membership_shape_of d = do
+  _ ← sized 2 d
+  object ← item_of 0 d >>= item_named
+  members ← item_of 1 d >>= texts_of
+  Ok (record { object = object; members = members })
+
+unfoldable pub share_shape_of : Data → Result SpelledAsk Refusal
+share_shape_of d = do
+  _ ← only_of (codes "do" ∷ codes "lists" ∷ codes "members" ∷ []) d
+  lists ← field_of (codes "lists") d >>= list_of >>= each new_list_shape_of
+  members ← field_of (codes "members") d >>= list_of >>= each new_membership_shape_of
+  Ok (Share lists members)
+
 -- ---- which ask it is, the word under `do` tells
 
 abbrev pub shape_by_word : List ℕ → Data → Result SpelledAsk Refusal
@@ -166,6 +193,7 @@ shape_by_word word d =
     else if bytes_eq word (codes "set_lists") then set_lists_shape_of d
     else if bytes_eq word (codes "set_owner") then set_owner_shape_of d
     else if bytes_eq word (codes "set_members") then set_members_shape_of d
+    else if bytes_eq word (codes "share") then share_shape_of d
     else Err BadRequest
 
 abbrev pub ask_shape_of : Data → Result SpelledAsk Refusal

@@ -5,6 +5,7 @@ use Rattle.serde_json.specs.Find.{get}
 use Rattle.album_views.specs.declared.asks.Ask.{Ask}
 use Rattle.album_views.specs.declared.asks.Ask.TheVariants as ask
 use Rattle.album_views.specs.declared.asks.NewList.{NewList}
+use Rattle.album_views.specs.declared.asks.NewMembership.{NewMembership}
 use Rattle.album_lines.specs.Spelling.{HasOnly, IsList, AreMembers, list_data}
 use Rattle.album_wire.specs.ObjectSpelling.{IsWhole, HasMember}
 use Rattle.album_wire.specs.ItemSpelling.{IsItem, IsOwner, IsTitle, IsContent, IsEntries}
@@ -21,6 +22,14 @@ pub record IsNewList (new : NewList) (d : Data) : Type 0 where
   pub items : d ≡ list_data (object_data ∷ entries_data ∷ [])
   pub object : IsItem new.object object_data
   pub entries : IsEntries new.list entries_data
+
+-- [group, members]
+pub record IsNewMembership (new : NewMembership) (d : Data) : Type 0 where
+  pub object_data : Data
+  pub members_data : Data
+  pub items : d ≡ list_data (object_data ∷ members_data ∷ [])
+  pub object : IsItem new.object object_data
+  pub members : AreMembers new.members members_data
 
 -- each ask by its word, and the form of each member beside it
 abbrev pub IsAsk : Ask → Data → Type 0
@@ -69,3 +78,7 @@ IsAsk (ask.SetMembers object members) d =
     IsDo (codes "set_members") (codes "object" ∷ codes "members" ∷ []) d
     × HasMember (codes "object") (IsItem object) d
     × HasMember (codes "members") (AreMembers members) d
+IsAsk (ask.Share lists members) d =
+    IsDo (codes "share") (codes "lists" ∷ codes "members" ∷ []) d
+    × HasMember (codes "lists") (IsList IsNewList lists) d
+    × HasMember (codes "members") (IsList IsNewMembership members) d

@@ -2,7 +2,7 @@
 ghost use Rattle.std.specs.Prelude.{◌≡◌, map};
 ghost use Rattle.album_stamps.specs.Outcome.{Gives};
 ghost use Rattle.album_lines.specs.Fields.{each};
-ghost use Rattle.album_wire.specs.AskShape.{spelled_new_list, spelled_ask, read_shape_of, list_shape_of, get_list_shape_of, add_picture_shape_of, add_album_shape_of, retitle_shape_of, replace_shape_of, delete_shape_of, move_shape_of, new_list_shape_of, set_lists_shape_of, set_owner_shape_of, set_members_shape_of, shape_by_word, ask_shape_of};
+ghost use Rattle.album_wire.specs.AskShape.{spelled_new_list, spelled_new_membership, spelled_ask, read_shape_of, list_shape_of, get_list_shape_of, add_picture_shape_of, add_album_shape_of, retitle_shape_of, replace_shape_of, delete_shape_of, move_shape_of, new_list_shape_of, set_lists_shape_of, set_owner_shape_of, set_members_shape_of, new_membership_shape_of, share_shape_of, shape_by_word, ask_shape_of};
 ghost use Rattle.album_lines.specs.Trees.{value_data, items_data};
 
 use crate::item_shapes::item_named;
@@ -19,6 +19,13 @@ use std::alloc::Global;
 pub(crate) struct NewListShape<'a> {
     pub(crate) object: ItemId,
     pub(crate) entries: Vec<EntryShape<'a>>,
+}
+
+/// A group, and the members that it is to have, as a line spells them.
+#[derive(Drop)]
+pub(crate) struct NewMembershipShape<'a> {
+    pub(crate) object: ItemId,
+    pub(crate) members: Vec<&'a str>,
 }
 
 /// An ask as a line spells it.
@@ -69,6 +76,10 @@ pub(crate) enum AskShape<'a> {
         object: ItemId,
         members: Vec<&'a str>,
     },
+    Share {
+        lists: Vec<NewListShape<'a>>,
+        members: Vec<NewMembershipShape<'a>>,
+    },
 }
 
 /// The fields of an ask, each of its shape, or `BadRequest`. Which ask it is, the word under `do` tells.
@@ -95,6 +106,7 @@ fn shape_by_word<'a>(alloc: Global, word: &str, value: &Value<'a>) -> Result<Ask
         "set_lists" => set_lists_shape(alloc, value),
         "set_owner" => set_owner_shape(value),
         "set_members" => set_members_shape(alloc, value),
+        "share" => share_shape(alloc, value),
         _ => Err(Refusal::BadRequest),
     }
 }
@@ -247,4 +259,42 @@ fn set_members_shape<'a>(alloc: Global, value: &Value<'a>) -> Result<AskShape<'a
     let object = item_named(field(value, "object")?)?;
     let members = texts(alloc, field(value, "members")?)?;
     Ok(AskShape::SetMembers { object, members })
+}
+
+#[tactic(auto, unfolding(crate::specs::AskShape::share_shape_of))]
+fn share_shape<'a>(alloc: Global, value: &Value<'a>) -> Result<AskShape<'a>, Refusal>
+    ensures { Gives spelled_ask result (share_shape_of (value_data value.now)) }
+{
+    only(value, &["do", "lists", "members"])?;
+    let lists = each_new_list_shape(alloc, list(field(value, "lists")?)?)?;
+    let members = each_new_membership_shape(alloc, list(field(value, "members")?)?)?;
+    Ok(AskShape::Share { lists, members })
+}
+
+fn each_new_membership_shape<'a>(
+    alloc: Global,
+    values: &[Value<'a>],
+) -> Result<Vec<NewMembershipShape<'a>>, Refusal>
+    ensures { Gives (λ shapes. map spelled_new_membership shapes.items) result
+        (each new_membership_shape_of (items_data values.now)) }
+{
+    let mut shapes = Vec::with_capacity(alloc, values.len())?;
+    for value in values {
+        shapes.push(new_membership_shape(alloc, value)?)?;
+    }
+    Ok(shapes)
+}
+
+/// [group, members]
+#[tactic(auto, unfolding(crate::specs::AskShape::new_membership_shape_of))]
+fn new_membership_shape<'a>(
+    alloc: Global,
+    value: &Value<'a>,
+) -> Result<NewMembershipShape<'a>, Refusal>
+    ensures { Gives spelled_new_membership result (new_membership_shape_of (value_data value.now)) }
+{
+    sized_list(value, 2)?;
+    let object = item_named(item(value, 0)?)?;
+    let members = texts(alloc, item(value, 1)?)?;
+    Ok(NewMembershipShape { object, members })
 }

@@ -1,13 +1,14 @@
 //! Lines of events: what has its shape, with the values of its fields.
-ghost use Rattle.std.specs.Prelude.{◌≡◌, ◌++◌, Ok, Err, codes, map};
+ghost use Rattle.std.specs.Prelude.{◌≡◌, ◌++◌, [], ◌∷◌, Ok, Err, codes, map};
 ghost use Rattle.album_stamps.specs.Outcome.{Gives};
-ghost use Rattle.album_items.specs.ItemIds.{picture, album};
-ghost use Rattle.album_wire.specs.AskShape.{spelled_new_list, spelled_ask};
-ghost use Rattle.album_wire.specs.EventLine.{new_list_read, ask_read, event_read, event_line_of};
+ghost use Rattle.album_items.specs.ItemIds.{picture, album, group};
+ghost use Rattle.album_lists.specs.declared.whos.Member.TheVariants as member;
+ghost use Rattle.album_wire.specs.AskShape.{spelled_new_list, spelled_new_membership, spelled_ask};
+ghost use Rattle.album_wire.specs.EventLine.{new_list_read, new_membership_read, ask_read, event_read, event_line_of};
 ghost use Rattle.album_wire.specs.EventShape.{spelled_event};
 ghost use Rattle.album_lines.specs.Values.{each_of};
 
-use crate::ask_shape::{AskShape, NewListShape};
+use crate::ask_shape::{AskShape, NewListShape, NewMembershipShape};
 use crate::event_shape::{EventShape, Spelled, event_shape};
 use crate::item_texts::{content, owner, title};
 use album_eval::Principal;
@@ -15,7 +16,7 @@ use album_items::Members;
 use album_lines::{access_list, data, members};
 use album_permits::Event;
 use album_stamps::Refusal;
-use album_views::{Ask, NewList, NewLists};
+use album_views::{Ask, NewList, NewLists, NewMembership, NewMemberships};
 use json::Scratch;
 use std::alloc::Global;
 
@@ -65,6 +66,17 @@ pub fn worked_events()
         (codes "{\"ask\":{\"do\":\"retitle\",\"object\":\"picture/0\",\"title\":\"Bay\"},\"client\":1,"
         ++ codes "\"who\":\"amy@users\"}")
         ≡ Ok (Spelled.One (Event.Ask 1 (Principal.User (codes "amy")) (Ask.Retitle (picture 0) (codes "Bay")))) }
+    // A group is named for its list and for its members.
+    ensures shared { event_line_of
+        (codes "{\"ask\":{\"do\":\"share\",\"lists\":[[\"group/7\",[]]],\"members\":[[\"group/7\",[\"3@groups\"]]]},"
+        ++ codes "\"client\":1,\"who\":\"amy@users\"}")
+        ≡ Ok (Spelled.One (Event.Ask 1 (Principal.User (codes "amy")) (Ask.Share
+        (record { object = group 7; list = [] } ∷ [])
+        (record { object = group 7; members = member.Group 3 ∷ [] } ∷ [])))) }
+    // A share without members says so.
+    ensures half_shared { event_line_of
+        (codes "{\"ask\":{\"do\":\"share\",\"lists\":[[\"group/7\",[]]]},\"client\":1,\"who\":\"amy@users\"}")
+        ≡ Err Refusal.BadRequest }
     // The client is 0, the who is none, and the content has one digit.
     ensures shape_first { event_line_of
         (codes "{\"ask\":{\"content\":\"0\",\"do\":\"replace\",\"object\":\"picture/0\"},\"client\":0,"
@@ -168,6 +180,17 @@ pub(crate) fn ask_of(alloc: Global, shape: AskShape) -> Result<Ask, Refusal>
                 members: Members::of(members),
             })
         }
+        AskShape::Share {
+            lists: list_shapes,
+            members: member_shapes,
+        } => {
+            let lists = each_new_list(alloc, &list_shapes)?;
+            let members = each_new_membership(alloc, &member_shapes)?;
+            Ok(Ask::Share {
+                lists: NewLists::of(lists),
+                members: NewMemberships::of(members),
+            })
+        }
     }
 }
 
@@ -189,5 +212,30 @@ fn new_list(alloc: Global, shape: &NewListShape) -> Result<NewList, Refusal>
     Ok(NewList {
         object: shape.object,
         list,
+    })
+}
+
+fn each_new_membership(
+    alloc: Global,
+    shapes: &[NewMembershipShape],
+) -> Result<Vec<NewMembership>, Refusal>
+    ensures { Gives (λ members. members.items) result
+        (each_of new_membership_read (map spelled_new_membership shapes.now)) }
+{
+    let mut members = Vec::with_capacity(alloc, shapes.len())?;
+    for shape in shapes {
+        members.push(new_membership(alloc, shape)?)?;
+    }
+    Ok(members)
+}
+
+#[tactic(auto, unfolding(crate::specs::EventLine::new_membership_read))]
+fn new_membership(alloc: Global, shape: &NewMembershipShape) -> Result<NewMembership, Refusal>
+    ensures { Gives (λ new. new) result (new_membership_read (spelled_new_membership shape.now)) }
+{
+    let members = members(alloc, &shape.members)?;
+    Ok(NewMembership {
+        object: shape.object,
+        members: Members::of(members),
     })
 }

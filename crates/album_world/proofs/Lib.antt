@@ -15,6 +15,7 @@ pub mod RunLemmas
 pub mod BookLemmas
 pub mod LedLemmas
 pub mod PromiseLemmas
+pub mod ShareLemmas
 pub mod EventLemmas
 pub mod RequestLemmas
 pub mod AskedLemmas

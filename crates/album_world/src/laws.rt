@@ -12,7 +12,7 @@ ghost use Rattle.album_permits.specs.declared.serving.Served.{Served};
 ghost use Rattle.album_client.specs.Terms.{Terms, terms_of};
 ghost use Rattle.album_client.specs.Grants.{served_for};
 ghost use Rattle.album_client.specs.Steps.{TransitionState};
-ghost use Rattle.album_world.specs.Atomic.{ViewsAreReadAtomic};
+ghost use Rattle.album_world.specs.Atomic.{NoViewHoldsAPartOfAShare, ViewsAreReadAtomic};
 ghost use Rattle.album_world.specs.Busy.{BusyHasItsCause};
 ghost use Rattle.album_world.specs.Changes.Change.{AtClient};
 ghost use Rattle.album_world.specs.Changes.{change_of};
@@ -66,6 +66,13 @@ pub fn writes_are_granted()
 pub fn views_are_read_atomic()
     ensures { (opening : Opening) (events : List Happening) → is_opening opening ≡ true
         → ViewsAreReadAtomic opening (run_of opening events) }
+{}
+
+/// A law: no view holds a part of a share. Where a view has one of the lists and groups of a share as the share wrote
+/// it, it has each other of them, if it has it, as the share wrote it or as a later write did.
+pub fn no_view_holds_a_part_of_a_share()
+    ensures { (opening : Opening) (events : List Happening) → is_opening opening ≡ true
+        → NoViewHoldsAPartOfAShare (run_of opening events) }
 {}
 
 /// A law: views are fresh. Each item's stamp is at least that of every write that its partition had committed

@@ -42,7 +42,7 @@ pub(crate) fn bad_form(
     match form {
         Form::Entries => find_entries_form(alloc, value),
         Form::Members | Form::Children => bad_items(alloc, name, form, value),
-        Form::Lists => bad_lists(alloc, name, value),
+        Form::Lists | Form::Memberships => bad_pairs(alloc, name, form, value),
         Form::Deliver => bad_deliver(alloc, name, value),
         _ if has_form(form, value) => Ok(None),
         _ => Ok(Some(found_at(alloc, name, value)?)),
@@ -61,7 +61,11 @@ fn has_form(form: Form, value: &Value<'_>) -> bool {
         Form::Part => small(value).is_some(),
         Form::Stamp => is_stamp(value),
         Form::Item => item_in(value).is_some(),
-        Form::Children | Form::Members | Form::Entries | Form::Lists => is_list(value),
+        Form::Children
+        | Form::Members
+        | Form::Entries
+        | Form::Lists
+        | Form::Memberships => is_list(value),
         Form::Deliver => whole(value).is_ok() || is_range(value),
     }
 }
@@ -139,13 +143,18 @@ fn bad_items(
     Ok(None)
 }
 
-/// [object, entries] each.
-fn bad_lists(alloc: Global, name: &str, value: &Value<'_>) -> Result<Option<Found>, AllocError> {
-    let Ok(lists) = list(value) else {
+/// [object, entries] each, or [group, members].
+fn bad_pairs(
+    alloc: Global,
+    name: &str,
+    form: Form,
+    value: &Value<'_>,
+) -> Result<Option<Found>, AllocError> {
+    let Ok(pairs) = list(value) else {
         return Ok(Some(found_at(alloc, name, value)?));
     };
-    for (index, pair) in lists.as_slice().iter().enumerate() {
-        let found = bad_list(alloc, name, index, pair)?;
+    for (index, pair) in pairs.as_slice().iter().enumerate() {
+        let found = bad_pair(alloc, name, form, index, pair)?;
         if found.is_some() {
             return Ok(found);
         }
@@ -153,9 +162,10 @@ fn bad_lists(alloc: Global, name: &str, value: &Value<'_>) -> Result<Option<Foun
     Ok(None)
 }
 
-fn bad_list(
+fn bad_pair(
     alloc: Global,
     name: &str,
+    form: Form,
     index: usize,
     pair: &Value<'_>,
 ) -> Result<Option<Found>, AllocError> {
@@ -171,10 +181,14 @@ fn bad_list(
             }));
         }
     }
-    match item(pair, 1) {
-        Ok(entries) => within_item(alloc, name, index, find_entries_form(alloc, entries)?),
-        Err(_) => Ok(None),
-    }
+    let Ok(part) = item(pair, 1) else {
+        return Ok(None);
+    };
+    let found = match form {
+        Form::Lists => find_entries_form(alloc, part)?,
+        _ => bad_items(alloc, "members", Form::Members, part)?,
+    };
+    within_item(alloc, name, index, found)
 }
 
 /// A part of an item of the member.

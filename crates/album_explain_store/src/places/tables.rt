@@ -34,6 +34,8 @@ pub(crate) enum Form {
     Entries,
     /// Objects with the entries that they are to have.
     Lists,
+    /// Groups with the members that they are to have.
+    Memberships,
     /// The number of a message, or a range of them.
     Deliver,
 }
@@ -184,6 +186,11 @@ fn ask_rows(ask: &Value<'_>) -> Option<Rows> {
             ("to", Form::Item),
         ]),
         "set_lists" => Some(&[("do", Form::Word), ("lists", Form::Lists)]),
+        "share" => Some(&[
+            ("do", Form::Word),
+            ("lists", Form::Lists),
+            ("members", Form::Memberships),
+        ]),
         "set_owner" => Some(&[
             ("do", Form::Word),
             ("object", Form::Item),

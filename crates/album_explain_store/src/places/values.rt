@@ -23,7 +23,7 @@ pub(crate) fn bad_value(
         // Whether the object may carry them, no reader tests.
         Form::Entries => find_entries_value(alloc, value, Holder::Folder),
         Form::Members => bad_members(alloc, name, value),
-        Form::Lists => bad_lists(alloc, name, value),
+        Form::Lists | Form::Memberships => bad_pairs(alloc, name, form, value),
         _ => match text(value) {
             Ok(text) if !is_right(alloc, form, text)? => Ok(Some(found_at(alloc, name, value)?)),
             _ => Ok(None),
@@ -79,14 +79,22 @@ fn bad_members(alloc: Global, name: &str, value: &Value<'_>) -> Result<Option<Fo
     Ok(None)
 }
 
-/// [object, entries] each.
-fn bad_lists(alloc: Global, name: &str, value: &Value<'_>) -> Result<Option<Found>, AllocError> {
-    let Ok(lists) = list(value) else {
+/// [object, entries] each, or [group, members].
+fn bad_pairs(
+    alloc: Global,
+    name: &str,
+    form: Form,
+    value: &Value<'_>,
+) -> Result<Option<Found>, AllocError> {
+    let Ok(pairs) = list(value) else {
         return Ok(None);
     };
-    for (index, pair) in lists.as_slice().iter().enumerate() {
-        if let Ok(entries) = item(pair, 1) {
-            let found = find_entries_value(alloc, entries, Holder::Folder)?;
+    for (index, pair) in pairs.as_slice().iter().enumerate() {
+        if let Ok(part) = item(pair, 1) {
+            let found = match form {
+                Form::Lists => find_entries_value(alloc, part, Holder::Folder)?,
+                _ => bad_members(alloc, "members", part)?,
+            };
             if found.is_some() {
                 return within_item(alloc, name, index, found);
             }

@@ -42,6 +42,14 @@ pub returns-clause-asked : goal.returns-clause-asked
 unfolding lines_on_literals
 returns-clause-asked c = refl
 
+pub returns-clause-shared : goal.returns-clause-shared
+unfolding lines_on_literals
+returns-clause-shared c = refl
+
+pub returns-clause-half_shared : goal.returns-clause-half_shared
+unfolding lines_on_literals
+returns-clause-half_shared c = refl
+
 pub returns-clause-shape_first : goal.returns-clause-shape_first
 unfolding lines_on_literals
 returns-clause-shape_first c = refl

@@ -1,4 +1,4 @@
-use Rattle.std.proofs.Common.{◌≡◌, [], true, sym, ap, subst, ◌∙◌}
+use Rattle.std.proofs.Common.{◌≡◌, [], true, ap, subst, ◌∙◌}
 use Rattle.album_client.specs.Clients.{Client}
 use Rattle.album_client.specs.Steps.{is_waiting}
 use Rattle.album_world.specs.Changes.{client_takes_by}
