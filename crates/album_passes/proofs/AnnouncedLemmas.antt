@@ -1,5 +1,6 @@
--- Announced lists, looked up: in two lists one behind the other, and with one entry more.
-use Rattle.std.proofs.Common.{◌≡◌, ◌≢◌, ℕ, Bool, true, false, ◌⊎◌, inl, inr, ◌==◌, cond, List, [], ◌∷◌, ◌++◌, Some, None, Option, refl, ap, sym, ◌∙◌, subst, eq-eqb, ne_eqb}
+-- What is announced of stamps, and what these depend on, looked up: in two lists one behind the other, and with one entry
+-- more.
+use Rattle.std.proofs.Common.{◌≡◌, ◌≢◌, ℕ, Bool, true, false, ◌⊎◌, inl, inr, ◌==◌, cond, List, [], ◌∷◌, ◌++◌, Some, None, Option, is_some, refl, ap, sym, ◌∙◌, subst, eq-eqb, ne_eqb}
 use Rattle.std.specs.Map.{lookup}
 use Rattle.std.specs.Option.{option_or}
 use native.Mathlib.Decide.{ℕ_discrete}
@@ -16,6 +17,56 @@ step false x y z is e = e
 pub listed-append : (xs ys : List Announcement) (t : ℕ) → listed (xs ++ ys) t ≡ option_or (listed xs t) (listed ys t)
 listed-append [] ys t = refl
 listed-append (x ∷ xs) ys t = step (x.0 == t) (listed xs t) (listed (xs ++ ys) t) (listed ys t) x.1 (listed-append xs ys t)
+
+-- what holds of each entry of two lists holds of each entry of both, one behind the other
+pub listed_each : (P : ℕ → List ℕ → Type 0) (xs ys : List Announcement)
+    → ((t : ℕ) (is : List ℕ) → listed xs t ≡ Some is → P t is)
+    → ((t : ℕ) (is : List ℕ) → listed ys t ≡ Some is → P t is)
+    → (t : ℕ) (is : List ℕ) → listed (xs ++ ys) t ≡ Some is → P t is
+listed_each P xs ys f g t is e = go (listed xs t) refl (sym (listed-append xs ys t) ∙ e)
+  where
+    go : (o : Option (List ℕ)) → listed xs t ≡ o → option_or o (listed ys t) ≡ Some is → P t is
+    go (Some js) h k = f t is (h ∙ k)
+    go None h k = g t is k
+
+-- an entry of the first list is one of both
+pub listed_first : (xs ys : List Announcement) (t : ℕ) (is : List ℕ) → listed xs t ≡ Some is → listed (xs ++ ys) t ≡ Some is
+listed_first xs ys t is e = listed-append xs ys t ∙ ap (λ o. option_or o (listed ys t)) e
+
+-- an entry of the second is one of both, where all entries are of one map
+pub listed_second : (map : ℕ → Option (List ℕ)) (xs ys : List Announcement)
+    → ((t : ℕ) (is : List ℕ) → listed xs t ≡ Some is → map t ≡ Some is)
+    → ((t : ℕ) (is : List ℕ) → listed ys t ≡ Some is → map t ≡ Some is)
+    → (t : ℕ) (is : List ℕ) → listed ys t ≡ Some is → listed (xs ++ ys) t ≡ Some is
+listed_second map xs ys f g t is e = listed-append xs ys t ∙ go (listed xs t) refl
+  where
+    go : (o : Option (List ℕ)) → listed xs t ≡ o → option_or o (listed ys t) ≡ Some is
+    go (Some js) h = sym (f t js h) ∙ g t is e
+    go None h = e
+
+-- ---- two maps that have the same stamps
+
+pub both_some : (a b x y : Option (List ℕ)) → is_some a ≡ is_some x → is_some b ≡ is_some y
+    → is_some (option_or a b) ≡ is_some (option_or x y)
+both_some (Some a) b (Some x) y e f = refl
+both_some None b None y e f = f
+both_some (Some a) b None y e f = absurd (cc (e))
+both_some None b (Some x) y e f = absurd (cc (e))
+
+pub also_some : (here : Bool) (is js : List ℕ) (x y : Option (List ℕ)) → is_some x ≡ is_some y
+    → is_some (cond here (Some is) x) ≡ is_some (cond here (Some js) y)
+also_some true is js x y e = refl
+also_some false is js x y e = e
+
+pub none_too : (x y : Option (List ℕ)) → is_some x ≡ is_some y → y ≡ None → x ≡ None
+none_too None y e f = refl
+none_too (Some is) None e f = absurd (cc (e))
+none_too (Some is) (Some js) e f = absurd (cc (f))
+
+pub some_too : (x y : Option (List ℕ)) (is : List ℕ) → is_some x ≡ is_some y → y ≡ Some is → (js : List ℕ) × (x ≡ Some js)
+some_too (Some js) y is e f = (js, refl)
+some_too None None is e f = absurd (cc (f))
+some_too None (Some js) is e f = absurd (cc (e))
 
 -- an option is something, or nothing
 pub some_or_none : (o : Option (List ℕ)) → ((is : List ℕ) × (o ≡ Some is)) ⊎ (o ≡ None)

@@ -2,7 +2,6 @@
 -- lemmas that are `pub`.
 use Rattle.std.proofs.Common.{rules, ◌≡◌, ℕ, zero, suc, ◌<◌, ◌+◌, Bool, true, false, not, ◌&&◌, ◌||◌, cond, List, [], ◌∷◌, length, get_or, All, Contains, IsSome, Some, None, Option, refl, ap, sym, ◌∙◌, subst, ⊎_elim, arith, ne_eqb}
 use Rattle.std.specs.List.{list_any, list_all, find, range_with_len}
-use Rattle.std.specs.Option.{option_or}
 use Rattle.std.proofs.lemmas.Bool.{and_parts}
 use Rattle.std.proofs.lemmas.Bool.Decides.{Decides-eqb}
 use Rattle.std.proofs.lemmas.List.Elements.{All-contains, All-contains_itself}
@@ -19,10 +18,10 @@ use Rattle.album_items.specs.Places.{is_placed, lies_at, placed_at, is_other, ot
 use Rattle.album_partition.specs.Proper.{is_among, is_proper}
 use Rattle.album_partition.proofs.GrowthLemmas.{promised_unprepared}
 use Rattle.album_partition.proofs.ListLemmas.{list_all-weaker, contains_from_any, any_from_contains, kept_in, kept_out}
-use Rattle.album_passes.specs.Cuts.{Cut, prefix_at, prefix_for, announced_for, IsPreparedFor, IsPreparedThroughout, IsPromisedSomewhere, IsBacked, IsClosedCut, IsSound, IsPrefix, Extends}
+use Rattle.album_passes.specs.Cuts.{Cut, prefix_at, prefix_for, announced_for, dependencies_of, IsPreparedFor, IsPreparedThroughout, IsPromisedSomewhere, IsBacked, IsClosedCut, IsSound, IsPrefix, Extends}
 use Rattle.album_passes.specs.Changes.{merged, marked_cut}
 use Rattle.album_passes.proofs.PrefixLemmas.{longer_cases}
-use Rattle.album_passes.proofs.AnnouncedLemmas.{listed-append, some_or_none}
+use Rattle.album_passes.proofs.AnnouncedLemmas.{listed_each}
 use Rattle.album_passes.proofs.CutLemmas.{longer_at, mark_here}
 
 -- ---- the mark that a test finds
@@ -199,8 +198,6 @@ merged_least a b c x y = record {
       (λ z. subst (λ (ms : List Mark). IsPrefix ms (prefix_at c p)) (sym z.1) (y.prefixes p))
       (λ z. subst (λ (ms : List Mark). IsPrefix ms (prefix_at c p)) (sym z.1) (x.prefixes p))
       (longer_cases (prefix_at a p) (prefix_at b p)));
-  announced = λ t is e. let all = sym (listed-append a.announced b.announced t) ∙ e in ⊎_elim
-      (λ (o : (js : List ℕ) × (announced_for a t ≡ Some js)). x.announced t o.0 o.1 ∙ (sym (ap (λ z. option_or z (announced_for b t)) o.1) ∙ all))
-      (λ (o : announced_for a t ≡ None). y.announced t is (sym (ap (λ z. option_or z (announced_for b t)) o) ∙ all))
-      (some_or_none (announced_for a t));
+  announced = listed_each (λ t is. announced_for c t ≡ Some is) a.announced b.announced x.announced y.announced;
+  depended = listed_each (λ t ls. dependencies_of c t ≡ Some ls) a.depended b.depended x.depended y.depended;
 }

@@ -1,8 +1,9 @@
 -- What is sound stays so as a cut grows. The proofs of the steps and of what a seat holds cite `sound_merged`,
 -- `sound_marked` and `sound_announced`; the main lemma is `backed_more`, that a mark stays backed.
-use Rattle.std.proofs.Common.{◌≡◌, ◌≢◌, ℕ, zero, suc, ◌<◌, ◌≤◌, true, List, [], ◌∷◌, ◌++◌, length, get_or, set, All, None, refl, ap, sym, ◌∙◌, subst, ⊎_elim, arith, length-set, get_or-set_other, get_or-set_same}
+use Rattle.std.proofs.Common.{◌≡◌, ◌≢◌, ℕ, zero, suc, ◌<◌, ◌≤◌, ◌==◌, true, List, [], ◌∷◌, ◌++◌, length, get_or, set, All, Some, None, Option, is_some, refl, ap, sym, ◌∙◌, subst, ⊎_elim, arith, length-set, get_or-set_other, get_or-set_same}
 use Rattle.std.proofs.lemmas.List.Elements.{All-push}
 use Rattle.std.proofs.lemmas.Bool.{cases_lt}
+use Rattle.std.proofs.Math.ListN.{get_or-map}
 use native.Mathlib.Decide.{ℕ_discrete}
 use mathlib.Core.Logic.{dite}
 use Rattle.album_items.specs.ItemIds.{place_of}
@@ -10,15 +11,15 @@ use Rattle.album_partition.specs.declared.marks.Mark.{Mark}
 use Rattle.album_partition.specs.declared.marks.Mark.TheVariants.{Prepared, Committed, Discarded, Trimmed}
 use Rattle.album_partition.specs.Marks.{prepares, may_follow, is_legal}
 use Rattle.album_partition.proofs.LegalLemmas.{is_legal-push}
-use Rattle.album_passes.specs.Cuts.{Cut, marks_at, prefix_at, prefix_for, announced_for, IsPreparedFor, IsBacked, IsSound, IsPrefix, Extends}
-use Rattle.album_passes.specs.Changes.{longer, longer_each, merged, marked_cut, announced_cut}
-use Rattle.album_passes.proofs.PrefixLemmas.{prefix_self, prefix_trans, any_more, promised_more, longer_cases}
-use Rattle.album_passes.proofs.AnnouncedLemmas.{announced_more}
+use Rattle.album_passes.specs.Cuts.{Cut, marks_at, prefix_at, prefix_for, announced_for, dependencies_of, HasReached, IsPreparedFor, IsBacked, IsSound, IsPrefix, Extends}
+use Rattle.album_passes.specs.Changes.{longer, longer_each, lengths_in, merged, marked_cut, announced_cut}
+use Rattle.album_passes.proofs.PrefixLemmas.{prefix_self, prefix_trans, prefix_length, any_more, promised_more, longer_cases}
+use Rattle.album_passes.proofs.AnnouncedLemmas.{listed-append, listed_each, both_some, also_some, none_too, announced_here, announced_else, announced_more}
 
 -- ---- a cut that goes on from another
 
 pub extends_self : (c : Cut) → Extends c c
-extends_self c = record { opening = refl; parts = refl; prefixes = λ p. prefix_self (prefix_at c p); announced = λ t is e. e }
+extends_self c = record { opening = refl; parts = refl; prefixes = λ p. prefix_self (prefix_at c p); announced = λ t is e. e; depended = λ t ls e. e }
 
 pub extends_trans : (c d e : Cut) → Extends c d → Extends d e → Extends c e
 extends_trans c d e x y = record {
@@ -26,7 +27,12 @@ extends_trans c d e x y = record {
   parts = y.parts ∙ x.parts;
   prefixes = λ p. prefix_trans (prefix_at c p) (prefix_at d p) (prefix_at e p) (x.prefixes p) (y.prefixes p);
   announced = λ t is h. y.announced t is (x.announced t is h);
+  depended = λ t ls h. y.depended t ls (x.depended t ls h);
 }
+
+reached_more : (c d : Cut) → Extends c d → (ls : List ℕ) → HasReached ls c → HasReached ls d
+reached_more c d x ls r p =
+    let a = r p in let b = prefix_length (prefix_at c p) (prefix_at d p) (x.prefixes p) in omega arith
 
 -- at the partition of an item
 pub prefix_for_more : (c d : Cut) → Extends c d → (i : ℕ) → IsPrefix (prefix_for c i) (prefix_for d i)
@@ -84,6 +90,12 @@ sound_merged c d same x y e f = record {
   closed = λ p. longer_has (All (IsBacked (merged c d))) c d p
       (all_backed c (merged c d) e (prefix_at c p) (x.closed p))
       (all_backed d (merged c d) f (prefix_at d p) (y.closed p));
+  depends = λ t. ap is_some (listed-append c.depended d.depended t)
+      ∙ both_some (dependencies_of c t) (dependencies_of d t) (announced_for c t) (announced_for d t) (x.depends t) (y.depends t)
+      ∙ ap is_some (sym (listed-append c.announced d.announced t));
+  causal = listed_each (λ t ls. HasReached ls (merged c d)) c.depended d.depended
+      (λ t ls h. reached_more c (merged c d) e ls (x.causal t ls h))
+      (λ t ls h. reached_more d (merged c d) f ls (y.causal t ls h));
 }
 
 -- ---- one mark more
@@ -102,6 +114,7 @@ extends_marked c p m l = record {
       (λ e. subst (λ (x : ℕ). IsPrefix (prefix_at c x) (prefix_at (marked_cut c p m) x)) (sym e) (m ∷ [], sym (mark_here c p m l)))
       (λ n. subst (λ (ms : List Mark). IsPrefix (prefix_at c q) ms) (sym (mark_else c p q m n)) (prefix_self (prefix_at c q)));
   announced = λ t is e. e;
+  depended = λ t ls e. e;
 }
 
 pub sound_marked : (c : Cut) (p : ℕ) (m : Mark) → p < length c.prefixes → IsSound c → may_follow (prefix_at c p) m ≡ true → IsBacked (marked_cut c p m) m → IsSound (marked_cut c p m)
@@ -109,6 +122,8 @@ sound_marked c p m l x may back = record {
   wide = length-set c.prefixes p (prefix_at c p ++ m ∷ []) ∙ x.wide;
   legal = at_each (λ (ms : List Mark). is_legal ms ≡ true) (is_legal-push (prefix_at c p) m (x.legal p) may) x.legal;
   closed = at_each (All (IsBacked (marked_cut c p m))) (All-push (IsBacked (marked_cut c p m)) (prefix_at c p) m (old p) back) old;
+  depends = x.depends;
+  causal = λ t ls h. reached_more c (marked_cut c p m) (extends_marked c p m l) ls (x.causal t ls h);
 }
   where
     old : (q : ℕ) → All (IsBacked (marked_cut c p m)) (prefix_at c q)
@@ -135,17 +150,34 @@ backed_marked c p m b = backed_more c (marked_cut c p m) (extends_marked_any c p
 
 -- ---- one list more
 
-extends_announced : (c : Cut) (t : ℕ) (is : List ℕ) → announced_for c t ≡ None → Extends c (announced_cut c t is)
-extends_announced c t is none = record {
+-- nothing is known of what a stamp depends on for which nothing is announced
+undepended : (c : Cut) (t : ℕ) → announced_for c t ≡ None → IsSound c → dependencies_of c t ≡ None
+undepended c t none x = none_too (dependencies_of c t) (announced_for c t) (x.depends t) none
+
+pub extends_announced : (c : Cut) (t : ℕ) (is : List ℕ) → announced_for c t ≡ None → IsSound c → Extends c (announced_cut c t is)
+extends_announced c t is none x = record {
   opening = refl;
   parts = refl;
   prefixes = λ p. prefix_self (prefix_at c p);
   announced = announced_more (announced_for c) t is none;
+  depended = announced_more (dependencies_of c) t (lengths_in c) (undepended c t none x);
 }
+
+same_listed : (is js : List ℕ) → Some is ≡ Some js → is ≡ js
+same_listed is js e = cc (e)
+
+-- a cut has as many marks as it has
+reached_self : (c : Cut) → HasReached (lengths_in c) c
+reached_self c p = let e = get_or-map length c.prefixes p [] in omega arith
 
 pub sound_announced : (c : Cut) (t : ℕ) (is : List ℕ) → announced_for c t ≡ None → IsSound c → IsSound (announced_cut c t is)
 sound_announced c t is none x = record {
   wide = x.wide;
   legal = x.legal;
-  closed = λ p. all_backed c (announced_cut c t is) (extends_announced c t is none) (prefix_at c p) (x.closed p);
+  closed = λ p. all_backed c (announced_cut c t is) (extends_announced c t is none x) (prefix_at c p) (x.closed p);
+  depends = λ u. also_some (t == u) (lengths_in c) is (dependencies_of c u) (announced_for c u) (x.depends u);
+  causal = λ u ls h. dite (ℕ_discrete u t)
+      (λ same. let all : lengths_in c ≡ ls = same_listed (lengths_in c) ls (sym (announced_here (dependencies_of c) t (lengths_in c) u same) ∙ h) in
+      subst (λ (ks : List ℕ). HasReached ks c) all (reached_self c))
+      (λ apart. x.causal u ls (sym (announced_else (dependencies_of c) t (lengths_in c) u apart) ∙ h));
 }

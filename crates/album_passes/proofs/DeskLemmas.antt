@@ -45,6 +45,8 @@ sound_empty opening n = record {
   wide = length-replicate n [];
   legal = λ p. subst (λ (h : List Mark). is_legal h ≡ true) (sym (nothing_at n p)) refl;
   closed = λ p. subst (λ (h : List Mark). (k : ℕ) (m : Mark) → k < length h → IsBacked (empty_cut opening n) (get_or h k m)) (sym (nothing_at n p)) (λ k m l. absurd (omega arith));
+  depends = λ t. refl;
+  causal = λ t ls e. absurd (cc (e));
 }
 
 pub held_empty : (key : Terms) (v : Knowledge) (k : ℕ) → v ≡ dealt key k → key.parts ≤ 16 → IsHeld v (replicate 16 0)
@@ -60,12 +62,13 @@ pub begins : (key : Terms) (words : List ℕ) → words ≡ 0 ∷ replicate key.
 begins key words is =
     let hs : List (List Mark) = replicate key.parts [] in
     let none : ℕ → Option (List ℕ) = λ _. None in
-    let run : Run = record { histories = hs; drawn = 0; announced = none; owner = λ _. 0; holder = λ _. 0 } in
+    let run : Run = record { histories = hs; drawn = 0; announced = none; depended = none; owner = λ _. 0; holder = λ _. 0 } in
     let cut : IsCutOf key run (empty_cut key.opening key.parts) = record {
       opening = refl;
       parts = refl;
       prefixes = λ p. prefix_self (marks_at hs p);
       announced = λ t js e. absurd (cc (e));
+      depended = λ t ls e. absurd (cc (e));
       sound = sound_empty key.opening key.parts;
     } in
     let F : ℕ → Knowledge → Type 0 = Fits key run in
@@ -85,6 +88,7 @@ begins key words is =
       few = λ p. subst (λ (h : List Mark). length h ≤ key.limit) (sym (nothing_at key.parts p)) (omega arith);
       most = omega arith;
       named = λ t js e. absurd (cc (e));
+      depends = λ t. refl;
       each = push_each F [] (first_seat key) (λ j u e. absurd (some-ne-none u (sym e))) one;
     }
 

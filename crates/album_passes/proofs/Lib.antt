@@ -8,3 +8,4 @@ pub mod HoldingLemmas
 pub mod DeskLemmas
 pub mod ClosedLemmas
 pub mod ReadLemmas
+pub mod CausalLemmas

@@ -1,6 +1,6 @@
 -- A read of two rounds over closed cuts is read atomic and fresh. The laws of reads cite the lemmas that are `pub`; the
 -- main one is `same_written`: what a committed stamp ever wrote, a cut that has it committed has already.
-use Rattle.std.proofs.Common.{◌≡◌, ◌≢◌, ℕ, zero, suc, ◌<◌, ◌≤◌, Bool, true, false, ◌==◌, cond, inl, inr, List, [], ◌∷◌, get_or, map, Contains, is_some, Some, None, Option, if◌then◌else◌, refl, ap, sym, ◌∙◌, subst, ⊎_elim, arith}
+use Rattle.std.proofs.Common.{◌≡◌, ◌≢◌, ℕ, zero, suc, ◌<◌, ◌≤◌, Bool, true, false, ◌==◌, ◌||◌, cond, inl, inr, List, [], ◌∷◌, get_or, map, Contains, is_some, Some, None, Option, if◌then◌else◌, refl, ap, sym, ◌∙◌, subst, ⊎_elim, arith}
 use Rattle.std.specs.List.{list_any, list_all, find}
 use Rattle.std.specs.Option.{option_or}
 use Rattle.std.proofs.lemmas.Bool.{and_parts}
@@ -14,11 +14,12 @@ use Rattle.album_items.specs.Openings.{Row}
 use Rattle.album_items.specs.declared.values.Value.{Value}
 use Rattle.album_terminate.specs.declared.deciding.StampState.TheVariants as state
 use Rattle.album_partition.specs.declared.marks.Mark.{Mark}
-use Rattle.album_partition.specs.declared.marks.Mark.TheVariants.{Prepared}
+use Rattle.album_partition.specs.declared.marks.Mark.TheVariants.{Prepared, Committed, Discarded, Trimmed}
 use Rattle.album_partition.specs.Laws.{IsLatest, IsBest, IsReadAt}
-use Rattle.album_partition.specs.Marks.{prepares, commits, discards, state_by, state_of, mark_writes, writes_at, value_in, version, has_version, first_value}
+use Rattle.album_partition.specs.Marks.{prepares, commits, discards, state_by, state_of, mark_writes, writes_at, value_in, version, has_version, committed_stamps, latest, first_value}
 use Rattle.album_partition.specs.Proper.{is_among}
 use Rattle.album_partition.proofs.ListLemmas.{contains_from_any}
+use Rattle.album_versions.proofs.Greatest.{All-best_of}
 use Rattle.album_reader.specs.Answers.{ReadVersion}
 use Rattle.album_reader.specs.Atomic.{IsFracturedBy, IsWrittenBy, IsWritten, IsReadAtomic, IsFreshFrom}
 use Rattle.album_passes.specs.Cuts.{Cut, prefix_at, prefix_for, IsPreparedFor, IsSound, IsPrefix, Extends}
@@ -116,6 +117,22 @@ same_written c d s r x t h i = go (written_value c i t) (written_value d i t) re
     go None None e f = refl
     go None (Some v) e f = absurd (let back = written_back c d s r x t h i v f in cc (back, e))
 
+-- ---- the latest version
+
+committed_is : (ms : List Mark) (t : ℕ) → list_any (λ s. s == t) (committed_stamps ms) ≡ list_any (commits t) ms
+committed_is [] t = refl
+committed_is (Prepared s ws is ∷ ms) t = committed_is ms t
+committed_is (Discarded s ∷ ms) t = committed_is ms t
+committed_is (Trimmed i ∷ ms) t = committed_is ms t
+committed_is (Committed s ∷ ms) t = ap (λ (b : Bool). (s == t) || b) (committed_is ms t)
+
+-- no committed version of an item is above it
+latest_greatest : (ms : List Mark) (i t : ℕ) → list_any (commits t) ms ≡ true → has_version ms i t ≡ true → t ≤ latest ms i
+latest_greatest ms i t done has =
+    All-contains (λ (n : ℕ). has_version ms i n ≡ true → n ≤ latest ms i) (committed_stamps ms) t
+    (All-best_of (has_version ms i) (committed_stamps ms))
+    (contains_from_any (committed_stamps ms) t (committed_is ms t ∙ done)) has
+
 -- ---- what was read
 
 there : (o : Option Value) → is_some o ≡ true → (v : Value) × (o ≡ Some v)
@@ -172,7 +189,7 @@ module _ (b m c : Cut) (ones : List ReadVersion) (ts : List ℕ) (fs : List Read
       let done = state_committed r.marks y.stamp (r.read.committed nz) in
       (place_of m.parts y.item, any_more (commits y.stamp) r.marks (prefix_for m y.item) r.to done)
 
-  committed_then : (x : ReadVersion) → Contains fs x → x.stamp ≢ 0 → IsCommitted m x.stamp
+  pub committed_then : (x : ReadVersion) → Contains fs x → x.stamp ≢ 0 → IsCommitted m x.stamp
   committed_then x n nz =
       let z = stamp_from ones x.stamp ((R.collected x.stamp).0 ((best x n).given nz)) in
       subst (IsCommitted m) z.2 (committed_first z.0 z.1 (λ e. nz (sym z.2 ∙ e)))
@@ -236,6 +253,17 @@ module _ (b m c : Cut) (ones : List ReadVersion) (ts : List ℕ) (fs : List Read
       let written = written_more m R.middle_sound y.0.stamp h r.marks x.item v.0 q.1 v.1 in
       let high : y.0.stamp ≤ x.stamp = above x n y.0.stamp v.0 (collected y.0 y.1) h written in
       omega arith)
+
+  -- where no item is read below its latest version as round two began, the read is fresh from there
+  pub read_up_to_date : ((x : ReadVersion) → Contains fs x → latest (prefix_for m x.item) x.item ≤ x.stamp)
+      → IsFreshFrom (writes_in_cut c) (IsCommittedFor m) fs
+  read_up_to_date last x n t wrote done =
+      let w = there (written_value c x.item t) wrote in
+      let h : IsCommitted m t = (place_of m.parts x.item, done) in
+      let had = written_back m c R.middle_sound R.ended_sound R.second_on t h x.item w.0 w.1 in
+      let top = latest_greatest (prefix_for m x.item) x.item t done (ap is_some had) in
+      let low = last x n in
+      omega arith
 
 -- ---- as the cut grows
 

@@ -83,7 +83,7 @@ given_still holder (Some m) id n e = either (n == m)
 
 pub same_cut : (key : Terms) (r : Run) (drawn : ℕ) (owner holder : ℕ → ℕ) (c : Cut) → IsCutOf key r c
     → IsCutOf key (record r { drawn = drawn; owner = owner; holder = holder }) c
-same_cut key r drawn owner holder c C = record { opening = C.opening; parts = C.parts; prefixes = C.prefixes; announced = C.announced; sound = C.sound }
+same_cut key r drawn owner holder c C = record { opening = C.opening; parts = C.parts; prefixes = C.prefixes; announced = C.announced; depended = C.depended; sound = C.sound }
 
 pub same_owner : (r : Run) (drawn : ℕ) (lists : ℕ → Option (List ℕ)) (holder : ℕ → ℕ) (id : ℕ) (c : Cut) (p : ℕ) → Owns r id c p
     → Owns (record r { drawn = drawn; announced = lists; holder = holder }) id c p
@@ -117,5 +117,6 @@ same_run key words old new k each = record {
   few = k.few;
   most = k.most;
   named = k.named;
+  depends = k.depends;
   each = each;
 }

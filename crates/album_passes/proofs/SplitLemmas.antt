@@ -14,7 +14,7 @@ use Rattle.album_passes.specs.Knowledge.{Terms, Knowledge, known, last_known, fi
 use Rattle.album_passes.specs.Rule.{Run, IsCutOf, Holds, Fits, Agree, Keeps}
 use Rattle.album_passes.specs.Steps.{cut_alone, less_first, first_alone, less_guest, guest_alone, beside, with_cut, Merges}
 use Rattle.album_passes.proofs.PrefixLemmas.{prefix_self, prefix_shorter, prefix_length, longer_cases}
-use Rattle.album_passes.proofs.AnnouncedLemmas.{listed-append, some_or_none}
+use Rattle.album_passes.proofs.AnnouncedLemmas.{listed-append, listed_each, listed_first, listed_second, some_or_none}
 use Rattle.album_passes.proofs.CutLemmas.{longer_at, sound_merged}
 use Rattle.album_passes.proofs.SeatLemmas.{set_one, set_each, push_each, at_append, at_one, at_none, given, given_here, given_else, given_still, same_cut, same_owner, same_holder, held_still, same_run}
 
@@ -94,6 +94,7 @@ module _ (key : Terms) where
         few = k.few;
         most = k.most;
         named = k.named;
+        depends = k.depends;
         each = push_each F views (first_alone v) (set_each F s.views id (less_first v) rest left) right;
       }
 
@@ -109,6 +110,7 @@ module _ (key : Terms) where
     few = k.few;
     most = k.most;
     named = k.named;
+    depends = k.depends;
     each = each;
   }
 
@@ -205,7 +207,7 @@ module _ (key : Terms) where
       let C : IsCutOf key k.run c = mine.cuts 0 c (ap (λ cs. get_elem? cs 0) two) in
       let D : IsCutOf key k.run d = mine.cuts 1 d (ap (λ cs. get_elem? cs 1) two) in
       let all : (t : ℕ) → announced_for m t ≡ option_or (announced_for c t) (announced_for d t) = listed-append c.announced d.announced in
-      let ours : (t : ℕ) (is : List ℕ) → announced_for c t ≡ Some is → announced_for m t ≡ Some is = λ t is e. all t ∙ ap (λ o. option_or o (announced_for d t)) e in
+      let ours : (t : ℕ) (is : List ℕ) → announced_for c t ≡ Some is → announced_for m t ≡ Some is = listed_first c.announced d.announced in
       let theirs : (t : ℕ) → announced_for c t ≡ None → announced_for m t ≡ announced_for d t = λ t e. all t ∙ ap (λ o. option_or o (announced_for d t)) e in
       let first_on : Extends c m = record {
         opening = refl;
@@ -215,6 +217,7 @@ module _ (key : Terms) where
             (λ t. subst (IsPrefix (prefix_at c p)) (sym t.1) (prefix_self (prefix_at c p)))
             (longer_cases (prefix_at c p) (prefix_at d p)));
         announced = ours;
+        depended = listed_first c.depended d.depended;
       } in
       let second_on : Extends d m = record {
         opening = C.opening ∙ sym D.opening;
@@ -223,15 +226,9 @@ module _ (key : Terms) where
             (λ t. subst (IsPrefix (prefix_at d p)) (sym t.1) (prefix_self (prefix_at d p)))
             (λ t. subst (IsPrefix (prefix_at d p)) (sym t.1) (prefix_shorter (prefix_at d p) (prefix_at c p) (marks_at k.run.histories p) (D.prefixes p) (C.prefixes p) t.0))
             (longer_cases (prefix_at c p) (prefix_at d p)));
-        announced = λ t is e. ⊎_elim
-            (λ (o : (js : List ℕ) × (announced_for c t ≡ Some js)). ours t o.0 o.1 ∙ (sym (C.announced t o.0 o.1) ∙ D.announced t is e))
-            (λ (o : announced_for c t ≡ None). theirs t o ∙ e)
-            (some_or_none (announced_for c t));
+        announced = listed_second k.run.announced c.announced d.announced C.announced D.announced;
+        depended = listed_second k.run.depended c.depended d.depended C.depended D.depended;
       } in
-      let announced_m : (t : ℕ) (is : List ℕ) → announced_for m t ≡ Some is → k.run.announced t ≡ Some is = λ t is e. ⊎_elim
-      (λ (o : (js : List ℕ) × (announced_for c t ≡ Some js)). C.announced t o.0 o.1 ∙ (sym (ours t o.0 o.1) ∙ e))
-      (λ (o : announced_for c t ≡ None). D.announced t is (sym (theirs t o) ∙ e))
-      (some_or_none (announced_for c t)) in
       let M : IsCutOf key k.run m = record {
         opening = C.opening;
         parts = C.parts;
@@ -239,7 +236,8 @@ module _ (key : Terms) where
             (λ t. subst (λ (h : List Mark). IsPrefix h (marks_at k.run.histories p)) (sym t.1) (D.prefixes p))
             (λ t. subst (λ (h : List Mark). IsPrefix h (marks_at k.run.histories p)) (sym t.1) (C.prefixes p))
             (longer_cases (prefix_at c p) (prefix_at d p)));
-        announced = announced_m;
+        announced = listed_each (λ t is. k.run.announced t ≡ Some is) c.announced d.announced C.announced D.announced;
+        depended = listed_each (λ t ls. k.run.depended t ≡ Some ls) c.depended d.depended C.depended D.depended;
         sound = sound_merged c d (C.parts ∙ sym D.parts) C.sound D.sound first_on second_on;
       } in
       let w : Knowledge = with_cut v m in

@@ -12,13 +12,13 @@ use Rattle.album_partition.specs.declared.marks.Mark.{Mark}
 use Rattle.album_partition.specs.Marks.{may_follow, is_legal}
 use Rattle.album_partition.proofs.LegalLemmas.{is_legal-push}
 use Rattle.album_stamps.specs.Stamps.{client_number}
-use Rattle.album_passes.specs.Cuts.{Cut, marks_at, prefix_at, announced_for, IsBacked, IsPrefix}
-use Rattle.album_passes.specs.Changes.{marked_cut, announced_cut, IsUnheard}
+use Rattle.album_passes.specs.Cuts.{Cut, marks_at, prefix_at, announced_for, dependencies_of, IsBacked, IsPrefix}
+use Rattle.album_passes.specs.Changes.{lengths_in, marked_cut, announced_cut, IsUnheard}
 use Rattle.album_passes.specs.Knowledge.{Terms, Knowledge, known, last_known}
 use Rattle.album_passes.specs.Rule.{Run, IsCutOf, Holds, Fits, Agree, Keeps}
 use Rattle.album_passes.specs.Steps.{with_cut, Appends, Announces, with_number, with_drawn, Draws}
 use Rattle.album_passes.proofs.PrefixLemmas.{prefix_self, prefix_trans}
-use Rattle.album_passes.proofs.AnnouncedLemmas.{some_or_none, also_announced, announced_here, announced_else, announced_more}
+use Rattle.album_passes.proofs.AnnouncedLemmas.{some_or_none, also_announced, also_some, none_too, announced_here, announced_else, announced_more}
 use Rattle.album_passes.proofs.CutLemmas.{sound_marked, mark_here, mark_else, sound_announced}
 use Rattle.album_passes.proofs.SeatLemmas.{set_each, at_one, given, given_here, given_else, same_cut, same_owner, same_holder, same_run}
 use Rattle.album_passes.proofs.SplitLemmas.{unmoved}
@@ -37,7 +37,11 @@ module _ (key : Terms) where
       let unannounced : k.run.announced t ≡ None = sym (o.heard t mine_is) ∙ fresh in
       let lists : ℕ → Option (List ℕ) = also_announced k.run.announced t is in
       let more = announced_more k.run.announced t is unannounced in
-      let r : Run = record k.run { announced = lists } in
+      let deps : List ℕ = lengths_in c in
+      let undepended : k.run.depended t ≡ None = none_too (k.run.depended t) (k.run.announced t) (k.depends t) unannounced in
+      let depended : ℕ → Option (List ℕ) = also_announced k.run.depended t deps in
+      let depended_more = announced_more k.run.depended t deps undepended in
+      let r : Run = record k.run { announced = lists; depended = depended } in
       let F : ℕ → Knowledge → Type 0 = Fits key r in
       let w : Knowledge = with_cut v (announced_cut c t is) in
       let cut_more : (d : Cut) → IsCutOf key k.run d → IsCutOf key r d = λ d D. record {
@@ -45,6 +49,7 @@ module _ (key : Terms) where
         parts = D.parts;
         prefixes = D.prefixes;
         announced = λ u js e. more u js (D.announced u js e);
+        depended = λ u ls e. depended_more u ls (D.depended u ls e);
         sound = D.sound;
       } in
       let still : (u : ℕ) → u ≢ t → announced_for (announced_cut c t is) u ≡ announced_for c u = announced_else (announced_for c) t is in
@@ -56,6 +61,9 @@ module _ (key : Terms) where
           announced = λ u js e. dite (ℕ_discrete u t)
               (λ same. announced_here k.run.announced t is u same ∙ (sym (announced_here (announced_for c) t is u same) ∙ e))
               (λ apart. announced_else k.run.announced t is u apart ∙ C.announced u js (sym (still u apart) ∙ e));
+          depended = λ u ls e. dite (ℕ_discrete u t)
+              (λ same. announced_here k.run.depended t deps u same ∙ (sym (announced_here (dependencies_of c) t deps u same) ∙ e))
+              (λ apart. announced_else k.run.depended t deps u apart ∙ C.depended u ls (sym (announced_else (dependencies_of c) t deps u apart) ∙ e));
           sound = sound_announced c t is fresh C.sound;
         });
         owns = λ p l h. (let q = mine.owns p l h in record { alone = q.alone; whole = q.whole });
@@ -82,7 +90,7 @@ module _ (key : Terms) where
       } in
       let others : (j : ℕ) (u : Knowledge) → j ≢ id → get_elem? s.views j ≡ some u → F j u = λ j u apart e. let f = k.each j u e in record {
         cuts = λ i d h. cut_more d (f.cuts i d h);
-        owns = λ p l h. same_owner k.run k.run.drawn lists k.run.holder j (known u) p (f.owns p l h);
+        owns = λ p l h. (let q = f.owns p l h in record { alone = q.alone; whole = q.whole });
         number = λ m h. hears j apart (known u) m (f.number m h);
         guest = λ m h. hears j apart (last_known u) m (f.guest m h);
         apart = f.apart;
@@ -101,6 +109,7 @@ module _ (key : Terms) where
           named = λ u js e. dite (ℕ_discrete u t)
               (λ same. subst (λ (y : ℕ). y ≤ k.run.drawn) (sym (ap client_number same ∙ mine_is)) o.counted)
               (λ apart. k.named u js (sym (announced_else k.run.announced t is u apart) ∙ e));
+          depends = λ u. also_some (t == u) deps is (k.run.depended u) (k.run.announced u) (k.depends u);
           each = set_each F s.views id w others now;
         }),
         refl,
@@ -139,6 +148,7 @@ module _ (key : Terms) where
         few = k.few;
         most = omega arith;
         named = λ t js e. (let le = k.named t js e in omega arith);
+        depends = k.depends;
         each = set_each F s.views id w
             (λ j u apart e. (let f = k.each j u e in record {
               cuts = λ i d h. cut_of d (f.cuts i d h);
@@ -240,6 +250,7 @@ module _ (key : Terms) where
         parts = E.parts;
         prefixes = λ q. prefix_trans (prefix_at e q) (marks_at k.run.histories q) (marks_at hs q) (E.prefixes q) (grown q);
         announced = E.announced;
+        depended = E.depended;
         sound = E.sound;
       } in
       let at_p : prefix_at d p ≡ marks_at hs p = mark_here c p m inside_c ∙ (ap (λ y. y ++ m ∷ []) is_h ∙ sym here) in
@@ -251,6 +262,7 @@ module _ (key : Terms) where
               (λ e. subst (λ (y : ℕ). IsPrefix (prefix_at d y) (marks_at hs y)) (sym e) (subst (IsPrefix (prefix_at d p)) at_p (prefix_self (prefix_at d p))))
               (λ n. subst (λ (y : List Mark). IsPrefix y (marks_at hs q)) (sym (mark_else c p q m n)) (prefix_trans (prefix_at c q) (marks_at k.run.histories q) (marks_at hs q) (C.prefixes q) (grown q)));
           announced = C.announced;
+          depended = C.depended;
           sound = sound_marked c p m inside_c C.sound may back;
         });
         owns = λ q l g. (let o = mine.owns q l g in record {
@@ -290,6 +302,7 @@ module _ (key : Terms) where
               (λ n. subst (λ (y : List Mark). length y ≤ key.limit) (sym (kept_at q n)) (k.few q));
           most = k.most;
           named = k.named;
+          depends = k.depends;
           each = set_each F s.views id w others now;
         },
         ap (λ (q : ℕ). let z : Me ℕ Knowledge = (with_cut v (marked_cut c q m), x) in z) (omega arith),

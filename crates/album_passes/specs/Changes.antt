@@ -1,5 +1,5 @@
 -- How cuts begin, grow and are put together.
-use Rattle.std.specs.Prelude.{◌≡◌, ℕ, nat_lt, List, [], ◌∷◌, ◌++◌, length, slice_set, replicate, Option, Some, None, if◌then◌else◌}
+use Rattle.std.specs.Prelude.{◌≡◌, ℕ, nat_lt, List, [], ◌∷◌, ◌++◌, map, length, slice_set, replicate, Option, Some, None, if◌then◌else◌}
 use Rattle.album_items.specs.Openings.{Row}
 use Rattle.album_stamps.specs.Stamps.{client_number}
 use Rattle.album_partition.specs.declared.marks.Mark.{Mark}
@@ -7,16 +7,29 @@ use Rattle.album_passes.specs.Cuts.{Cut, prefix_at, announced_for}
 
 -- of no marks, and with nothing announced
 abbrev pub empty_cut : List Row → ℕ → Cut
-empty_cut opening parts = record { opening = opening; parts = parts; prefixes = replicate parts []; announced = [] }
+empty_cut opening parts = record {
+  opening = opening;
+  parts = parts;
+  prefixes = replicate parts [];
+  announced = [];
+  depended = [];
+}
 
 -- with one mark more at a partition
 abbrev pub marked_cut : Cut → ℕ → Mark → Cut
 marked_cut cut part mark =
     record cut { prefixes = slice_set cut.prefixes part (prefix_at cut part ++ mark ∷ []) }
 
--- with the items announced for the stamp
+-- how many marks it has of each partition
+abbrev pub lengths_in : Cut → List ℕ
+lengths_in cut = map length cut.prefixes
+
+-- with the items announced for the stamp, whose author has seen just this cut
 abbrev pub announced_cut : Cut → ℕ → List ℕ → Cut
-announced_cut cut stamp items = record cut { announced = (stamp, items) ∷ cut.announced }
+announced_cut cut stamp items = record cut {
+  announced = (stamp, items) ∷ cut.announced;
+  depended = (stamp, lengths_in cut) ∷ cut.depended;
+}
 
 -- the second list of marks where it is longer, and else the first
 abbrev pub longer : List Mark → List Mark → List Mark
@@ -28,11 +41,12 @@ longer_each [] seconds = seconds
 longer_each (first ∷ firsts) [] = first ∷ firsts
 longer_each (first ∷ firsts) (second ∷ seconds) = longer first second ∷ longer_each firsts seconds
 
--- the longer prefixes of two cuts, and what either announces
+-- the longer prefixes of two cuts, what either announces, and what that depends on
 abbrev pub merged : Cut → Cut → Cut
 merged first second = record first {
   prefixes = longer_each first.prefixes second.prefixes;
   announced = first.announced ++ second.announced;
+  depended = first.depended ++ second.depended;
 }
 
 -- nothing is announced of a client's stamps

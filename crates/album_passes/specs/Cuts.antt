@@ -1,5 +1,5 @@
 -- Cuts: what was seen of the partitions' histories and of the announced item lists, and when a cut is closed.
-use Rattle.std.specs.Prelude.{◌≡◌, ℕ, true, ◌==◌, List, [], ◌++◌, length, slice_index_or, All, Contains, Option, Some}
+use Rattle.std.specs.Prelude.{◌≡◌, ℕ, ◌≤◌, true, ◌==◌, List, [], ◌++◌, length, slice_index, slice_index_or, All, Contains, Option, Some, is_some}
 use Rattle.std.specs.List.{list_all, list_any}
 use Rattle.std.specs.Map.{lookup}
 use Rattle.album_items.specs.ItemIds.{place_of}
@@ -15,13 +15,18 @@ use Rattle.album_partition.specs.Proper.{is_among}
 abbrev pub Announcement : Type 0
 Announcement = ℕ × List ℕ
 
+-- a stamp, and how many marks of each partition its author had seen when it announced the stamp
+abbrev pub Dependency : Type 0
+Dependency = ℕ × List ℕ
+
 -- The first values of items, and how many partitions there are; of each partition a prefix of its history; and what
--- was announced, where the first entry of a stamp counts.
+-- was announced, and what each stamp depends on, where the first entry of a stamp counts.
 pub record Cut : Type 0 where
   pub opening : List Row
   pub parts : ℕ
   pub prefixes : List (List Mark)
   pub announced : List Announcement
+  pub depended : List Dependency
 
 -- the marks of a partition, and none where there is no such partition
 abbrev pub marks_at : List (List Mark) → ℕ → List Mark
@@ -38,6 +43,14 @@ prefix_for cut item = prefix_at cut (place_of cut.parts item)
 -- the items that are announced for the stamp
 abbrev pub announced_for : Cut → ℕ → Option (List ℕ)
 announced_for cut stamp = lookup (λ t. t == stamp) cut.announced
+
+-- how many marks of each partition the stamp's author had seen
+abbrev pub dependencies_of : Cut → ℕ → Option (List ℕ)
+dependencies_of cut stamp = lookup (λ t. t == stamp) cut.depended
+
+-- it has at least so many marks of each partition
+abbrev pub HasReached : List ℕ → Cut → Type 0
+HasReached lengths cut = (part : ℕ) → slice_index lengths part ≤ length (prefix_at cut part)
 
 -- ---- a closed cut
 
@@ -75,11 +88,14 @@ IsBacked cut (Trimmed item) = Unit {0}
 abbrev pub IsClosedCut : Cut → Type 0
 IsClosedCut cut = (part : ℕ) → All (IsBacked cut) (prefix_at cut part)
 
--- it has a prefix of each partition, whose marks may follow each other, and it is closed
+-- It has a prefix of each partition, whose marks may follow each other, and it is closed. It is causal, too: of each
+-- stamp that is announced it knows what the author had seen, and has all of that.
 pub record IsSound (cut : Cut) : Type 0 where
   pub wide : length cut.prefixes ≡ cut.parts
   pub legal : (part : ℕ) → is_legal (prefix_at cut part) ≡ true
   pub closed : IsClosedCut cut
+  pub depends : (stamp : ℕ) → is_some (dependencies_of cut stamp) ≡ is_some (announced_for cut stamp)
+  pub causal : (stamp : ℕ) (lengths : List ℕ) → dependencies_of cut stamp ≡ Some lengths → HasReached lengths cut
 
 -- ---- how a cut goes on from another
 
@@ -87,10 +103,13 @@ pub record IsSound (cut : Cut) : Type 0 where
 abbrev pub IsPrefix : List Mark → List Mark → Type 0
 IsPrefix marks history = (later : List Mark) × (marks ++ later ≡ history)
 
--- the new cut has all that the old one has: it is of one opening, each prefix goes on, and what was announced is so
+-- the new cut has all that the old one has: it is of one opening, each prefix goes on, and what was announced is so,
+-- with what it depends on
 pub record Extends (old new : Cut) : Type 0 where
   pub opening : new.opening ≡ old.opening
   pub parts : new.parts ≡ old.parts
   pub prefixes : (part : ℕ) → IsPrefix (prefix_at old part) (prefix_at new part)
   pub announced : (stamp : ℕ) (items : List ℕ) → announced_for old stamp ≡ Some items
       → announced_for new stamp ≡ Some items
+  pub depended : (stamp : ℕ) (lengths : List ℕ) → dependencies_of old stamp ≡ Some lengths
+      → dependencies_of new stamp ≡ Some lengths

@@ -1,13 +1,14 @@
 -- Reads over cuts: the writes that a cut knows, and how a read of two rounds comes by its answers.
-use Rattle.std.specs.Prelude.{◌≡◌, ◌≢◌, ◌↔◌, ℕ, true, List, [], map, All, Contains, Option, Some}
+use Rattle.std.specs.Prelude.{◌≡◌, ◌≢◌, ◌↔◌, ℕ, true, List, [], map, take, slice_index, All, Contains, Option, Some}
 use Rattle.std.specs.List.{list_any}
+use Rattle.album_items.specs.ItemIds.{place_of}
 use Rattle.album_items.specs.declared.values.Value.{Value}
 use Rattle.album_partition.specs.declared.marks.Mark.{Mark}
 use Rattle.album_partition.specs.Laws.{IsReadAt}
 use Rattle.album_partition.specs.Marks.{commits, first_value, version}
 use Rattle.album_reader.specs.Answers.{ReadVersion}
 use Rattle.album_reader.specs.Atomic.{KnownWrites}
-use Rattle.album_passes.specs.Cuts.{Cut, prefix_at, prefix_for, IsSound, IsPrefix, Extends}
+use Rattle.album_passes.specs.Cuts.{Cut, prefix_at, prefix_for, dependencies_of, IsSound, IsPrefix, Extends}
 
 -- ---- what was written
 
@@ -31,6 +32,16 @@ writes_in_cut cut = record {
 -- the item's partition has committed the stamp
 abbrev pub IsCommittedFor : Cut → ℕ → ℕ → Type 0
 IsCommittedFor cut stamp item = list_any (commits stamp) (prefix_for cut item) ≡ true
+
+-- ---- what the author of a write had seen
+
+-- The item's partition had committed the stamp by then, as far as the author of another one had seen when it announced
+-- that one.
+pub record HadSeenCommitted (cut : Cut) (author : ℕ) (stamp item : ℕ) : Type 0 where
+  pub lengths : List ℕ
+  pub depended : dependencies_of cut author ≡ Some lengths
+  pub committed : list_any (commits stamp)
+      (take (slice_index lengths (place_of cut.parts item)) (prefix_for cut item)) ≡ true
 
 -- ---- a read of two rounds
 

@@ -174,6 +174,7 @@ impl Holding {
         ensures table { self.new.table ≡ self.old.table }
         ensures seat { self.new.seat
             ≡ with_cut self.old.seat (announced_cut (known self.old.seat) stamp items.now) }
+        ensures sound { IsSound (known self.old.seat) }
     {
         self.announce_as::<Brand>(desk, stamp, items)
     }
@@ -188,6 +189,7 @@ impl Holding {
         ensures table { self.new.table ≡ self.old.table }
         ensures seat { self.new.seat
             ≡ with_cut self.old.seat (announced_cut (known self.old.seat) N.stamp N.items) }
+        ensures sound { IsSound (known self.old.seat) }
     {
         desk.table.shared.load::<Announce<N>>(&mut self.seat, 0);
     }

@@ -1,19 +1,19 @@
 //! What follows of cuts: of closed ones, of ones that grow and are merged, and of reads over them.
-ghost use Rattle.std.specs.Prelude.{◌≡◌, ◌<◌, ℕ, List, true, false, Some, IsSome, All, Contains};
+ghost use Rattle.std.specs.Prelude.{◌≡◌, ◌≢◌, ◌<◌, ◌≤◌, ℕ, List, true, false, Some, IsSome, All, Contains};
 ghost use Rattle.std.specs.List.{list_any};
 ghost use Rattle.album_items.specs.ItemIds.{place_of};
 ghost use Rattle.album_items.specs.Openings.{Row};
 ghost use Rattle.album_terminate.specs.declared.deciding.StampState.TheVariants as StampState;
 ghost use Rattle.album_partition.specs.declared.marks.Mark.{Mark};
 ghost use Rattle.album_partition.specs.declared.marks.Mark.TheVariants as Made;
-ghost use Rattle.album_partition.specs.Marks.{is_mark_of, prepares, commits, discards, state_of, items_at, first_value};
+ghost use Rattle.album_partition.specs.Marks.{is_mark_of, prepares, commits, discards, state_of, items_at, first_value, latest};
 ghost use Rattle.album_items.specs.Places.{others_of};
 ghost use Rattle.album_partition.specs.Proper.{is_proper};
 ghost use Rattle.album_reader.specs.Answers.{ReadVersion};
 ghost use Rattle.album_reader.specs.Atomic.{IsReadAtomic, IsFreshFrom};
-ghost use Rattle.album_passes.specs.Cuts.{Cut, prefix_at, announced_for, IsNamed, IsPreparedThroughout, IsPromisedSomewhere, IsBacked, IsClosedCut, IsSound, Extends};
+ghost use Rattle.album_passes.specs.Cuts.{Cut, prefix_at, prefix_for, announced_for, dependencies_of, HasReached, IsNamed, IsPreparedThroughout, IsPromisedSomewhere, IsBacked, IsClosedCut, IsSound, Extends};
 ghost use Rattle.album_passes.specs.Changes.{marked_cut, merged};
-ghost use Rattle.album_passes.specs.Reads.{IsCommitted, IsCommittedFor, written_value, writes_in_cut, IsReadInTwoRounds};
+ghost use Rattle.album_passes.specs.Reads.{IsCommitted, IsCommittedFor, written_value, writes_in_cut, HadSeenCommitted, IsReadInTwoRounds};
 
 /// A law: what a closed cut has of each stamp that has a mark in it. Its items are announced; a
 /// mark that prepares it names these, and writes only them; where it is committed, each item's
@@ -73,8 +73,24 @@ pub fn what_is_committed_is_there()
         → IsCommitted old stamp → written_value new item stamp ≡ written_value old item stamp }
 {}
 
+/// A law: a cut is causal. Of each write that it knows as committed, it knows how many marks of each partition the author
+/// had seen when it announced the write, and has all of them.
+pub fn cuts_are_causal()
+    ensures { (cut : Cut) (stamp : ℕ) → IsSound cut → IsCommitted cut stamp
+        → (lengths : List ℕ) × (dependencies_of cut stamp ≡ Some lengths) × HasReached lengths cut }
+{}
+
+/// A law: what was read fresh from a cut that has a write committed is no older than what the write's author had seen
+/// committed when it announced the write.
+pub fn fresh_as_authors_saw()
+    ensures { (begun now : Cut) (stamp : ℕ) (answers : List ReadVersion) → IsSound begun → Extends begun now
+        → IsCommitted begun stamp → IsFreshFrom (writes_in_cut now) (IsCommittedFor begun) answers
+        → IsFreshFrom (writes_in_cut now) (HadSeenCommitted now stamp) answers }
+{}
+
 /// A law: a read of two rounds over sound cuts is read atomic, and fresh from the cut with which it
-/// began. It stays so as the cut grows.
+/// began. Each of its versions was committed by the time when its second round began; and where none
+/// was below its item's latest one then, it is fresh from there. It stays so as the cut grows.
 pub fn reads_are_atomic_and_fresh()
     ensures atomic { (begun middle ended : Cut) (firsts : List ReadVersion) (stamps : List ℕ)
         (answers : List ReadVersion)
@@ -84,6 +100,16 @@ pub fn reads_are_atomic_and_fresh()
         (answers : List ReadVersion)
         → IsReadInTwoRounds begun middle ended firsts stamps answers
         → IsFreshFrom (writes_in_cut ended) (IsCommittedFor begun) answers }
+    ensures known { (begun middle ended : Cut) (firsts : List ReadVersion) (stamps : List ℕ)
+        (answers : List ReadVersion) (answer : ReadVersion)
+        → IsReadInTwoRounds begun middle ended firsts stamps answers → Contains answers answer → answer.stamp ≢ 0
+        → IsCommitted middle answer.stamp }
+    ensures up_to_date { (begun middle ended : Cut) (firsts : List ReadVersion) (stamps : List ℕ)
+        (answers : List ReadVersion)
+        → IsReadInTwoRounds begun middle ended firsts stamps answers
+        → ((answer : ReadVersion) → Contains answers answer
+        → latest (prefix_for middle answer.item) answer.item ≤ answer.stamp)
+        → IsFreshFrom (writes_in_cut ended) (IsCommittedFor middle) answers }
     ensures atomic_still { (old new : Cut) (answers : List ReadVersion) → IsSound old → IsSound new → Extends old new
         → IsReadAtomic (writes_in_cut old) (first_value old.opening) answers
         → IsReadAtomic (writes_in_cut new) (first_value new.opening) answers }

@@ -2,8 +2,8 @@
 ghost use Rattle.std.specs.Prelude.{◌≡◌, ◌<◌, ◌≤◌, max, length, Some, None, IfSome, IfNone};
 ghost use Rattle.album_stamps.specs.Stamps.{client_number};
 ghost use Rattle.album_stamps.specs.declared.limits.TheConstants.{MAX_PARTS};
-ghost use Rattle.album_passes.specs.Cuts.{IsSound, Extends, prefix_at, announced_for};
-ghost use Rattle.album_passes.specs.Changes.{merged, announced_cut, IsUnheard, KeepsOwn};
+ghost use Rattle.album_passes.specs.Cuts.{IsSound, Extends, prefix_at, announced_for, dependencies_of};
+ghost use Rattle.album_passes.specs.Changes.{lengths_in, merged, announced_cut, IsUnheard, KeepsOwn};
 ghost use Rattle.album_passes.specs.Knowledge.{AreApart};
 ghost use Rattle.album_passes.specs.Pass.{pass_of, unnumbered, drawn_by};
 
@@ -70,13 +70,16 @@ impl Pass {
     }
 
     /// Announces the items of a write, before the first message of it leaves. The stamp is one of
-    /// the pass's own client, for which nothing is announced yet.
+    /// the pass's own client, for which nothing is announced yet. What the pass has seen goes with it: the stamp depends
+    /// on that.
+    #[tactic(auto, using(crate::proofs::CutLemmas::extends_announced))]
     pub fn announce(&mut self, desk: &Desk, stamp: Stamp, items: &[ItemId])
         requires table { self.old.table ≡ desk.now.table }
         requires number { self.old.number ≡ Some (client_number stamp) }
         requires fresh { announced_for self.old.cut stamp ≡ None }
         ensures cut { self.new.cut ≡ announced_cut self.old.cut stamp items.now }
         ensures announced { announced_for self.new.cut stamp ≡ Some items.now }
+        ensures depended { dependencies_of self.new.cut stamp ≡ Some (lengths_in self.old.cut) }
         ensures grown { Extends self.old.cut self.new.cut }
         ensures table { self.new.table ≡ self.old.table }
         ensures number { self.new.number ≡ self.old.number }

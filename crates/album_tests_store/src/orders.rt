@@ -80,8 +80,8 @@ const BO_FIRST: Script = Script {
         bo: Sea at 0; committed at 131074; committed at 196610; denied picture/0 at the end; audited 4 and 1",
 };
 
-/// Side by side. amy's new title is prepared and committed between the two rounds of bo's read, and he is told the old
-/// one. Then both look at one list before either writes it. bo's stamp is the greater, so his list counts, although
+/// Side by side. amy's new title is prepared between the two rounds of bo's read, and committed after it, so he is told
+/// the old one. (Were it committed between them, his session would read anew: `overtaken`.) Then both look at one list before either writes it. bo's stamp is the greater, so his list counts, although
 /// amy's comes later. Both see room in the album, and both add to it.
 const SIDE_BY_SIDE: Script = Script {
     steps: &[
@@ -90,9 +90,9 @@ const SIDE_BY_SIDE: Script = Script {
         Take(&[0, 0, 0, 1, 3, 0, 3]),
         Ask(Bo),
         Take(&[0, 0]),
-        // amy has her view; bo is told the title, then it is prepared, he goes on, and it is committed
-        Take(&[1, 0, 0, 1, 3, 0]),
-        Take(&[0, 1, 3]),
+        // amy has her view; bo is told the title, then it is prepared, he ends, and it is committed
+        Take(&[1, 0, 1, 3, 0]),
+        Take(&[0, 1, 3, 0]),
         // amy looks at both, but for what partition 2 has to tell at last; bo looks, and begins to write
         Ask(Amy),
         Take(&[0, 1, 0, 1, 0, 1, 2, 3, 0, 1, 3]),

@@ -8,6 +8,7 @@ use Rattle.album_client.specs.declared.clients.Phase.{Phase}
 use Rattle.album_client.specs.declared.clients.Phase.TheVariants as phase
 use Rattle.album_eval.specs.declared.policies.Policy.{Policy}
 use Rattle.album_items.specs.Transactions.{items_written, are_items}
+use Rattle.album_passes.proofs.CutLemmas.{extends_trans}
 use Rattle.album_passes.specs.Cuts.{Cut, announced_for, IsPromisedSomewhere, IsSound, Extends}
 use Rattle.album_permits.specs.Effects.{effect_of}
 use Rattle.album_permits.specs.Permits.{PermitState, permit_on}
@@ -81,6 +82,13 @@ module _ (policy : Policy) (o : Outset) where
           };
           above = y.0.above;
           announced = grown.announced _ _ y.0.announced;
+          depends = (let d = y.0.depends in record {
+            seen = d.seen;
+            since = d.since;
+            until = extends_trans d.seen a.cut b.cut d.until grown;
+            settled = d.settled;
+            depended = grown.depended _ _ d.depended;
+          });
           alone = λ other own differs. silent other (own ∙ sym same) ∙ y.0.alone other own differs;
         },
         y.1,

@@ -1,20 +1,20 @@
 -- How a read of two rounds ends: `read_so`, where it is done, and `overtaken`, where an item was gone. ReadingLemmas
 -- cites both.
-use Rattle.std.proofs.Common.{◌≡◌, ℕ, zero, suc, ◌<◌, true, List, [], ◌∷◌, get_or, map, All, Contains, Option, refl, sym, ap, ◌∙◌, subst, arith}
+use Rattle.std.proofs.Common.{◌≡◌, ℕ, zero, suc, ◌<◌, ◌≤◌, true, List, [], ◌∷◌, get_or, map, All, Contains, Option, refl, sym, ap, ◌∙◌, subst, arith}
 use Rattle.std.specs.Option.{unwrap_or}
 use Rattle.std.specs.List.{count_by}
 use Rattle.std.proofs.lemmas.List.Elements.{All-contains, Contains-get_or}
 use Rattle.album_items.specs.ItemIds.{place_of}
 use Rattle.album_calls.specs.declared.messages.Message.{Message}
 use Rattle.album_partition.specs.Laws.{IsLatest}
-use Rattle.album_partition.specs.Marks.{is_legal}
+use Rattle.album_partition.specs.Marks.{is_legal, latest}
 use Rattle.album_partition.specs.declared.marks.Mark.{Mark}
 use Rattle.album_partition.proofs.LegalLemmas.{legal_parts}
 use Rattle.album_passes.specs.Cuts.{Cut, prefix_at, prefix_for, IsSound, IsPrefix, Extends}
 use Rattle.album_passes.specs.Reads.{IsAnsweredBetween, IsReadInTwoRounds}
 use Rattle.album_passes.proofs.CutLemmas.{extends_trans}
 use Rattle.album_passes.proofs.PrefixLemmas.{prefix_trans}
-use Rattle.album_passes.proofs.ReadLemmas.{read_whole, read_written, read_fresh}
+use Rattle.album_passes.proofs.ReadLemmas.{read_whole, read_written, committed_then, read_up_to_date}
 use Rattle.album_reader.specs.Answers.{ReadVersion}
 use Rattle.album_reader.specs.Rounds.{RoundState, asked_stamps}
 use Rattle.album_reader.specs.Snapshots.{items_read}
@@ -69,7 +69,7 @@ module _ (b m c : Cut) (begun next : RoundState) (gets : List Message) (F : IsFi
         (mapped_there (λ (z : ReadVersion). z.item) rows (get_or rows k d) (Contains-get_or rows k d l)));
   }
 
-  -- what the second round has read is read atomic, fresh and settled
+  -- what the second round has read is read atomic, settled, and fresh from where that round began
   pub read_so : (rows : List ReadVersion) → IsSound b → IsSound m → IsSound c → Extends b m → Extends m c → AreOf m c next rows
       → IsReadOf b c begun.items rows
   read_so rows s r t x y a =
@@ -81,7 +81,13 @@ module _ (b m c : Cut) (begun next : RoundState) (gets : List Message) (F : IsFi
             whole = read_whole b m c F.answers (stamps_of F.answers) rows R;
             written = read_written b m c F.answers (stamps_of F.answers) rows R;
           };
-          fresh = read_fresh b m c F.answers (stamps_of F.answers) rows R;
+          at = m;
+          since = x;
+          until = y;
+          sound = r;
+          known = λ k d l. committed_then b m c F.answers (stamps_of F.answers) rows R (get_or rows k d) (Contains-get_or rows k d l);
+          fresh = read_up_to_date b m c F.answers (stamps_of F.answers) rows R
+              (λ z n. All-contains (λ (w : ReadVersion). latest (prefix_for m w.item) w.item ≤ w.stamp) rows z a.latest n);
           settled = a.settled;
         };
       }

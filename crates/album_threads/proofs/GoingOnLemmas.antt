@@ -45,7 +45,7 @@ written_there b c xs x h n nz = ⊎_elim
 fresh_at : (b d : Cut) (ys : List ReadVersion) (y : ReadVersion) (t : ℕ) → IsSeen b d ys → Contains ys y → list_any (commits t) (prefix_for b y.item) ≡ true
     → is_some (written_value d y.item t) ≡ true → t ≤ y.stamp
 fresh_at b d ys y t h n done wrote =
-    h.fresh y n t wrote done
+    h.fresh y n t wrote (any_more (commits t) (prefix_for b y.item) (prefix_for h.at y.item) (prefix_for_more b h.at h.since y.item) done)
 
 pub no_older : (b c l d : Cut) (xs ys : List ReadVersion) → IsSound c → IsSound d → Extends c l → Extends l d → IsSeen b c xs → IsSeen l d ys
     → AreNoOlder xs ys

@@ -9,7 +9,7 @@ use Rattle.album_reader.specs.Answers.{ReadVersion}
 use Rattle.album_permits.specs.Effects.{effect_of}
 use Rattle.album_permits.specs.Permits.{PermitState}
 use Rattle.album_passes.specs.Cuts.{Cut, prefix_at, prefix_for, IsSound, IsPrefix, Extends}
-use Rattle.album_passes.proofs.CutLemmas.{extends_self, prefix_for_more}
+use Rattle.album_passes.proofs.CutLemmas.{extends_self, extends_trans, prefix_for_more}
 use Rattle.album_passes.proofs.PrefixLemmas.{prefix_trans, any_more}
 use Rattle.album_passes.proofs.ReadLemmas.{atomic_more, fresh_more}
 use Rattle.album_threads.specs.Grounds.{AreSettled, IsSeen, items_of, IsKeptAt, IsKept, IsWithoutRoom}
@@ -22,7 +22,12 @@ settled_more c d x rows h = λ k row l nz.
 pub seen_more : (b c d : Cut) (rows : List ReadVersion) → IsSound c → IsSound d → Extends b c → Extends c d → IsSeen b c rows → IsSeen b d rows
 seen_more b c d rows s r x y h = record {
   atomic = atomic_more c d s r y rows h.atomic;
-  fresh = fresh_more b b c d s r (extends_self b) x y rows h.fresh;
+  at = h.at;
+  since = h.since;
+  until = extends_trans h.at c d h.until y;
+  sound = h.sound;
+  known = h.known;
+  fresh = fresh_more h.at h.at c d s r (extends_self h.at) h.until y rows h.fresh;
   settled = settled_more c d y rows h.settled;
 }
 

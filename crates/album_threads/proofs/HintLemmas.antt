@@ -1,5 +1,5 @@
--- What comes of a hint that is tried: where it is in vain nothing was taken over (`tried_so`, `given_led`), and else a view
--- has come of it (`view_by`). `Session::goes_on` cites these, and `asked_readable` for the hint that it keeps.
+-- What comes of a read that is overtaken, and of a hint that is tried: where they are in vain nothing was taken over
+-- (`tried_so`, `given_led`), and else a view has come of the hint (`view_by`). `Session::goes_on` cites these, and `asked_readable` for the hint that it keeps.
 use Rattle.std.proofs.Common.{◌≡◌, ℕ, Bool, true, false, ◌&&◌, List, [], ◌∷◌, Option, Result, Ok, Err, IfOk, refl, sym, ap, ◌∙◌, subst}
 use Rattle.std.specs.Prelude.{IfSome, IfNone}
 use Rattle.std.proofs.lemmas.Bool.{and_from, and_parts, true≢false}
@@ -17,8 +17,10 @@ use Rattle.album_stamps.specs.declared.refusals.Refusal.{Refusal}
 use Rattle.album_threads.specs.Asks.{IsHeard}
 use Rattle.album_threads.specs.Hints.{is_without_view, items_asked}
 use Rattle.album_threads.specs.Phases.{Outset, IsUnderWay}
-use Rattle.album_threads.specs.Sessions.{SessionState, IsClosedOrOutOfMemory}
+use Rattle.album_threads.specs.Sessions.{SessionState, IsNoReply}
 use Rattle.album_threads.specs.Steps.{IsLed, IsTried}
+use Rattle.album_threads.specs.declared.session.asked.NoReply.{NoReply}
+use Rattle.album_threads.specs.declared.session.asked.NoReply.TheVariants.{Refused, Overtaken}
 use Rattle.album_threads.specs.declared.session.ask.Way.{Way}
 use Rattle.album_threads.specs.declared.session.ask.Way.TheVariants.{Answered, InVain}
 use Rattle.album_threads.proofs.StepLemmas.{cut_led}
@@ -46,30 +48,32 @@ module _ (policy : Policy) (o : Outset) where
   -- ---- in vain
 
   pub tried_so : (now next : SessionState) (at : Cut) (sent : List Message) (d : Phase) → IsUnderWay policy o now at sent d
-      → IsHeard now next → o.hinted ≡ true → is_reading d ≡ true → IsTried o next
-  tried_so now next at sent (phase.Idle tag) w h by e = absurd w.phase
-  tried_so now next at sent (phase.Reads pending_ask round) w h by e = record {
-    hinted = by;
+      → IsHeard now next → is_reading d ≡ true → IsTried o next
+  tried_so now next at sent (phase.Idle tag) w h e = absurd w.phase
+  tried_so now next at sent (phase.Reads pending_ask round) w h e = record {
     adds = adds_heard o.session now next w.on w.phase.1 h;
   }
-  tried_so now next at sent (phase.Prepares writing) w h by e = absurd (true≢false (sym e))
-  tried_so now next at sent (phase.Commits writing) w h by e = absurd (true≢false (sym e))
+  tried_so now next at sent (phase.Prepares writing) w h e = absurd (true≢false (sym e))
+  tried_so now next at sent (phase.Commits writing) w h e = absurd (true≢false (sym e))
 
   -- it hears no more
-  pub given_led : (limit : ℕ) (now next : SessionState) (at : Cut) (sent : List Message) (d : Phase) (why : Refusal)
-      (r : Result Way Refusal) → IsUnderWay policy o now at sent d → IsHeard now next → IsClosedOrOutOfMemory why
+  pub given_led : (limit : ℕ) (now next : SessionState) (at : Cut) (sent : List Message) (d : Phase) (why : NoReply)
+      (r : Result Way Refusal) → IsUnderWay policy o now at sent d → IsHeard now next → IsNoReply (is_reading d) why
       → (stamp : Option ℕ) → stamp ≡ stamp_at_work d
-      → (hinted reads tries : Bool) → o.hinted ≡ hinted → reads ≡ is_reading d → tries ≡ (hinted && reads)
-      → (tries ≡ true → r ≡ Ok InVain) → (tries ≡ false → IfSome stamp (λ t. r ≡ Ok (Answered (answer.Unsettled t why))))
-      → (tries ≡ false → IfNone stamp (r ≡ Err why)) → IfOk r (IsLed limit policy o next)
-  given_led limit now next at sent d why r w h none stamp is hinted reads tries by same both vain begun before = go tries refl
+      → (hinted reads tries : Bool) → reads ≡ is_reading d → tries ≡ (hinted && reads)
+      → (tries ≡ true → r ≡ Ok InVain) → (why ≡ Overtaken → r ≡ Ok InVain)
+      → (tries ≡ false → (e : Refusal) → why ≡ Refused e → IfSome stamp (λ t. r ≡ Ok (Answered (answer.Unsettled t e))))
+      → (tries ≡ false → (e : Refusal) → why ≡ Refused e → IfNone stamp (r ≡ Err e)) → IfOk r (IsLed limit policy o next)
+  given_led limit now next at sent d Overtaken r w h none stamp is hinted reads tries same both vain over begun before =
+      subst (λ (z : Result Way Refusal). IfOk z (IsLed limit policy o next)) (sym (over refl)) (tried_so now next at sent d w h none)
+  given_led limit now next at sent d (Refused why) r w h none stamp is hinted reads tries same both vain over begun before = go tries refl
     where
       go : (b : Bool) → tries ≡ b → IfOk r (IsLed limit policy o next)
       go true e =
           let parts = and_parts hinted reads (sym both ∙ e) in
           subst (λ (z : Result Way Refusal). IfOk z (IsLed limit policy o next)) (sym (vain e))
-          (tried_so now next at sent d w h (by ∙ parts.0) (sym same ∙ parts.1))
-      go false e = cut_led limit policy o now next at sent d why r w h none stamp is (begun e) (before e)
+          (tried_so now next at sent d w h (sym same ∙ parts.1))
+      go false e = cut_led limit policy o now next at sent d why r w h none stamp is (begun e why refl) (before e why refl)
 
 -- ---- not in vain
 

@@ -7,7 +7,6 @@ use Rattle.album_reader.specs.Answers.{ReadVersion}
 use Rattle.album_reader.specs.Snapshots.{items_read}
 use Rattle.album_passes.specs.Cuts.{Cut, IsSound, Extends}
 use Rattle.album_passes.proofs.CutLemmas.{extends_self, extends_trans}
-use Rattle.album_passes.proofs.ReadLemmas.{fresh_more}
 use Rattle.album_views.specs.Asks.{objects_of}
 use Rattle.album_views.specs.Checks.{flaw_of}
 use Rattle.album_views.specs.ReadSets.{names_of}
@@ -91,10 +90,15 @@ module _ (b c : Cut) (viewing : ViewingState) (items : List ℕ) where
 -- ---- reads in vain
 
 -- what was seen since a later cut was seen since an earlier one
-seen_from : (a b c : Cut) (rows : List ReadVersion) → IsSound c → Extends a b → Extends b c → IsSeen b c rows → IsSeen a c rows
-seen_from a b c rows s x y h = record {
+seen_from : (a b c : Cut) (rows : List ReadVersion) → Extends a b → IsSeen b c rows → IsSeen a c rows
+seen_from a b c rows x h = record {
   atomic = h.atomic;
-  fresh = fresh_more a b c c s s x y (extends_self c) rows h.fresh;
+  at = h.at;
+  since = extends_trans a b h.at x h.since;
+  until = h.until;
+  sound = h.sound;
+  known = h.known;
+  fresh = h.fresh;
   settled = h.settled;
 }
 
@@ -168,7 +172,7 @@ looks_seen a b c viewing items x y s ask view of is =
     subst (λ (k : Ask). IsViewOf a c k view) of (record {
       of = is.of;
       is = is.is;
-      seen = seen_from a b c view.rows s x y is.seen;
+      seen = seen_from a b c view.rows x is.seen;
       sound = s;
     })
 
@@ -182,7 +186,7 @@ module _ (a b c : Cut) (viewing : ViewingState) (items : List ℕ) (h : IsLookin
   pushed rows vain =
       in_vain_push a c viewing.ask (objects_of viewing.ask) h.reads rows
       (in_vain_more a b c viewing.ask (objects_of viewing.ask) h.reads h.sound s x y h.in_vain)
-      (vain.of ∙ h.next) (seen_from a b c rows s x y vain.seen) vain.lacking vain.few
+      (vain.of ∙ h.next) (seen_from a b c rows x vain.seen) vain.lacking vain.few
 
   counted : (n : ℕ) (rows : List ReadVersion) → n ≤ viewing.reads + 1 → n + trims_in a ≤ length (h.reads ++ rows ∷ []) + trims_in c
   counted n rows few =
@@ -228,7 +232,7 @@ module _ (a b c : Cut) (viewing : ViewingState) (items : List ℕ) (h : IsLookin
   busy_so : (why : Why) → LooksOnce b c viewing items (Busy why) → IsBusy a c viewing.ask why
   busy_so Wide is = record {
     rows = is.rows;
-    seen = seen_from a b c is.rows s x y is.seen;
+    seen = seen_from a b c is.rows x is.seen;
     lacking = is.lacking;
     wide = is.wide;
   }

@@ -19,9 +19,10 @@ use Rattle.album_calls.specs.declared.replies.Reply.TheVariants as reply
 use Rattle.album_calls.specs.declared.requests.Request.TheVariants.{Get}
 use Rattle.album_partition.specs.Answers.{says, nothing, get_by, on_body, action_of, answer, reply_to}
 use Rattle.album_partition.specs.Laws.{IsReadAt}
-use Rattle.album_partition.specs.Marks.{commits, value_in, kept_version}
+use Rattle.album_partition.specs.Marks.{commits, value_in, kept_version, latest, is_legal}
 use Rattle.album_partition.specs.Partition.{PartitionState, read_at}
 use Rattle.album_partition.specs.declared.marks.Mark.{Mark}
+use Rattle.album_partition.proofs.GrowthLemmas.{latest_rises}
 use Rattle.album_partition.proofs.LawLemmas.{to_the_sender, version_is_read, gone_is_trimmed}
 use Rattle.album_passes.specs.Cuts.{Cut, prefix_at, prefix_for, IsPrefix, Extends}
 use Rattle.album_passes.specs.Reads.{IsCommittedFor, IsAnsweredBetween}
@@ -35,7 +36,7 @@ use Rattle.album_reader.specs.Others.{IsGone}
 use Rattle.album_reader.proofs.Others.{is_part-own, IsGone-is_gone}
 use Rattle.album_reader.proofs.Rounds.{items_read-in_order, stepped-open, with_answer-in_order}
 use Rattle.album_threads.specs.Envelopes.{Shows}
-use Rattle.album_threads.specs.Grounds.{AreSettled}
+use Rattle.album_threads.specs.Grounds.{AreSettled, AreUpToDate}
 use Rattle.album_threads.specs.Replies.{IsReplied, IsUnder, AreOf, IsGoneBetween, Leads}
 use Rattle.album_threads.specs.Settling.{stamps_in, AreCommitted, AreSettledIn}
 use Rattle.album_threads.proofs.GroundLemmas.{settled_more}
@@ -140,14 +141,15 @@ with_stamps a ts items q i us own asked =
     same_stamps i get.0 us ts (sym asked ∙ ap (λ (n : Message). n.body) get.1)
 
 -- who tells of an item that it was asked for is the item's partition, whose history lies between the two cuts then
-record IsToldBetween (b c : Cut) (p : PartitionState) (i : ℕ) : Type 0 where
+record IsToldBetween (b c heard : Cut) (p : PartitionState) (i : ℕ) : Type 0 where
   from : IsPrefix (prefix_for b i) p.marks
   to : IsPrefix p.marks (prefix_for c i)
+  shown : p.marks ≡ prefix_at heard p.number
   first : value_in p.items i ≡ value_in b.opening i
 
 told_between : (limit : ℕ) (b c : Cut) (n : ℕ) (sent : List Message) (m : Message) (i : ℕ) (us : List ℕ) → Extends b c → n ≡ b.parts
     → (r : IsReplied limit b c sent m) → r.request.body ≡ body.Request (Get i us) → m.from ≡ Part (place_of n i)
-    → IsToldBetween b c r.answered.partition i
+    → IsToldBetween b c r.heard r.answered.partition i
 told_between limit b c n sent m i us on parts r asked sender =
     let p = r.answered.partition in
     let q = r.request in
@@ -162,6 +164,7 @@ told_between limit b c n sent m i us on parts r asked sender =
     record {
       from = subst (λ (k : ℕ). IsPrefix (prefix_at b k) p.marks) (sym place) from;
       to = subst (λ (k : ℕ). IsPrefix p.marks (prefix_at c k)) (sym (ap (λ (k : ℕ). place_of k i) on.parts ∙ place)) seen;
+      shown = marks;
       first = ap (λ (rows : List Row). value_in rows i) (r.answered.shown.items)
           ∙ value_placed r.heard.opening p.number r.heard.parts i (ap (λ (k : ℕ). place_of k i) heard_parts ∙ place)
           ∙ ap (λ (rows : List Row). value_in rows i) (sym r.seen.opening ∙ on.opening);
@@ -199,6 +202,24 @@ settled_then limit b c a ts items m x on parts r e nz =
     let at = told_between limit b c a.parts (gets_of a ts items) m x.item read.stamps on parts r read.asked told.1 in
     let none = subst (λ (y : Body). AreSettledIn p.marks (stamps_in y)) read.asked r.answered.settled in
     any_more (commits x.stamp) p.marks (prefix_for c x.item) at.to (read_committed p.marks x.item read.stamps x.stamp none read.stamp_is nz)
+
+-- And by the earlier cut no later one was committed.
+latest_then : (limit : ℕ) (b c : Cut) (a : Asker) (ts items : List ℕ) (m : Message) (x : ReadVersion) → Extends b c → a.parts ≡ b.parts
+    → IsReplied limit b c (gets_of a ts items) m → answer_in a m ≡ Some x → latest (prefix_for b x.item) x.item ≤ x.stamp
+latest_then limit b c a ts items m x on parts r e =
+    let p = r.answered.partition in
+    let q = r.request in
+    let told = answers_it a m x e in
+    let own : m.from ≡ Part p.number = (to_the_sender p q m r.answered.answered).sender in
+    let read = version_is_read p q x.item x.stamp x.value (replied_so p q m (reply.Version x.item x.stamp x.value) r.answered.answered told.0) in
+    let at = told_between limit b c a.parts (gets_of a ts items) m x.item read.stamps on parts r read.asked told.1 in
+    let low : latest p.marks x.item ≤ x.stamp =
+    subst (λ (ms : List Mark). latest ms x.item ≤ x.stamp) (sym at.shown) (r.latest p.number x.item x.stamp x.value own told.0) in
+    let rises : latest (prefix_for b x.item) x.item ≤ latest p.marks x.item =
+    subst (λ (ms : List Mark). latest (prefix_for b x.item) x.item ≤ latest ms x.item) at.from.1
+    (latest_rises (prefix_for b x.item) at.from.0 x.item
+    (subst (λ (ms : List Mark). is_legal ms ≡ true) (sym at.from.1) r.answered.proper.legal)) in
+    omega arith
 
 -- An item that is told to be gone was gone at such a history.
 gone_between : (limit : ℕ) (b c : Cut) (a : Asker) (ts items : List ℕ) (m : Message) (i : ℕ) → Extends b c → a.parts ≡ b.parts
@@ -266,11 +287,11 @@ counts round m x e = go (answer_in round.asker m) refl e
 outcome_leads : (b c : Cut) (begun round : RoundState) → round.asker ≡ begun.asker → round.items ≡ begun.items → round.stamps ≡ begun.stamps
     → are_in_order round.items round.answers ≡ true
     → All (IsAnsweredBetween b c (asked_stamps begun)) (answers_there round.answers) → AreSettled c (answers_there round.answers)
-    → StaysOpen (outcome round) → Leads b c begun (outcome round)
-outcome_leads b c begun round asker items stamps order all kept = go (are_there round.answers) refl
+    → AreUpToDate b (answers_there round.answers) → StaysOpen (outcome round) → Leads b c begun (outcome round)
+outcome_leads b c begun round asker items stamps order all kept last = go (are_there round.answers) refl
   where
     found : are_there round.answers ≡ true → AreOf b c begun (answers_there round.answers)
-    found e = record { items = sym (items_read-in_order round.items round.answers order e) ∙ items; between = all; settled = kept }
+    found e = record { items = sym (items_read-in_order round.items round.answers order e) ∙ items; between = all; settled = kept; latest = last }
 
     by : (o : Option (List ℕ)) → begun.stamps ≡ o → are_there round.answers ≡ true
         → StaysOpen (end_by o round (answers_there round.answers)) → Leads b c begun (end_by o round (answers_there round.answers))
@@ -294,7 +315,7 @@ outcome_leads b c begun round asker items stamps order all kept = go (are_there 
         → Leads b c begun (option_map_or (end_of round) (if there then Some (answers_there round.answers) else None) (Same round))
     go true e stays = subst (λ (o : Option (List ℕ)). StaysOpen (end_by o round (answers_there round.answers)) → Leads b c begun (end_by o round (answers_there round.answers)))
         (sym stamps) (by begun.stamps refl e) stays
-    go false e stays = record { asker = asker; items = items; stamps = stamps; still_open = stays; between = all; settled = kept }
+    go false e stays = record { asker = asker; items = items; stamps = stamps; still_open = stays; between = all; settled = kept; latest = last }
 
 -- What comes of a reply to one of the round's Gets.
 pub leads : (limit : ℕ) (b c d : Cut) (begun round : RoundState) (m : Message) → Extends b c → Extends c d → Extends b d → begun.asker.parts ≡ b.parts
@@ -311,16 +332,21 @@ leads limit b c d begun round m first on both parts r u = by (is_gone round m) r
     new_settled x e = settled_then limit b d begun.asker (asked_stamps begun) begun.items m x both parts r
         (subst (λ (a : Asker). answer_in a m ≡ Some x) u.asker (counts round m x e))
 
+    new_latest : (x : ReadVersion) → new_answer round m ≡ Some x → latest (prefix_for b x.item) x.item ≤ x.stamp
+    new_latest x e = latest_then limit b d begun.asker (asked_stamps begun) begun.items m x both parts r
+        (subst (λ (a : Asker). answer_in a m ≡ Some x) u.asker (counts round m x e))
+
     new : (x : ReadVersion) → new_answer round m ≡ Some x → IsAnsweredBetween b d (asked_stamps begun) x
     new x e = read_between limit b d begun.asker (asked_stamps begun) begun.items m x both parts r
         (subst (λ (a : Asker). answer_in a m ≡ Some x) u.asker (counts round m x e))
 
     go : (o : Option ReadVersion) → new_answer round m ≡ o → StaysOpen (option_map_or (λ (x : ReadVersion). outcome (with_answer round x)) o (Same round))
         → Leads b d begun (option_map_or (λ (x : ReadVersion). outcome (with_answer round x)) o (Same round))
-    go None e stays = record { asker = u.asker; items = u.items; stamps = u.stamps; still_open = u.still_open; between = old; settled = old_settled }
+    go None e stays = record { asker = u.asker; items = u.items; stamps = u.stamps; still_open = u.still_open; between = old; settled = old_settled; latest = u.latest }
     go (Some x) e stays = outcome_leads b d begun (with_answer round x) u.asker u.items u.stamps (with_answer-in_order round x u.still_open)
         (all_put (IsAnsweredBetween b d (asked_stamps begun)) x round.items round.answers (new x e) old)
-        (all_put (λ (row : ReadVersion). row.stamp ≢ 0 → IsCommittedFor d row.stamp row.item) x round.items round.answers (new_settled x e) old_settled) stays
+        (all_put (λ (row : ReadVersion). row.stamp ≢ 0 → IsCommittedFor d row.stamp row.item) x round.items round.answers (new_settled x e) old_settled)
+        (all_put (λ (row : ReadVersion). latest (prefix_for b row.item) row.item ≤ row.stamp) x round.items round.answers (new_latest x e) u.latest) stays
 
     second : (gone : Bool) → is_gone round m ≡ gone → gone ≡ true → is_some round.stamps ≡ true
     second gone e f = (and_parts _ _ (e ∙ f)).0
@@ -357,4 +383,5 @@ under_first c begun o none = record {
   still_open = o;
   between = subst (All (IsAnsweredBetween c c (asked_stamps begun))) (sym none) (λ k d l. absurd (omega arith));
   settled = subst (AreSettled c) (sym none) (λ k d l. absurd (omega arith));
+  latest = subst (AreUpToDate c) (sym none) (λ k d l. absurd (omega arith));
 }

@@ -3,7 +3,7 @@
 use Rattle.std.proofs.Common.{◌≡◌, ◌≢◌, ℕ, Bool, List, [], ◌∷◌, map, Some, None, if◌then◌else◌, refl, sym, ap}
 use Rattle.std.proofs.lemmas.Bool.{eq-eqb, ne_eqb}
 use Rattle.album_calls.specs.declared.messages.Message.{Message}
-use Rattle.album_passes.specs.Changes.{announced_cut}
+use Rattle.album_passes.specs.Changes.{lengths_in, announced_cut}
 use Rattle.album_passes.specs.Cuts.{Cut, announced_for}
 use Rattle.album_reader.specs.Answers.{Asker}
 use Rattle.album_reader.specs.Rounds.{gets_of}
@@ -60,3 +60,7 @@ announced_else c t u is other =
 
 pub announced_here : (c : Cut) (t : ℕ) (is : List ℕ) → announced_for (announced_cut c t is) t ≡ Some is
 announced_here c t is = ap (λ (b : Bool). if b then Some is else announced_for c t) (eq-eqb t t refl)
+
+-- and it depends on all that the cut has
+pub depended_here : (c : Cut) (t : ℕ) (is : List ℕ) → dependencies_of (announced_cut c t is) t ≡ Some (lengths_in c)
+depended_here c t is = ap (λ (b : Bool). if b then Some (lengths_in c) else dependencies_of c t) (eq-eqb t t refl)

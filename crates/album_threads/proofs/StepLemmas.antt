@@ -27,6 +27,7 @@ use Rattle.album_threads.specs.Sending.{IsAnnouncedBy, sent_at, sent_last}
 use Rattle.album_threads.specs.Sessions.{SessionState, IsClosedOrOutOfMemory, DrawsNothing}
 use Rattle.album_threads.specs.Steps.{client_step_in, terms_in, IsTaken, IsSent, IsLed}
 use Rattle.album_threads.specs.declared.session.asked.Asked.{Asked}
+use Rattle.album_threads.specs.declared.session.asked.NoReply.{NoReply}
 use Rattle.album_threads.specs.declared.session.ask.Way.{Way}
 use Rattle.album_threads.specs.declared.session.ask.Way.TheVariants.{Answered, Awaits, InVain}
 use Rattle.album_threads.proofs.BegunLemmas.{cut_rests}
@@ -55,7 +56,7 @@ moved_on limit policy o now next noted at sent transition (phase.Commits writing
 -- ---- a reply
 
 -- it was heard, and has led to this
-pub taken_so : (limit : ℕ) (at now : Cut) (sent : List Message) (terms : Terms) (x : Client) (d : Phase) (heard : Result Message Refusal) (transition : Transition)
+pub taken_so : (limit : ℕ) (at now : Cut) (sent : List Message) (terms : Terms) (x : Client) (d : Phase) (heard : Result Message NoReply) (transition : Transition)
     → IfOk heard (IsReplied limit at now sent) → IsOkAnd heard (λ reply. IsMoved (transition_of terms x reply d) transition)
     → IsTaken limit at now sent terms x d transition
 taken_so limit at now sent terms x d (Ok reply) transition replied is = record { reply = reply; replied = replied; is = is }

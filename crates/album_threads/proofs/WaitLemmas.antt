@@ -14,8 +14,8 @@ use Rattle.album_passes.specs.Cuts.{Cut, Extends}
 use Rattle.album_passes.proofs.CutLemmas.{extends_trans}
 use Rattle.album_reader.specs.Rounds.{RoundState, Step, is_end, stepped}
 use Rattle.album_reader.specs.Rounds.Step.{Same, Next, Done, Gone}
-use Rattle.album_stamps.specs.declared.refusals.Refusal.{Refusal}
 use Rattle.album_threads.specs.Asks.{IsHeard}
+use Rattle.album_threads.specs.declared.session.asked.NoReply.{NoReply}
 use Rattle.album_threads.specs.Phases.{Outset, IsReading, IsUnderWay}
 use Rattle.album_threads.specs.Replies.{IsReplied, Leads}
 use Rattle.album_threads.specs.Sessions.{SessionState}
@@ -82,7 +82,7 @@ module _ (limit : ℕ) (policy : Policy) (o : Outset) (now next : SessionState) 
 
 -- the reply that was heard was taken so
 pub waited_on : (limit : ℕ) (policy : Policy) (o : Outset) (now next : SessionState) (at : Cut) (sent : List Message) (d new : Phase)
-    (heard : Result Message Refusal) → IsHeard now next → IfOk heard (IsReplied limit at next.cut sent)
+    (heard : Result Message NoReply) → IsHeard now next → IfOk heard (IsReplied limit at next.cut sent)
     → IsOkAnd heard (λ reply. (is_waiting d reply ≡ true) × IsTakenBy d reply new)
     → IsUnderWay policy o now at sent d → IsUnderWay policy o next at sent new
 waited_on limit policy o now next at sent d new (Ok m) h r (waits, taken) w =
@@ -91,7 +91,7 @@ waited_on limit policy o now next at sent d new (Err why) h r is w = absurd is
 
 -- where nothing is given, the reply that was heard was taken
 pub none_on : (limit : ℕ) (policy : Policy) (now next : SessionState) (at : Cut) (sent : List Message) (d new : Phase)
-    (heard : Result Message Refusal) (given : Option (Result Message Refusal))
+    (heard : Result Message NoReply) (given : Option (Result Message NoReply))
     → IsHeard now next → IfOk heard (IsReplied limit at next.cut sent)
     → IfNone given (IsOkAnd heard (λ reply. (is_waiting d reply ≡ true) × IsTakenBy d reply new))
     → IfNone given ((o : Outset) → IsUnderWay policy o now at sent d → IsUnderWay policy o next at sent new)
@@ -100,10 +100,10 @@ none_on limit policy now next at sent d new heard None h r is = λ o w.
 none_on limit policy now next at sent d new heard (Some given) h r is = tt
 
 -- what is given was heard
-pub given_so : (limit : ℕ) (now : Cut) (at : Cut) (sent : List Message) (heard : Result Message Refusal)
-    (given : Option (Result Message Refusal)) → IfOk heard (IsReplied limit at now sent)
+pub given_so : (limit : ℕ) (now : Cut) (at : Cut) (sent : List Message) (heard : Result Message NoReply)
+    (given : Option (Result Message NoReply)) → IfOk heard (IsReplied limit at now sent)
     → IfSome given (λ g. IfOk g (λ reply. heard ≡ Ok reply))
     → IfSome given (λ g. IfOk g (IsReplied limit at now sent))
 given_so limit now at sent heard None r is = tt
-given_so limit now at sent heard (Some (Ok reply)) r is = subst (λ (z : Result Message Refusal). IfOk z (IsReplied limit at now sent)) is r
+given_so limit now at sent heard (Some (Ok reply)) r is = subst (λ (z : Result Message NoReply). IfOk z (IsReplied limit at now sent)) is r
 given_so limit now at sent heard (Some (Err why)) r is = tt

@@ -1,8 +1,9 @@
 -- Envelopes between threads: a message with a pass, and what the pass's cut shows about the message.
-use Rattle.std.specs.Prelude.{◌≡◌, ℕ, Bool, true, List, Some, None}
+use Rattle.std.specs.Prelude.{◌≡◌, ℕ, ◌≤◌, Bool, true, false, List, Some, None}
 use Rattle.std.specs.List.{list_any}
 use Rattle.atomic_table.specs.Seated.{TableId}
 use Rattle.album_items.specs.Places.{lies_at, rows_placed_at}
+use Rattle.album_items.specs.declared.values.Value.{Value}
 use Rattle.album_calls.specs.declared.messages.Body.{Body}
 use Rattle.album_calls.specs.declared.messages.Body.TheVariants as body
 use Rattle.album_calls.specs.declared.messages.Message.{Message}
@@ -15,7 +16,7 @@ use Rattle.album_calls.specs.declared.requests.Request.TheVariants.{Prepare, Com
 use Rattle.album_calls.specs.declared.replies.Reply.{Reply}
 use Rattle.album_calls.specs.declared.replies.Reply.TheVariants as reply
 use Rattle.album_partition.specs.Answers.{after, answer}
-use Rattle.album_partition.specs.Marks.{prepares, commits, discards}
+use Rattle.album_partition.specs.Marks.{prepares, commits, discards, latest}
 use Rattle.album_partition.specs.Partition.{PartitionState, IsPartition}
 use Rattle.album_partition.specs.declared.marks.Mark.{Mark}
 use Rattle.album_passes.specs.Cuts.{Cut, prefix_at, announced_for, IsPreparedThroughout}
@@ -108,10 +109,17 @@ pub record IsAnswered (limit : ℕ) (cut : Cut) (request reply : Message) : Type
   pub settled : AreSettledIn partition.marks (stamps_in request.body)
   pub shown : IsShown limit cut (after partition request)
 
--- the request, the reply, and the pass that goes with it
+-- a version that the message replies is the item's latest one, or newer, as far as the cut shows the partition
+abbrev pub IsUpToDate : Cut → Message → Type 0
+IsUpToDate cut message = (part item stamp : ℕ) (value : Value) → message.from ≡ Part part
+    → message.body ≡ body.Reply (reply.Version item stamp value) → latest (prefix_at cut part) item ≤ stamp
+
+-- the request, the reply, whether a newer version than the one that is replied is committed, and the pass that goes with
+-- them
 pub record ReplyEnvelopeState : Type 0 where
   pub request : Message
   pub reply : Message
+  pub overtaken : Bool
   pub pass : PassState
 
 -- the pass is of this table and has no number, and its cut shows the partition that has replied so
@@ -119,3 +127,4 @@ pub record IsReplyEnvelope (table : TableId) (limit : ℕ) (envelope : ReplyEnve
   pub of : envelope.pass.table ≡ table
   pub unnumbered : envelope.pass.number ≡ None
   pub answered : IsAnswered limit envelope.pass.cut envelope.request envelope.reply
+  pub latest : envelope.overtaken ≡ false → IsUpToDate envelope.pass.cut envelope.reply

@@ -7,7 +7,7 @@ use Rattle.album_items.specs.Transactions.{items_written}
 use Rattle.album_eval.specs.declared.facts.Principal.{Principal}
 use Rattle.album_eval.specs.declared.policies.Policy.{Policy}
 use Rattle.album_terminate.specs.declared.deciding.StampState.TheVariants as state
-use Rattle.album_partition.specs.Marks.{commits, state_of, is_full, first_value}
+use Rattle.album_partition.specs.Marks.{commits, state_of, is_full, first_value, latest}
 use Rattle.album_partition.specs.declared.marks.Mark.{Mark}
 use Rattle.album_partition.specs.declared.marks.Mark.TheVariants.{Prepared, Committed, Discarded, Trimmed}
 use Rattle.album_reader.specs.Answers.{ReadVersion}
@@ -19,8 +19,8 @@ use Rattle.album_views.specs.Views.{IsClosed, IsView}
 use Rattle.album_views.specs.declared.asks.Ask.{Ask}
 use Rattle.album_permits.specs.Effects.{effect_of}
 use Rattle.album_permits.specs.Permits.{PermitState, permit_on}
-use Rattle.album_passes.specs.Cuts.{Cut, prefix_at, IsPrefix}
-use Rattle.album_passes.specs.Reads.{IsCommittedFor, writes_in_cut}
+use Rattle.album_passes.specs.Cuts.{Cut, prefix_at, prefix_for, IsSound, IsPrefix, Extends}
+use Rattle.album_passes.specs.Reads.{IsCommitted, IsCommittedFor, writes_in_cut}
 
 -- ---- a view
 
@@ -29,11 +29,25 @@ use Rattle.album_passes.specs.Reads.{IsCommittedFor, writes_in_cut}
 abbrev pub AreSettled : Cut → List ReadVersion → Type 0
 AreSettled now rows = All (λ row. row.stamp ≢ 0 → IsCommittedFor now row.stamp row.item) rows
 
--- what was read is read atomic, with the cut's marks as histories, fresh from the cut with which the ask began, and
--- settled
+-- no item was read below the latest stamp that its partition had committed by the cut
+abbrev pub AreUpToDate : Cut → List ReadVersion → Type 0
+AreUpToDate cut rows = All (λ row. latest (prefix_for cut row.item) row.item ≤ row.stamp) rows
+
+-- each stamp at which an item was read, but for 0, is committed somewhere
+abbrev pub AreKnown : Cut → List ReadVersion → Type 0
+AreKnown cut rows = All (λ row. row.stamp ≢ 0 → IsCommitted cut row.stamp) rows
+
+-- What was read is read atomic, with the cut's marks as histories, and settled. It is fresh from a cut that extends the one
+-- with which the ask began, and that knows each of its versions as committed. So no item is older than what the author of
+-- another's version had seen: law `no_new_enemy`.
 pub record IsSeen (begun now : Cut) (rows : List ReadVersion) : Type 0 where
   pub atomic : IsReadAtomic (writes_in_cut now) (first_value now.opening) rows
-  pub fresh : IsFreshFrom (writes_in_cut now) (IsCommittedFor begun) rows
+  pub at : Cut
+  pub since : Extends begun at
+  pub until : Extends at now
+  pub sound : IsSound at
+  pub known : AreKnown at rows
+  pub fresh : IsFreshFrom (writes_in_cut now) (IsCommittedFor at) rows
   pub settled : AreSettled now rows
 
 -- no item of both reads is older in the later one than in the earlier

@@ -11,8 +11,8 @@ use Rattle.album_reader.specs.Rounds.{RoundState, Step, IsOpen, next_asker, seco
 use Rattle.album_reader.specs.Rounds.Step.{Same, Next, Done, Gone}
 use Rattle.album_reader.specs.Snapshots.{items_read}
 use Rattle.album_reader.specs.StampSets.{stamps_of}
-use Rattle.album_threads.specs.Grounds.{AreSettled, IsSeen, trims_in}
-use Rattle.album_threads.specs.Envelopes.{IsAnswered}
+use Rattle.album_threads.specs.Grounds.{AreSettled, AreUpToDate, IsSeen, trims_in}
+use Rattle.album_threads.specs.Envelopes.{IsAnswered, IsUpToDate}
 
 -- ---- a reply
 
@@ -30,11 +30,12 @@ pub record IsReplied (limit : ℕ) (old new : Cut) (sent : List Message) (reply 
   pub seen : Extends heard new
   pub answered : IsAnswered limit heard request reply
   pub late : IsLate old heard reply
+  pub latest : IsUpToDate heard reply
 
 -- ---- a round of a read
 
--- The round asks the same as it did when it began, and each answer that it has was given between the two cuts, and is
--- settled.
+-- The round asks the same as it did when it began. Each answer that it has was given between the two cuts, is settled, and
+-- was the latest one by the old cut.
 pub record IsUnder (old new : Cut) (begun round : RoundState) : Type 0 where
   pub asker : round.asker ≡ begun.asker
   pub items : round.items ≡ begun.items
@@ -42,12 +43,14 @@ pub record IsUnder (old new : Cut) (begun round : RoundState) : Type 0 where
   pub still_open : IsOpen round
   pub between : All (IsAnsweredBetween old new (asked_stamps begun)) (answers_there round.answers)
   pub settled : AreSettled new (answers_there round.answers)
+  pub latest : AreUpToDate old (answers_there round.answers)
 
--- these are the answers of all its items, and they are settled
+-- these are the answers of all its items, they are settled, and were the latest ones by the old cut
 pub record AreOf (old new : Cut) (begun : RoundState) (answers : List ReadVersion) : Type 0 where
   pub items : items_read answers ≡ begun.items
   pub between : All (IsAnsweredBetween old new (asked_stamps begun)) answers
   pub settled : AreSettled new answers
+  pub latest : AreUpToDate old answers
 
 -- the first round is over, and the second asks with exactly the stamps of its answers
 pub record IsFirstOver (old new : Cut) (begun next : RoundState) (gets : List Message) : Type 0 where

@@ -8,7 +8,8 @@ use Rattle.album_audit.specs.Totals.{totals_of, plus}
 use Rattle.album_audit.specs.declared.totals.Totals.{Totals}
 use Rattle.album_eval.specs.declared.facts.Principal.{Principal}
 use Rattle.album_eval.specs.declared.policies.Policy.{Policy}
-use Rattle.album_passes.specs.Cuts.{IsPromisedSomewhere, announced_for}
+use Rattle.album_passes.specs.Changes.{lengths_in}
+use Rattle.album_passes.specs.Cuts.{Cut, IsPromisedSomewhere, Extends, announced_for, dependencies_of}
 use Rattle.album_permits.specs.Effects.{is_full_for}
 use Rattle.album_permits.specs.Permits.{PermitState}
 use Rattle.album_permits.specs.Serving.{IsServed}
@@ -16,7 +17,7 @@ use Rattle.album_permits.specs.declared.findings.Finding.{Finding}
 use Rattle.album_permits.specs.declared.findings.Finding.TheVariants as finding
 use Rattle.album_permits.specs.declared.notes.Note.{Note}
 use Rattle.album_permits.specs.Meaning.{Finds, Notes}
-use Rattle.album_threads.specs.Grounds.{IsOnView, items_of, IsKept, IsWithoutRoom, IsWide, IsOutOfReads}
+use Rattle.album_threads.specs.Grounds.{AreSettled, IsOnView, items_of, IsKept, IsWithoutRoom, IsWide, IsOutOfReads}
 use Rattle.album_threads.specs.Asks.{counter_after}
 use Rattle.album_threads.specs.Sessions.{SessionState, AnnouncesNothing, AddsNothing}
 use Rattle.album_permits.specs.declared.answers.Answer.{Answer}
@@ -49,12 +50,22 @@ pub record IsDrawn (old new : SessionState) (permit : PermitState) (stamp : ℕ)
   pub last : new.counter ≡ counter_of stamp
   pub unused : announced_for old.cut stamp ≡ None
 
+-- The write depends on what the session had seen as it announced it: on all that it had seen before the ask, and on each
+-- version that it read.
+pub record IsDepended (old new : SessionState) (permit : PermitState) (stamp : ℕ) : Type 0 where
+  pub seen : Cut
+  pub since : Extends old.cut seen
+  pub until : Extends seen new.cut
+  pub settled : AreSettled seen permit.view.rows
+  pub depended : dependencies_of new.cut stamp ≡ Some (lengths_in seen)
+
 -- The stamp was drawn in this ask, and is above all that was read. It was announced with exactly the items that are
--- written, and no other stamp of the client's was.
+-- written and with what it depends on, and no other stamp of the client's was.
 pub record IsAnnounced (old new : SessionState) (permit : PermitState) (stamp : ℕ) : Type 0 where
   pub drawn : IsDrawn old new permit stamp
   pub above : All (λ row. row.stamp < stamp) permit.view.rows
   pub announced : announced_for new.cut stamp ≡ Some (items_of permit stamp)
+  pub depends : IsDepended old new permit stamp
   pub alone : (other : ℕ) → client_number other ≡ old.client → other ≢ stamp
       → announced_for new.cut other ≡ announced_for old.cut other
 

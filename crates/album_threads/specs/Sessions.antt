@@ -1,5 +1,5 @@
 -- What a session keeps, and what it is for it to have seen more.
-use Rattle.std.specs.Prelude.{◌≡◌, ℕ, ◌<◌, ◌≤◌, ◌⊎◌, Some, None}
+use Rattle.std.specs.Prelude.{◌≡◌, ℕ, ◌<◌, ◌≤◌, ◌⊎◌, Bool, true, Some, None}
 use Rattle.atomic_table.specs.Seated.{TableId}
 use Rattle.album_stamps.specs.Clocks.{ClockState}
 use Rattle.album_stamps.specs.Stamps.{client_number, counter_of}
@@ -12,6 +12,8 @@ use Rattle.album_passes.specs.Changes.{KeepsOwn}
 use Rattle.album_passes.specs.Cuts.{Cut, announced_for, Extends}
 use Rattle.album_passes.specs.Pass.{PassState}
 use Rattle.album_threads.specs.Granted.{AreGranted}
+use Rattle.album_threads.specs.declared.session.asked.NoReply.{NoReply}
+use Rattle.album_threads.specs.declared.session.asked.NoReply.TheVariants.{Refused, Overtaken}
 
 -- ---- a session's channel to the partitions
 
@@ -37,6 +39,11 @@ pub record IsLater (old new : ChannelState) : Type 0 where
 -- no reply can come: memory ran out, or the service is closed
 abbrev pub IsClosedOrOutOfMemory : Refusal → Type 0
 IsClosedOrOutOfMemory why = (why ≡ OutOfMemory) ⊎ (why ≡ Closed)
+
+-- why there is no reply to take: none can come; or, in a read, it comes from a partition that has committed a newer version
+abbrev pub IsNoReply : Bool → NoReply → Type 0
+IsNoReply reads (Refused why) = IsClosedOrOutOfMemory why
+IsNoReply reads Overtaken = reads ≡ true
 
 -- ---- a session
 

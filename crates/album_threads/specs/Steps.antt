@@ -121,12 +121,11 @@ IsSent asked phase messages now (Awaits more next) =
     × (more.begun.cut ≡ sent_at asked.begun.cut now messages)
 IsSent asked phase messages now InVain = ⊥
 
--- an ask that goes by a hint has come to no view by it: nothing is noted, drawn or announced
+-- an ask has come to no view, by its hint or since it was overtaken: nothing is noted, drawn or announced
 pub record IsTried (outset : Outset) (now : SessionState) : Type 0 where
-  pub hinted : outset.hinted ≡ true
   pub adds : AddsNothing outset.session now
 
--- the ask is answered, and the answer rests on what it should; or it is under way; or its hint was in vain
+-- the ask is answered, and the answer rests on what it should; or it is under way; or it has come to no view
 abbrev pub IsLed : ℕ → Policy → Outset → SessionState → Way → Type 0
 IsLed limit policy outset now (Answered given) =
     RestsOn limit policy outset.principal outset.ask outset.session now given

@@ -1,6 +1,6 @@
 //! Envelopes between threads: a message, and a pass that shows what the message rests on.
-ghost use Rattle.std.specs.Prelude.{◌≡◌, None};
-ghost use Rattle.album_threads.specs.Envelopes.{Shows, IsAnswered};
+ghost use Rattle.std.specs.Prelude.{◌≡◌, false, None};
+ghost use Rattle.album_threads.specs.Envelopes.{Shows, IsAnswered, IsUpToDate};
 
 use crate::service_names::ServiceNames;
 use album_calls::Message;
@@ -72,11 +72,13 @@ impl<J: ServiceNames> RequestEnvelope<J> {
 }
 
 /// A partition's reply, with the request that it answers and a pass of the desk that J names. The pass has no number,
-/// and its cut shows the partition exactly as it was when it had replied.
+/// and its cut shows the partition exactly as it was when it had replied. Where it replies a version of an item, the
+/// envelope says whether the partition had committed a newer one by then.
 #[derive(Drop)]
 pub struct ReplyEnvelope<J: ServiceNames> {
     request: Message,
     reply: Message,
+    overtaken: bool,
     pass: Pass,
     of: PhantomData<J>,
 }
@@ -86,23 +88,30 @@ impl<J: ServiceNames> Model for ReplyEnvelope<J> {
 
     ghost Value = { ReplyEnvelopeState };
 
-    ghost view = { λ a. record { request = a.request; reply = a.reply; pass = a.pass } };
+    ghost view = { λ a. record { request = a.request; reply = a.reply; overtaken = a.overtaken; pass = a.pass } };
 
     ghost invariant = { λ a. IsReplyEnvelope J.table J.terms.limit
-        (record { request = a.request; reply = a.reply; pass = a.pass }) };
+        (record { request = a.request; reply = a.reply; overtaken = a.overtaken; pass = a.pass }) };
 }
 
 impl<J: ServiceNames> ReplyEnvelope<J> {
-    /// The reply to the request, with this pass.
-    pub fn new(request: Message, reply: Message, pass: Pass) -> ReplyEnvelope<J>
+    /// The reply to the request, which a newer version has overtaken or not, with this pass.
+    pub fn new(
+        request: Message,
+        reply: Message,
+        overtaken: bool,
+        pass: Pass,
+    ) -> ReplyEnvelope<J>
         requires of { pass.table ≡ J.table }
         requires unnumbered { pass.number ≡ None }
         requires answered { IsAnswered J.terms.limit pass.cut request reply }
-        ensures { result ≡ record { request = request; reply = reply; pass = pass } }
+        requires latest { overtaken ≡ false → IsUpToDate pass.cut reply }
+        ensures { result ≡ record { request = request; reply = reply; overtaken = overtaken; pass = pass } }
     {
         ReplyEnvelope {
             request,
             reply,
+            overtaken,
             pass,
             of: PhantomData,
         }
@@ -115,6 +124,13 @@ impl<J: ServiceNames> ReplyEnvelope<J> {
         &self.reply
     }
 
+    /// Whether the partition had committed a newer version of the item than the one that it replies.
+    pub fn is_overtaken(&self) -> bool
+        ensures { result ≡ self.now.overtaken }
+    {
+        self.overtaken
+    }
+
     /// The request, what is replied, and the pass.
     pub fn open(self) -> (Message, Message, Pass)
         ensures request { result.0 ≡ self.request }
@@ -123,10 +139,12 @@ impl<J: ServiceNames> ReplyEnvelope<J> {
         ensures of { result.2.table ≡ J.table }
         ensures unnumbered { result.2.number ≡ None }
         ensures answered { IsAnswered J.terms.limit result.2.cut result.0 result.1 }
+        ensures latest { self.overtaken ≡ false → IsUpToDate result.2.cut result.1 }
     {
         let ReplyEnvelope {
             request,
             reply,
+            overtaken: _,
             pass,
             of: _,
         } = self;

@@ -1,8 +1,10 @@
 //! What follows of the grounds on which an answer rests.
-ghost use Rattle.std.specs.Prelude.{◌≡◌, ◌≤◌, ℕ, List};
+ghost use Rattle.std.specs.Prelude.{◌≡◌, ◌≢◌, ◌≤◌, ℕ, List, Contains};
 ghost use Rattle.album_reader.specs.Answers.{ReadVersion};
+ghost use Rattle.album_reader.specs.Atomic.{IsFreshFrom};
 ghost use Rattle.album_permits.specs.Permits.{PermitState};
 ghost use Rattle.album_passes.specs.Cuts.{Cut, IsSound, IsPromisedSomewhere, Extends};
+ghost use Rattle.album_passes.specs.Reads.{HadSeenCommitted, writes_in_cut};
 ghost use Rattle.album_threads.specs.Grounds.{IsSeen, AreNoOlder, AreAlike, HasSameMarks, AreFrom, items_of, IsKept, IsWithoutRoom};
 
 /// A law: the grounds of an answer stay as the cut grows. What was read stays read atomic, fresh and settled,
@@ -29,6 +31,15 @@ pub fn reads_go_on()
     ensures own_writes { (old later new : Cut) (permit : PermitState) (stamp : ℕ) (rows : List ReadVersion)
         → IsSound old → IsSound new → 1 ≤ old.parts → Extends old later → Extends later new
         → IsKept old permit stamp → IsSeen later new rows → AreFrom stamp (items_of permit stamp) rows }
+{}
+
+/// A law: no new enemy. No item of a view is older than what the author of any other of its versions had seen committed,
+/// when it wrote that version. So who takes a group off a list, and then puts somebody into the group, is never seen as
+/// having done the second alone: whoever reads the group's new members reads the new list.
+pub fn no_new_enemy()
+    ensures { (begun now : Cut) (rows : List ReadVersion) (row : ReadVersion) → IsSeen begun now rows
+        → Contains rows row → row.stamp ≢ 0
+        → IsFreshFrom (writes_in_cut now) (HadSeenCommitted now row.stamp) rows }
 {}
 
 /// A law: reads are stable. Where no mark was made from where one read begins to where a later one ends, both show the

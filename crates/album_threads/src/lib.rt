@@ -42,7 +42,7 @@ pub use control::{Control, ControlAnswer, ControlReply, ControlRequest};
 pub use envelopes::{ReplyEnvelope, RequestEnvelope};
 pub use gate::{Gate, Open};
 pub use gauge::Gauge;
-pub use laws::{grounds_stay, reads_are_stable, reads_go_on};
+pub use laws::{grounds_stay, no_new_enemy, reads_are_stable, reads_go_on};
 pub use opened::Opened;
 pub use owned_session::OwnedSession;
 pub use service::Service;

@@ -1,7 +1,8 @@
 //! A partition, with the owner of its history.
-ghost use Rattle.std.specs.Prelude.{◌≡◌, ◌≢◌, ◌<◌, ℕ, length, map, take, All, option_map, None, Ok, Err, IfOk, IfErr, IfSome, OnOk, OnErr, IsOkUnless};
+ghost use Rattle.std.specs.Prelude.{◌≡◌, ◌≢◌, ◌<◌, ◌≤◌, ℕ, false, length, map, take, All, option_map, None, Ok, Err, IfOk, IfErr, IfSome, OnOk, OnErr, IsOkUnless};
+ghost use Rattle.album_items.specs.declared.values.Value.{Value};
 ghost use Rattle.album_partition.specs.Answers.{after, answer};
-ghost use Rattle.album_partition.specs.Marks.{pending_stamps};
+ghost use Rattle.album_partition.specs.Marks.{pending_stamps, latest};
 ghost use Rattle.album_partition.specs.Partition.{PartitionState};
 ghost use Rattle.album_partition.specs.Sweeps.{swept};
 ghost use Rattle.album_passes.specs.Cuts.{Extends, IsSound, prefix_at};
@@ -14,7 +15,7 @@ ghost use Rattle.album_threads.specs.Settling.{stamps_in, own_commit, is_unsettl
 use crate::control::{Control, ControlAnswer, ControlReply, ControlRequest};
 use crate::envelopes::{ReplyEnvelope, RequestEnvelope};
 use crate::service_names::ServiceNames;
-use album_calls::{Body, Message, Node, Request, Stamps};
+use album_calls::{Body, Message, Node, Reply, Request, Stamps};
 use album_items::ItemId;
 use album_partition::{Figures, Partition};
 use album_passes::{Desk, Owner, Pass};
@@ -92,8 +93,9 @@ impl<J: ServiceNames> PartitionKeeper<J> {
         match self.take(desk, &message)? {
             None => Ok(None),
             Some(reply) => {
+                let overtaken = self.has_newer(&reply);
                 let pass = self.owner.split(desk);
-                Ok(Some(ReplyEnvelope::new(message, reply, pass)))
+                Ok(Some(ReplyEnvelope::new(message, reply, overtaken, pass)))
             }
         }
     }
@@ -105,6 +107,20 @@ impl<J: ServiceNames> PartitionKeeper<J> {
         ensures pending { result.pending ≡ length (pending_stamps self.now.partition.marks) }
     {
         self.partition.figures()
+    }
+
+    /// Whether a newer version of the item is committed here than the one that the message replies.
+    fn has_newer(&self, message: &Message) -> bool
+        ensures { result ≡ false → (item stamp : ℕ) (value : Value)
+            → message.now.body ≡ Body.Reply (Reply.Version item stamp value)
+            → latest self.now.partition.marks item ≤ stamp }
+    {
+        match message.body() {
+            Body::Reply(Reply::Version(item, stamp, _)) => {
+                stamp.value() < self.partition.latest(*item).value()
+            }
+            Body::Reply(_) | Body::Request(_) => false,
+        }
     }
 
     /// Takes in all that the pass has seen.

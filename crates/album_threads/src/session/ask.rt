@@ -1,5 +1,6 @@
 //! Asks: a session's client, driven by what the partitions reply.
 ghost use Rattle.std.specs.Prelude.{◌≡◌, ◌≤◌, ◌⊎◌, false, None, Some, Err, All, IsTrue, IfOk, IfErr, IfSome, OnErr};
+ghost use Rattle.album_client.specs.Clients.{is_reading};
 ghost use Rattle.album_client.specs.Transitions.{client_of};
 ghost use Rattle.album_passes.specs.Cuts.{Extends, IsSound};
 ghost use Rattle.album_stamps.specs.Stamps.{is_client};
@@ -9,13 +10,13 @@ ghost use Rattle.album_threads.specs.Envelopes.{Shows};
 ghost use Rattle.album_threads.specs.Phases.{Outset, IsUnderWay};
 ghost use Rattle.album_threads.specs.Replies.{IsReplied};
 ghost use Rattle.album_threads.specs.Resting.{RestsOn};
-ghost use Rattle.album_threads.specs.Sessions.{SessionState, IsClosedOrOutOfMemory, DrawsNothing};
+ghost use Rattle.album_threads.specs.Sessions.{SessionState, IsClosedOrOutOfMemory, IsNoReply, DrawsNothing};
 ghost use Rattle.album_threads.specs.Steps.{client_step_in, terms_in, IsBegunFor, IsDone, IsLed, IsSomehowUnderWay, IsSomehowWaited, IsStarted, IsStill, IsWaited};
 
 use crate::hints::Topic;
 use crate::service_names::ServiceNames;
 use crate::session::Session;
-use crate::session::asked::Asked;
+use crate::session::asked::{Asked, NoReply};
 use crate::session::hinted::{Course, given_up, is_in_vain};
 use crate::session::step::Reaction;
 use album_calls::Message;
@@ -34,7 +35,7 @@ pub(crate) enum Way {
     Answered(Answer),
     /// Replies to these messages are outstanding, and the client is in this phase.
     Awaits(Asked, Phase),
-    /// It went by a hint, and came to no view.
+    /// It has come to no view: its hint was in vain, or its read is overtaken.
     InVain,
 }
 
@@ -64,11 +65,12 @@ impl<J: ServiceNames> Session<J> {
         let topic = Topic::of(&ask);
         match self.tries(rt, principal, &ask, &topic)? {
             Some(answer) => Ok(answer),
-            None => self.asks_by_objects(rt, principal, ask, topic),
+            None => self.asks_by_objects(rt, principal, &ask, &topic),
         }
     }
 
-    /// Asks with a read of the objects at first.
+    /// Asks with a read of the objects at first, and anew where a read is overtaken: until one isn't, since whoever
+    /// overtakes it has committed a write meanwhile.
     ///
     /// # Errors
     ///
@@ -77,28 +79,54 @@ impl<J: ServiceNames> Session<J> {
         &mut self,
         rt: &R,
         principal: &Principal,
-        ask: Ask,
-        topic: Topic,
+        ask: &Ask,
+        topic: &Topic,
     ) -> Result<Answer, Refusal>
-        requires taken { refusal_of ask principal.now ≡ None }
+        requires taken { refusal_of ask.now principal.now ≡ None }
         ensures rests { (session : SessionState) → IsStill session self.old
-            → IfOk result (RestsOn J.terms.limit J.policy principal.now ask session self.new) }
+            → IfOk result (RestsOn J.terms.limit J.policy principal.now ask.now session self.new) }
         ensures refused { IfErr result IsClosedOrOutOfMemory }
         ensures unbegun { (session : SessionState) → IsStill session self.old
             → OnErr result (DrawsNothing session self.new) }
         ensures on { IsOn self.old self.new }
     {
         self.channel.is_sound();
-        let (asked, phase) = self.begins(rt, principal, ask)?;
-        let course = Course::plain(topic);
-        match self.drives(rt, asked, phase, &course)? {
-            Some(answer) => Ok(answer),
-            // Only a hint is in vain: `IsTried`.
-            None => unreachable!(),
+        for _ in rt.forever() {
+            if let Some(answer) = self.asks_once(rt, principal, ask, topic)? {
+                return Ok(answer);
+            }
         }
+        // `forever` has no end.
+        unreachable!()
     }
 
-    /// Takes replies until the ask is answered, or its hint was in vain.
+    /// Asks so once: no answer where the read is overtaken.
+    ///
+    /// # Errors
+    ///
+    /// `Closed` or `OutOfMemory`.
+    fn asks_once<R: Wait + time::Clock>(
+        &mut self,
+        rt: &R,
+        principal: &Principal,
+        ask: &Ask,
+        topic: &Topic,
+    ) -> Result<Option<Answer>, Refusal>
+        requires taken { refusal_of ask.now principal.now ≡ None }
+        ensures done { (session : SessionState) → IsStill session self.old → IfOk result (IsDone J.terms.limit J.policy
+            (record { principal = principal.now; ask = ask.now; session = session; hinted = false }) self.new) }
+        ensures refused { IfErr result IsClosedOrOutOfMemory }
+        ensures unbegun { (session : SessionState) → IsStill session self.old
+            → OnErr result (DrawsNothing session self.new) }
+        ensures on { IsOn self.old self.new }
+    {
+        self.channel.is_sound();
+        let (asked, phase) = self.begins(rt, principal, ask.copy()?)?;
+        let course = Course::plain(topic.again());
+        self.drives(rt, asked, phase, &course)
+    }
+
+    /// Takes replies until the ask is answered, or has come to no view.
     ///
     /// # Errors
     ///
@@ -201,8 +229,8 @@ impl<J: ServiceNames> Session<J> {
         }
     }
 
-    /// Goes on by what was heard. Once a write has begun, what cuts it off is its answer. While a hint is tried nothing
-    /// is taken over of what comes of no view, nor is the ask refused.
+    /// Goes on by what was heard. Once a write has begun, what cuts it off is its answer. A read that is overtaken comes
+    /// to no view. While a hint is tried nothing is taken over of what comes of no view, nor is the ask refused.
     ///
     /// # Errors
     ///
@@ -212,13 +240,13 @@ impl<J: ServiceNames> Session<J> {
         rt: &R,
         asked: Asked,
         phase: Phase,
-        heard: Result<Message, Refusal>,
+        heard: Result<Message, NoReply>,
         course: &Course,
     ) -> Result<Way, Refusal>
         requires way { IsSomehowWaited J.policy course.now.hinted self.old asked.begun.cut asked.sent.items phase }
         requires replied { IfOk heard
             (IsReplied J.terms.limit asked.begun.cut self.old.cut asked.sent.items) }
-        requires heard { IfErr heard IsClosedOrOutOfMemory }
+        requires heard { IfErr heard (IsNoReply (is_reading phase)) }
         ensures way { (outset : Outset) → outset.hinted ≡ course.now.hinted
             → IsWaited J.policy outset self.old asked.begun.cut asked.sent.items phase
             → IfOk result (IsLed J.terms.limit J.policy outset self.new) }

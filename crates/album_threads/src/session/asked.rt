@@ -4,7 +4,17 @@ ghost use Rattle.album_threads.specs.Replies.{IsLate};
 
 use album_calls::{Body, Message, Node, Request, same_items, same_values};
 use album_passes::Pass;
-use album_stamps::{MAX_PARTS, Stamp};
+use album_stamps::{MAX_PARTS, Refusal, Stamp};
+
+/// Why there is no reply to take.
+#[derive(Drop)]
+pub(crate) enum NoReply {
+    /// None can come.
+    Refused(Refusal),
+    /// The read is overtaken: the partition that replies a version of an item has committed a newer one. What the
+    /// newer one's author had seen may be newer than what else is read, so nothing is shown of this read.
+    Overtaken,
+}
 
 /// The messages of a round, and a pass with the cut with which it began.
 #[derive(Drop)]

@@ -2,6 +2,7 @@
 //! Where it isn't, nothing has come of it, and the ask begins with its objects.
 ghost use Rattle.std.specs.Prelude.{◌≡◌, ◌==◌, ◌&&◌, false, true, None, Ok, Err, IfOk, IfErr, IfSome, IfNone, OnErr};
 ghost use Rattle.std.specs.List.{list_any};
+ghost use Rattle.album_stamps.specs.declared.refusals.Refusal.{Refusal};
 ghost use Rattle.album_views.specs.Checks.{refusal_of};
 ghost use Rattle.album_views.specs.Steps.{AreReadable};
 ghost use Rattle.album_threads.specs.Asks.{IsOn};
@@ -13,7 +14,7 @@ use crate::hints::{Hint, Topic};
 use crate::service_names::ServiceNames;
 use crate::session::Session;
 use crate::session::ask::Way;
-use crate::session::asked::Asked;
+use crate::session::asked::{Asked, NoReply};
 use crate::session::step::cut_off;
 use album_calls::{Body, Message, Request};
 use album_client::{Phase, Transition};
@@ -159,18 +160,23 @@ impl<J: ServiceNames> Session<J> {
     }
 }
 
-/// What comes of an ask that hears no more. A hint that is tried is let go.
-pub(crate) fn given_up(tries: bool, stamp: Option<Stamp>, why: Refusal) -> Result<Way, Refusal>
+/// What comes of an ask that hears no more. A hint that is tried is let go, and so is a read that is overtaken.
+pub(crate) fn given_up(tries: bool, stamp: Option<Stamp>, why: NoReply) -> Result<Way, Refusal>
     ensures tried { tries ≡ true → result ≡ Ok Way.InVain }
-    ensures begun { tries ≡ false → IfSome stamp (λ t. result ≡ Ok (Way.Answered (Answer.Unsettled t why))) }
-    ensures before { tries ≡ false → IfNone stamp (result ≡ Err why) }
+    ensures overtaken { why ≡ NoReply.Overtaken → result ≡ Ok Way.InVain }
+    ensures begun { tries ≡ false → (e : Refusal) → why ≡ NoReply.Refused e
+        → IfSome stamp (λ t. result ≡ Ok (Way.Answered (Answer.Unsettled t e))) }
+    ensures before { tries ≡ false → (e : Refusal) → why ≡ NoReply.Refused e → IfNone stamp (result ≡ Err e) }
     ensures unbegun { OnErr result (stamp ≡ None) }
-    ensures refused { IfErr result (λ e. e ≡ why) }
+    ensures refused { IfErr result (λ e. why ≡ NoReply.Refused e) }
 {
     if tries {
         return Ok(Way::InVain);
     }
-    cut_off(stamp, why)
+    match why {
+        NoReply::Overtaken => Ok(Way::InVain),
+        NoReply::Refused(why) => cut_off(stamp, why),
+    }
 }
 
 /// Whether the hint that is tried has come to no view.

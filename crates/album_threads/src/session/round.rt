@@ -1,15 +1,15 @@
 //! Rounds: messages that a session sends, and the replies to them.
-ghost use Rattle.std.specs.Prelude.{◌≡◌, All, IfOk, IfErr, OnOk, IfSome, IfNone, IsOkUnless};
+ghost use Rattle.std.specs.Prelude.{◌≡◌, All, None, IfOk, IfErr, OnOk, IfSome, IfNone, IsOkUnless};
 ghost use Rattle.album_passes.specs.Cuts.{Extends, IsSound};
 ghost use Rattle.album_threads.specs.Envelopes.{Shows};
 ghost use Rattle.album_threads.specs.Replies.{IsReplied};
 ghost use Rattle.album_threads.specs.Sending.{announced_with, prepared_first, prepared_in, sent_at, sent_last, IsUnused};
-ghost use Rattle.album_threads.specs.Sessions.{IsLater, IsClosedOrOutOfMemory};
+ghost use Rattle.album_threads.specs.Sessions.{IsLater, IsClosedOrOutOfMemory, IsNoReply};
 
 use crate::envelopes::{ReplyEnvelope, RequestEnvelope};
 use crate::mailbox::PartitionMail;
 use crate::service_names::ServiceNames;
-use crate::session::asked::Asked;
+use crate::session::asked::{Asked, NoReply};
 use crate::session::channel::PartitionChannel;
 use album_calls::{Body, Message, Request};
 use album_stamps::Refusal;
@@ -127,24 +127,25 @@ impl<J: ServiceNames> PartitionChannel<J> {
         Ok(envelopes)
     }
 
-    /// Waits for a reply to one of the messages that were asked.
+    /// Waits for a reply to one of the messages that were asked, of a read or not.
     ///
     /// # Errors
     ///
-    /// `Closed`, or `OutOfMemory` where a partition had none for one of them.
+    /// `Closed`, or `OutOfMemory` where a partition had none for one of them; or the read is overtaken.
     #[tactic(auto, using(crate::proofs::SessionLemmas::later_same))]
     pub(crate) fn hear<R: Wait + time::Clock>(
         &mut self,
         rt: &R,
         asked: &Asked,
-    ) -> Result<Message, Refusal>
+        reads: bool,
+    ) -> Result<Message, NoReply>
         ensures replied { IfOk result (IsReplied J.terms.limit asked.now.begun.cut self.new.cut asked.now.sent.items) }
         ensures sound { OnOk result (IsSound self.new.cut) }
-        ensures refused { IfErr result IsClosedOrOutOfMemory }
+        ensures refused { IfErr result (IsNoReply reads) }
         ensures later { IsLater self.old self.new }
     {
         for _ in rt.forever() {
-            if let Some(reply) = self.hear_next(rt, asked)? {
+            if let Some(reply) = self.hear_next(rt, asked, reads)? {
                 return Ok(reply);
             }
         }
@@ -158,40 +159,64 @@ impl<J: ServiceNames> PartitionChannel<J> {
         &mut self,
         rt: &R,
         asked: &Asked,
-    ) -> Result<Option<Message>, Refusal>
+        reads: bool,
+    ) -> Result<Option<Message>, NoReply>
         ensures replied { IfOk result (λ reply. IfSome reply
             (IsReplied J.terms.limit asked.now.begun.cut self.new.cut asked.now.sent.items)) }
         ensures sound { IfOk result (λ reply. IfSome reply (λ _. IsSound self.new.cut)) }
         ensures other { IfOk result (λ reply. IfNone reply (self.new ≡ self.old)) }
-        ensures refused { IfErr result IsClosedOrOutOfMemory }
+        ensures refused { IfErr result (IsNoReply reads) }
         ensures later { IsLater self.old self.new }
     {
-        match self.next_envelope(rt, asked.tag())? {
-            None => Ok(None),
-            Some(envelope) => Ok(self.take(asked, envelope)),
+        match self.next_envelope(rt, asked.tag()) {
+            Err(why) => Err(NoReply::Refused(why)),
+            Ok(None) => Ok(None),
+            Ok(Some(envelope)) => self.take(asked, reads, envelope),
         }
     }
 
     /// Takes in what is replied, where it answers one of these messages, at a point of the partition's history that is
-    /// no earlier than what was seen of it when they were sent.
+    /// no earlier than what was seen of it when they were sent. A version that is overtaken ends the read.
     #[tactic(auto, using(crate::proofs::SessionLemmas::later_same))]
-    fn take(&mut self, asked: &Asked, envelope: ReplyEnvelope<J>) -> Option<Message>
-        ensures replied { IfSome result
-            (IsReplied J.terms.limit asked.now.begun.cut self.new.cut asked.now.sent.items) }
-        ensures sound { IfSome result (λ _. IsSound self.new.cut) }
-        ensures other { IfNone result (self.new ≡ self.old) }
+    fn take(
+        &mut self,
+        asked: &Asked,
+        reads: bool,
+        envelope: ReplyEnvelope<J>,
+    ) -> Result<Option<Message>, NoReply>
+        ensures replied { IfOk result (λ reply. IfSome reply
+            (IsReplied J.terms.limit asked.now.begun.cut self.new.cut asked.now.sent.items)) }
+        ensures sound { IfOk result (λ reply. IfSome reply (λ _. IsSound self.new.cut)) }
+        ensures other { IfOk result (λ reply. IfNone reply (self.new ≡ self.old)) }
+        ensures refused { IfErr result (IsNoReply reads) }
         ensures later { IsLater self.old self.new }
     {
+        let overtaken = envelope.is_overtaken();
         let (request, reply, pass) = envelope.open();
         let Some(found) = asked.find(&request, self.found) else {
-            return None;
+            return Ok(None);
         };
         if !asked.is_before(&reply, &pass) {
-            return None;
+            return Ok(None);
         }
         self.found = found;
+        if overtaken {
+            return ends_read(reads);
+        }
         self.join(pass);
-        Some(reply)
+        Ok(Some(reply))
+    }
+}
+
+/// What a reply leads to that is overtaken: only a read asks for versions.
+fn ends_read(reads: bool) -> Result<Option<Message>, NoReply>
+    ensures none { IfOk result (λ reply. reply ≡ None) }
+    ensures refused { IfErr result (IsNoReply reads) }
+{
+    if reads {
+        Err(NoReply::Overtaken)
+    } else {
+        Ok(None)
     }
 }
 

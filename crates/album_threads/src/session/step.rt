@@ -1,6 +1,6 @@
 //! Turns: a session takes a reply, and does what its client has come to.
 ghost use Rattle.std.specs.Prelude.{◌≡◌, ◌≢◌, ◌≤◌, [], true, Some, None, Ok, Err, All, IfOk, IfErr, IfSome, IfNone, OnOk, OnErr, IsOkAnd, IsOkUnless};
-ghost use Rattle.album_client.specs.Clients.{stamp_at_work, IsProper};
+ghost use Rattle.album_client.specs.Clients.{is_reading, stamp_at_work, IsProper};
 ghost use Rattle.album_client.specs.Transitions.{client_of, IsMoved};
 ghost use Rattle.album_client.specs.Steps.{is_waiting, transition_of, IsTakenBy};
 ghost use Rattle.album_stamps.specs.Clocks.{next_of};
@@ -10,13 +10,13 @@ ghost use Rattle.album_threads.specs.Envelopes.{Shows};
 ghost use Rattle.album_threads.specs.Phases.{Outset, IsUnderWay};
 ghost use Rattle.album_threads.specs.Replies.{IsReplied};
 ghost use Rattle.album_threads.specs.Sending.{announced_by, IsFree, IsAnnouncedBy};
-ghost use Rattle.album_threads.specs.Sessions.{IsClosedOrOutOfMemory};
+ghost use Rattle.album_threads.specs.Sessions.{IsClosedOrOutOfMemory, IsNoReply};
 ghost use Rattle.album_threads.specs.Steps.{client_step_in, terms_in, IsTaken, IsWaited, IsReaction, IsSent};
 
 use crate::service_names::ServiceNames;
 use crate::session::Session;
 use crate::session::ask::Way;
-use crate::session::asked::Asked;
+use crate::session::asked::{Asked, NoReply};
 use album_calls::Message;
 use album_client::{Client, ClientStep, Phase, Transition};
 use album_permits::Answer;
@@ -38,19 +38,19 @@ impl<J: ServiceNames> Session<J> {
     ///
     /// # Errors
     ///
-    /// `Closed` or `OutOfMemory`.
+    /// `Closed` or `OutOfMemory`; or the read is overtaken.
     pub(crate) fn waits<R: Wait + time::Clock>(
         &mut self,
         rt: &R,
         asked: &Asked,
         phase: &mut Phase,
-    ) -> Result<Message, Refusal>
+    ) -> Result<Message, NoReply>
         ensures way { (outset : Outset)
             → IsUnderWay J.policy outset self.old asked.now.begun.cut asked.now.sent.items phase.old
             → IsWaited J.policy outset self.new asked.now.begun.cut asked.now.sent.items phase.new }
         ensures replied { IfOk result
             (IsReplied J.terms.limit asked.now.begun.cut self.new.cut asked.now.sent.items) }
-        ensures refused { IfErr result IsClosedOrOutOfMemory }
+        ensures refused { IfErr result (IsNoReply (is_reading phase.new)) }
         ensures on { IsOn self.old self.new }
     {
         self.channel.is_sound();
@@ -69,32 +69,38 @@ impl<J: ServiceNames> Session<J> {
         rt: &R,
         asked: &Asked,
         phase: &mut Phase,
-    ) -> Option<Result<Message, Refusal>>
+    ) -> Option<Result<Message, NoReply>>
         ensures way { IfNone result ((outset : Outset)
             → IsUnderWay J.policy outset self.old asked.now.begun.cut asked.now.sent.items phase.old
             → IsUnderWay J.policy outset self.new asked.now.begun.cut asked.now.sent.items phase.new) }
         ensures left { IfSome result (λ _. phase.new ≡ phase.old) }
         ensures replied { IfSome result (λ heard. IfOk heard
             (IsReplied J.terms.limit asked.now.begun.cut self.new.cut asked.now.sent.items)) }
-        ensures refused { IfSome result (λ heard. IfErr heard IsClosedOrOutOfMemory) }
+        ensures refused { IfSome result (λ heard. IfErr heard (IsNoReply (is_reading phase.new))) }
         ensures heard { IsHeard self.old self.new }
     {
-        let heard = self.hears(rt, asked);
+        let reads = phase.is_reading();
+        let heard = self.hears(rt, asked, reads);
         waited(phase, heard)
     }
 
-    /// Waits for one reply.
+    /// Waits for one reply, of a read or not.
     ///
     /// # Errors
     ///
-    /// `Closed` or `OutOfMemory`.
-    fn hears<R: Wait + time::Clock>(&mut self, rt: &R, asked: &Asked) -> Result<Message, Refusal>
+    /// `Closed` or `OutOfMemory`; or the read is overtaken.
+    fn hears<R: Wait + time::Clock>(
+        &mut self,
+        rt: &R,
+        asked: &Asked,
+        reads: bool,
+    ) -> Result<Message, NoReply>
         ensures replied { IfOk result
             (IsReplied J.terms.limit asked.now.begun.cut self.new.cut asked.now.sent.items) }
-        ensures refused { IfErr result IsClosedOrOutOfMemory }
+        ensures refused { IfErr result (IsNoReply reads) }
         ensures heard { IsHeard self.old self.new }
     {
-        let heard = self.channel.hear(rt, asked);
+        let heard = self.channel.hear(rt, asked, reads);
         self.channel.is_sound();
         // What is true of each session is known once it is looked at.
         let _actor = self.client_step();
@@ -105,20 +111,20 @@ impl<J: ServiceNames> Session<J> {
     ///
     /// # Errors
     ///
-    /// `Closed` or `OutOfMemory`.
+    /// `Closed` or `OutOfMemory`; or the read is overtaken.
     pub(crate) fn gives(
         &self,
         asked: &Asked,
         phase: Phase,
-        heard: Result<Message, Refusal>,
-    ) -> Result<Transition, Refusal>
+        heard: Result<Message, NoReply>,
+    ) -> Result<Transition, NoReply>
         requires replied { IfOk heard
             (IsReplied J.terms.limit asked.now.begun.cut self.now.cut asked.now.sent.items) }
-        requires refused { IfErr heard IsClosedOrOutOfMemory }
+        requires refused { IfErr heard (IsNoReply (is_reading phase)) }
         ensures taken { IfOk result (IsTaken J.terms.limit asked.now.begun.cut self.now.cut asked.now.sent.items
             (terms_in J.policy self.now) (client_step_in self.now) phase) }
         ensures proper { IfOk result (λ transition. IsProper transition.client.phase) }
-        ensures refused { IfErr result IsClosedOrOutOfMemory }
+        ensures refused { IfErr result (IsNoReply (is_reading phase)) }
     {
         // What was asked is for the contract alone.
         let _asked = asked;
@@ -211,13 +217,13 @@ impl<J: ServiceNames> Session<J> {
 }
 
 /// Takes the reply, where it ends no round of a read; else gives it, or why none came or was taken.
-fn waited(phase: &mut Phase, heard: Result<Message, Refusal>) -> Option<Result<Message, Refusal>>
-    requires { IfErr heard IsClosedOrOutOfMemory }
+fn waited(phase: &mut Phase, heard: Result<Message, NoReply>) -> Option<Result<Message, NoReply>>
+    requires { IfErr heard (IsNoReply (is_reading phase.old)) }
     ensures taken { IfNone result (IsOkAnd heard (λ reply.
         (is_waiting phase.old reply ≡ true) × IsTakenBy phase.old reply phase.new)) }
     ensures left { IfSome result (λ _. phase.new ≡ phase.old) }
     ensures same { IfSome result (λ given. IfOk given (λ reply. heard ≡ Ok reply)) }
-    ensures refused { IfSome result (λ given. IfErr given IsClosedOrOutOfMemory) }
+    ensures refused { IfSome result (λ given. IfErr given (IsNoReply (is_reading phase.new))) }
 {
     let reply = match heard {
         Ok(reply) => reply,
@@ -226,7 +232,7 @@ fn waited(phase: &mut Phase, heard: Result<Message, Refusal>) -> Option<Result<M
     match phase.take_in_place(&reply) {
         Ok(true) => None,
         Ok(false) => Some(Ok(reply)),
-        Err(why) => Some(Err(why)),
+        Err(why) => Some(Err(NoReply::Refused(why))),
     }
 }
 
@@ -234,14 +240,17 @@ fn waited(phase: &mut Phase, heard: Result<Message, Refusal>) -> Option<Result<M
 fn taken(
     client_step: ClientStep,
     phase: Phase,
-    heard: Result<Message, Refusal>,
-) -> Result<Transition, Refusal>
-    requires { IfErr heard IsClosedOrOutOfMemory }
+    heard: Result<Message, NoReply>,
+) -> Result<Transition, NoReply>
+    requires { IfErr heard (IsNoReply (is_reading phase)) }
     ensures transition { IfOk result (λ transition. IsOkAnd heard (λ reply.
         IsMoved (transition_of client_step.terms (client_of client_step) reply phase) transition)) }
-    ensures refused { IfErr result IsClosedOrOutOfMemory }
+    ensures refused { IfErr result (IsNoReply (is_reading phase)) }
 {
-    client_step.take(phase, &heard?)
+    match client_step.take(phase, &heard?) {
+        Ok(transition) => Ok(transition),
+        Err(why) => Err(NoReply::Refused(why)),
+    }
 }
 
 /// The client is let go.

@@ -20,8 +20,8 @@ pub returns-in-Err-clause-way : goal.returns-in-Err-clause-way
 returns-in-Err-clause-way g c = λ outset by w.
     given_led g.J.ServiceNames.policy outset g.J.ServiceNames.terms.limit w.before c.args.self.now c.args.asked.begun.cut
     c.args.asked.sent.items c.args.phase c.in-Err.why c.given_up.result w.way w.heard c.in-Err.ensures.refused c.stamp-stamp.result
-    c.stamp-stamp.ensures c.args.course.now.hinted c.is_reading-reads.result c.tries-tries.result by c.is_reading-reads.ensures.reads
-    c.tries-tries.ensures c.given_up.ensures.tried c.given_up.ensures.begun c.given_up.ensures.before
+    c.stamp-stamp.ensures c.args.course.now.hinted c.is_reading-reads.result c.tries-tries.result c.is_reading-reads.ensures.reads
+    c.tries-tries.ensures c.given_up.ensures.tried c.given_up.ensures.overtaken c.given_up.ensures.begun c.given_up.ensures.before
 
 pub returns-in-Err-clause-unbegun : goal.returns-in-Err-clause-unbegun
 returns-in-Err-clause-unbegun g c = λ outset by w.
@@ -34,7 +34,7 @@ returns-then-is_in_vain-clause-way g c = λ outset by w.
     let parts = and_parts _ _ (sym c.is_in_vain.ensures ∙ c.if-is_in_vain.true) in
     let both = and_parts _ _ (sym c.tries-tries.ensures ∙ parts.0) in
     tried_so g.J.ServiceNames.policy outset w.before c.args.self.now c.args.asked.begun.cut c.args.asked.sent.items c.args.phase w.way w.heard
-    (by ∙ both.0) (sym c.is_reading-reads.ensures.reads ∙ both.1)
+    (sym c.is_reading-reads.ensures.reads ∙ both.1)
 
 -- what was asked can be asked for again
 pub remembers-requires : goal.remembers-requires
