@@ -2,14 +2,16 @@
 -- `fresh_as_authors_saw` cite these.
 use Rattle.std.proofs.Common.{◌≡◌, ℕ, zero, suc, ◌≤◌, Bool, true, false, ◌||◌, List, [], ◌∷◌, take, length, slice_index, Some, Option, refl, ap, sym, ◌∙◌, subst, arith}
 use Rattle.std.specs.List.{list_any}
+use Rattle.std.proofs.Math.ListN.{get_or-map}
 use Rattle.album_items.specs.ItemIds.{place_of}
 use Rattle.album_partition.specs.declared.marks.Mark.{Mark}
 use Rattle.album_partition.specs.Marks.{commits}
 use Rattle.album_reader.specs.Answers.{ReadVersion}
 use Rattle.album_reader.specs.Atomic.{IsFreshFrom}
-use Rattle.album_passes.specs.Cuts.{Cut, prefix_for, announced_for, dependencies_of, HasReached, IsSound, IsPrefix, Extends}
+use Rattle.album_passes.specs.Changes.{lengths_in, announced_cut}
+use Rattle.album_passes.specs.Cuts.{Cut, prefix_at, prefix_for, announced_for, dependencies_of, HasReached, IsSound, IsPrefix, Extends}
 use Rattle.album_passes.specs.Reads.{IsCommitted, IsCommittedFor, writes_in_cut, HadSeenCommitted}
-use Rattle.album_passes.proofs.AnnouncedLemmas.{some_too}
+use Rattle.album_passes.proofs.AnnouncedLemmas.{some_too, announced_here}
 use Rattle.album_passes.proofs.CutLemmas.{prefix_for_more}
 use Rattle.album_passes.proofs.ClosedLemmas.{committed_tells, same_list}
 
@@ -36,6 +38,17 @@ depended_on c t s h =
     let w = committed_tells c h.0 t s.closed h.1 in
     let d = some_too (dependencies_of c t) (announced_for c t) w.items (s.depends t) w.announced in
     (d.0, d.1, s.causal t d.0 d.1)
+
+-- a stamp depends on all that its author has seen
+pub depended_lengths : (c : Cut) (t p : ℕ) (is ls : List ℕ) → dependencies_of (announced_cut c t is) t ≡ Some ls
+    → slice_index ls p ≡ length (prefix_at c p)
+depended_lengths c t p is ls e =
+    let here : dependencies_of (announced_cut c t is) t ≡ Some (lengths_in c) = announced_here (dependencies_of c) t (lengths_in c) t refl in
+    subst (λ (ks : List ℕ). slice_index ks p ≡ length (prefix_at c p)) (same here)
+    (get_or-map length c.prefixes p [])
+  where
+    same : dependencies_of (announced_cut c t is) t ≡ Some (lengths_in c) → lengths_in c ≡ ls
+    same h = cc (h, e)
 
 -- what the author had seen committed, the cut has committed
 seen_there : (b c : Cut) (t u i : ℕ) → IsSound b → Extends b c → IsCommitted b t → HadSeenCommitted c t u i → IsCommittedFor b u i

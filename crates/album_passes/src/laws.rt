@@ -1,5 +1,5 @@
 //! What follows of cuts: of closed ones, of ones that grow and are merged, and of reads over them.
-ghost use Rattle.std.specs.Prelude.{◌≡◌, ◌≢◌, ◌<◌, ◌≤◌, ℕ, List, true, false, Some, IsSome, All, Contains};
+ghost use Rattle.std.specs.Prelude.{◌≡◌, ◌≢◌, ◌<◌, ◌≤◌, ℕ, List, true, false, Some, IsSome, All, Contains, length, slice_index};
 ghost use Rattle.std.specs.List.{list_any};
 ghost use Rattle.album_items.specs.ItemIds.{place_of};
 ghost use Rattle.album_items.specs.Openings.{Row};
@@ -12,7 +12,7 @@ ghost use Rattle.album_partition.specs.Proper.{is_proper};
 ghost use Rattle.album_reader.specs.Answers.{ReadVersion};
 ghost use Rattle.album_reader.specs.Atomic.{IsReadAtomic, IsFreshFrom};
 ghost use Rattle.album_passes.specs.Cuts.{Cut, prefix_at, prefix_for, announced_for, dependencies_of, HasReached, IsNamed, IsPreparedThroughout, IsPromisedSomewhere, IsBacked, IsClosedCut, IsSound, Extends};
-ghost use Rattle.album_passes.specs.Changes.{marked_cut, merged};
+ghost use Rattle.album_passes.specs.Changes.{marked_cut, announced_cut, merged};
 ghost use Rattle.album_passes.specs.Reads.{IsCommitted, IsCommittedFor, written_value, writes_in_cut, HadSeenCommitted, IsReadInTwoRounds};
 
 /// A law: what a closed cut has of each stamp that has a mark in it. Its items are announced; a
@@ -73,10 +73,13 @@ pub fn what_is_committed_is_there()
         → IsCommitted old stamp → written_value new item stamp ≡ written_value old item stamp }
 {}
 
-/// A law: a cut is causal. Of each write that it knows as committed, it knows how many marks of each partition the author
-/// had seen when it announced the write, and has all of them.
+/// A law: a cut is causal. A stamp depends on all marks that its author has seen when it is announced. Of each write that
+/// a cut knows as committed, it knows what that is, and has all of it.
 pub fn cuts_are_causal()
-    ensures { (cut : Cut) (stamp : ℕ) → IsSound cut → IsCommitted cut stamp
+    ensures announced { (cut : Cut) (stamp part : ℕ) (items lengths : List ℕ)
+        → dependencies_of (announced_cut cut stamp items) stamp ≡ Some lengths
+        → slice_index lengths part ≡ length (prefix_at cut part) }
+    ensures known { (cut : Cut) (stamp : ℕ) → IsSound cut → IsCommitted cut stamp
         → (lengths : List ℕ) × (dependencies_of cut stamp ≡ Some lengths) × HasReached lengths cut }
 {}
 

@@ -114,3 +114,77 @@ impl Gate for Together {
 
     fn leave(&self, _part: u16, _number: u64) {}
 }
+
+/// How far a read and a write have come that go on side by side.
+#[derive(Drop)]
+pub struct Overtakes {
+    amy: AtomicBool,
+    /// How many messages partition 0 has taken.
+    zero: AtomicU64,
+    gave_up: AtomicBool,
+}
+
+impl Overtakes {
+    pub fn new() -> Overtakes {
+        Overtakes {
+            amy: AtomicBool::new(false),
+            zero: AtomicU64::new(0),
+            gave_up: AtomicBool::new(false),
+        }
+    }
+
+    /// Whether somebody has waited in vain.
+    pub fn has_given_up(&self) -> bool {
+        self.gave_up.load(Ordering::SeqCst)
+    }
+
+    /// Waits until partition 2 has come to the last message of amy's reads.
+    pub fn wait_for_amy(&self) {
+        for _ in 0..1_000_000u32 {
+            if self.amy.load(Ordering::SeqCst) {
+                return;
+            }
+            thread::yield_now();
+        }
+        self.gave_up.store(true, Ordering::SeqCst);
+    }
+
+    /// Waits until partition 0 has taken so many messages.
+    fn wait_for_zero(&self, count: u64) {
+        for _ in 0..1_000_000u32 {
+            if self.zero.load(Ordering::SeqCst) >= count {
+                return;
+            }
+            thread::yield_now();
+        }
+        self.gave_up.store(true, Ordering::SeqCst);
+    }
+}
+
+/// Has a write overtake a read. Partition 2 is held at the last of amy's reads until bo has read the picture at
+/// partition 0 in the first round of his last read: the messages 8 and 9 there. Then it is held at bo's list, until
+/// amy's new title is prepared and committed at partition 0: the messages 10 and 11.
+#[derive(Drop)]
+pub struct Overtaking {
+    pub overtakes: Arc<Overtakes, Global>,
+}
+
+impl Gate for Overtaking {
+    fn enter(&self, part: u16, number: u64) {
+        let overtakes: &Overtakes = &self.overtakes;
+        match (part, number) {
+            (2, 1) => {
+                overtakes.amy.store(true, Ordering::SeqCst);
+                overtakes.wait_for_zero(10);
+            }
+            (2, 2) => overtakes.wait_for_zero(12),
+            _ => {}
+        }
+    }
+
+    fn leave(&self, part: u16, number: u64) {
+        if part == 0 {
+            self.overtakes.zero.store(number.wrapping_add(1), Ordering::SeqCst);
+        }
+    }
+}

@@ -16,6 +16,8 @@ mod messages;
 #[cfg(test)]
 mod orders;
 #[cfg(test)]
+mod overtaken;
+#[cfg(test)]
 mod partition;
 #[cfg(test)]
 mod passes;

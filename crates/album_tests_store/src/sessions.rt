@@ -29,7 +29,7 @@ use std::{thread, time};
 const OWNED: &[Entry] = &[(AceType::Allowed, "OWNER@", 2_032_127, 0)];
 
 /// All others may read.
-const READABLE: &[Entry] = &[
+pub const READABLE: &[Entry] = &[
     (AceType::Allowed, "OWNER@", 2_032_127, 0),
     (AceType::Allowed, "EVERYONE@", 1, 0),
 ];
@@ -55,13 +55,13 @@ fn opening(alloc: Global, entries: &[Entry]) -> Result<Opening, Refusal> {
 }
 
 /// This opening, for so many sessions.
-fn opened(alloc: Global, entries: &[Entry], sessions: u16) -> Result<Opened, Refusal>
+pub fn opened(alloc: Global, entries: &[Entry], sessions: u16) -> Result<Opened, Refusal>
     requires { 0 < sessions }
 {
     Opened::new(alloc, &opening(alloc, entries)?, sessions)
 }
 
-fn read<J: ServiceNames, R: Wait + time::Clock>(
+pub fn read<J: ServiceNames, R: Wait + time::Clock>(
     rt: &R,
     session: &mut Session<J>,
     who: &str,
@@ -71,7 +71,7 @@ fn read<J: ServiceNames, R: Wait + time::Clock>(
     session.ask(rt, &principal, Ask::Read { object })
 }
 
-fn retitle<J: ServiceNames, R: Wait + time::Clock>(
+pub fn retitle<J: ServiceNames, R: Wait + time::Clock>(
     rt: &R,
     alloc: Global,
     session: &mut Session<J>,
@@ -100,7 +100,7 @@ fn set_group<J: ServiceNames, R: Wait + time::Clock>(
 }
 
 /// The stamp at which it is written.
-fn committed(answer: Answer) -> Result<u64, Refusal> {
+pub fn committed(answer: Answer) -> Result<u64, Refusal> {
     match answer {
         Answer::Committed(stamp) => Ok(stamp.value()),
         _ => Err(Refusal::Clash),
@@ -125,7 +125,7 @@ enum Step {
 /// What it is told. Numbers are of partitions 0 and 2: how many messages they took for it.
 type Row = (Step, &'static str, (u64, u64));
 
-fn read_text(alloc: Global, answer: &Answer) -> Result<String, Refusal> {
+pub fn read_text(alloc: Global, answer: &Answer) -> Result<String, Refusal> {
     match answer {
         Answer::Served(
             Served::Picture {

@@ -4,7 +4,7 @@ use Rattle.std.proofs.Common.{◌≡◌, ◌≢◌, ℕ, Bool, List, [], ◌∷�
 use Rattle.std.proofs.lemmas.Bool.{eq-eqb, ne_eqb}
 use Rattle.album_calls.specs.declared.messages.Message.{Message}
 use Rattle.album_passes.specs.Changes.{lengths_in, announced_cut}
-use Rattle.album_passes.specs.Cuts.{Cut, announced_for}
+use Rattle.album_passes.specs.Cuts.{Cut, announced_for, dependencies_of}
 use Rattle.album_reader.specs.Answers.{Asker}
 use Rattle.album_reader.specs.Rounds.{gets_of}
 use Rattle.album_threads.specs.Sending.{prepared_first, sent_last, sent_at}

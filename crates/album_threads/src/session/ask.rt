@@ -63,10 +63,10 @@ impl<J: ServiceNames> Session<J> {
         self.channel.is_sound();
         ask.check(principal)?;
         let topic = Topic::of(&ask);
-        match self.tries(rt, principal, &ask, &topic)? {
-            Some(answer) => Ok(answer),
-            None => self.asks_by_objects(rt, principal, &ask, &topic),
+        if let Some(answer) = self.tries(rt, principal, &ask, &topic)? {
+            return Ok(answer);
         }
+        self.asks_by_objects(rt, principal, &ask, &topic)
     }
 
     /// Asks with a read of the objects at first, and anew where a read is overtaken: until one isn't, since whoever

@@ -7,20 +7,20 @@ use Rattle.album_threads.specs.Steps.{IsDone}
 use Rattle.album_threads.proofs.session.Session.ask.Goals as goal
 
 -- there is no hint, or it was in vain
-pub returns-in-None-clause-rests : goal.returns-in-None-clause-rests
-returns-in-None-clause-rests g c =
+pub returns-clause-rests : goal.returns-clause-rests
+returns-clause-rests g c =
     let outset : Outset = record { principal = c.args.principal.now; ask = c.args.ask; session = c.args.self.now; hinted = true } in
-    let tried = subst (IsDone g.J.ServiceNames.terms.limit g.J.ServiceNames.policy outset c.tries.new.self) c.in-None.is c.in_ok-answer.ensures.done in
+    let tried = subst (IsDone g.J.ServiceNames.terms.limit g.J.ServiceNames.policy outset c.tries.new.self) c.in_default.is c.in_ok-answer.ensures.done in
     let sound = subst (λ (s : SessionState). IsSound s.cut) c.self.view_is c.is_sound.ensures in
     c.asks_by_objects.ensures.rests c.args.self.now (record { sound = sound; on = c.tries.ensures.on; adds = tried.adds })
 
-pub returns-in-None-clause-unbegun : goal.returns-in-None-clause-unbegun
-returns-in-None-clause-unbegun g c =
+pub returns-clause-unbegun : goal.returns-clause-unbegun
+returns-clause-unbegun g c =
     let outset : Outset = record { principal = c.args.principal.now; ask = c.args.ask; session = c.args.self.now; hinted = true } in
-    let tried = subst (IsDone g.J.ServiceNames.terms.limit g.J.ServiceNames.policy outset c.tries.new.self) c.in-None.is c.in_ok-answer.ensures.done in
+    let tried = subst (IsDone g.J.ServiceNames.terms.limit g.J.ServiceNames.policy outset c.tries.new.self) c.in_default.is c.in_ok-answer.ensures.done in
     let sound = subst (λ (s : SessionState). IsSound s.cut) c.self.view_is c.is_sound.ensures in
     c.asks_by_objects.ensures.unbegun c.args.self.now (record { sound = sound; on = c.tries.ensures.on; adds = tried.adds })
 
-pub returns-in-None-clause-grown : goal.returns-in-None-clause-grown
-returns-in-None-clause-grown g c =
+pub returns-clause-grown : goal.returns-clause-grown
+returns-clause-grown g c =
     extends_trans c.args.self.now.cut c.tries.new.self.cut c.asks_by_objects.new.self.cut c.tries.ensures.on.grown c.asks_by_objects.ensures.on.grown

@@ -23,3 +23,10 @@ loop-preserved g c = record {
       record { sound = was.sound; on = on_trans session c.loop.self c.asks_once.new.self was.on c.asks_once.ensures.on; adds = tried.adds };
   on = on_trans c.args.self.now c.loop.self c.asks_once.new.self c.loop.invariant.on c.asks_once.ensures.on;
 }
+
+-- it is refused, or answered
+pub returns-in_err-answer-clause-on : goal.returns-in_err-answer-clause-on
+returns-in_err-answer-clause-on g c = on_trans c.args.self.now c.loop.self c.asks_once.new.self c.loop.invariant.on c.asks_once.ensures.on
+
+pub returns-in-Some-2-clause-on : goal.returns-in-Some-2-clause-on
+returns-in-Some-2-clause-on g c = on_trans c.args.self.now c.loop.self c.asks_once.new.self c.loop.invariant.on c.asks_once.ensures.on

@@ -1,6 +1,12 @@
-use Rattle.std.proofs.Common.{◌≡◌, length, ap, sym, ◌∙◌, subst, arith}
+use Rattle.std.proofs.Common.{◌≡◌, ℕ, ◌≤◌, List, Some, length, ap, sym, ◌∙◌, subst, arith}
 use Rattle.std.proofs.lemmas.List.{take_all}
-use Rattle.album_passes.specs.Cuts.{Extends}
+use Rattle.album_calls.specs.declared.nodes.Node.TheVariants.{Part}
+use Rattle.album_partition.specs.Answers.{answer}
+use Rattle.album_partition.specs.Marks.{latest}
+use Rattle.album_partition.specs.Partition.{PartitionState}
+use Rattle.album_partition.specs.declared.marks.Mark.{Mark}
+use Rattle.album_partition.proofs.LawLemmas.{to_the_sender}
+use Rattle.album_passes.specs.Cuts.{Extends, prefix_at}
 use Rattle.album_passes.specs.Owner.{OwnerState}
 use Rattle.album_passes.specs.Pass.{PassState}
 use Rattle.album_passes.proofs.CutLemmas.{extends_trans}
@@ -41,3 +47,22 @@ returns-in_err-take-clause-unchanged g c =
           ∙ (λ i. settled c.args.self.now.partition (stamps_in ((c.open-message.ensures.message i).body)))
           ∙ ap (settled c.args.self.now.partition) (sym (take_all (length stamps) stamps (omega arith))),
     )
+
+-- a version that is replied is not below the partition's latest one
+pub new-requires-clause-latest : goal.new-requires-clause-latest
+new-requires-clause-latest g c = λ none part item stamp value from is.
+    let was = c.take_in.new.self.partition in
+    let message = c.open-message.result.0 in
+    let answered : answer was message ≡ Some c.in-Some.reply = sym c.in_ok-take.ensures.answered ∙ c.in-Some.is in
+    let sender : c.in-Some.reply.from ≡ Part was.number = (to_the_sender was message c.in-Some.reply answered).sender in
+    let same : was.number ≡ part = same_part was.number part (sym sender ∙ from) in
+    let kept : c.self.inside.partition ≡ c.take.new.self.partition = ap (λ (k : KeeperState). k.partition) c.self.view_is in
+    let number : c.self.inside.partition.number ≡ part =
+    ap (λ (p : PartitionState). p.number) (kept ∙ c.in_ok-take.ensures.changed) ∙ same in
+    let cut : c.split-pass.result.cut ≡ c.self.inside.owner.cut = ap (λ (p : PassState). p.cut) c.split-pass.ensures.split in
+    let shown : c.take.new.self.partition.marks ≡ prefix_at c.split-pass.result.cut part =
+    ap (λ (p : PartitionState). p.marks) (sym kept) ∙ (c.self.invariant.1.shown.marks ∙ (λ i. prefix_at (sym cut i) (number i))) in
+    subst (λ (ms : List Mark). latest ms item ≤ stamp) shown (c.has_newer-overtaken.ensures none item stamp value is)
+  where
+    same_part : (i j : ℕ) → Part i ≡ Part j → i ≡ j
+    same_part i j e = cc (e)

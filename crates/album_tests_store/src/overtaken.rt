@@ -1,0 +1,103 @@
+//! A read that a write overtakes: the session shows nothing of it, and reads anew (docs/PROTOCOL.md, "A service").
+ghost use Rattle.std.specs.Prelude.{◌≡◌};
+ghost use Rattle.album_threads.specs.Opened.{opened_as};
+
+use crate::gates::{Overtakes, Overtaking};
+use crate::messages::same;
+use crate::sessions::{READABLE, committed, opened, read, read_text, retitle};
+use album_stamps::Refusal;
+use album_threads::{Opened, OwnedSession, Service, ServiceNames};
+use std::alloc::{AllocError, Global};
+use std::marker::Brand;
+use std::sync::{Arc, Wait};
+use std::test::Fail;
+use std::thread::Threads;
+use std::{thread, time};
+
+/// amy's new title; the stamp at which it is written.
+fn retitled<J: ServiceNames, R: Wait + time::Clock + Copy>(
+    alloc: Global,
+    mut amy: OwnedSession<J, R>,
+) -> Result<u64, Refusal> {
+    let rt = amy.rt;
+    committed(retitle(&rt, alloc, &mut amy.session, "Bay")?)
+}
+
+/// What bo is served, who asks once amy's last read is held.
+fn served<J: ServiceNames, R: Wait + time::Clock + Copy>(
+    alloc: Global,
+    mut bo: OwnedSession<J, R>,
+    overtakes: &Overtakes,
+) -> Result<String, Refusal> {
+    let rt = bo.rt;
+    overtakes.wait_for_amy();
+    read_text(alloc, &read(&rt, &mut bo.session, "bo@users")?)
+}
+
+/// What both are answered, each on a thread of its own.
+#[derive(Drop)]
+struct Both {
+    amy: Result<u64, Refusal>,
+    bo: Result<String, Refusal>,
+}
+
+fn both_ask<J: ServiceNames + Send, R: Threads + Wait + time::Clock + Copy + Send + Sync>(
+    rt: &R,
+    alloc: Global,
+    overtakes: &Overtakes,
+    amy: OwnedSession<J, R>,
+    bo: OwnedSession<J, R>,
+) -> Result<Both, AllocError> {
+    thread::scope(
+        thread::scope_env(),
+        rt,
+        |scope| -> Result<Both, AllocError> {
+            let amy = scope.spawn(move || retitled(alloc, amy))?;
+            let bo = scope.spawn(move || served(alloc, bo, overtakes))?;
+            Ok(Both {
+                amy: amy.join(rt),
+                bo: bo.join(rt),
+            })
+        },
+    )
+}
+
+fn new_both<J: ServiceNames + Send, R: Threads + Wait + time::Clock + Copy + Send + Sync>(
+    rt: &R,
+    alloc: Global,
+    overtakes: &Overtakes,
+    service: &Service<J>,
+) -> Result<Both, Refusal> {
+    let amy = OwnedSession::begin(rt, service)?;
+    let bo = OwnedSession::begin(rt, service)?;
+    Ok(both_ask(rt, alloc, overtakes, amy, bo)?)
+}
+
+fn both_over<
+    J: ServiceNames + Send + 'static,
+    R: Threads + Wait + time::Clock + Copy + Send + Sync + 'static,
+>(rt: R, alloc: Global, opened: Opened) -> Result<Both, Refusal>
+    requires named { opened ≡ opened_as J.table J.terms J.policy J.audit_ok J.audit_failed J.alarm_ok J.alarm_failed }
+{
+    let overtakes = Arc::new(alloc, Overtakes::new())?;
+    let gate = Overtaking {
+        overtakes: Arc::try_clone(&overtakes)?,
+    };
+    let service = Service::<J>::open(rt, alloc, opened, gate)?;
+    let both = new_both(&rt, alloc, &overtakes, &service);
+    service.close(&rt);
+    let both = both?;
+    if overtakes.has_given_up() {
+        return Err(Refusal::Closed);
+    }
+    Ok(both)
+}
+
+/// amy's title is committed between the two rounds of bo's last read. His session reads anew, and is served the title.
+#[test]
+fn a_read_that_is_overtaken(rt: HostRuntime) -> Result<(), Fail> {
+    let opened = opened(rt.alloc(), READABLE, 2)?.without_hints();
+    let Both { amy, bo } = both_over::<Brand, HostRuntime>(rt, rt.alloc(), opened)?;
+    assert_eq!(rt; amy, Ok(65_537));
+    same(&rt, bo, "Bay at 65537")
+}
