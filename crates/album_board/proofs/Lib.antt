@@ -1,0 +1,4 @@
+pub mod PrefixLemmas
+pub mod EntryLemmas
+pub mod StepLemmas
+pub mod BoardLemmas

@@ -1,0 +1,4 @@
+pub mod Entries
+pub mod Rule
+pub mod Writer
+pub mod Board
