@@ -125,7 +125,8 @@ fn talks_over<
     J: ServiceNames + Send + 'static,
     R: Threads + Wait + time::Clock + Abort + Copy + Send + 'static,
 >(rt: R, alloc: Global, opened: Opened) -> Result<(), Refusal>
-    requires named { opened ≡ opened_as J.table J.terms J.policy J.audit_ok J.audit_failed J.alarm_ok J.alarm_failed }
+    requires named { opened ≡ opened_as J.table J.terms J.policy J.list
+        J.audit_ok J.audit_failed J.alarm_ok J.alarm_failed }
 {
     let service = Service::<J>::open(rt, alloc, opened, Open)?;
     let talked = assert_talks(&rt, alloc, &service);

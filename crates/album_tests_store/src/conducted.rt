@@ -137,7 +137,8 @@ fn conduct_by<
     J: ServiceNames + Send + 'static,
     R: Threads + Wait + time::Clock + Copy + Send + Sync + 'static,
 >(rt: R, alloc: Global, opened: Opened, moves: &[Move]) -> Result<Told, Refusal>
-    requires named { opened ≡ opened_as J.table J.terms J.policy J.audit_ok J.audit_failed J.alarm_ok J.alarm_failed }
+    requires named { opened ≡ opened_as J.table J.terms J.policy J.list
+        J.audit_ok J.audit_failed J.alarm_ok J.alarm_failed }
 {
     let doors = Arc::new(alloc, Doors::new())?;
     let gate = Held {

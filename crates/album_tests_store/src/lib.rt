@@ -4,6 +4,8 @@
 #![tactic(auto)]
 
 #[cfg(test)]
+mod acknowledged;
+#[cfg(test)]
 mod conducted;
 #[cfg(test)]
 mod doors;

@@ -29,7 +29,7 @@ use std::{thread, time};
 const OWNED: &[Entry] = &[(AceType::Allowed, "OWNER@", 2_032_127, 0)];
 
 /// All others may read.
-pub const READABLE: &[Entry] = &[
+pub(crate) const READABLE: &[Entry] = &[
     (AceType::Allowed, "OWNER@", 2_032_127, 0),
     (AceType::Allowed, "EVERYONE@", 1, 0),
 ];
@@ -55,13 +55,13 @@ fn opening(alloc: Global, entries: &[Entry]) -> Result<Opening, Refusal> {
 }
 
 /// This opening, for so many sessions.
-pub fn opened(alloc: Global, entries: &[Entry], sessions: u16) -> Result<Opened, Refusal>
+pub(crate) fn opened(alloc: Global, entries: &[Entry], sessions: u16) -> Result<Opened, Refusal>
     requires { 0 < sessions }
 {
     Opened::new(alloc, &opening(alloc, entries)?, sessions)
 }
 
-pub fn read<J: ServiceNames, R: Wait + time::Clock>(
+pub(crate) fn read<J: ServiceNames, R: Wait + time::Clock>(
     rt: &R,
     session: &mut Session<J>,
     who: &str,
@@ -71,7 +71,7 @@ pub fn read<J: ServiceNames, R: Wait + time::Clock>(
     session.ask(rt, &principal, Ask::Read { object })
 }
 
-pub fn retitle<J: ServiceNames, R: Wait + time::Clock>(
+pub(crate) fn retitle<J: ServiceNames, R: Wait + time::Clock>(
     rt: &R,
     alloc: Global,
     session: &mut Session<J>,
@@ -100,7 +100,7 @@ fn set_group<J: ServiceNames, R: Wait + time::Clock>(
 }
 
 /// The stamp at which it is written.
-pub fn committed(answer: Answer) -> Result<u64, Refusal> {
+pub(crate) fn committed(answer: Answer) -> Result<u64, Refusal> {
     match answer {
         Answer::Committed(stamp) => Ok(stamp.value()),
         _ => Err(Refusal::Clash),
@@ -125,7 +125,7 @@ enum Step {
 /// What it is told. Numbers are of partitions 0 and 2: how many messages they took for it.
 type Row = (Step, &'static str, (u64, u64));
 
-pub fn read_text(alloc: Global, answer: &Answer) -> Result<String, Refusal> {
+pub(crate) fn read_text(alloc: Global, answer: &Answer) -> Result<String, Refusal> {
     match answer {
         Answer::Served(
             Served::Picture {
@@ -344,7 +344,8 @@ fn closed_on<
     J: ServiceNames + Send + 'static,
     R: Threads + Wait + time::Clock + Copy + Send + 'static,
 >(rt: R, alloc: Global, opened: Opened) -> Result<(Option<Refusal>, Option<Refusal>), Refusal>
-    requires named { opened ≡ opened_as J.table J.terms J.policy J.audit_ok J.audit_failed J.alarm_ok J.alarm_failed }
+    requires named { opened ≡ opened_as J.table J.terms J.policy J.list
+        J.audit_ok J.audit_failed J.alarm_ok J.alarm_failed }
 {
     let service = Service::<J>::open(rt, alloc, opened, Open)?;
     let guest = OwnedSession::begin(&rt, &service);
@@ -428,7 +429,7 @@ const AUDITED: &[Entry] = &[
 ];
 
 /// The stamp of the picture that is served.
-fn stamp_served(answer: &Answer) -> Result<u64, Refusal> {
+pub(crate) fn stamp_served(answer: &Answer) -> Result<u64, Refusal> {
     match answer {
         Answer::Served(
             Served::Picture {
@@ -539,7 +540,8 @@ fn four_over<
     J: ServiceNames + Send + 'static,
     R: Threads + Wait + time::Clock + Copy + Send + Sync + 'static,
 >(rt: R, alloc: Global, opened: Opened) -> Result<(bool, Totals, Totals), Refusal>
-    requires named { opened ≡ opened_as J.table J.terms J.policy J.audit_ok J.audit_failed J.alarm_ok J.alarm_failed }
+    requires named { opened ≡ opened_as J.table J.terms J.policy J.list
+        J.audit_ok J.audit_failed J.alarm_ok J.alarm_failed }
 {
     let service = Service::<J>::open(rt, alloc, opened, Open)?;
     let told = four_retitled(&rt, alloc, &service);

@@ -23,3 +23,4 @@ pub mod CarryLemmas
 pub mod WaitLemmas
 pub mod StepLemmas
 pub mod HintLemmas
+pub mod InOrderLemmas

@@ -15,3 +15,4 @@ pub mod Asks
 pub mod Sending
 pub mod Phases
 pub mod Steps
+pub mod InOrder

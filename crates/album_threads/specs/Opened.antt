@@ -9,6 +9,7 @@ use Rattle.album_passes.specs.Knowledge.{Terms}
 use Rattle.album_passes.specs.Owner.{OwnerState}
 use Rattle.album_passes.specs.Pass.{PassState}
 use Rattle.album_audit.specs.Books.{LedgerNames}
+use Rattle.album_board.specs.Entries.{ListName}
 
 -- the first partitions as they open, so many of them, in order
 pub record AreFirst (terms : Terms) (count : ℕ) (partitions : List PartitionState) : Type 0 where
@@ -16,17 +17,20 @@ pub record AreFirst (terms : Terms) (count : ℕ) (partitions : List PartitionSt
   pub each : (part : ℕ) (other : PartitionState) → part < count
       → slice_index_or partitions part other ≡ first_partition terms.parts terms.limit terms.opening part
 
--- a desk, the policy of rulings, and the names of the ledgers of an audit book
+-- a desk, the policy of rulings, and the names of a board's list and of the ledgers of an audit book
 pub record OpenedState : Type 0 where
   pub desk : DeskState
   pub policy : Policy
+  pub list : ListName
   pub books : LedgerNames
 
--- what is so named: the table and the terms of the desk, the policy, and the four ledgers
-abbrev pub opened_as : TableId → Terms → Policy → (audit_ok audit_failed alarm_ok alarm_failed : ℕ) → OpenedState
-opened_as table terms policy audit_ok audit_failed alarm_ok alarm_failed = record {
+-- what is so named: the table and the terms of the desk, the policy, the board's list, and the four ledgers
+abbrev pub opened_as :
+    TableId → Terms → Policy → ListName → (audit_ok audit_failed alarm_ok alarm_failed : ℕ) → OpenedState
+opened_as table terms policy list audit_ok audit_failed alarm_ok alarm_failed = record {
   desk = record { table = table; terms = terms };
   policy = policy;
+  list = list;
   books = record {
     audit_ok = audit_ok;
     audit_failed = audit_failed;

@@ -1,11 +1,19 @@
-//! What follows of the grounds on which an answer rests.
-ghost use Rattle.std.specs.Prelude.{◌≡◌, ◌≢◌, ◌≤◌, ℕ, List, Contains};
+//! What follows of the grounds on which an answer rests, and of what was published.
+ghost use Rattle.std.specs.Prelude.{◌≡◌, ◌≢◌, ◌<◌, ◌≤◌, ℕ, List, Contains};
+ghost use Rattle.album_eval.specs.declared.facts.Principal.{Principal};
 ghost use Rattle.album_reader.specs.Answers.{ReadVersion};
 ghost use Rattle.album_reader.specs.Atomic.{IsFreshFrom};
 ghost use Rattle.album_permits.specs.Permits.{PermitState};
 ghost use Rattle.album_passes.specs.Cuts.{Cut, IsSound, IsPromisedSomewhere, Extends};
 ghost use Rattle.album_passes.specs.Reads.{HadSeenCommitted, writes_in_cut};
+ghost use Rattle.album_threads.specs.InOrder.{IsInOrder};
+ghost use Rattle.album_threads.specs.Sessions.{SessionState};
+ghost use Rattle.album_views.specs.declared.asks.Ask as declared;
 ghost use Rattle.album_threads.specs.Grounds.{IsSeen, AreNoOlder, AreAlike, HasSameMarks, AreFrom, items_of, IsKept, IsWithoutRoom};
+
+use crate::service_names::ServiceNames;
+use crate::session::in_order::Acknowledged;
+use album_board::what_was_published_is_seen;
 
 /// A law: the grounds of an answer stay as the cut grows. What was read stays read atomic, fresh and settled,
 /// what each participant has committed stays so, and so do a promise against a stamp and the
@@ -49,3 +57,17 @@ pub fn reads_are_stable()
         → Extends begun old → Extends old later → Extends later new → HasSameMarks begun new
         → IsSeen begun old first → IsSeen later new second → AreAlike first second }
 {}
+
+/// A law: what was acknowledged is visible. Take two requests of one service, by whichever sessions, of which the
+/// second listened to a number above the one under which the first was published. Then the cut with which the second
+/// began extends the one with which the first ended. Nothing is computed.
+pub fn acknowledged_is_visible<J: ServiceNames>(first: &Acknowledged<J>, second: &Acknowledged<J>)
+    ensures visible { (who other : Principal) (ask later : declared.Ask) (old ended start new : SessionState)
+        → IsInOrder J.terms.limit J.policy who ask
+        old first.now.listened first.now.answer first.now.published ended
+        → (then : IsInOrder J.terms.limit J.policy other later
+        start second.now.listened second.now.answer second.now.published new)
+        → first.now.published.number < second.now.listened.number → Extends ended.cut then.begun.cut }
+{
+    what_was_published_is_seen(&first.published, &second.listened);
+}

@@ -6,7 +6,8 @@
 //! takes each, gives its message to the partition, and sends the reply back with a pass that shows the reply's history
 //! (`partition/thread`, `partition/keeper`). The session joins that pass, and gives the reply to its client, which is
 //! `album_client`'s (`session/step`), until the client answers (`session/ask`). The first read asks for the items of an
-//! earlier view, where `hints` has them (`session/hinted`).
+//! earlier view, where `hints` has them (`session/hinted`). Asked in order (`session/in_order`), a session listens to
+//! the service's board before it asks, and publishes there what it has seen before it answers.
 //!
 //! Read `service`, `session` and `session/ask` first, then `partition/keeper`, and specs/ in the order of
 //! specs/Lib.antt.
@@ -42,10 +43,13 @@ pub use control::{Control, ControlAnswer, ControlReply, ControlRequest};
 pub use envelopes::{ReplyEnvelope, RequestEnvelope};
 pub use gate::{Gate, Open};
 pub use gauge::Gauge;
-pub use laws::{grounds_stay, no_new_enemy, reads_are_stable, reads_go_on};
+pub use laws::{
+    acknowledged_is_visible, grounds_stay, no_new_enemy, reads_are_stable, reads_go_on,
+};
 pub use opened::Opened;
 pub use owned_session::OwnedSession;
 pub use service::Service;
 pub use service_names::ServiceNames;
 pub use session::Session;
+pub use session::in_order::Acknowledged;
 pub use visit::{Visit, with_opened, with_service};

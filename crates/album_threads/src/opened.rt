@@ -6,6 +6,7 @@ ghost use Rattle.album_passes.specs.Desk.{terms_of};
 
 use crate::hints::MAX_HINTS;
 use album_audit::Blanks;
+use album_board::NewList;
 use album_eval::Policy;
 use album_items::Opening;
 use album_partition::Partition;
@@ -14,8 +15,8 @@ use album_stamps::Refusal;
 use std::alloc::Global;
 use std::marker::Model;
 
-/// A desk, the partitions with the owners of their histories, the first pass, the policy, and the
-/// ledgers of an audit book. Contracts see the desk, the policy and the ledgers' names.
+/// A desk, the partitions with the owners of their histories, the first pass, the policy, the list of a board, and the
+/// ledgers of an audit book. Contracts see the desk, the policy, and the names of the list and of the ledgers.
 #[derive(Drop)]
 pub struct Opened {
     pub(crate) desk: Desk,
@@ -24,6 +25,7 @@ pub struct Opened {
     pub(crate) partitions: Vec<Partition>,
     pub(crate) pass: Pass,
     pub(crate) policy: Policy,
+    pub(crate) list: NewList,
     pub(crate) blanks: Blanks,
     /// How many hints the service may keep.
     pub(crate) hints: usize,
@@ -34,7 +36,7 @@ impl Model for Opened {
 
     ghost Value = { OpenedState };
 
-    ghost view = { λ o. record { desk = o.desk; policy = o.policy; books = o.blanks } };
+    ghost view = { λ o. record { desk = o.desk; policy = o.policy; list = o.list; books = o.blanks } };
 
     ghost invariant = { λ o. IsOpened o.desk o.parts o.owners.items o.partitions.items o.pass };
 }
@@ -64,6 +66,7 @@ impl Opened {
             partitions,
             pass,
             policy,
+            list: NewList::new(),
             blanks: Blanks::new(),
             hints: MAX_HINTS,
         })

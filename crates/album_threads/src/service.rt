@@ -17,6 +17,7 @@ use crate::service_names::ServiceNames;
 use crate::session::Session;
 use crate::session::channel::PartitionChannel;
 use album_audit::{AuditBook, Totals};
+use album_board::Board;
 use album_eval::Policy;
 use album_passes::{Desk, Pass};
 use album_stamps::Refusal;
@@ -57,6 +58,7 @@ pub struct Service<J: ServiceNames> {
     desk: Arc<Desk, Global>,
     policy: Policy,
     seed: Mutex<Seed<J>>,
+    board: Arc<Mutex<Board<J>>, Global>,
     book: Arc<Mutex<AuditBook<J>>, Global>,
     hints: Arc<Hints, Global>,
     alloc: Global,
@@ -85,8 +87,8 @@ impl<J: ServiceNames + Send + 'static> Service<J> {
         R: Threads + Wait + time::Clock + Copy + Send + 'static,
         G: Gate + Drop + Send + Sync + 'static,
     >(rt: R, alloc: Global, opened: Opened, gate: G) -> Result<Service<J>, Refusal>
-        requires named { opened ≡
-            opened_as J.table J.terms J.policy J.audit_ok J.audit_failed J.alarm_ok J.alarm_failed }
+        requires named { opened ≡ opened_as J.table J.terms J.policy J.list
+            J.audit_ok J.audit_failed J.alarm_ok J.alarm_failed }
         ensures memory { IsOkUnless result Refusal.OutOfMemory }
     {
         let Opened {
@@ -94,11 +96,14 @@ impl<J: ServiceNames + Send + 'static> Service<J> {
             parts,
             owners,
             partitions,
-            pass,
+            mut pass,
             policy,
+            list,
             blanks,
             hints,
         } = opened;
+        let board = Board::open(list, pass.split(&desk));
+        let board = Arc::new(alloc, Mutex::new(board))?;
         let desk = Arc::new(alloc, desk)?;
         let gate = Arc::new(alloc, gate)?;
         let breakage = Arc::new(alloc, Breakage::new())?;
@@ -130,6 +135,7 @@ impl<J: ServiceNames + Send + 'static> Service<J> {
             desk,
             policy,
             seed,
+            board,
             book,
             hints,
             alloc,
@@ -147,6 +153,7 @@ impl<J: ServiceNames + Send + 'static> Service<J> {
             desk: _,
             policy: _,
             seed: _,
+            board: _,
             book,
             hints: _,
             alloc: _,
@@ -176,12 +183,21 @@ impl<J: ServiceNames> Service<J> {
         ensures share { IfOk result (λ session. session.share ≡ none) }
         ensures refused { IfErr result (λ e. (e ≡ Refusal.OutOfMemory) ⊎ (e ≡ Refusal.SessionsSpent)) }
     {
+        let board = Arc::try_clone(&self.board)?;
         let book = Arc::try_clone(&self.book)?;
         let hints = Arc::try_clone(&self.hints)?;
         let channel = self.channel(rt)?;
         let share = self.book.lock(rt).share();
         match share {
-            Ok(share) => Ok(Session::new(self.alloc, channel, self.policy, book, share, hints)),
+            Ok(share) => Ok(Session::new(
+                self.alloc,
+                channel,
+                self.policy,
+                board,
+                book,
+                share,
+                hints,
+            )),
             Err(refusal) => {
                 channel.leave(rt);
                 Err(refusal)

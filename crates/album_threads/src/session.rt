@@ -13,6 +13,7 @@ mod ask;
 mod asked;
 pub(crate) mod channel;
 mod hinted;
+pub(crate) mod in_order;
 mod note;
 mod round;
 mod step;
@@ -22,6 +23,7 @@ use crate::hints::Hints;
 use crate::service_names::ServiceNames;
 use crate::session::channel::PartitionChannel;
 use album_audit::{AuditBook, Share};
+use album_board::Board;
 use album_calls::Stamps;
 use album_eval::Policy;
 use album_items::ItemId;
@@ -40,6 +42,8 @@ pub struct Session<J: ServiceNames> {
     /// The tag of the last round that its client asked.
     pub(crate) tag: u64,
     pub(crate) policy: Policy,
+    /// Of the whole service.
+    pub(crate) board: Arc<Mutex<Board<J>>, Global>,
     pub(crate) book: Arc<Mutex<AuditBook<J>>, Global>,
     pub(crate) share: Share<J>,
     /// Of the whole service.
@@ -68,6 +72,7 @@ impl<J: ServiceNames> Session<J> {
         alloc: Global,
         channel: PartitionChannel<J>,
         policy: Policy,
+        board: Arc<Mutex<Board<J>>, Global>,
         book: Arc<Mutex<AuditBook<J>>, Global>,
         share: Share<J>,
         hints: Arc<Hints, Global>,
@@ -83,6 +88,7 @@ impl<J: ServiceNames> Session<J> {
             clock,
             tag: 0,
             policy,
+            board,
             book,
             share,
             hints,
@@ -235,6 +241,7 @@ impl<J: ServiceNames> Session<J> {
             clock: _,
             tag: _,
             policy: _,
+            board: _,
             book,
             share,
             hints: _,

@@ -79,7 +79,8 @@ where
     R: Threads + Wait + time::Clock + Copy + Send + Sync + 'static,
     G: Gate + Drop + Send + Sync + 'static,
     V: Visit<R>,
-    requires named { opened ≡ opened_as J.table J.terms J.policy J.audit_ok J.audit_failed J.alarm_ok J.alarm_failed }
+    requires named { opened ≡ opened_as J.table J.terms J.policy J.list
+        J.audit_ok J.audit_failed J.alarm_ok J.alarm_failed }
 {
     let service = Service::<J>::open(rt, alloc, opened, gate)?;
     let answer = visit.visit(&rt, alloc, &service);

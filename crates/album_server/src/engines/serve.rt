@@ -283,7 +283,8 @@ where
         + 'static,
     R: Read + Send + Drop,
     W: Write,
-    requires named { opened ≡ opened_as J.table J.terms J.policy J.audit_ok J.audit_failed J.alarm_ok J.alarm_failed }
+    requires named { opened ≡ opened_as J.table J.terms J.policy J.list
+        J.audit_ok J.audit_failed J.alarm_ok J.alarm_failed }
 {
     let (printer, notices) = Printer::open(rt, alloc)?;
     let waker = Waker::new(rt, serving.port);

@@ -13,6 +13,7 @@ use crate::control::{Control, ControlAnswer, ControlReply, ControlRequest};
 use crate::envelopes::ReplyEnvelope;
 use crate::mailbox::{Inbox, PartitionMail, SessionMail};
 use crate::service_names::ServiceNames;
+use album_board::{Board, Listened, Published, listen, publish};
 use album_items::ItemId;
 use album_passes::{Desk, Pass, meet};
 use album_stamps::{ClientNo, Refusal, Stamp};
@@ -20,7 +21,7 @@ use crossbeam_channel::{Receiver, SendError, Sender};
 use std::alloc::{AllocError, Global};
 use std::collections::VecDeque;
 use std::marker::Model;
-use std::sync::{Arc, Wait};
+use std::sync::{Arc, Mutex, Wait};
 use std::time;
 
 /// A session's channel to the partitions. Contracts see the client, and the cut of its pass.
@@ -275,6 +276,23 @@ impl<J: ServiceNames> PartitionChannel<J> {
         ensures apart { self.old.client ≢ other.old.client }
     {
         meet(&self.desk, &mut self.pass, &mut other.pass);
+    }
+
+    /// Takes in all that was published on the board so far.
+    pub(crate) fn listen<R: Wait>(&mut self, rt: &R, board: &Mutex<Board<J>>) -> Listened<J>
+        ensures listened { Extends result.cut self.new.cut }
+        ensures sound { IsSound self.new.cut }
+        ensures later { IsLater self.old self.new }
+    {
+        listen(rt, board, &self.desk, &mut self.pass)
+    }
+
+    /// Publishes on the board what was seen.
+    pub(crate) fn publish<R: Wait>(&mut self, rt: &R, board: &Mutex<Board<J>>) -> Published<J>
+        ensures cut { result.cut ≡ self.old.cut }
+        ensures same { self.new ≡ self.old }
+    {
+        publish(rt, board, &self.desk, &mut self.pass)
     }
 }
 

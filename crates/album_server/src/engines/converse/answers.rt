@@ -13,7 +13,7 @@ use album_items::ItemId;
 use album_lines::{LineIn, write_refusal};
 use album_permits::Out;
 use album_stamps::{Refusal, Stamp};
-use album_threads::{ServiceNames, Session};
+use album_threads::{Acknowledged, ServiceNames, Session};
 use album_views::Ask;
 use album_wire::{TalkLine, TalkOut, read_hello, read_talk, write_out, write_talk};
 use json::Scratch;
@@ -147,8 +147,15 @@ fn carry_out_ask<J: ServiceNames, T: Wait + time::Clock>(
         IsAsked J.terms.limit J.policy principal.now ask session.old session.new text.items) }
     ensures on { IsOn session.old session.new }
 {
-    match session.ask(rt, principal, ask) {
-        Ok(answer) => write_out(alloc, &Out::Answered(session.client(), answer), None),
+    match session.ask_in_order(rt, principal, ask) {
+        Ok(given) => {
+            let Acknowledged {
+                answer,
+                listened: _,
+                published: _,
+            } = given;
+            write_out(alloc, &Out::Answered(session.client(), answer), None)
+        }
         Err(refusal) => write_refusal(alloc, refusal),
     }
 }

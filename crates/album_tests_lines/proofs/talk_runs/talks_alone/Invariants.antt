@@ -3,9 +3,14 @@ use Rattle.album_tests_lines.proofs.talk_runs.talks_alone.Given as goal
 -- the desk, the policy and the four ledgers that were opened here
 abbrev pub ghosts-talks_over-J-ServiceNames : goal.ghosts-talks_over-J-ServiceNames
 ghosts-talks_over-J-ServiceNames g a = record {
-  table = a.opened.desk.table;
   terms = a.opened.desk.terms;
   policy = a.opened.policy;
+}
+
+abbrev pub ghosts-talks_over-J-BoardNames : goal.ghosts-talks_over-J-BoardNames
+ghosts-talks_over-J-BoardNames g a = record {
+  list = a.opened.list;
+  table = a.opened.desk.table;
 }
 
 abbrev pub ghosts-talks_over-J-Books : goal.ghosts-talks_over-J-Books

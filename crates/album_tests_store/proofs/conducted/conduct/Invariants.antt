@@ -3,9 +3,14 @@ use Rattle.album_tests_store.proofs.conducted.conduct.Given as goal
 -- the desk, the policy and the four ledgers that were opened here
 abbrev pub ghosts-conduct_by-J-ServiceNames : goal.ghosts-conduct_by-J-ServiceNames
 ghosts-conduct_by-J-ServiceNames g a = record {
-  table = a.opened.desk.table;
   terms = a.opened.desk.terms;
   policy = a.opened.policy;
+}
+
+abbrev pub ghosts-conduct_by-J-BoardNames : goal.ghosts-conduct_by-J-BoardNames
+ghosts-conduct_by-J-BoardNames g a = record {
+  list = a.opened.list;
+  table = a.opened.desk.table;
 }
 
 abbrev pub ghosts-conduct_by-J-Books : goal.ghosts-conduct_by-J-Books

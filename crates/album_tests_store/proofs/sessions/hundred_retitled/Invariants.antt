@@ -3,9 +3,14 @@ use Rattle.album_tests_store.proofs.sessions.hundred_retitled.Given as goal
 -- the desk, the policy and the four ledgers that were opened here
 abbrev pub ghosts-four_over-J-ServiceNames : goal.ghosts-four_over-J-ServiceNames
 ghosts-four_over-J-ServiceNames g a = record {
-  table = a.opened.desk.table;
   terms = a.opened.desk.terms;
   policy = a.opened.policy;
+}
+
+abbrev pub ghosts-four_over-J-BoardNames : goal.ghosts-four_over-J-BoardNames
+ghosts-four_over-J-BoardNames g a = record {
+  list = a.opened.list;
+  table = a.opened.desk.table;
 }
 
 abbrev pub ghosts-four_over-J-Books : goal.ghosts-four_over-J-Books

@@ -3,9 +3,14 @@ use Rattle.album_tests_store.proofs.sessions.refused_once_closed.Given as goal
 -- the desk, the policy and the four ledgers that were opened here
 abbrev pub ghosts-closed_on-J-ServiceNames : goal.ghosts-closed_on-J-ServiceNames
 ghosts-closed_on-J-ServiceNames g a = record {
-  table = a.opened.desk.table;
   terms = a.opened.desk.terms;
   policy = a.opened.policy;
+}
+
+abbrev pub ghosts-closed_on-J-BoardNames : goal.ghosts-closed_on-J-BoardNames
+ghosts-closed_on-J-BoardNames g a = record {
+  list = a.opened.list;
+  table = a.opened.desk.table;
 }
 
 abbrev pub ghosts-closed_on-J-Books : goal.ghosts-closed_on-J-Books

@@ -3,9 +3,14 @@ use Rattle.album_threads.proofs.visit.with_opened.Given as goal
 -- the desk, the policy and the four ledgers that were opened here
 abbrev pub ghosts-visited_as-J-ServiceNames : goal.ghosts-visited_as-J-ServiceNames
 ghosts-visited_as-J-ServiceNames g a = record {
-  table = a.opened.desk.table;
   terms = a.opened.desk.terms;
   policy = a.opened.policy;
+}
+
+abbrev pub ghosts-visited_as-J-BoardNames : goal.ghosts-visited_as-J-BoardNames
+ghosts-visited_as-J-BoardNames g a = record {
+  list = a.opened.list;
+  table = a.opened.desk.table;
 }
 
 abbrev pub ghosts-visited_as-J-Books : goal.ghosts-visited_as-J-Books

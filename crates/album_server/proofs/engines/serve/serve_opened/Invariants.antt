@@ -3,9 +3,14 @@ use Rattle.album_server.proofs.engines.serve.serve_opened.Given as goal
 -- the desk, the policy and the ledgers that were opened here
 abbrev pub ghosts-serve_at-J-ServiceNames : goal.ghosts-serve_at-J-ServiceNames
 ghosts-serve_at-J-ServiceNames g a = record {
-  table = a.opened.desk.table;
   terms = a.opened.desk.terms;
   policy = a.opened.policy;
+}
+
+abbrev pub ghosts-serve_at-J-BoardNames : goal.ghosts-serve_at-J-BoardNames
+ghosts-serve_at-J-BoardNames g a = record {
+  list = a.opened.list;
+  table = a.opened.desk.table;
 }
 
 abbrev pub ghosts-serve_at-J-Books : goal.ghosts-serve_at-J-Books

@@ -2,4 +2,4 @@ use Rattle.album_threads.proofs.StartLemmas.{first_keeper}
 use Rattle.album_threads.proofs.partition.start.loop_of.Goals as goal
 
 pub new-keeper-requires-clause-is : goal.new-keeper-requires-clause-is
-new-keeper-requires-clause-is g c = first_keeper g.J.ServiceNames.table g.J.ServiceNames.terms c.args.part c.args.partition c.args.owner c.requires.partition c.requires.owner
+new-keeper-requires-clause-is g c = first_keeper g.J.BoardNames.table g.J.ServiceNames.terms c.args.part c.args.partition c.args.owner c.requires.partition c.requires.owner

@@ -13,7 +13,7 @@ start_all-started-requires-clause-few g c = λ κs apart.
 pub start_all-started-requires-clause-owners : goal.start_all-started-requires-clause-owners
 start_all-started-requires-clause-owners g c = λ κs apart.
     let named = c.opened.view_is ∙ c.requires.named in
-    owners_first c.opened.inside.desk g.J.ServiceNames.table g.J.ServiceNames.terms _ (ap (λ (o : OpenedState). o.desk.table) named)
+    owners_first c.opened.inside.desk g.J.BoardNames.table g.J.ServiceNames.terms _ (ap (λ (o : OpenedState). o.desk.table) named)
     (ap (λ (o : OpenedState). o.desk.terms) named) c.opened.invariant.owned
 
 pub start_all-started-requires-clause-partitions : goal.start_all-started-requires-clause-partitions

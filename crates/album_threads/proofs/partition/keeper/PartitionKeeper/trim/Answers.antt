@@ -9,12 +9,12 @@ use Rattle.album_threads.proofs.partition.keeper.PartitionKeeper.trim.Goals as g
 
 pub append_next-requires-clause-next : goal.append_next-requires-clause-next
 append_next-requires-clause-next g c =
-    trim_next g.J.ServiceNames.table g.J.ServiceNames.terms.limit _ c.args.item c.trim.new.self c.self.invariant.1 (search rules)
+    trim_next g.J.BoardNames.table g.J.ServiceNames.terms.limit _ c.args.item c.trim.new.self c.self.invariant.1 (search rules)
 
 pub invariant_of-self-in-Ok : goal.invariant_of-self-in-Ok
 invariant_of-self-in-Ok g c = (
   search rules,
-  keeper_trimmed g.J.ServiceNames.table g.J.ServiceNames.terms.limit _ c.args.item c.trim.new.self c.append_next.new.owner c.self.invariant.1 (search rules)
+  keeper_trimmed g.J.BoardNames.table g.J.ServiceNames.terms.limit _ c.args.item c.trim.new.self c.append_next.new.owner c.self.invariant.1 (search rules)
       c.append_next.ensures.table c.append_next.ensures.part c.append_next.ensures.grown c.append_next.ensures.marks,
 )
 
