@@ -45,8 +45,8 @@ that these are all. Two partitions, and a picture of amy's with a list by which 
   {"begin":true}
 
   open     parts, how many partitions there are, from 1 to 16. These may be left out: limit, the marks for
-           which a partition has room (100000); policy, 1 or 2 (1); trace, whether each message that is
-           sent is told (false)
+           which a partition has room (100000), and a write makes two at each that it concerns; policy,
+           1 or 2 (1); trace, whether each message that is sent is told (false)
   value    of a picture: content, group, home, list, owner and title; of an album: children, group, home,
            list, owner and title; of a list: entries; of a group: group, list, members and owner
 

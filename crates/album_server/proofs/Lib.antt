@@ -7,5 +7,7 @@ pub mod Standing
 pub mod ReplayTurns
 pub mod Talking
 pub mod TalkTurns
+pub mod Recording
+pub mod AuditLines
 pub mod Naming
 pub mod Promising

@@ -4,3 +4,4 @@ pub mod WorkedOpening
 pub mod Stages
 pub mod Admins
 pub mod Talk
+pub mod Audits

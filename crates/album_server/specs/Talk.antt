@@ -27,6 +27,7 @@ use Rattle.album_wire.specs.declared.talk_line.TalkLine.{TalkLine}
 use Rattle.album_wire.specs.declared.talk_line.TalkLine.TheVariants as line
 use Rattle.album_server.specs.Admins.{permitted}
 use Rattle.album_server.specs.declared.admins.Admins.{Admins}
+use Rattle.album_judge.specs.Writes.{IsPrefixOf}
 
 -- ---- what a session answers to a line
 
@@ -191,3 +192,27 @@ MayTalk limit policy admins bound old lines text =
 abbrev pub IsTalk : ℕ → Policy → Admins → SessionState → SessionState → List Line → List ℕ → Type 0
 IsTalk limit policy admins old new lines text =
     (who : Option Principal) × Talks limit policy admins (stranger old) lines (record { who = who; session = new }) text
+
+-- ---- what is recorded before it is answered
+
+-- So much of a text is written. Where any byte of it is, this holds.
+abbrev pub IsWrittenIf : List ℕ → Type 0 → List ℕ → Type 0
+IsWrittenIf whole Holds text = IsPrefixOf (λ all. all ≡ whole) text × (text ≢ [] → Holds)
+
+-- A talk of some lines, from the first of these talkers to the other, and its text. Behind each answer that has a byte
+-- what the session had noted by then is recorded.
+pub data IsRecordedTalk
+    (limit : ℕ) (policy : Policy) (admins : Admins) (Recorded : SessionState → Type 0) (old : Talker)
+    : Talker → List ℕ → Type 0 where
+  Begins : IsRecordedTalk limit policy admins Recorded old old []
+  Answers :
+      (between new : Talker) (line : Line) (text answer : List ℕ)
+      → IsRecordedTalk limit policy admins Recorded old between text
+      → TalksOnce limit policy admins between line new answer
+      → (answer ≢ [] → Recorded new.session)
+      → IsRecordedTalk limit policy admins Recorded old new (text ++ answer)
+
+-- a prefix of the text of such a talk
+abbrev pub IsRecordedPart : ℕ → Policy → Admins → (SessionState → Type 0) → Talker → List ℕ → Type 0
+IsRecordedPart limit policy admins Recorded old text =
+    IsPrefixOf (λ all. (new : Talker) × IsRecordedTalk limit policy admins Recorded old new all) text

@@ -1,10 +1,10 @@
 //! The engine of a connection: read a piece, answer the lines that end in it, each at once, and at the end the last
 //! line.
-ghost use Rattle.std.specs.Prelude.{◌≡◌, map, Err, OnOk, OnErr, IfErr, IfSome};
+ghost use Rattle.std.specs.Prelude.{◌≡◌, ◌≢◌, [], map, Err, OnOk, OnErr, IfErr, IfSome};
 ghost use Rattle.std.specs.Io.KnownBytes.{Appends, IsAtEnd};
 ghost use Rattle.album_threads.specs.Asks.{IsOn};
 ghost use Rattle.album_lines.specs.Lines.{lines_of, last, said};
-ghost use Rattle.album_server.specs.Talk.{IsTalk, MayTalk, Talks, stranger};
+ghost use Rattle.album_server.specs.Talk.{IsTalk, MayTalk, Talks, stranger, IsRecordedTalk, IsRecordedPart, IsWrittenIf};
 ghost use Rattle.album_judge.specs.Writes.{HasRead, Writes, Exchanges, IsPrefixOf, IsCutShort, IsLeftBy, IsEndedBy};
 
 mod answers;
@@ -77,7 +77,8 @@ pub fn converse<J: ServiceNames, T: Wait + time::Clock, R: Read, W: Write>(
     )
 }
 
-/// The same, where who talks may only ask, unless it is one of the admins. The journal is settled before each answer.
+/// The same, where who talks may only ask, unless it is one of the admins. The journal is settled before each answer:
+/// what was noted is recorded by then, and where it can't be, no byte of the answer is written.
 ///
 /// # Errors
 ///
@@ -109,6 +110,11 @@ pub fn converse_with<J: ServiceNames, T: Wait + time::Clock, R: Read, W: Write, 
     ensures fault { IfErr result (λ fault.
         Exchanges (IsEndedBy fault (MayTalk J.terms.limit J.policy admins.now session.new (stranger session.old)))
         (R.remaining reader.old) (R.remaining reader.new) (W.contents writer.old) (W.contents writer.new)) }
+
+    // What was noted for an answer is recorded before any byte of it is written, whether there is a fault or not.
+    ensures recorded {
+        Writes (IsRecordedPart J.terms.limit J.policy admins.now (A.recorded journal.now) (stranger session.old))
+        (W.contents writer.old) (W.contents writer.new) }
 
     // The session has only seen more.
     ensures on { IsOn session.old session.new }
@@ -179,6 +185,12 @@ fn finish<J: ServiceNames, T: Wait + time::Clock, W: Write, A: Journal>(
         (record { who = who.old; session = session.old }))
         (last lines))
         (W.contents writer.old) (W.contents writer.new)) }
+    ensures recorded { OnOk result (Writes (IsRecordedTalk J.terms.limit J.policy admins.now (A.recorded journal.now)
+        (record { who = who.old; session = session.old }) (record { who = who.new; session = session.new }))
+        (W.contents writer.old) (W.contents writer.new)) }
+    ensures part { OnErr result (Writes (IsRecordedPart J.terms.limit J.policy admins.now (A.recorded journal.now)
+        (record { who = who.old; session = session.old }))
+        (W.contents writer.old) (W.contents writer.new)) }
     ensures on { IsOn session.old session.new }
 {
     session.has_granted_writes();
@@ -218,6 +230,12 @@ fn answer_lines<J: ServiceNames, T: Wait + time::Clock, W: Write, A: Journal>(
         (IsLeftBy fault (MayTalk J.terms.limit J.policy admins.now session.new
         (record { who = who.old; session = session.old }))
         (map said lines.now)) (W.contents writer.old) (W.contents writer.new)) }
+    ensures recorded { OnOk result (Writes (IsRecordedTalk J.terms.limit J.policy admins.now (A.recorded journal.now)
+        (record { who = who.old; session = session.old }) (record { who = who.new; session = session.new }))
+        (W.contents writer.old) (W.contents writer.new)) }
+    ensures part { OnErr result (Writes (IsRecordedPart J.terms.limit J.policy admins.now (A.recorded journal.now)
+        (record { who = who.old; session = session.old }))
+        (W.contents writer.old) (W.contents writer.new)) }
     ensures on { IsOn session.old session.new }
 {
     session.has_granted_writes();
@@ -241,6 +259,9 @@ fn write_settled<J: ServiceNames, T: Wait, A: Journal, W: Write>(
     ensures ok { OnOk result (Appends (W.contents writer.old) (W.contents writer.new) text.now) }
     ensures err { OnErr result
         (Writes (IsCutShort (λ whole. whole ≡ text.now)) (W.contents writer.old) (W.contents writer.new)) }
+    ensures recorded { OnOk result (text.now ≢ [] → A.recorded journal.now session.now) }
+    ensures part { OnErr result (Writes (IsWrittenIf text.now (A.recorded journal.now session.now))
+        (W.contents writer.old) (W.contents writer.new)) }
     ensures fault { IfErr result (λ fault. fault ≡ Fault.Writing) }
 {
     if text.is_empty() {

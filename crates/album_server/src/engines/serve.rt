@@ -5,6 +5,7 @@ ghost use Rattle.album_threads.specs.Opened.{opened_as};
 mod accepting;
 mod audit;
 mod connections;
+mod log;
 mod notices;
 mod opening;
 mod waker;

@@ -1,18 +1,13 @@
 //! The audit file of a service: each note is written to it before its request is answered.
+use crate::engines::serve::log::{Log, Unwritten};
 use crate::engines::serve::notices::Notice;
 use crate::journal::Journal;
-use album_audit::Record;
 use album_eval::Principal;
 use album_judge::Fault;
-use album_stamps::{ClientNo, Refusal};
 use album_threads::{ServiceNames, Session};
-use album_wire::write_record;
 use crossbeam_channel::Sender;
 use std::alloc::Global;
-use std::collections::BTreeMap;
 use std::fs::File;
-use std::io;
-use std::io::Write;
 use std::sync::atomic::{AtomicBool, Ordering};
 use std::sync::{Mutex, Wait};
 
@@ -23,28 +18,16 @@ pub struct AuditFile {
     pub file: File,
 }
 
-/// The file, and who talks over each connection.
-#[derive(Drop)]
-struct Log {
-    to: AuditFile,
-    /// By the numbers of their sessions.
-    named: BTreeMap<u16, Principal>,
-}
-
 /// Writes the notes of a service to its audit file, if it has one.
 #[derive(Drop)]
 pub(crate) struct AuditJournal {
     alloc: Global,
-    log: Option<Mutex<Log>>,
+    /// The path of the file, which a message names.
+    path: String,
+    log: Option<Mutex<Log<File>>>,
     /// Whether a note could not be written. Nothing is answered any more then.
     has_failed: AtomicBool,
     notices: Sender<Notice>,
-}
-
-/// Why a note isn't written.
-enum Unwritten {
-    Memory,
-    File(io::Error),
 }
 
 impl AuditJournal {
@@ -54,14 +37,13 @@ impl AuditJournal {
         notices: Sender<Notice>,
         file: Option<AuditFile>,
     ) -> AuditJournal {
-        let log = file.map(|to| {
-            Mutex::new(Log {
-                to,
-                named: BTreeMap::new(alloc),
-            })
-        });
+        let (path, log) = match file {
+            Some(AuditFile { path, file }) => (path, Some(Mutex::new(Log::new(alloc, file)))),
+            None => (String::new(alloc), None),
+        };
         AuditJournal {
             alloc,
+            path,
             log,
             has_failed: AtomicBool::new(false),
             notices,
@@ -83,8 +65,9 @@ impl AuditJournal {
     }
 
     /// Reports why a note isn't written.
-    fn fail<T: Wait>(&self, rt: &T, path: &str, why: Unwritten) {
+    fn fail<T: Wait>(&self, rt: &T, why: Unwritten) {
         self.has_failed.store(true, Ordering::SeqCst);
+        let path = &self.path;
         let text = match why {
             Unwritten::Memory => format!(in self.alloc; "{path}: {}", Fault::Memory),
             Unwritten::File(error) => format!(in self.alloc; "{path}: {error}"),
@@ -96,6 +79,10 @@ impl AuditJournal {
 }
 
 impl Journal for AuditJournal {
+    ghost use Rattle.std.specs.Prelude.{⊤};
+
+    ghost recorded = { λ _ _. ⊤ };
+
     /// Whoever is first at the file writes what others have noted too: records are written in the order of the book.
     fn settle<J: ServiceNames, T: Wait>(
         &self,
@@ -114,48 +101,9 @@ impl Journal for AuditJournal {
         match log.write(self.alloc, session.client(), who, &records) {
             Ok(()) => Ok(()),
             Err(why) => {
-                self.fail(rt, log.to.path.as_str(), why);
+                self.fail(rt, why);
                 Err(Fault::Writing)
             }
         }
-    }
-}
-
-impl Log {
-    /// Writes the records, each with who asked.
-    fn write(
-        &mut self,
-        alloc: Global,
-        client: ClientNo,
-        who: Option<&Principal>,
-        records: &[Record],
-    ) -> Result<(), Unwritten> {
-        self.name(client, who).map_err(|_| Unwritten::Memory)?;
-        for record in records {
-            self.append(alloc, *record)?;
-        }
-        Ok(())
-    }
-
-    /// The client is this principal from its first line on.
-    fn name(&mut self, client: ClientNo, who: Option<&Principal>) -> Result<(), Refusal> {
-        let number = client.number();
-        if let Some(who) = who
-            && !self.named.contains_key(&number)
-        {
-            let _ = self.named.insert(number, who.copy()?)?;
-        }
-        Ok(())
-    }
-
-    fn append(&mut self, alloc: Global, record: Record) -> Result<(), Unwritten> {
-        let Record { client, note } = record;
-        // Who has asked has said before who it is, and that was answered.
-        let who = self
-            .named
-            .get(&client.number())
-            .unwrap_or(&Principal::Anonymous);
-        let line = write_record(alloc, client, who, note).map_err(|_| Unwritten::Memory)?;
-        self.to.file.write_all(&line).map_err(Unwritten::File)
     }
 }

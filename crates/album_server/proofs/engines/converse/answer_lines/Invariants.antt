@@ -1,7 +1,7 @@
 use Rattle.std.proofs.Common.{map, take}
 use Rattle.album_threads.specs.Asks.{IsOn}
 use Rattle.album_lines.specs.Lines.{said}
-use Rattle.album_server.specs.Talk.{Talks}
+use Rattle.album_server.specs.Talk.{Talks, IsRecordedTalk}
 use Rattle.album_judge.specs.Writes.{Writes}
 use Rattle.album_server.proofs.engines.converse.answer_lines.Given as goal
 
@@ -10,6 +10,9 @@ invariant-loop-line g l = record {
   written : Writes (Talks g.J.ServiceNames.terms.limit g.J.ServiceNames.policy l.admins
       (record { who = l.initial.who; session = l.initial.session }) (map said (take l.line-index l.lines))
       (record { who = l.who; session = l.session }))
+      (g.W.Write.contents l.initial.writer) (g.W.Write.contents l.writer);
+  recorded : Writes (IsRecordedTalk g.J.ServiceNames.terms.limit g.J.ServiceNames.policy l.admins (g.A.Journal.recorded l.journal)
+      (record { who = l.initial.who; session = l.initial.session }) (record { who = l.who; session = l.session }))
       (g.W.Write.contents l.initial.writer) (g.W.Write.contents l.writer);
   on : IsOn l.initial.session l.session;
 }

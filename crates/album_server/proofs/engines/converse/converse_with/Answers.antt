@@ -3,12 +3,25 @@ use Rattle.std.proofs.lemmas.List.{length-take}
 use Rattle.std.proofs.lemmas.Result.{IfErr-weaker, on_ok_weaker, err_from_is_err_and}
 use Rattle.album_threads.proofs.LookLemmas.{on_self, on_trans}
 use Rattle.album_judge.specs.declared.engines.judge.TheConstants.{PIECE}
-use Rattle.album_server.proofs.TalkTurns.{has_read_more, prefix_so_far, turn_done, turn_left, turn_uncut, prefix_of_turn, last_done, last_left, prefix_of_last}
+use Rattle.album_server.proofs.TalkTurns.{begins, has_read_more, prefix_so_far, turn_done, turn_left, turn_uncut, prefix_of_turn, last_done, last_left, prefix_of_last}
+use Rattle.album_server.proofs.Recording.{by_outcome, recorded_begins, recorded_part, recorded_joined, recorded_part_joined}
 use Rattle.album_server.proofs.engines.converse.converse_with.Goals as goal
+
+pub loop-turn-init : goal.loop-turn-init
+loop-turn-init g c = record {
+  talked = begins g.J.ServiceNames.terms.limit g.J.ServiceNames.policy c.args.admins.now c.args.session.now _ _;
+  recorded = recorded_begins g.J.ServiceNames.terms.limit g.J.ServiceNames.policy c.args.admins.now (g.A.Journal.recorded c.args.journal.now) _ (g.W.Write.contents c.args.writer.now);
+  on = on_self c.args.session.now c.has_granted_writes.ensures.sound;
+  unread = λ _. refl;
+}
 
 -- a read failed
 pub returns-in_default-clause-err : goal.returns-in_default-clause-err
 returns-in_default-clause-err g c = prefix_so_far _ _ _ _ _ _ _ _ _ _ _ c.loop-turn.invariant.talked _ (on_self _ c.loop-turn.invariant.on.sound)
+
+pub returns-in_default-clause-recorded : goal.returns-in_default-clause-recorded
+returns-in_default-clause-recorded g c =
+    recorded_part g.J.ServiceNames.terms.limit g.J.ServiceNames.policy c.args.admins.now (g.A.Journal.recorded c.args.journal.now) _ _ _ _ c.loop-turn.invariant.recorded
 
 -- the reader is at its end
 pub returns-then-len-eq0-clause-ok : goal.returns-then-len-eq0-clause-ok
@@ -38,6 +51,13 @@ returns-then-len-eq0-clause-fault g c =
 pub returns-then-len-eq0-clause-on : goal.returns-then-len-eq0-clause-on
 returns-then-len-eq0-clause-on g c = on_trans _ _ _ c.loop-turn.invariant.on c.finish.ensures.on
 
+pub returns-then-len-eq0-clause-recorded : goal.returns-then-len-eq0-clause-recorded
+returns-then-len-eq0-clause-recorded g c =
+    by_outcome c.finish.result
+    (λ w. recorded_part g.J.ServiceNames.terms.limit g.J.ServiceNames.policy c.args.admins.now (g.A.Journal.recorded c.args.journal.now) _ _ _ _ (recorded_joined g.J.ServiceNames.terms.limit g.J.ServiceNames.policy c.args.admins.now (g.A.Journal.recorded c.args.journal.now) _ _ _ _ _ c.loop-turn.invariant.recorded w))
+    (λ w. recorded_part_joined g.J.ServiceNames.terms.limit g.J.ServiceNames.policy c.args.admins.now (g.A.Journal.recorded c.args.journal.now) _ _ _ _ _ c.loop-turn.invariant.recorded w)
+    c.finish.ensures.recorded c.finish.ensures.part
+
 -- no memory for the lines
 pub returns-in_err-ended-clause-err : goal.returns-in_err-ended-clause-err
 returns-in_err-ended-clause-err g c =
@@ -57,6 +77,10 @@ returns-in_err-ended-clause-few g c =
     let short : length (take c.in-Ok.len c.read.new.buf) ≤ PIECE =
     omega (arith, length-take c.in-Ok.len c.read.new.buf) in
     has_read_more _ _ _ _ _ _ _ _ _ _ _ c.loop-turn.invariant.talked _ _ c.in-Ok.ensures.bytes.0 _ short c.loop-turn-test.true
+
+pub returns-in_err-ended-clause-recorded : goal.returns-in_err-ended-clause-recorded
+returns-in_err-ended-clause-recorded g c =
+    recorded_part g.J.ServiceNames.terms.limit g.J.ServiceNames.policy c.args.admins.now (g.A.Journal.recorded c.args.journal.now) _ _ _ _ c.loop-turn.invariant.recorded
 
 -- an answer is not written
 pub returns-in_err-answer_lines-clause-err : goal.returns-in_err-answer_lines-clause-err
@@ -86,6 +110,10 @@ returns-in_err-answer_lines-clause-few g c =
 pub returns-in_err-answer_lines-clause-on : goal.returns-in_err-answer_lines-clause-on
 returns-in_err-answer_lines-clause-on g c = on_trans _ _ _ c.loop-turn.invariant.on c.answer_lines.ensures.on
 
+pub returns-in_err-answer_lines-clause-recorded : goal.returns-in_err-answer_lines-clause-recorded
+returns-in_err-answer_lines-clause-recorded g c =
+    recorded_part_joined g.J.ServiceNames.terms.limit g.J.ServiceNames.policy c.args.admins.now (g.A.Journal.recorded c.args.journal.now) _ _ _ _ _ c.loop-turn.invariant.recorded c.in_err-answer_lines.ensures.part
+
 -- the next turn
 pub loop-turn-preserved : goal.loop-turn-preserved
 loop-turn-preserved g c =
@@ -96,6 +124,7 @@ loop-turn-preserved g c =
           turn_done _ _ _ _ _ _ _ _ _ _ _ c.loop-turn.invariant.talked _ _ c.in-Ok.ensures.bytes.0 _ _
           c.in_ok-ended.ensures.lines (record { who = c.answer_lines.new.who; session = c.answer_lines.new.session }) _ short
           (rw c.deref.ensures.value at c.in_ok-answer_lines.ensures.ok);
+      recorded = recorded_joined g.J.ServiceNames.terms.limit g.J.ServiceNames.policy c.args.admins.now (g.A.Journal.recorded c.args.journal.now) _ _ _ _ _ c.loop-turn.invariant.recorded c.in_ok-answer_lines.ensures.recorded;
       on = on_trans _ _ _ c.loop-turn.invariant.on c.answer_lines.ensures.on;
       unread = λ none. absurd (omega (arith, none, c.loop-turn-test.true));
     }
@@ -103,3 +132,7 @@ loop-turn-preserved g c =
 -- the turns ran out
 pub returns-clause-err : goal.returns-clause-err
 returns-clause-err g c = prefix_so_far _ _ _ _ _ _ _ _ _ _ _ c.loop-turn.invariant.talked _ (on_self _ c.loop-turn.invariant.on.sound)
+
+pub returns-clause-recorded : goal.returns-clause-recorded
+returns-clause-recorded g c =
+    recorded_part g.J.ServiceNames.terms.limit g.J.ServiceNames.policy c.args.admins.now (g.A.Journal.recorded c.args.journal.now) _ _ _ _ c.loop-turn.invariant.recorded

@@ -1,5 +1,7 @@
 use Rattle.std.proofs.Common.{◌≡◌}
 use Rattle.album_threads.specs.Asks.{IsOn}
+use Rattle.album_server.specs.Talk.{IsRecordedTalk, stranger}
+use Rattle.album_judge.specs.Writes.{Writes}
 use Rattle.album_server.proofs.TalkTurns.{HasTalked}
 use Rattle.album_server.proofs.engines.converse.converse_with.Given as goal
 
@@ -8,6 +10,9 @@ invariant-loop-turn g l = record {
   talked : HasTalked g.J.ServiceNames.terms.limit g.J.ServiceNames.policy l.admins l.initial.session
       (record { who = l.who; session = l.session }) l._turn l.lines
       (g.R.Read.remaining l.initial.reader) (g.R.Read.remaining l.reader)
+      (g.W.Write.contents l.initial.writer) (g.W.Write.contents l.writer);
+  recorded : Writes (IsRecordedTalk g.J.ServiceNames.terms.limit g.J.ServiceNames.policy l.admins (g.A.Journal.recorded l.journal)
+      (stranger l.initial.session) (record { who = l.who; session = l.session }))
       (g.W.Write.contents l.initial.writer) (g.W.Write.contents l.writer);
   on : IsOn l.initial.session l.session;
   unread : l.turns ≡ 0 → g.R.Read.remaining l.reader ≡ g.R.Read.remaining l.initial.reader;

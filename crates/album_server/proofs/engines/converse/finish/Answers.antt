@@ -3,6 +3,7 @@ use Rattle.album_lines.specs.Lines.{Line}
 use Rattle.album_server.specs.Talk.{Talks, MayTalk}
 use Rattle.album_judge.specs.Writes.{Writes, IsLeftBy}
 use Rattle.album_server.proofs.Talking.{lines_begin}
+use Rattle.album_server.proofs.Recording.{recorded_begins}
 use Rattle.album_server.proofs.engines.converse.finish.Goals as goal
 
 -- the input ends in a newline
@@ -15,6 +16,11 @@ returns-in-None-clause-ok g c =
     subst (λ (ls : List Line). Writes (Talks limit policy admins (record { who = c.args.who.now; session = c.args.session.now }) ls
     (record { who = c.args.who.now; session = c.args.session.now })) written written) c.in-None.ensures
     (lines_begin limit policy admins (record { who = c.args.who.now; session = c.args.session.now }) written)
+
+pub returns-in-None-clause-recorded : goal.returns-in-None-clause-recorded
+returns-in-None-clause-recorded g c =
+    recorded_begins g.J.ServiceNames.terms.limit g.J.ServiceNames.policy c.args.admins.now (g.A.Journal.recorded c.args.journal.now)
+    (record { who = c.args.who.now; session = c.args.session.now }) (g.W.Write.contents c.args.writer.now)
 
 -- it does not
 pub returns-in-Some-clause-ok : goal.returns-in-Some-clause-ok

@@ -1,0 +1,106 @@
+//! What a service writes to its audit file: a line for each record, with who asked.
+ghost use Rattle.std.specs.Prelude.{◌≡◌, ◌≢◌, ℕ, None, Some, OnOk, IfSome};
+ghost use Rattle.std.specs.Io.KnownBytes.{Appends};
+ghost use Rattle.album_wire.specs.RecordJson.{record_text};
+ghost use Rattle.album_server.specs.Audits.{named_in, who_in, record_lines};
+
+use album_audit::Record;
+use album_eval::Principal;
+use album_stamps::{ClientNo, Refusal};
+use album_wire::write_record;
+use std::alloc::Global;
+use std::collections::BTreeMap;
+use std::io;
+use std::io::Write;
+
+/// A writer of lines, and who talks over each connection.
+#[derive(Drop)]
+pub(crate) struct Log<W> {
+    pub to: W,
+    /// By the numbers of their sessions.
+    pub named: BTreeMap<u16, Principal>,
+}
+
+/// Why a note isn't written.
+#[derive(Drop)]
+pub(crate) enum Unwritten {
+    Memory,
+    File(io::Error),
+}
+
+impl<W: Write> Log<W> {
+    /// Nothing is written yet, and nobody is known.
+    pub(crate) fn new(alloc: Global, to: W) -> Log<W>
+        ensures to { result.to ≡ to }
+        ensures nobody { (client : ℕ) → named_in result.named client ≡ None }
+    {
+        Log {
+            to,
+            named: BTreeMap::new(alloc),
+        }
+    }
+
+    /// Writes the records, in their order, each with who asked. The client is this principal from its first line on.
+    ///
+    /// # Errors
+    ///
+    /// Where there is no memory, or a write fails.
+    pub(crate) fn write(
+        &mut self,
+        alloc: Global,
+        client: ClientNo,
+        who: Option<&Principal>,
+        records: &[Record],
+    ) -> Result<(), Unwritten>
+        ensures written { OnOk result (Appends (W.contents self.old.to) (W.contents self.new.to)
+            (record_lines (who_in self.new.named) records.now)) }
+        ensures named { OnOk result (IfSome who.entry (λ principal. named_in self.old.named client ≡ None
+            → named_in self.new.named client ≡ Some principal.now)) }
+        ensures others { (other : ℕ) → other ≢ client → named_in self.new.named other ≡ named_in self.old.named other }
+    {
+        self.name(client, who).map_err(|_| Unwritten::Memory)?;
+        self.append_all(alloc, records)
+    }
+
+    /// The client is this principal, if that isn't known yet.
+    fn name(&mut self, client: ClientNo, who: Option<&Principal>) -> Result<(), Refusal>
+        ensures named { OnOk result (IfSome who.entry (λ principal. named_in self.old.named client ≡ None
+            → named_in self.new.named client ≡ Some principal.now)) }
+        ensures others { (other : ℕ) → other ≢ client → named_in self.new.named other ≡ named_in self.old.named other }
+        ensures kept { self.new.to ≡ self.old.to }
+    {
+        let number = client.number();
+        if let Some(who) = who
+            && !self.named.contains_key(&number)
+        {
+            let _ = self.named.insert(number, who.copy()?)?;
+        }
+        Ok(())
+    }
+
+    fn append_all(&mut self, alloc: Global, records: &[Record]) -> Result<(), Unwritten>
+        ensures written { OnOk result (Appends (W.contents self.old.to) (W.contents self.new.to)
+            (record_lines (who_in self.old.named) records.now)) }
+        ensures named { self.new.named ≡ self.old.named }
+    {
+        for of in records {
+            self.append(alloc, *of)?;
+        }
+        Ok(())
+    }
+
+    fn append(&mut self, alloc: Global, of: Record) -> Result<(), Unwritten>
+        ensures written { OnOk result (Appends (W.contents self.old.to) (W.contents self.new.to)
+            (record_text of.client (who_in self.old.named of.client) of.note)) }
+        ensures named { self.new.named ≡ self.old.named }
+    {
+        let Record { client, note } = of;
+        // Who has asked has said before who it is, and that was answered.
+        let who = self
+            .named
+            .get(&client.number())
+            .unwrap_or(&Principal::Anonymous);
+        let line = write_record(alloc, client, who, note).map_err(|_| Unwritten::Memory)?;
+        self.to.write_all(&line).map_err(Unwritten::File)
+    }
+}
