@@ -112,9 +112,8 @@ pub fn converse_with<J: ServiceNames, T: Wait + time::Clock, R: Read, W: Write, 
         (R.remaining reader.old) (R.remaining reader.new) (W.contents writer.old) (W.contents writer.new)) }
 
     // What was noted for an answer is recorded before any byte of it is written, whether there is a fault or not.
-    ensures recorded {
-        Writes (IsRecordedPart J.terms.limit J.policy admins.now (A.recorded journal.now) (stranger session.old))
-        (W.contents writer.old) (W.contents writer.new) }
+    ensures recorded { Writes (IsRecordedPart J.terms.limit J.policy admins.now (A.recorded journal.now)
+        (stranger session.old)) (W.contents writer.old) (W.contents writer.new) }
 
     // The session has only seen more.
     ensures on { IsOn session.old session.new }
