@@ -3,6 +3,7 @@
 ghost use Rattle.std.specs.Prelude.{length};
 
 use album_lines::data;
+use album_stamps::Refusal;
 use json::{Reader, Scratch, Token};
 use std::alloc::{AllocError, Global};
 use std::str;
@@ -37,7 +38,7 @@ pub(crate) fn bad_byte(alloc: Global, bytes: &[u8]) -> Result<usize, AllocError>
     };
     let mut at = reader.offset();
     while let Some(token) = reader.next() {
-        if !is_in_range(alloc, &mut numerals, &token) || !place.take(&token)? {
+        if !is_in_range(alloc, &mut numerals, &token)? || !place.take(&token)? {
             return Ok(at);
         }
         at = reader.offset();
@@ -46,10 +47,18 @@ pub(crate) fn bad_byte(alloc: Global, bytes: &[u8]) -> Result<usize, AllocError>
 }
 
 /// Whether the token is no number that is out of range.
-fn is_in_range(alloc: Global, scratch: &mut Scratch, token: &Token<'_>) -> bool {
-    match token {
-        Token::Number(numeral) => data(alloc, scratch, numeral.as_bytes()).is_ok(),
-        _ => true,
+fn is_in_range(
+    alloc: Global,
+    scratch: &mut Scratch,
+    token: &Token<'_>,
+) -> Result<bool, AllocError> {
+    let Token::Number(numeral) = token else {
+        return Ok(true);
+    };
+    match data(alloc, scratch, numeral.as_bytes()) {
+        Ok(_) => Ok(true),
+        Err(Refusal::OutOfMemory) => Err(AllocError),
+        Err(_) => Ok(false),
     }
 }
 
