@@ -6,7 +6,6 @@ use Rattle.album_eval.specs.declared.facts.Principal.{Principal}
 use Rattle.album_eval.specs.declared.policies.Policy.{Policy}
 use Rattle.album_passes.specs.Cuts.{Cut, IsSound, Extends, announced_for}
 use Rattle.album_passes.proofs.CutLemmas.{extends_self, extends_trans}
-use Rattle.album_passes.proofs.ReadLemmas.{fresh_more}
 use Rattle.album_permits.specs.Permits.{PermitState}
 use Rattle.album_permits.specs.declared.answers.Answer.{Answer}
 use Rattle.album_permits.specs.declared.answers.Answer.TheVariants as answer
@@ -23,17 +22,14 @@ use Rattle.album_threads.specs.Grounds.AreInVain.{NoRead, OneMore}
 use Rattle.album_threads.specs.Resting.{IsShared, IsFoundOnView, HasSeen, IsDrawn, IsAnnounced, IsBegun, IsAlbumFull, IsSpent, IsRefusedBy, RestsOn}
 use Rattle.album_threads.specs.Sessions.{ChannelState, SessionState, IsLater, AnnouncesNothing, DrawsNothing, AddsNothing}
 use Rattle.album_threads.specs.Steps.{IsStill}
+use Rattle.album_threads.proofs.LookLemmas.{seen_from}
 use Rattle.album_threads.proofs.TrimLemmas.{trims_stay}
 
 -- ---- the cuts
 
 module _ (old begun now : Cut) (on : Extends old begun) (later : Extends begun now) (sound : IsSound now) where
   seen_earlier : (rows : List ReadVersion) → IsSeen begun now rows → IsSeen old now rows
-  seen_earlier rows h = record {
-    atomic = h.atomic;
-    fresh = fresh_more old begun now now sound sound on later (extends_self now) rows h.fresh;
-    settled = h.settled;
-  }
+  seen_earlier rows h = seen_from old begun now rows on h
 
   wide_earlier : (ask : Ask) → IsWide begun now ask → IsWide old now ask
   wide_earlier ask h = record { rows = h.rows; seen = seen_earlier h.rows h.seen; lacking = h.lacking; wide = h.wide }
@@ -105,6 +101,13 @@ module _ (old begun new : SessionState) (still : IsStill old begun) (later : Ext
     drawn = drawn_earlier case t h.drawn;
     above = h.above;
     announced = h.announced;
+    depends = (let d = h.depends in record {
+      seen = d.seen;
+      since = extends_trans old.cut begun.cut d.seen still.on.grown d.since;
+      until = d.until;
+      settled = d.settled;
+      depended = d.depended;
+    });
     alone = λ u own other. h.alone u (own ∙ sym still.on.client) other ∙ still.adds.drawn.silent u own;
   }
 

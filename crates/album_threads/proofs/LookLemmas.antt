@@ -90,7 +90,7 @@ module _ (b c : Cut) (viewing : ViewingState) (items : List ℕ) where
 -- ---- reads in vain
 
 -- what was seen since a later cut was seen since an earlier one
-seen_from : (a b c : Cut) (rows : List ReadVersion) → Extends a b → IsSeen b c rows → IsSeen a c rows
+pub seen_from : (a b c : Cut) (rows : List ReadVersion) → Extends a b → IsSeen b c rows → IsSeen a c rows
 seen_from a b c rows x h = record {
   atomic = h.atomic;
   at = h.at;
