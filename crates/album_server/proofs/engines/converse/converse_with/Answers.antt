@@ -54,7 +54,7 @@ returns-then-len-eq0-clause-on g c = on_trans _ _ _ c.loop-turn.invariant.on c.f
 pub returns-then-len-eq0-clause-recorded : goal.returns-then-len-eq0-clause-recorded
 returns-then-len-eq0-clause-recorded g c =
     by_outcome c.finish.result
-    (λ w. recorded_part g.J.ServiceNames.terms.limit g.J.ServiceNames.policy c.args.admins.now (g.A.Journal.recorded c.args.journal.now) _ _ _ _ (recorded_joined g.J.ServiceNames.terms.limit g.J.ServiceNames.policy c.args.admins.now (g.A.Journal.recorded c.args.journal.now) _ _ _ _ _ c.loop-turn.invariant.recorded w))
+    (λ w. recorded_part g.J.ServiceNames.terms.limit g.J.ServiceNames.policy c.args.admins.now (g.A.Journal.recorded c.args.journal.now) _ _ _ _ (recorded_joined g.J.ServiceNames.terms.limit g.J.ServiceNames.policy c.args.admins.now (g.A.Journal.recorded c.args.journal.now) _ _ _ _ _ _ c.loop-turn.invariant.recorded w))
     (λ w. recorded_part_joined g.J.ServiceNames.terms.limit g.J.ServiceNames.policy c.args.admins.now (g.A.Journal.recorded c.args.journal.now) _ _ _ _ _ c.loop-turn.invariant.recorded w)
     c.finish.ensures.recorded c.finish.ensures.part
 
@@ -124,7 +124,7 @@ loop-turn-preserved g c =
           turn_done _ _ _ _ _ _ _ _ _ _ _ c.loop-turn.invariant.talked _ _ c.in-Ok.ensures.bytes.0 _ _
           c.in_ok-ended.ensures.lines (record { who = c.answer_lines.new.who; session = c.answer_lines.new.session }) _ short
           (rw c.deref.ensures.value at c.in_ok-answer_lines.ensures.ok);
-      recorded = recorded_joined g.J.ServiceNames.terms.limit g.J.ServiceNames.policy c.args.admins.now (g.A.Journal.recorded c.args.journal.now) _ _ _ _ _ c.loop-turn.invariant.recorded c.in_ok-answer_lines.ensures.recorded;
+      recorded = recorded_joined g.J.ServiceNames.terms.limit g.J.ServiceNames.policy c.args.admins.now (g.A.Journal.recorded c.args.journal.now) _ _ _ _ _ _ c.loop-turn.invariant.recorded c.in_ok-answer_lines.ensures.recorded;
       on = on_trans _ _ _ c.loop-turn.invariant.on c.answer_lines.ensures.on;
       unread = λ none. absurd (omega (arith, none, c.loop-turn-test.true));
     }
