@@ -77,7 +77,8 @@ fn both_over<
     J: ServiceNames + Send + 'static,
     R: Threads + Wait + time::Clock + Copy + Send + Sync + 'static,
 >(rt: R, alloc: Global, opened: Opened) -> Result<Both, Refusal>
-    requires named { opened ≡ opened_as J.table J.terms J.policy J.audit_ok J.audit_failed J.alarm_ok J.alarm_failed }
+    requires named { opened ≡ opened_as J.table J.terms J.policy J.list
+        J.audit_ok J.audit_failed J.alarm_ok J.alarm_failed }
 {
     let overtakes = Arc::new(alloc, Overtakes::new())?;
     let gate = Overtaking {
@@ -93,11 +94,18 @@ fn both_over<
     Ok(both)
 }
 
+fn title_overtaken<R: Threads + Wait + time::Clock + Copy + Send + Sync + 'static>(
+    rt: R,
+    alloc: Global,
+) -> Result<Both, Refusal> {
+    let opened = opened(alloc, READABLE, 2)?.without_hints();
+    both_over::<Brand, R>(rt, alloc, opened)
+}
+
 /// amy's title is committed between the two rounds of bo's last read. His session reads anew, and is served the title.
 #[test]
 fn a_read_that_is_overtaken(rt: HostRuntime) -> Result<(), Fail> {
-    let opened = opened(rt.alloc(), READABLE, 2)?.without_hints();
-    let Both { amy, bo } = both_over::<Brand, HostRuntime>(rt, rt.alloc(), opened)?;
+    let Both { amy, bo } = title_overtaken(rt, rt.alloc())?;
     assert_eq!(rt; amy, Ok(65_537));
     same(&rt, bo, "Bay at 65537")
 }

@@ -5,13 +5,13 @@ ghost use Rattle.album_stamps.specs.Outcome.{Gives};
 ghost use Rattle.album_threads.specs.Asks.{IsOn};
 ghost use Rattle.album_lines.specs.Lines.{said};
 ghost use Rattle.album_lines.specs.Output.{refusal_line};
-ghost use Rattle.album_server.specs.Talk.{AnswersTalk, Attends, Greets, IsAsked, IsPendingAnswered, IsSweptFor, IsTrimmedFor, TalksOnce, hello_line_read, talk_line_heard};
+ghost use Rattle.album_server.specs.Talk.{AnswersAsk, AnswersTalk, Attends, Greets, IsAsked, IsPendingAnswered, IsSweptFor, IsTrimmedFor, TalksOnce, hello_line_read, talk_line_heard};
 
 use crate::admins::Admins;
 use album_eval::Principal;
 use album_items::ItemId;
 use album_lines::{LineIn, write_refusal};
-use album_permits::Out;
+use album_permits::{Answer, Out};
 use album_stamps::{Refusal, Stamp};
 use album_threads::{Acknowledged, ServiceNames, Session};
 use album_views::Ask;
@@ -147,17 +147,38 @@ fn carry_out_ask<J: ServiceNames, T: Wait + time::Clock>(
         IsAsked J.terms.limit J.policy principal.now ask session.old session.new text.items) }
     ensures on { IsOn session.old session.new }
 {
-    match session.ask_in_order(rt, principal, ask) {
-        Ok(given) => {
-            let Acknowledged {
-                answer,
-                listened: _,
-                published: _,
-            } = given;
-            write_out(alloc, &Out::Answered(session.client(), answer), None)
-        }
+    match asked(rt, session, principal, ask) {
+        Ok(answer) => write_out(alloc, &Out::Answered(session.client(), answer), None),
         Err(refusal) => write_refusal(alloc, refusal),
     }
+}
+
+/// What the session answers, in the order of the service's board.
+fn asked<J: ServiceNames, T: Wait + time::Clock>(
+    rt: &T,
+    session: &mut Session<J>,
+    principal: &Principal,
+    ask: Ask,
+) -> Result<Answer, Refusal>
+    ensures answered { AnswersAsk J.terms.limit J.policy principal.now ask session.old session.new result }
+    ensures on { IsOn session.old session.new }
+{
+    match session.ask_in_order(rt, principal, ask) {
+        Ok(given) => Ok(answer_of(given)),
+        Err(refusal) => Err(refusal),
+    }
+}
+
+/// The answer. What was listened to and published is let go.
+fn answer_of<J: ServiceNames>(given: Acknowledged<J>) -> Answer
+    ensures { result ≡ given.answer }
+{
+    let Acknowledged {
+        answer,
+        listened: _,
+        published: _,
+    } = given;
+    answer
 }
 
 #[tactic(auto, unfolding(album_wire::specs::TalkJson::talk_text))]
