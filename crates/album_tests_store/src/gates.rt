@@ -184,7 +184,9 @@ impl Gate for Overtaking {
 
     fn leave(&self, part: u16, number: u64) {
         if part == 0 {
-            self.overtakes.zero.store(number.wrapping_add(1), Ordering::SeqCst);
+            self.overtakes
+                .zero
+                .store(number.wrapping_add(1), Ordering::SeqCst);
         }
     }
 }

@@ -96,12 +96,7 @@ impl<J: ServiceNames> Model for ReplyEnvelope<J> {
 
 impl<J: ServiceNames> ReplyEnvelope<J> {
     /// The reply to the request, which a newer version has overtaken or not, with this pass.
-    pub fn new(
-        request: Message,
-        reply: Message,
-        overtaken: bool,
-        pass: Pass,
-    ) -> ReplyEnvelope<J>
+    pub fn new(request: Message, reply: Message, overtaken: bool, pass: Pass) -> ReplyEnvelope<J>
         requires of { pass.table ≡ J.table }
         requires unnumbered { pass.number ≡ None }
         requires answered { IsAnswered J.terms.limit pass.cut request reply }

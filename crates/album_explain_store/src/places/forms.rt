@@ -61,11 +61,9 @@ fn has_form(form: Form, value: &Value<'_>) -> bool {
         Form::Part => small(value).is_some(),
         Form::Stamp => is_stamp(value),
         Form::Item => item_in(value).is_some(),
-        Form::Children
-        | Form::Members
-        | Form::Entries
-        | Form::Lists
-        | Form::Memberships => is_list(value),
+        Form::Children | Form::Members | Form::Entries | Form::Lists | Form::Memberships => is_list(
+            value,
+        ),
         Form::Deliver => whole(value).is_ok() || is_range(value),
     }
 }

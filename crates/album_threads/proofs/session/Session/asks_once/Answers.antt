@@ -12,10 +12,16 @@ drives-requires g c =
     let now = c.args.self.now in
     let outset : Outset = record { principal = c.args.principal.now; ask = c.args.ask.now; session = now; hinted = false } in
     let sound = subst (λ (s : SessionState). IsSound s.cut) c.self.view_is c.is_sound.ensures in
-    record { way = (outset, sym c.plain-course.ensures, subst (λ (a : Ask). IsUnderWay g.J.ServiceNames.policy
-    (record { principal = c.args.principal.now; ask = a; session = now; hinted = false }) c.begins.new.self
-    c.in_ok-asked.asked.begun.cut c.in_ok-asked.asked.sent.items c.in_ok-asked.phase) c.in_ok-copy.ensures.copy
-    (c.in_ok-asked.ensures.way now (still_self now sound))) }
+    record {
+      way = (
+        outset,
+        sym c.plain-course.ensures,
+        subst (λ (a : Ask). IsUnderWay g.J.ServiceNames.policy
+            (record { principal = c.args.principal.now; ask = a; session = now; hinted = false }) c.begins.new.self
+            c.in_ok-asked.asked.begun.cut c.in_ok-asked.asked.sent.items c.in_ok-asked.phase) c.in_ok-copy.ensures.copy
+            (c.in_ok-asked.ensures.way now (still_self now sound)),
+      );
+    }
 
 pub returns-clause-done : goal.returns-clause-done
 returns-clause-done g c = λ session still.
