@@ -73,8 +73,8 @@ pub fn what_is_committed_is_there()
         → IsCommitted old stamp → written_value new item stamp ≡ written_value old item stamp }
 {}
 
-/// A law: a cut is causal. A stamp depends on all marks that its author has seen when it is announced. Of each write that
-/// a cut knows as committed, it knows what that is, and has all of it.
+/// A law: a cut is causal. A stamp depends on all marks that its author has seen when it is announced.
+/// Of each write that a cut knows as committed, it knows what that is, and has all of it.
 pub fn cuts_are_causal()
     ensures announced { (cut : Cut) (stamp part : ℕ) (items lengths : List ℕ)
         → dependencies_of (announced_cut cut stamp items) stamp ≡ Some lengths

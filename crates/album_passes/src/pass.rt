@@ -70,8 +70,8 @@ impl Pass {
     }
 
     /// Announces the items of a write, before the first message of it leaves. The stamp is one of
-    /// the pass's own client, for which nothing is announced yet. What the pass has seen goes with it: the stamp depends
-    /// on that.
+    /// the pass's own client, for which nothing is announced yet. What the pass has seen goes with
+    /// it: the stamp depends on that.
     #[tactic(auto, using(crate::proofs::CutLemmas::extends_announced))]
     pub fn announce(&mut self, desk: &Desk, stamp: Stamp, items: &[ItemId])
         requires table { self.old.table ≡ desk.now.table }

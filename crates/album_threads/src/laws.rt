@@ -41,7 +41,7 @@ pub fn reads_go_on()
         → IsKept old permit stamp → IsSeen later new rows → AreFrom stamp (items_of permit stamp) rows }
 {}
 
-/// A law: no new enemy. No item of a view is older than what the author of any other of its versions had seen committed,
+/// A law: no new enemy. No item of a view is older than what the author of another of its versions had seen committed
 /// when it wrote that version. So who takes a group off a list, and then puts somebody into the group, is never seen as
 /// having done the second alone: whoever reads the group's new members reads the new list.
 pub fn no_new_enemy()

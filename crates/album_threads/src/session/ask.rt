@@ -229,8 +229,8 @@ impl<J: ServiceNames> Session<J> {
         }
     }
 
-    /// Goes on by what was heard. Once a write has begun, what cuts it off is its answer. A read that is overtaken comes
-    /// to no view. While a hint is tried nothing is taken over of what comes of no view, nor is the ask refused.
+    /// Goes on by what was heard. Once a write has begun, what cuts it off is its answer. A read that is overtaken
+    /// comes to no view. While a hint is tried nothing is taken over of what comes of no view, nor is the ask refused.
     ///
     /// # Errors
     ///
