@@ -1,15 +1,23 @@
-use Rattle.std.proofs.Common.{◌≡◌, ◌≢◌, ◌≤◌, [], length, take, refl, ap, arith}
+use Rattle.std.proofs.Common.{◌≡◌, ◌≢◌, ◌≤◌, ℕ, List, [], Option, length, take, refl, sym, ap, subst, arith}
 use Rattle.std.proofs.lemmas.List.{length-take}
 use Rattle.std.proofs.lemmas.Result.{IfErr-weaker, on_ok_weaker, err_from_is_err_and}
 use Rattle.album_threads.proofs.LookLemmas.{on_self, on_trans}
 use Rattle.album_judge.specs.declared.engines.judge.TheConstants.{PIECE}
-use Rattle.album_server.proofs.TalkTurns.{begins, has_read_more, prefix_so_far, turn_done, turn_left, turn_uncut, prefix_of_turn, last_done, last_left, prefix_of_last}
+use Rattle.album_server.specs.Talk.{stranger}
+use Rattle.album_server.proofs.TalkTurns.{HasTalked, begins, has_read_more, prefix_so_far, turn_done, turn_left, turn_uncut, prefix_of_turn, last_done, last_left, prefix_of_last}
 use Rattle.album_server.proofs.Recording.{by_outcome, recorded_begins, recorded_part, recorded_joined, recorded_part_joined}
 use Rattle.album_server.proofs.engines.converse.converse_with.Goals as goal
 
 pub loop-turn-init : goal.loop-turn-init
 loop-turn-init g c = record {
-  talked = begins g.J.ServiceNames.terms.limit g.J.ServiceNames.policy c.args.admins.now c.args.session.now _ _;
+  talked = subst
+      (λ (unfinished : Option (List ℕ)). HasTalked g.J.ServiceNames.terms.limit g.J.ServiceNames.policy c.args.admins.now
+      c.args.session.now (stranger c.args.session.now) 0 unfinished
+      (g.R.Read.remaining c.args.reader.now) (g.R.Read.remaining c.args.reader.now)
+      (g.W.Write.contents c.args.writer.now) (g.W.Write.contents c.args.writer.now))
+      (sym c.new-lines.ensures)
+      (begins g.J.ServiceNames.terms.limit g.J.ServiceNames.policy c.args.admins.now c.args.session.now
+      (g.R.Read.remaining c.args.reader.now) (g.W.Write.contents c.args.writer.now));
   recorded = recorded_begins g.J.ServiceNames.terms.limit g.J.ServiceNames.policy c.args.admins.now (g.A.Journal.recorded c.args.journal.now) _ (g.W.Write.contents c.args.writer.now);
   on = on_self c.args.session.now c.has_granted_writes.ensures.sound;
   unread = λ _. refl;
