@@ -2,7 +2,7 @@
 ghost use Rattle.std.specs.Prelude.{◌≡◌, ◌≤◌, ◌⊎◌, IfOk, IfErr, IsOkUnless, None};
 ghost use Rattle.std.specs.Arc.{arc_value};
 ghost use Rattle.album_stamps.specs.declared.limits.TheConstants.{MAX_PARTS};
-ghost use Rattle.album_audit.specs.Totals.{none};
+ghost use Rattle.album_audit.specs.Books.{new_share};
 ghost use Rattle.album_passes.specs.Changes.{IsUnheard};
 ghost use Rattle.album_threads.specs.Opened.{opened_as};
 
@@ -173,7 +173,7 @@ impl<J: ServiceNames> Service<J> {
         ensures parts { IfOk result (λ session. session.cut.parts ≡ J.terms.parts) }
         ensures opening { IfOk result (λ session. session.cut.opening ≡ J.terms.opening) }
         ensures counter { IfOk result (λ session. session.counter ≡ 0) }
-        ensures share { IfOk result (λ session. session.share ≡ none) }
+        ensures share { IfOk result (λ session. session.share ≡ new_share) }
         ensures refused { IfErr result (λ e. (e ≡ Refusal.OutOfMemory) ⊎ (e ≡ Refusal.SessionsSpent)) }
     {
         let book = Arc::try_clone(&self.book)?;
