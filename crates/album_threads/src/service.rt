@@ -166,7 +166,8 @@ impl<J: ServiceNames> Service<J> {
     ///
     /// # Errors
     ///
-    /// `SessionsSpent` where all numbers are drawn; else `OutOfMemory`, which may leave a number spent.
+    /// `OutOfMemory`, where there is none for the session; then `SessionsSpent`, where all numbers are drawn; then
+    /// `OutOfMemory` once more, where the session can't be registered, which leaves its number spent.
     pub fn session<R: Wait>(&self, rt: &R) -> Result<Session<J>, Refusal>
         ensures unheard { IfOk result (λ session. IsUnheard session.client session.cut) }
         ensures most { IfOk result (λ session. session.client ≤ J.terms.sessions) }
