@@ -114,8 +114,8 @@ abbrev pub IsUpToDate : Cut → Message → Type 0
 IsUpToDate cut message = (part item stamp : ℕ) (value : Value) → message.from ≡ Part part
     → message.body ≡ body.Reply (reply.Version item stamp value) → latest (prefix_at cut part) item ≤ stamp
 
--- the request, the reply, whether a newer version than the one that is replied is committed, and the pass that goes with
--- them
+-- the request, the reply, whether a newer version than the one that is replied is committed, and the pass that goes
+-- with them
 pub record ReplyEnvelopeState : Type 0 where
   pub request : Message
   pub reply : Message

@@ -24,8 +24,8 @@ use Rattle.album_passes.specs.Reads.{IsCommitted, IsCommittedFor, writes_in_cut}
 
 -- ---- a view
 
--- each stamp at which an item was read, but for 0, is committed at the item's own partition: whoever reads the item later
--- finds that version, or a newer one
+-- each stamp at which an item was read, but for 0, is committed at the item's own partition: whoever reads the item
+-- later finds that version, or a newer one
 abbrev pub AreSettled : Cut → List ReadVersion → Type 0
 AreSettled now rows = All (λ row. row.stamp ≢ 0 → IsCommittedFor now row.stamp row.item) rows
 
@@ -37,9 +37,9 @@ AreUpToDate cut rows = All (λ row. latest (prefix_for cut row.item) row.item �
 abbrev pub AreKnown : Cut → List ReadVersion → Type 0
 AreKnown cut rows = All (λ row. row.stamp ≢ 0 → IsCommitted cut row.stamp) rows
 
--- What was read is read atomic, with the cut's marks as histories, and settled. It is fresh from a cut that extends the one
--- with which the ask began, and that knows each of its versions as committed. So no item is older than what the author of
--- another's version had seen: law `no_new_enemy`.
+-- What was read is read atomic, with the cut's marks as histories, and settled. It is fresh from a cut that extends the
+-- one with which the ask began, and that knows each of its versions as committed. So no item is older than what the
+-- author of another's version had seen: law `no_new_enemy`.
 pub record IsSeen (begun now : Cut) (rows : List ReadVersion) : Type 0 where
   pub atomic : IsReadAtomic (writes_in_cut now) (first_value now.opening) rows
   pub at : Cut

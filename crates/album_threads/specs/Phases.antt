@@ -32,8 +32,8 @@ pub data IsRound (start at : Cut) (begun : RoundState) : Type 0 where
   Second : (first : RoundState) (gets : List Message) → Extends start at → IsFirstOver start at first begun gets
       → IsRound start at begun
 
--- It reads for the ask: a hint names its items, or what was read before led to no view. This round began at a cut, where
--- it sent its messages.
+-- It reads for the ask: a hint names its items, or what was read before led to no view. This round began at a cut,
+-- where it sent its messages.
 pub record IsReading
     (hinted : Bool) (principal : Principal) (ask : Ask) (old at now : Cut) (sent : List Message)
     (pending_ask : PendingAsk) (round : RoundState)

@@ -34,8 +34,8 @@ pub record IsReplied (limit : ℕ) (old new : Cut) (sent : List Message) (reply 
 
 -- ---- a round of a read
 
--- The round asks the same as it did when it began. Each answer that it has was given between the two cuts, is settled, and
--- was the latest one by the old cut.
+-- The round asks the same as it did when it began. Each answer that it has was given between the two cuts, is settled,
+-- and was the latest one by the old cut.
 pub record IsUnder (old new : Cut) (begun round : RoundState) : Type 0 where
   pub asker : round.asker ≡ begun.asker
   pub items : round.items ≡ begun.items

@@ -50,8 +50,8 @@ pub record IsDrawn (old new : SessionState) (permit : PermitState) (stamp : ℕ)
   pub last : new.counter ≡ counter_of stamp
   pub unused : announced_for old.cut stamp ≡ None
 
--- The write depends on what the session had seen as it announced it: on all that it had seen before the ask, and on each
--- version that it read.
+-- The write depends on what the session had seen as it announced it: on all that it had seen before the ask, and on
+-- each version that it read.
 pub record IsDepended (old new : SessionState) (permit : PermitState) (stamp : ℕ) : Type 0 where
   pub seen : Cut
   pub since : Extends old.cut seen

@@ -40,7 +40,8 @@ pub record IsLater (old new : ChannelState) : Type 0 where
 abbrev pub IsClosedOrOutOfMemory : Refusal → Type 0
 IsClosedOrOutOfMemory why = (why ≡ OutOfMemory) ⊎ (why ≡ Closed)
 
--- why there is no reply to take: none can come; or, in a read, it comes from a partition that has committed a newer version
+-- why there is no reply to take: none can come; or, in a read, it comes from a partition that has committed a newer
+-- version
 abbrev pub IsNoReply : Bool → NoReply → Type 0
 IsNoReply reads (Refused why) = IsClosedOrOutOfMemory why
 IsNoReply reads Overtaken = reads ≡ true

@@ -55,7 +55,8 @@ IsBegunFor policy principal ask session hinted now started =
     started.0.begun.cut started.0.sent.items started.1
 
 -- the client begins to read items for the ask, and its objects are among them
-pub record IsBegunWith (policy : Policy) (principal : Principal) (ask : Ask) (session : SessionState) (transition : Transition)
+pub record IsBegunWith
+    (policy : Policy) (principal : Principal) (ask : Ask) (session : SessionState) (transition : Transition)
     : Type 0 where
   pub tag : ℕ
   pub items : List ℕ
