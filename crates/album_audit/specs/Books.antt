@@ -1,5 +1,5 @@
 -- What an audit book holds.
-use Rattle.std.specs.Prelude.{◌≡◌, ◌≤◌, ◌<◌, ◌+◌, ◌++◌, [], ◌^◌, ◌||◌, nat_le, Bool, ℕ, List, Option, Some, None, option_map}
+use Rattle.std.specs.Prelude.{◌≡◌, ◌≤◌, ◌<◌, ◌+◌, ◌++◌, [], ◌∷◌, ◌^◌, ◌||◌, nat_le, Bool, ℕ, List, Option, Some, None, option_map}
 use Rattle.std.specs.Option.{unwrap_or}
 use Rattle.album_stamps.specs.declared.limits.TheConstants.{CLIENTS}
 use Rattle.album_audit.specs.Totals.{totals_of, none, plus}
@@ -12,6 +12,27 @@ pub record LedgerNames : Type 0 where
   pub audit_failed : ℕ
   pub alarm_ok : ℕ
   pub alarm_failed : ℕ
+
+-- how much was noted with a share, of each kind, and the records of what was noted last with it
+pub record ShareState : Type 0 where
+  pub totals : Totals
+  pub last : List Record
+
+-- a share with which nothing is noted yet
+abbrev pub new_share : ShareState
+new_share = record { totals = none; last = [] }
+
+-- of records that are noted together the last ones are these, if there are some
+abbrev pub last_of : List Record → List Record → List Record
+last_of before [] = before
+last_of before (first ∷ more) = first ∷ more
+
+-- the share with these records more, which were noted together
+abbrev pub share_with : ShareState → List Record → ShareState
+share_with share records = record {
+  totals = plus share.totals (totals_of records);
+  last = last_of share.last records;
+}
 
 -- how much was noted of each kind, how many shares were given, how many of them aren't gathered, what the gathered
 -- ones had, and, where records are kept, those that aren't taken yet

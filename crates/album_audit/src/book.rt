@@ -1,8 +1,8 @@
 //! The audit book.
-ghost use Rattle.std.specs.Prelude.{◌≡◌, ◌≤◌, ◌⊎◌, ◌+◌, ◌∷◌, [], true, false, Some, IsSome, IfOk, IfErr, OnOk, OnErr, IsOkUnless};
+ghost use Rattle.std.specs.Prelude.{◌≡◌, ◌≤◌, ◌⊎◌, ◌+◌, true, false, Some, IsSome, IfOk, IfErr, OnOk, OnErr, IsOkUnless};
 ghost use Rattle.album_stamps.specs.declared.limits.TheConstants.{CLIENTS};
-ghost use Rattle.album_audit.specs.Totals.{totals_of, records_of, none, plus};
-ghost use Rattle.album_audit.specs.Books.{is_past_end, new_book, book_with, kept_records, none_kept};
+ghost use Rattle.album_audit.specs.Totals.{totals_of, records_of, plus};
+ghost use Rattle.album_audit.specs.Books.{is_past_end, new_book, book_with, kept_records, none_kept, new_share, share_with};
 
 use crate::names::{AlarmFailed, AlarmOk, AuditFailed, AuditOk, Blanks, Books};
 use crate::share::Share;
@@ -112,7 +112,7 @@ impl<J: Books> AuditBook<J> {
     ///
     /// `SessionsSpent` exactly where a share was given for each client number; the book stays as it is.
     pub fn share(&mut self) -> Result<Share<J>, Refusal>
-        ensures share { IfOk result (λ share. share ≡ none) }
+        ensures share { IfOk result (λ share. share ≡ new_share) }
         ensures given { OnOk result (self.new ≡ record self.old {
           given = self.old.given + 1;
           out = self.old.out + 1;
@@ -130,36 +130,12 @@ impl<J: Books> AuditBook<J> {
             audit_failed: self.audit_failed.lend(),
             alarm_ok: self.alarm_ok.lend(),
             alarm_failed: self.alarm_failed.lend(),
+            last: None,
         })
     }
 
-    /// Counts one note, in the book and in the share. Where records are kept, its record is too, after those before it.
-    ///
-    /// # Errors
-    ///
-    /// As `note_all`.
-    pub fn note(
-        &mut self,
-        share: &mut Share<J>,
-        client: ClientNo,
-        note: Note,
-    ) -> Result<(), Refusal>
-        ensures book { OnOk result (self.new ≡ book_with self.old (record { client = client; note = note } ∷ [])) }
-        ensures share { OnOk result
-            (share.new ≡ plus share.old (totals_of (record { client = client; note = note } ∷ []))) }
-        ensures memory { IsOkUnless result Refusal.OutOfMemory }
-        ensures end { OnErr result
-            ((is_past_end (plus self.old.totals (totals_of (record { client = client; note = note } ∷ []))) ≡ true)
-            ⊎ IsSome self.old.kept) }
-        ensures counted { OnOk result
-            (is_past_end (plus self.old.totals (totals_of (record { client = client; note = note } ∷ []))) ≡ false) }
-        ensures unchanged { OnErr result ((self.new ≡ self.old) × (share.new ≡ share.old)) }
-    {
-        self.note_all(share, client, &[note])
-    }
-
-    /// Counts the notes of a client, in the book and in the share. Where records are kept, theirs are too, together and
-    /// in order, after those before them.
+    /// Counts the notes of a client, in the book and in the share, and the share knows them as the last ones. Where
+    /// records are kept, theirs are too, together and in order, after those before them.
     ///
     /// # Errors
     ///
@@ -170,16 +146,16 @@ impl<J: Books> AuditBook<J> {
         &mut self,
         share: &mut Share<J>,
         client: ClientNo,
-        notes: &[Note],
+        notes: &Vec<Note>,
     ) -> Result<(), Refusal>
-        ensures book { OnOk result (self.new ≡ book_with self.old (records_of client notes.now)) }
-        ensures share { OnOk result (share.new ≡ plus share.old (totals_of (records_of client notes.now))) }
+        ensures book { OnOk result (self.new ≡ book_with self.old (records_of client notes.now.items)) }
+        ensures share { OnOk result (share.new ≡ share_with share.old (records_of client notes.now.items)) }
         ensures memory { IsOkUnless result Refusal.OutOfMemory }
         ensures end { OnErr result
-            ((is_past_end (plus self.old.totals (totals_of (records_of client notes.now))) ≡ true)
+            ((is_past_end (plus self.old.totals (totals_of (records_of client notes.now.items))) ≡ true)
             ⊎ IsSome self.old.kept) }
         ensures counted { OnOk result
-            (is_past_end (plus self.old.totals (totals_of (records_of client notes.now))) ≡ false) }
+            (is_past_end (plus self.old.totals (totals_of (records_of client notes.now.items))) ≡ false) }
         ensures unchanged { OnErr result ((self.new ≡ self.old) × (share.new ≡ share.old)) }
     {
         let more = Totals::of(notes);
@@ -195,6 +171,7 @@ impl<J: Books> AuditBook<J> {
         self.alarm_ok.add(&mut share.alarm_ok, more.alarm_ok);
         self.alarm_failed
             .add(&mut share.alarm_failed, more.alarm_failed);
+        share.keep_last(client, notes);
         Ok(())
     }
 
@@ -246,7 +223,7 @@ impl<J: Books> AuditBook<J> {
         ensures totals { self.new.totals ≡ self.old.totals }
         ensures given { self.new.given ≡ self.old.given }
         ensures out { self.new.out + 1 ≡ self.old.out }
-        ensures gathered { self.new.gathered ≡ plus self.old.gathered share }
+        ensures gathered { self.new.gathered ≡ plus self.old.gathered share.totals }
         ensures kept { self.new.kept ≡ self.old.kept }
     {
         let Share {
@@ -254,6 +231,7 @@ impl<J: Books> AuditBook<J> {
             audit_failed,
             alarm_ok,
             alarm_failed,
+            last: _,
         } = share;
         self.audit_ok.gather(audit_ok);
         self.audit_failed.gather(audit_failed);

@@ -14,7 +14,7 @@ use Rattle.album_passes.specs.Cuts.{prefix_at}
 use Rattle.album_threads.specs.Asks.{IsOn}
 use Rattle.album_threads.specs.Controls.{IsUntrimmed}
 use Rattle.album_threads.specs.Resting.{RestsOn}
-use Rattle.album_threads.specs.Sessions.{SessionState, IsClosedOrOutOfMemory, AddsNothing, DrawsNothing}
+use Rattle.album_threads.specs.Sessions.{SessionState, IsClosedOrOutOfMemory, AddsNothing}
 use Rattle.album_permits.specs.declared.outs.Out.TheVariants as out
 use Rattle.album_lines.specs.Lines.{Line, is_blank}
 use Rattle.album_lines.specs.Output.{line_text, refusal_line}
@@ -31,12 +31,12 @@ use Rattle.album_judge.specs.Writes.{IsPrefixOf}
 
 -- ---- what a session answers to a line
 
--- of an ask: the answer, on what it rests; or it is refused by its check, or no reply comes, and then nothing was drawn
--- or announced
+-- of an ask: the answer, on what it rests; or it is refused by its check, or no reply comes, and then nothing was
+-- noted, drawn or announced
 abbrev pub AnswersAsk : ℕ → Policy → Principal → Ask → SessionState → SessionState → Result Answer Refusal → Type 0
 AnswersAsk limit policy who ask old new (Ok answer) = RestsOn limit policy who ask old new answer
 AnswersAsk limit policy who ask old new (Err why) =
-    ((refusal_of ask who ≡ Some why) ⊎ IsClosedOrOutOfMemory why) × DrawsNothing old new
+    ((refusal_of ask who ≡ Some why) ⊎ IsClosedOrOutOfMemory why) × AddsNothing old new
 
 -- there is no partition of this number
 pub record IsNowhere (session : SessionState) (part : ℕ) (why : Refusal) : Type 0 where

@@ -156,6 +156,6 @@ pub fn conduct<R: Threads + Wait + time::Clock + Copy + Send + Sync + 'static>(
     alloc: Global,
     moves: &[Move],
 ) -> Result<Told, Refusal> {
-    let opened = Opened::new(alloc, &opening(alloc)?, 2)?.without_hints();
+    let opened = Opened::new(alloc, &opening(alloc)?, 2)?.plain();
     conduct_by::<Brand, R>(rt, alloc, opened, moves)
 }

@@ -6,6 +6,8 @@
 #[cfg(test)]
 mod acknowledged;
 #[cfg(test)]
+mod between_rounds;
+#[cfg(test)]
 mod conducted;
 #[cfg(test)]
 mod doors;
@@ -17,8 +19,6 @@ mod mails;
 mod messages;
 #[cfg(test)]
 mod orders;
-#[cfg(test)]
-mod overtaken;
 #[cfg(test)]
 mod partition;
 #[cfg(test)]

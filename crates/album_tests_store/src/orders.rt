@@ -81,9 +81,9 @@ const BO_FIRST: Script = Script {
 };
 
 /// Side by side. amy's new title is prepared between the two rounds of bo's read, and committed after it, so he is told
-/// the old one. (Were it committed between them, his session would read anew: overtaken.rt.) Then both look at one list
-/// before either writes it. bo's stamp is the greater, so his list counts, although amy's comes later. Both see room in
-/// the album, and both add to it.
+/// the old one. (So he is where it is committed between them too: between_rounds.rt.) Then both look at one list before
+/// either writes it. bo's stamp is the greater, so his list counts, although amy's comes later. Both see room in the
+/// album, and both add to it.
 const SIDE_BY_SIDE: Script = Script {
     steps: &[
         // amy looks, but for what partition 1 has to tell at last; bo reads his first rounds

@@ -205,21 +205,22 @@ fn told_so<J: ServiceNames, R: Wait + time::Clock + Abort>(
     Ok(())
 }
 
-/// A first read reads picture/0, and then with it list/0 and group/0, in two rounds each.
-const BEFORE: &[Row] = &[(Step::Read("bo@users"), "Sea at 0", (6, 2))];
+/// A first read reads picture/0, and then with it list/0 and group/0. Nothing is pending, so only the first rounds are
+/// sent.
+const BEFORE: &[Row] = &[(Step::Read("bo@users"), "Sea at 0", (3, 1))];
 
 /// A retitle by another session reads all three at once, and then prepares and commits picture/0.
 const MEANWHILE: &[Row] = &[
-    (Step::Retitle("Bay"), "committed at 65537", (6, 2)),
-    (Step::Read("amy@users"), "Bay at 65537", (4, 2)),
+    (Step::Retitle("Bay"), "committed at 65537", (4, 1)),
+    (Step::Read("amy@users"), "Bay at 65537", (2, 1)),
 ];
 
 /// The other reads what was written, although it has heard of nothing since it read last: it asks the partitions anew.
-const UNHEARD: &[Row] = &[(Step::Read("bo@users"), "Bay at 65537", (4, 2))];
+const UNHEARD: &[Row] = &[(Step::Read("bo@users"), "Bay at 65537", (2, 1))];
 
 /// The other's write has a greater stamp than the one that it read.
 const AFTER: &[Row] = &[
-    (Step::Read("bo@users"), "Bay at 65537", (4, 2)),
+    (Step::Read("bo@users"), "Bay at 65537", (2, 1)),
     (Step::Pending(0), "0 pending", (0, 0)),
     (Step::Pending(3), "NoSuchPart", (0, 0)),
     (Step::Sweep(0, 65537), "NotPrepared", (0, 0)),
@@ -228,8 +229,8 @@ const AFTER: &[Row] = &[
     (Step::Trim(1), "Clash", (0, 0)),
     (Step::Trim(3), "NoSuchPart", (0, 0)),
     (Step::Trim(0), "trimmed", (0, 0)),
-    (Step::Read("bo@users"), "Bay at 65537", (4, 2)),
-    (Step::Retitle("Cove"), "committed at 131074", (6, 2)),
+    (Step::Read("bo@users"), "Bay at 65537", (2, 1)),
+    (Step::Retitle("Cove"), "committed at 131074", (4, 1)),
 ];
 
 /// Two sessions are told so, before they meet and then.
@@ -289,13 +290,13 @@ fn two_sessions(rt: HostRuntime) -> Result<(), Fail> {
 /// hinted read it reads picture/0, and then with it list/0 and group/1. The next one reads all three at once. Group 0
 /// comes back: once more the hint lacks it.
 const REGROUPED: &[Row] = &[
-    (Step::Read("bo@users"), "Sea at 0", (6, 2)),
-    (Step::SetGroup(1), "committed at 65537", (6, 2)),
-    (Step::Read("bo@users"), "Sea at 65537", (8, 4)),
-    (Step::Read("bo@users"), "Sea at 65537", (2, 2)),
-    (Step::SetGroup(0), "committed at 131073", (4, 2)),
-    (Step::Read("bo@users"), "Sea at 131073", (8, 4)),
-    (Step::Read("cy@users"), "Sea at 131073", (4, 2)),
+    (Step::Read("bo@users"), "Sea at 0", (3, 1)),
+    (Step::SetGroup(1), "committed at 65537", (4, 1)),
+    (Step::Read("bo@users"), "Sea at 65537", (4, 2)),
+    (Step::Read("bo@users"), "Sea at 65537", (1, 1)),
+    (Step::SetGroup(0), "committed at 131073", (3, 1)),
+    (Step::Read("bo@users"), "Sea at 131073", (4, 2)),
+    (Step::Read("cy@users"), "Sea at 131073", (2, 1)),
 ];
 
 /// A visit of one session, while the gate counts, which is told so.
@@ -329,43 +330,86 @@ fn a_stale_hint(rt: HostRuntime) -> Result<(), Fail> {
     with_opened(rt, rt.alloc(), opened, gate, Regroup { counts })?
 }
 
-/// Why two asks of the session are refused.
-fn refused_twice<J: ServiceNames, R: Wait + time::Clock + Copy>(
-    rt: &R,
-    mut guest: OwnedSession<J, R>,
-) -> Result<(Option<Refusal>, Option<Refusal>), Refusal> {
-    let first = read(rt, &mut guest.session, "bo@users").err();
-    let second = read(rt, &mut guest.session, "bo@users").err();
-    Ok((first, second))
+/// The number of the refusal, or 0.
+fn refused<T: Drop>(given: Result<T, Refusal>) -> u8 {
+    match given {
+        Ok(_) => 0,
+        Err(refusal) => refusal.number(),
+    }
 }
 
-/// Why two asks of a session are refused, once the service is closed.
+/// By which refusal bo's ask is refused that names no object.
+fn refused_without_object<J: ServiceNames, R: Wait + time::Clock>(
+    rt: &R,
+    alloc: Global,
+    session: &mut Session<J>,
+) -> Result<u8, Refusal> {
+    let principal = Principal::read("bo@users")?;
+    let lists = NewLists::of(Vec::new(alloc));
+    Ok(refused(session.ask(rt, &principal, Ask::SetLists { lists })))
+}
+
+/// By which refusals the session's asks are refused, one after another: to read twice, and one without an object.
+fn refused_asks<J: ServiceNames, R: Wait + time::Clock>(
+    rt: &R,
+    alloc: Global,
+    session: &mut Session<J>,
+) -> Result<[u8; 3], Refusal> {
+    let first = refused(read(rt, session, "bo@users"));
+    let second = refused(read(rt, session, "bo@users"));
+    Ok([first, second, refused_without_object(rt, alloc, session)?])
+}
+
+/// The same of control requests: to a partition that there isn't; what is pending; to sweep a stamp that isn't pending;
+/// and to trim an item at another partition than its own.
+fn refused_controls<J: ServiceNames, R: Wait + time::Clock>(
+    rt: &R,
+    session: &mut Session<J>,
+) -> Result<[u8; 4], Refusal> {
+    let (stamp, item) = (stamp_of(65_537)?, item_of("picture/1")?);
+    let nowhere = refused(session.trim(rt, 3, item));
+    let pending = refused(session.pending(rt, 0));
+    let swept = refused(session.sweep(rt, 0, stamp));
+    Ok([nowhere, pending, swept, refused(session.trim(rt, 0, item))])
+}
+
+fn refused_all<J: ServiceNames, R: Wait + time::Clock + Copy>(
+    rt: &R,
+    alloc: Global,
+    mut guest: OwnedSession<J, R>,
+) -> Result<([u8; 3], [u8; 4]), Refusal> {
+    let asks = refused_asks(rt, alloc, &mut guest.session)?;
+    Ok((asks, refused_controls(rt, &mut guest.session)?))
+}
+
+/// By which refusals a session is refused, once the service is closed.
 fn closed_on<
     J: ServiceNames + Send + 'static,
     R: Threads + Wait + time::Clock + Copy + Send + 'static,
->(rt: R, alloc: Global, opened: Opened) -> Result<(Option<Refusal>, Option<Refusal>), Refusal>
+>(rt: R, alloc: Global, opened: Opened) -> Result<([u8; 3], [u8; 4]), Refusal>
     requires named { opened ≡ opened_as J.table J.terms J.policy J.list
         J.audit_ok J.audit_failed J.alarm_ok J.alarm_failed }
 {
     let service = Service::<J>::open(rt, alloc, opened, Open)?;
     let guest = OwnedSession::begin(&rt, &service);
     service.close(&rt);
-    refused_twice(&rt, guest?)
+    refused_all(&rt, alloc, guest?)
 }
 
 fn refused_once_closed<R: Threads + Wait + time::Clock + Copy + Send + 'static>(
     rt: R,
     alloc: Global,
-) -> Result<(Option<Refusal>, Option<Refusal>), Refusal> {
+) -> Result<([u8; 3], [u8; 4]), Refusal> {
     let opened = opened(alloc, READABLE, 1)?;
     closed_on::<Brand, R>(rt, alloc, opened)
 }
 
-/// A session outlives its service, and is told that it is closed.
+/// A session outlives its service, and is refused `Closed` (21): after what its ask lacks (3), and after a partition that
+/// there isn't (23), but before what a partition would refuse.
 #[test]
 fn a_closed_service(rt: HostRuntime) {
-    let closed = Some(Refusal::Closed);
-    assert_eq!(rt; refused_once_closed(rt, rt.alloc()), Ok((closed, closed)));
+    let refused = refused_once_closed(rt, rt.alloc());
+    assert_eq!(rt; refused, Ok(([21, 21, 3], [23, 21, 21, 21])));
 }
 
 fn new_list(alloc: Global, text: &str) -> Result<NewList, Refusal> {

@@ -22,16 +22,22 @@ const EACH_KIND: [Noted; 4] = [(false, true), (false, false), (true, true), (tru
 const MAX_SHARES: u64 = 65_535;
 
 fn note_all<J: Books>(
+    alloc: Global,
     book: &mut AuditBook<J>,
     share: &mut Share<J>,
     client: ClientNo,
-    notes: &[Noted],
+    noted: &[Noted],
 ) -> Result<(), Refusal> {
-    for noted in notes {
-        let note = note_of(noted)?;
-        book.note(share, client, note)?;
+    let notes = notes_of(alloc, noted)?;
+    book.note_all(share, client, &notes)
+}
+
+fn notes_of(alloc: Global, noted: &[Noted]) -> Result<Vec<Note>, Refusal> {
+    let mut notes = Vec::new(alloc);
+    for one in noted {
+        notes.push(note_of(one)?)?;
     }
-    Ok(())
+    Ok(notes)
 }
 
 /// The note of it, by the entry at index 1.
@@ -48,7 +54,12 @@ fn note_of(noted: &Noted) -> Result<Note, Refusal> {
 }
 
 /// The totals, once two sessions noted the one and the other and handed their shares back.
-fn totals_in<J: Books>(blanks: Blanks, one: &[Noted], other: &[Noted]) -> Result<Totals, Refusal>
+fn totals_in<J: Books>(
+    alloc: Global,
+    blanks: Blanks,
+    one: &[Noted],
+    other: &[Noted],
+) -> Result<Totals, Refusal>
     requires names { blanks ≡ record {
       audit_ok = J.audit_ok;
       audit_failed = J.audit_failed;
@@ -57,26 +68,27 @@ fn totals_in<J: Books>(blanks: Blanks, one: &[Noted], other: &[Noted]) -> Result
     } }
 {
     let mut book = AuditBook::<J>::new(blanks);
-    session_in(&mut book, ClientNo::of(1), one)?;
-    session_in(&mut book, ClientNo::of(2), other)?;
+    session_in(alloc, &mut book, ClientNo::of(1), one)?;
+    session_in(alloc, &mut book, ClientNo::of(2), other)?;
     Ok(book.totals())
 }
 
 /// One session: a share, the notes, and the share back.
 fn session_in<J: Books>(
+    alloc: Global,
     book: &mut AuditBook<J>,
     client: Option<ClientNo>,
     notes: &[Noted],
 ) -> Result<(), Refusal> {
     let client = client.ok_or(Refusal::BadRequest)?;
     let mut share = book.share()?;
-    let noted = note_all(book, &mut share, client, notes);
+    let noted = note_all(alloc, book, &mut share, client, notes);
     book.gather(share);
     noted
 }
 
-fn totals(one: &[Noted], other: &[Noted]) -> Result<Totals, Refusal> {
-    totals_in::<Brand>(Blanks::new(), one, other)
+fn totals(alloc: Global, one: &[Noted], other: &[Noted]) -> Result<Totals, Refusal> {
+    totals_in::<Brand>(alloc, Blanks::new(), one, other)
 }
 
 /// Whose note it is, by the number of the client, and what is noted.
@@ -92,11 +104,11 @@ fn taken_in<J: Books>(alloc: Global, blanks: Blanks) -> Result<([Kept; 3], usize
     } }
 {
     let mut book = AuditBook::<J>::new(blanks);
-    session_in(&mut book, ClientNo::of(3), &[(true, true)])?;
+    session_in(alloc, &mut book, ClientNo::of(3), &[(true, true)])?;
     book.keep(alloc);
-    session_in(&mut book, ClientNo::of(1), &READ_AND_DENIED)?;
+    session_in(alloc, &mut book, ClientNo::of(1), &READ_AND_DENIED)?;
     book.keep(alloc);
-    session_in(&mut book, ClientNo::of(2), &[(true, true)])?;
+    session_in(alloc, &mut book, ClientNo::of(2), &[(true, true)])?;
     let taken = book.take(alloc);
     let more = book.take(alloc).len();
     match taken.as_slice() {
@@ -152,8 +164,8 @@ fn each_note_counts_in_its_kind(rt: HostRuntime) {
         alarm_failed: 2,
     };
 
-    assert_eq!(rt; totals(&READ_AND_DENIED, &[]), Ok(audited));
-    assert_eq!(rt; totals(&EACH_KIND, &READ_AND_DENIED), Ok(all));
+    assert_eq!(rt; totals(rt.alloc(), &READ_AND_DENIED, &[]), Ok(audited));
+    assert_eq!(rt; totals(rt.alloc(), &EACH_KIND, &READ_AND_DENIED), Ok(all));
 }
 
 #[test]

@@ -1,7 +1,7 @@
 -- What a session's answer rests on, it rests on too from before the session had listened. `Session::ask_in_order` cites
 -- `rests_still`, and the law `acknowledged_is_visible` cites `order_visible`.
 use Rattle.std.proofs.Common.{◌≡◌, ℕ, ◌+◌, ◌<◌, ◌≤◌, List, [], ◌∷◌, length, All, None, refl, sym, ap, ◌∙◌, subst, arith, inl, inr, ⊎_elim}
-use Rattle.album_audit.specs.declared.totals.Totals.{Totals}
+use Rattle.album_audit.specs.Books.{ShareState}
 use Rattle.album_eval.specs.declared.facts.Principal.{Principal}
 use Rattle.album_eval.specs.declared.policies.Policy.{Policy}
 use Rattle.album_passes.specs.Cuts.{Cut, IsSound, Extends, announced_for}
@@ -20,7 +20,7 @@ use Rattle.album_threads.specs.Asks.{counter_after}
 use Rattle.album_threads.specs.Grounds.{IsSeen, IsOnView, IsWide, AreInVain, IsOutOfReads, trims_in}
 use Rattle.album_threads.specs.Grounds.AreInVain.{NoRead, OneMore}
 use Rattle.album_threads.specs.Resting.{IsShared, IsFoundOnView, HasSeen, IsDrawn, IsAnnounced, IsBegun, IsAlbumFull, IsSpent, IsRefusedBy, RestsOn}
-use Rattle.album_threads.specs.Sessions.{ChannelState, SessionState, IsLater, AnnouncesNothing, DrawsNothing, AddsNothing}
+use Rattle.album_threads.specs.Sessions.{ChannelState, SessionState, IsLater, AnnouncesNothing, AddsNothing}
 use Rattle.album_threads.specs.Steps.{IsStill}
 use Rattle.album_threads.proofs.LookLemmas.{seen_from}
 use Rattle.album_threads.proofs.TrimLemmas.{trims_stay}
@@ -50,7 +50,7 @@ module _ (old begun now : Cut) (on : Extends old begun) (later : Extends begun n
 -- ---- the sessions
 
 -- a session has seen more by its channel alone
-pub still_later : (old : SessionState) (a b : ChannelState) (counter : ℕ) (share : Totals)
+pub still_later : (old : SessionState) (a b : ChannelState) (counter : ℕ) (share : ShareState)
     → record { client = a.client; counter = counter; cut = a.cut; share = share } ≡ old
     → IsLater a b → IsSound a.cut → IsSound b.cut
     → IsStill old (record { client = b.client; counter = counter; cut = b.cut; share = share })
@@ -68,7 +68,7 @@ module _ (old begun new : SessionState) (still : IsStill old begun) (later : Ext
   silent_earlier : AnnouncesNothing begun new → AnnouncesNothing old new
   silent_earlier h = λ t own. h t (own ∙ sym still.on.client) ∙ still.adds.drawn.silent t own
 
-  adds_earlier : AddsNothing begun new → AddsNothing old new
+  pub adds_earlier : AddsNothing begun new → AddsNothing old new
   adds_earlier h = record {
     share = h.share ∙ still.adds.share;
     drawn = record { counter = h.drawn.counter ∙ still.adds.drawn.counter; silent = silent_earlier h.drawn.silent };
@@ -78,10 +78,7 @@ module _ (old begun new : SessionState) (still : IsStill old begun) (later : Ext
       → IsShared old.client old.share new.share case
   shared_earlier case h =
       subst (λ (c : ℕ). IsShared c old.share new.share case) still.on.client
-      (subst (λ (s : Totals). IsShared begun.client s new.share case) still.adds.share h)
-
-  pub draws_still : DrawsNothing begun new → DrawsNothing old new
-  draws_still h = record { counter = h.counter ∙ still.adds.drawn.counter; silent = silent_earlier h.silent }
+      (subst (λ (s : ShareState). IsShared begun.client s new.share case) still.adds.share h)
 
   has_seen_earlier : (case : PermitState) → HasSeen begun new case → HasSeen old new case
   has_seen_earlier case h = subst (λ (n : ℕ). new.counter ≡ counter_after n case.view.rows) still.adds.drawn.counter h

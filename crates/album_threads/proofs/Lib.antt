@@ -9,6 +9,8 @@ pub mod StartLemmas
 pub mod SessionLemmas
 pub mod GrantedLemmas
 pub mod RoundLemmas
+pub mod RepeatLemmas
+pub mod SightingLemmas
 pub mod TrimLemmas
 pub mod EndLemmas
 pub mod LookLemmas

@@ -92,7 +92,7 @@ value_placed (row ∷ rows) p n i e = go (place_of n row.0 == p) (row.0 == i) re
     go false false f g h = h ∙ sym (ap (λ (z : Bool). cond z (Some row.1) (value_in rows i)) g)
 
 -- a Get makes no mark
-get_marks_nothing : (p : PartitionState) (m : Message) (i : ℕ) (ts : List ℕ) → m.body ≡ body.Request (Get i ts) → (action_of p m).mark ≡ None
+pub get_marks_nothing : (p : PartitionState) (m : Message) (i : ℕ) (ts : List ℕ) → m.body ≡ body.Request (Get i ts) → (action_of p m).mark ≡ None
 get_marks_nothing p m i ts e = by (is_part m.to p.number)
   where
     read : (o : Option ℕ) → (get_by p i o).mark ≡ None
@@ -122,7 +122,7 @@ answered_so p q m f = go (action_of p q).reply refl f
     go (Some o) g h = (o, g, cc)
 
 -- and that is the reply that was told
-replied_so : (p : PartitionState) (q m : Message) (o : Reply) → answer p q ≡ Some m → m.body ≡ body.Reply o → (action_of p q).reply ≡ Some o
+pub replied_so : (p : PartitionState) (q m : Message) (o : Reply) → answer p q ≡ Some m → m.body ≡ body.Reply o → (action_of p q).reply ≡ Some o
 replied_so p q m o f told =
     let said = answered_so p q m f in
     said.1 ∙ ap Some (same_reply said.0 o (sym (ap (λ (n : Message). n.body) said.2) ∙ told))
@@ -207,18 +207,17 @@ settled_then limit b c a ts items m x on parts r e nz =
 latest_then : (limit : ℕ) (b c : Cut) (a : Asker) (ts items : List ℕ) (m : Message) (x : ReadVersion) → Extends b c → a.parts ≡ b.parts
     → IsReplied limit b c (gets_of a ts items) m → answer_in a m ≡ Some x → latest (prefix_for b x.item) x.item ≤ x.stamp
 latest_then limit b c a ts items m x on parts r e =
-    let p = r.answered.partition in
-    let q = r.request in
     let told = answers_it a m x e in
-    let own : m.from ≡ Part p.number = (to_the_sender p q m r.answered.answered).sender in
-    let read = version_is_read p q x.item x.stamp x.value (replied_so p q m (reply.Version x.item x.stamp x.value) r.answered.answered told.0) in
-    let at = told_between limit b c a.parts (gets_of a ts items) m x.item read.stamps on parts r read.asked told.1 in
-    let low : latest p.marks x.item ≤ x.stamp =
-    subst (λ (ms : List Mark). latest ms x.item ≤ x.stamp) (sym at.shown) (r.latest p.number x.item x.stamp x.value own told.0) in
-    let rises : latest (prefix_for b x.item) x.item ≤ latest p.marks x.item =
-    subst (λ (ms : List Mark). latest (prefix_for b x.item) x.item ≤ latest ms x.item) at.from.1
-    (latest_rises (prefix_for b x.item) at.from.0 x.item
-    (subst (λ (ms : List Mark). is_legal ms ≡ true) (sym at.from.1) r.answered.proper.legal)) in
+    let at = r.current.at in
+    let part = place_of b.parts x.item in
+    let own : m.from ≡ Part part = told.1 ∙ ap (λ (n : ℕ). Part (place_of n x.item)) parts in
+    let low : latest (prefix_at at part) x.item ≤ x.stamp = r.current.is part x.item x.stamp x.value own told.0 in
+    let from : IsPrefix (prefix_at b part) (prefix_at at part) =
+    prefix_shorter (prefix_at b part) (prefix_at at part) (prefix_at c part) (on.prefixes part) (r.current.seen.prefixes part) (r.current.late part own) in
+    let rises : latest (prefix_at b part) x.item ≤ latest (prefix_at at part) x.item =
+    subst (λ (ms : List Mark). latest (prefix_at b part) x.item ≤ latest ms x.item) from.1
+    (latest_rises (prefix_at b part) from.0 x.item
+    (subst (λ (ms : List Mark). is_legal ms ≡ true) (sym from.1) (r.current.sound.legal part))) in
     omega arith
 
 -- An item that is told to be gone was gone at such a history.

@@ -1,5 +1,5 @@
 -- What is settled before a Get is answered. `PartitionKeeper::settle` cites `settled_push`, `settled_none`, `none_left` and
--- `none_there`; `settle_one` cites `committed_shown`; RoundLemmas cites `read_committed`.
+-- `none_there`; `settle_one` cites `committed_shown`; RoundLemmas cites `read_committed`, and RepeatLemmas `version_state`.
 use Rattle.std.proofs.Common.{◌≡◌, ◌≢◌, ℕ, Bool, true, false, ◌==◌, not, List, [], ◌∷◌, ◌++◌, get_or, is_some, if◌then◌else◌, Option, None, Result, Ok, Err, refl, sym, ap, ◌∙◌, subst}
 use Rattle.std.specs.List.{list_any}
 use Rattle.std.specs.Prelude.{OnErr}
@@ -151,7 +151,7 @@ committed_shown c t s h = committed_backed c h.0 t s.closed h.1
 -- ---- what is read
 
 -- an item's version stands at a stamp that is prepared and not discarded
-version_state : (ms : List Mark) (i t : ℕ) → has_version ms i t ≡ true → state_of ms t ≢ state.Pending → state_of ms t ≡ state.Committed
+pub version_state : (ms : List Mark) (i t : ℕ) → has_version ms i t ≡ true → state_of ms t ≢ state.Pending → state_of ms t ≡ state.Committed
 version_state ms i t there none = go (list_any (commits t) ms) (list_any (discards t) ms) (list_any (prepares t) ms) refl refl refl
   where
     go : (a b p : Bool) → list_any (commits t) ms ≡ a → list_any (discards t) ms ≡ b → list_any (prepares t) ms ≡ p

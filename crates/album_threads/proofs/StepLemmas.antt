@@ -24,7 +24,7 @@ use Rattle.album_threads.specs.Phases.{Outset, IsPhase, IsUnderWay}
 use Rattle.album_threads.specs.Replies.{IsReplied}
 use Rattle.album_threads.specs.Resting.{RestsOn}
 use Rattle.album_threads.specs.Sending.{IsAnnouncedBy, sent_at, sent_last}
-use Rattle.album_threads.specs.Sessions.{SessionState, IsClosedOrOutOfMemory, DrawsNothing}
+use Rattle.album_threads.specs.Sessions.{SessionState, IsClosedOrOutOfMemory, AddsNothing}
 use Rattle.album_threads.specs.Steps.{client_step_in, terms_in, IsTaken, IsSent, IsLed}
 use Rattle.album_threads.specs.declared.session.asked.Asked.{Asked}
 use Rattle.album_threads.specs.declared.session.asked.NoReply.{NoReply}
@@ -33,7 +33,7 @@ use Rattle.album_threads.specs.declared.session.ask.Way.TheVariants.{Answered, A
 use Rattle.album_threads.proofs.BegunLemmas.{cut_rests}
 use Rattle.album_threads.proofs.CarryLemmas.{prepared_on, committed_on}
 use Rattle.album_threads.proofs.ClockLemmas.{moved_clock}
-use Rattle.album_threads.proofs.TransitionLemmas.{IsNoted, IsMovedOn}
+use Rattle.album_threads.proofs.TransitionLemmas.{IsNoted, IsMovedOn, adds_heard}
 use Rattle.album_threads.proofs.ReadingLemmas.{read_on}
 use Rattle.album_writer.specs.Rounds.{WriteStep, prepare_stepped, commit_stepped}
 use Rattle.album_writer.specs.Rounds.WriteStep.{Waits, Commits as Decides, Ends}
@@ -136,44 +136,36 @@ module _ (limit : ℕ) (policy : Policy) (o : Outset) where
   sent_led asked d messages new w (Awaits more next) (is, sends, from) =
       subst (λ (z : Cut × List Message × Phase). IsUnderWay policy o new z.0 z.1 z.2) (λ i. (sym from i, sym sends i, sym is i)) w
 
-  -- ---- where it is refused, nothing was drawn or announced
+  -- ---- where it is refused, nothing was noted, drawn or announced
 
   pub unbegun_now : (now : SessionState) (at : Cut) (sent : List Message) (d : Phase) → IsUnderWay policy o now at sent d → stamp_at_work d ≡ None
-      → DrawsNothing o.session now
+      → AddsNothing o.session now
   unbegun_now now at sent (phase.Idle tag) w e = absurd w.phase
-  unbegun_now now at sent (phase.Reads pending_ask round) w e = w.phase.1.drawn
+  unbegun_now now at sent (phase.Reads pending_ask round) w e = w.phase.1
   unbegun_now now at sent (phase.Prepares writing) w e = absurd (cc)
   unbegun_now now at sent (phase.Commits writing) w e = absurd (cc)
 
-  unbegun_next : (now next : SessionState) → IsOn o.session now → IsHeard now next → DrawsNothing o.session now
-      → DrawsNothing o.session next
-  unbegun_next now next on h drawn = record {
-    counter = h.counter ∙ drawn.counter;
-    silent = λ t own. h.silent t (own ∙ sym on.client) ∙ drawn.silent t own;
-  }
-
   pub unbegun_cut : (now next : SessionState) (at : Cut) (sent : List Message) (d : Phase) (r : Result Way Refusal) → IsUnderWay policy o now at sent d
-      → IsHeard now next → (stamp : Option ℕ) → stamp ≡ stamp_at_work d → OnErr r (stamp ≡ None) → OnErr r (DrawsNothing o.session next)
+      → IsHeard now next → (stamp : Option ℕ) → stamp ≡ stamp_at_work d → OnErr r (stamp ≡ None) → OnErr r (AddsNothing o.session next)
   unbegun_cut now next at sent d (Ok way) w h stamp is none = tt
   unbegun_cut now next at sent d (Err why) w h stamp is none =
-      unbegun_next now next w.on h (unbegun_now now at sent d w (sym is ∙ none))
+      adds_heard o.session now next w.on (unbegun_now now at sent d w (sym is ∙ none)) h
 
   -- of a write nothing is noted
   pub unbegun_noted : (now next noted : SessionState) (at : Cut) (sent : List Message) (d : Phase) (transition : Transition) → IsUnderWay policy o now at sent d
-      → IsHeard now next → noted.cut ≡ next.cut → noted.counter ≡ next.counter → IsTaken limit at next.cut sent (terms_in policy next) (client_step_in next) d transition
-      → (transition.notes.items ≡ [] → ⊥) → DrawsNothing o.session noted
-  unbegun_noted now next noted at sent (phase.Idle tag) transition w h cut kept t some = absurd w.phase
-  unbegun_noted now next noted at sent (phase.Reads pending_ask round) transition w h cut kept t some =
-      let n = unbegun_next now next w.on h w.phase.1.drawn in
-      record { counter = kept ∙ n.counter; silent = λ u own. ap (λ (c : Cut). announced_for c u) cut ∙ n.silent u own }
-  unbegun_noted now next noted at sent (phase.Prepares writing) transition w h cut kept t some =
+      → IsHeard now next → noted ≡ next → IsTaken limit at next.cut sent (terms_in policy next) (client_step_in next) d transition
+      → (transition.notes.items ≡ [] → ⊥) → AddsNothing o.session noted
+  unbegun_noted now next noted at sent (phase.Idle tag) transition w h kept t some = absurd w.phase
+  unbegun_noted now next noted at sent (phase.Reads pending_ask round) transition w h kept t some =
+      subst (AddsNothing o.session) (sym kept) (adds_heard o.session now next w.on w.phase.1 h)
+  unbegun_noted now next noted at sent (phase.Prepares writing) transition w h kept t some =
       absurd (some (t.is.noted ∙ none (prepare_stepped writing t.reply)))
     where
       none : (f : WriteStep) → unwrap_or (prepare_transition (client_step_in next) writing.tag f).noted [] ≡ []
       none (Waits other) = refl
       none (Decides other messages) = refl
       none (Ends out) = refl
-  unbegun_noted now next noted at sent (phase.Commits writing) transition w h cut kept t some =
+  unbegun_noted now next noted at sent (phase.Commits writing) transition w h kept t some =
       absurd (some (t.is.noted ∙ none (commit_stepped writing t.reply)))
     where
       none : (f : WriteStep) → unwrap_or (commit_transition (client_step_in next) writing.tag f).noted [] ≡ []
@@ -182,7 +174,7 @@ module _ (limit : ℕ) (policy : Policy) (o : Outset) where
       none (Ends out) = refl
 
   pub unbegun_sent : (new : SessionState) (at : Cut) (sent : List Message) (d : Phase) (r : Result Way Refusal) → IsUnderWay policy o new at sent d
-      → OnErr r (stamp_at_work d ≡ None) → OnErr r (DrawsNothing o.session new)
+      → OnErr r (stamp_at_work d ≡ None) → OnErr r (AddsNothing o.session new)
   unbegun_sent new at sent d (Ok way) w none = tt
   unbegun_sent new at sent d (Err why) w none = unbegun_now new at sent d w none
 

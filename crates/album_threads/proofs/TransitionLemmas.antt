@@ -7,7 +7,7 @@ use Rattle.album_client.specs.declared.transitions.Transition.{Transition}
 use Rattle.album_eval.specs.declared.policies.Policy.{Policy}
 use Rattle.album_passes.specs.Cuts.{Cut, IsSound}
 use Rattle.album_passes.proofs.CutLemmas.{extends_trans}
-use Rattle.album_audit.specs.declared.totals.Totals.{Totals}
+use Rattle.album_audit.specs.Books.{ShareState}
 use Rattle.album_stamps.specs.Clocks.{next_of}
 use Rattle.album_stamps.specs.declared.limits.TheConstants.{MAX_COUNTER}
 use Rattle.album_stamps.specs.declared.refusals.Refusal.TheVariants.{StampsSpent}
@@ -67,12 +67,15 @@ adds_heard a b c x only h = record {
 }
 
 -- a share stays where nothing is noted
-shared_none : (client : ℕ) (a : Totals) → AreShared client a a []
+shared_none : (client : ℕ) (a : ShareState) → AreShared client a a []
 shared_none client a = λ i. record {
-  audit_ok = none a.audit_ok i;
-  audit_failed = none a.audit_failed i;
-  alarm_ok = none a.alarm_ok i;
-  alarm_failed = none a.alarm_failed i;
+  totals = record {
+    audit_ok = none a.totals.audit_ok i;
+    audit_failed = none a.totals.audit_failed i;
+    alarm_ok = none a.totals.alarm_ok i;
+    alarm_failed = none a.totals.alarm_failed i;
+  };
+  last = a.last;
 }
   where
     none : (n : ℕ) → n ≡ n + 0

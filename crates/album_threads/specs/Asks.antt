@@ -1,9 +1,9 @@
 -- The parts of a session that an ask keeps, and the items that it reads.
-use Rattle.std.specs.Prelude.{◌≡◌, ◌⊎◌, ◌+◌, ◌<◌, ◌≤◌, ℕ, Bool, true, false, max, List, [], ◌∷◌, All, length, map, None, IsTrue}
+use Rattle.std.specs.Prelude.{◌≡◌, ◌⊎◌, ◌+◌, ◌<◌, ◌≤◌, ℕ, Bool, true, false, max, List, [], ◌∷◌, All, length, None, IsTrue}
 use Rattle.album_stamps.specs.Stamps.{is_client, counter_of}
 use Rattle.album_stamps.specs.declared.limits.TheConstants.{MAX_READ_ITEMS, MAX_READS}
-use Rattle.album_audit.specs.Totals.{totals_of, plus}
-use Rattle.album_audit.specs.declared.totals.Totals.{Totals}
+use Rattle.album_audit.specs.Books.{ShareState, share_with}
+use Rattle.album_audit.specs.Totals.{records_of}
 use Rattle.album_passes.specs.Cuts.{Cut, Extends, IsSound}
 use Rattle.album_permits.specs.declared.notes.Note.{Note}
 use Rattle.album_reader.specs.Answers.{ReadVersion}
@@ -51,10 +51,9 @@ pub record IsHeard (old new : SessionState) : Type 0 where
   pub some : 1 ≤ new.cut.parts
   pub own : IsTrue (is_client new.client)
 
--- the notes are in the share
-abbrev pub AreShared : ℕ → Totals → Totals → List Note → Type 0
-AreShared client old new notes =
-    new ≡ plus old (totals_of (map (λ note. record { client = client; note = note }) notes))
+-- the notes are in the share, each as the client's
+abbrev pub AreShared : ℕ → ShareState → ShareState → List Note → Type 0
+AreShared client old new notes = new ≡ share_with old (records_of client notes)
 
 -- the view is one of the ask, of what was read atomic and fresh
 pub record IsViewOf (begun now : Cut) (ask : Ask) (view : ViewState) : Type 0 where

@@ -1,5 +1,5 @@
 -- Envelopes between threads: a message with a pass, and what the pass's cut shows about the message.
-use Rattle.std.specs.Prelude.{◌≡◌, ℕ, ◌≤◌, Bool, true, false, List, Some, None}
+use Rattle.std.specs.Prelude.{◌≡◌, ◌≢◌, ℕ, ◌<◌, ◌≤◌, Bool, true, false, List, Some, None}
 use Rattle.std.specs.List.{list_any}
 use Rattle.atomic_table.specs.Seated.{TableId}
 use Rattle.album_items.specs.Places.{lies_at, rows_placed_at}
@@ -16,9 +16,10 @@ use Rattle.album_calls.specs.declared.requests.Request.TheVariants.{Prepare, Com
 use Rattle.album_calls.specs.declared.replies.Reply.{Reply}
 use Rattle.album_calls.specs.declared.replies.Reply.TheVariants as reply
 use Rattle.album_partition.specs.Answers.{after, answer}
-use Rattle.album_partition.specs.Marks.{prepares, commits, discards, latest}
+use Rattle.album_partition.specs.Marks.{prepares, commits, discards, latest, state_of}
 use Rattle.album_partition.specs.Partition.{PartitionState, IsPartition}
 use Rattle.album_partition.specs.declared.marks.Mark.{Mark}
+use Rattle.album_terminate.specs.declared.deciding.StampState.TheVariants as state
 use Rattle.album_passes.specs.Cuts.{Cut, prefix_at, announced_for, IsPreparedThroughout}
 use Rattle.album_passes.specs.Pass.{PassState}
 use Rattle.album_threads.specs.Settling.{stamps_in, AreCommitted, AreSettledIn}
@@ -114,12 +115,18 @@ abbrev pub IsUpToDate : Cut → Message → Type 0
 IsUpToDate cut message = (part item stamp : ℕ) (value : Value) → message.from ≡ Part part
     → message.body ≡ body.Reply (reply.Version item stamp value) → latest (prefix_at cut part) item ≤ stamp
 
--- the request, the reply, whether a newer version than the one that is replied is committed, and the pass that goes
--- with them
+-- no stamp below this one is pending at the partition that replies, as far as the cut shows it
+abbrev pub IsSettledBelow : ℕ → Cut → Message → Type 0
+IsSettledBelow below cut message = (part : ℕ) → message.from ≡ Part part
+    → (stamp : ℕ) → stamp < below → state_of (prefix_at cut part) stamp ≢ state.Pending
+
+-- the request, the reply, whether a newer version than the one that is replied is committed, a number below which no
+-- stamp is pending at the partition, and the pass that goes with them
 pub record ReplyEnvelopeState : Type 0 where
   pub request : Message
   pub reply : Message
   pub overtaken : Bool
+  pub settled_below : ℕ
   pub pass : PassState
 
 -- the pass is of this table and has no number, and its cut shows the partition that has replied so
@@ -128,3 +135,4 @@ pub record IsReplyEnvelope (table : TableId) (limit : ℕ) (envelope : ReplyEnve
   pub unnumbered : envelope.pass.number ≡ None
   pub answered : IsAnswered limit envelope.pass.cut envelope.request envelope.reply
   pub latest : envelope.overtaken ≡ false → IsUpToDate envelope.pass.cut envelope.reply
+  pub settled : IsSettledBelow envelope.settled_below envelope.pass.cut envelope.reply

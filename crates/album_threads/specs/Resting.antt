@@ -1,11 +1,11 @@
 -- On what each answer of a session rests.
-use Rattle.std.specs.Prelude.{◌≡◌, ◌≢◌, ◌⊎◌, ◌+◌, ◌<◌, ℕ, true, List, All, map, Some, None}
+use Rattle.std.specs.Prelude.{◌≡◌, ◌≢◌, ◌⊎◌, ◌+◌, ◌<◌, ℕ, true, List, All, Some, None}
 use Rattle.album_stamps.specs.Stamps.{client_number, counter_of}
 use Rattle.album_stamps.specs.declared.limits.TheConstants.{MAX_COUNTER}
 use Rattle.album_stamps.specs.declared.refusals.Refusal.{Refusal}
 use Rattle.album_stamps.specs.declared.refusals.Refusal.TheVariants.{OutOfMemory, AlbumFull, StampsSpent, Full, Closed}
-use Rattle.album_audit.specs.Totals.{totals_of, plus}
-use Rattle.album_audit.specs.declared.totals.Totals.{Totals}
+use Rattle.album_audit.specs.Books.{ShareState, share_with}
+use Rattle.album_audit.specs.Totals.{records_of}
 use Rattle.album_eval.specs.declared.facts.Principal.{Principal}
 use Rattle.album_eval.specs.declared.policies.Policy.{Policy}
 use Rattle.album_passes.specs.Changes.{lengths_in}
@@ -25,11 +25,12 @@ use Rattle.album_permits.specs.declared.answers.Answer.TheVariants as answer
 use Rattle.album_views.specs.declared.asks.Ask.{Ask}
 use Rattle.album_views.specs.declared.viewing.Why.TheVariants.{Rounds, Wide}
 
--- what is noted of the ruling was added to the share, note by note
-pub record IsShared (client : ℕ) (old new : Totals) (case : PermitState) : Type 0 where
+-- What is noted of the ruling was added to the share, note by note, each as the client's. Nothing else was, so it is what
+-- was noted last.
+pub record IsShared (client : ℕ) (old new : ShareState) (case : PermitState) : Type 0 where
   pub notes : List Note
   pub noted : Notes case notes
-  pub added : new ≡ plus old (totals_of (map (λ note. record { client = client; note = note }) notes))
+  pub added : new ≡ share_with old (records_of client notes)
 
 -- the ask has a view, the written policy finds this on it, what is noted of it is in the share, and this holds
 abbrev pub IsFoundOnView :

@@ -6,7 +6,7 @@ use Rattle.album_stamps.specs.Stamps.{client_number, counter_of}
 use Rattle.album_stamps.specs.declared.limits.TheConstants.{MAX_PARTS}
 use Rattle.album_stamps.specs.declared.refusals.Refusal.{Refusal}
 use Rattle.album_stamps.specs.declared.refusals.Refusal.TheVariants.{OutOfMemory, Closed}
-use Rattle.album_audit.specs.declared.totals.Totals.{Totals}
+use Rattle.album_audit.specs.Books.{ShareState}
 use Rattle.album_eval.specs.declared.policies.Policy.{Policy}
 use Rattle.album_passes.specs.Changes.{KeepsOwn}
 use Rattle.album_passes.specs.Cuts.{Cut, announced_for, Extends}
@@ -53,7 +53,7 @@ pub record SessionState : Type 0 where
   pub client : ℕ
   pub counter : ℕ
   pub cut : Cut
-  pub share : Totals
+  pub share : ShareState
 
 -- no stamp of the client's is announced whose counter is above this one
 abbrev pub IsAhead : ℕ → ℕ → Cut → Type 0

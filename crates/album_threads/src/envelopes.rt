@@ -1,6 +1,6 @@
 //! Envelopes between threads: a message, and a pass that shows what the message rests on.
 ghost use Rattle.std.specs.Prelude.{◌≡◌, false, None};
-ghost use Rattle.album_threads.specs.Envelopes.{Shows, IsAnswered, IsUpToDate};
+ghost use Rattle.album_threads.specs.Envelopes.{Shows, IsAnswered, IsSettledBelow, IsUpToDate};
 
 use crate::service_names::ServiceNames;
 use album_calls::Message;
@@ -73,12 +73,14 @@ impl<J: ServiceNames> RequestEnvelope<J> {
 
 /// A partition's reply, with the request that it answers and a pass of the desk that J names. The pass has no number,
 /// and its cut shows the partition exactly as it was when it had replied. Where it replies a version of an item, the
-/// envelope says whether the partition had committed a newer one by then.
+/// envelope says whether the partition had committed a newer one by then. It has a number, too, below which no stamp was
+/// pending there.
 #[derive(Drop)]
 pub struct ReplyEnvelope<J: ServiceNames> {
     request: Message,
     reply: Message,
     overtaken: bool,
+    settled_below: u64,
     pass: Pass,
     of: PhantomData<J>,
 }
@@ -88,25 +90,51 @@ impl<J: ServiceNames> Model for ReplyEnvelope<J> {
 
     ghost Value = { ReplyEnvelopeState };
 
-    ghost view = { λ a. record { request = a.request; reply = a.reply; overtaken = a.overtaken; pass = a.pass } };
+    ghost view = { λ a. record {
+      request = a.request;
+      reply = a.reply;
+      overtaken = a.overtaken;
+      settled_below = a.settled_below;
+      pass = a.pass;
+    } };
 
-    ghost invariant = { λ a. IsReplyEnvelope J.table J.terms.limit
-        (record { request = a.request; reply = a.reply; overtaken = a.overtaken; pass = a.pass }) };
+    ghost invariant = { λ a. IsReplyEnvelope J.table J.terms.limit (record {
+      request = a.request;
+      reply = a.reply;
+      overtaken = a.overtaken;
+      settled_below = a.settled_below;
+      pass = a.pass;
+    }) };
 }
 
 impl<J: ServiceNames> ReplyEnvelope<J> {
-    /// The reply to the request, which a newer version has overtaken or not, with this pass.
-    pub fn new(request: Message, reply: Message, overtaken: bool, pass: Pass) -> ReplyEnvelope<J>
+    /// The reply to the request, which a newer version has overtaken or not, of a partition where no stamp below this
+    /// number is pending, with this pass.
+    pub fn new(
+        request: Message,
+        reply: Message,
+        overtaken: bool,
+        settled_below: u64,
+        pass: Pass,
+    ) -> ReplyEnvelope<J>
         requires of { pass.table ≡ J.table }
         requires unnumbered { pass.number ≡ None }
         requires answered { IsAnswered J.terms.limit pass.cut request reply }
         requires latest { overtaken ≡ false → IsUpToDate pass.cut reply }
-        ensures { result ≡ record { request = request; reply = reply; overtaken = overtaken; pass = pass } }
+        requires settled { IsSettledBelow settled_below pass.cut reply }
+        ensures { result ≡ record {
+          request = request;
+          reply = reply;
+          overtaken = overtaken;
+          settled_below = settled_below;
+          pass = pass;
+        } }
     {
         ReplyEnvelope {
             request,
             reply,
             overtaken,
+            settled_below,
             pass,
             of: PhantomData,
         }
@@ -126,6 +154,13 @@ impl<J: ServiceNames> ReplyEnvelope<J> {
         self.overtaken
     }
 
+    /// A number below which no stamp was pending at the partition.
+    pub fn settled_below(&self) -> u64
+        ensures { result ≡ self.now.settled_below }
+    {
+        self.settled_below
+    }
+
     /// The request, what is replied, and the pass.
     pub fn open(self) -> (Message, Message, Pass)
         ensures request { result.0 ≡ self.request }
@@ -135,11 +170,13 @@ impl<J: ServiceNames> ReplyEnvelope<J> {
         ensures unnumbered { result.2.number ≡ None }
         ensures answered { IsAnswered J.terms.limit result.2.cut result.0 result.1 }
         ensures latest { self.overtaken ≡ false → IsUpToDate result.2.cut result.1 }
+        ensures settled { IsSettledBelow self.settled_below result.2.cut result.1 }
     {
         let ReplyEnvelope {
             request,
             reply,
             overtaken: _,
+            settled_below: _,
             pass,
             of: _,
         } = self;

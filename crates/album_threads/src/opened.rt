@@ -29,6 +29,8 @@ pub struct Opened {
     pub(crate) blanks: Blanks,
     /// How many hints the service may keep.
     pub(crate) hints: usize,
+    /// Whether a session may give itself the replies that it knows.
+    pub(crate) repeats: bool,
 }
 
 impl Model for Opened {
@@ -69,6 +71,7 @@ impl Opened {
             list: NewList::new(),
             blanks: Blanks::new(),
             hints: MAX_HINTS,
+            repeats: true,
         })
     }
 
@@ -77,5 +80,17 @@ impl Opened {
         ensures { result ≡ self }
     {
         Opened { hints: 0, ..self }
+    }
+
+    /// The same for a service whose sessions send what a world's clients send: each ask begins with a read of its
+    /// objects, and each read asks the partitions in both of its rounds.
+    pub fn plain(self) -> Opened
+        ensures { result ≡ self }
+    {
+        Opened {
+            hints: 0,
+            repeats: false,
+            ..self
+        }
     }
 }

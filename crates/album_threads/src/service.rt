@@ -2,7 +2,7 @@
 ghost use Rattle.std.specs.Prelude.{◌≡◌, ◌≤◌, ◌⊎◌, IfOk, IfErr, IsOkUnless, None};
 ghost use Rattle.std.specs.Arc.{arc_value};
 ghost use Rattle.album_stamps.specs.declared.limits.TheConstants.{MAX_PARTS};
-ghost use Rattle.album_audit.specs.Totals.{none};
+ghost use Rattle.album_audit.specs.Books.{new_share};
 ghost use Rattle.album_passes.specs.Changes.{IsUnheard};
 ghost use Rattle.album_threads.specs.Opened.{opened_as};
 
@@ -61,6 +61,8 @@ pub struct Service<J: ServiceNames> {
     board: Arc<Mutex<Board<J>>, Global>,
     book: Arc<Mutex<AuditBook<J>>, Global>,
     hints: Arc<Hints, Global>,
+    /// Whether a session may give itself the replies that it knows.
+    repeats: bool,
     alloc: Global,
     /// How many partitions there are.
     parts: u16,
@@ -101,6 +103,7 @@ impl<J: ServiceNames + Send + 'static> Service<J> {
             list,
             blanks,
             hints,
+            repeats,
         } = opened;
         let board = Board::open(list, pass.split(&desk));
         let board = Arc::new(alloc, Mutex::new(board))?;
@@ -138,6 +141,7 @@ impl<J: ServiceNames + Send + 'static> Service<J> {
             board,
             book,
             hints,
+            repeats,
             alloc,
             parts,
             mailboxes,
@@ -156,6 +160,7 @@ impl<J: ServiceNames + Send + 'static> Service<J> {
             board: _,
             book,
             hints: _,
+            repeats: _,
             alloc: _,
             parts: _,
             mailboxes,
@@ -173,14 +178,15 @@ impl<J: ServiceNames> Service<J> {
     ///
     /// # Errors
     ///
-    /// `SessionsSpent` where all numbers are drawn; else `OutOfMemory`, which may leave a number spent.
+    /// `OutOfMemory`, where there is none for the session; then `SessionsSpent`, where all numbers are drawn; then
+    /// `OutOfMemory` once more, where the session can't be registered, which leaves its number spent.
     pub fn session<R: Wait>(&self, rt: &R) -> Result<Session<J>, Refusal>
         ensures unheard { IfOk result (λ session. IsUnheard session.client session.cut) }
         ensures most { IfOk result (λ session. session.client ≤ J.terms.sessions) }
         ensures parts { IfOk result (λ session. session.cut.parts ≡ J.terms.parts) }
         ensures opening { IfOk result (λ session. session.cut.opening ≡ J.terms.opening) }
         ensures counter { IfOk result (λ session. session.counter ≡ 0) }
-        ensures share { IfOk result (λ session. session.share ≡ none) }
+        ensures share { IfOk result (λ session. session.share ≡ new_share) }
         ensures refused { IfErr result (λ e. (e ≡ Refusal.OutOfMemory) ⊎ (e ≡ Refusal.SessionsSpent)) }
     {
         let board = Arc::try_clone(&self.board)?;
@@ -220,7 +226,15 @@ impl<J: ServiceNames> Service<J> {
         let mut pass = self.seed.lock(rt).split(&desk);
         let client = desk.draw(rt, &mut pass)?;
         let channel = PartitionChannel::new(
-            self.alloc, desk, pass, client, self.parts, to, from, breakage,
+            self.alloc,
+            desk,
+            pass,
+            client,
+            self.parts,
+            to,
+            from,
+            self.repeats,
+            breakage,
         );
         if channel.register(rt, end).is_err() {
             channel.leave(rt);

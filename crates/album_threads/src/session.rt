@@ -15,7 +15,9 @@ pub(crate) mod channel;
 mod hinted;
 pub(crate) mod in_order;
 mod note;
+mod repeating;
 mod round;
+mod sightings;
 mod step;
 
 use crate::control::{Control, ControlAnswer};

@@ -2,7 +2,7 @@
 ghost use Rattle.std.specs.Prelude.{◌≡◌, ◌≢◌, ◌<◌, ◌≤◌, ℕ, false, length, map, take, All, option_map, None, Ok, Err, IfOk, IfErr, IfSome, OnOk, OnErr, IsOkUnless};
 ghost use Rattle.album_items.specs.declared.values.Value.{Value};
 ghost use Rattle.album_partition.specs.Answers.{after, answer};
-ghost use Rattle.album_partition.specs.Marks.{pending_stamps, latest};
+ghost use Rattle.album_partition.specs.Marks.{pending_stamps, latest, state_of};
 ghost use Rattle.album_partition.specs.Partition.{PartitionState};
 ghost use Rattle.album_partition.specs.Sweeps.{swept};
 ghost use Rattle.album_passes.specs.Cuts.{Extends, IsSound, prefix_at};
@@ -94,8 +94,11 @@ impl<J: ServiceNames> PartitionKeeper<J> {
             None => Ok(None),
             Some(reply) => {
                 let overtaken = self.has_newer(&reply);
+                let below = self.settled_below();
                 let pass = self.owner.split(desk);
-                Ok(Some(ReplyEnvelope::new(message, reply, overtaken, pass)))
+                Ok(Some(ReplyEnvelope::new(
+                    message, reply, overtaken, below, pass,
+                )))
             }
         }
     }
@@ -120,6 +123,21 @@ impl<J: ServiceNames> PartitionKeeper<J> {
                 stamp.value() < self.partition.latest(*item).value()
             }
             Body::Reply(_) | Body::Request(_) => false,
+        }
+    }
+
+    /// The least stamp that is pending here, or else the greatest number. Without memory to list them it is 0, which
+    /// says nothing.
+    fn settled_below(&self) -> u64
+        ensures { (stamp : ℕ) → stamp < result → state_of self.now.partition.marks stamp ≢ StampState.Pending }
+    {
+        // Mostly nothing is pending, and then there is nothing to list.
+        if !self.partition.has_pending() {
+            return u64::MAX;
+        }
+        match self.partition.pending() {
+            Ok(stamps) => least_of(&stamps),
+            Err(_) => 0,
         }
     }
 
@@ -358,6 +376,17 @@ impl<J: ServiceNames> PartitionKeeper<J> {
             }
         }
     }
+}
+
+/// A number that is no greater than any of the stamps.
+fn least_of(stamps: &[Stamp]) -> u64
+    ensures { All (λ stamp. result ≤ stamp) stamps.now }
+{
+    let mut least = u64::MAX;
+    for stamp in stamps {
+        least = least.min(stamp.value());
+    }
+    least
 }
 
 /// The stamps with which the message asks: those of a Get.

@@ -10,7 +10,7 @@ ghost use Rattle.album_threads.specs.Envelopes.{Shows};
 ghost use Rattle.album_threads.specs.Phases.{Outset, IsUnderWay};
 ghost use Rattle.album_threads.specs.Replies.{IsReplied};
 ghost use Rattle.album_threads.specs.Resting.{RestsOn};
-ghost use Rattle.album_threads.specs.Sessions.{SessionState, IsClosedOrOutOfMemory, IsNoReply, DrawsNothing};
+ghost use Rattle.album_threads.specs.Sessions.{SessionState, IsClosedOrOutOfMemory, IsNoReply, AddsNothing};
 ghost use Rattle.album_threads.specs.Steps.{client_step_in, terms_in, IsBegunFor, IsDone, IsLed, IsSomehowUnderWay, IsSomehowWaited, IsStarted, IsStill, IsWaited};
 
 use crate::hints::Topic;
@@ -54,7 +54,7 @@ impl<J: ServiceNames> Session<J> {
         ensures rests { IfOk result (RestsOn J.terms.limit J.policy principal.now ask self.old self.new) }
         ensures checked { IfSome (refusal_of ask principal.now) (λ e. (result ≡ Err e) × (self.new ≡ self.old)) }
         ensures refused { IfErr result (λ e. (refusal_of ask principal.now ≡ Some e) ⊎ IsClosedOrOutOfMemory e) }
-        ensures unbegun { OnErr result (DrawsNothing self.old self.new) }
+        ensures unbegun { OnErr result (AddsNothing self.old self.new) }
         ensures grown { Extends self.old.cut self.new.cut }
         ensures sound { IsSound self.new.cut }
         ensures client { self.new.client ≡ self.old.client }
@@ -87,7 +87,7 @@ impl<J: ServiceNames> Session<J> {
             → IfOk result (RestsOn J.terms.limit J.policy principal.now ask.now session self.new) }
         ensures refused { IfErr result IsClosedOrOutOfMemory }
         ensures unbegun { (session : SessionState) → IsStill session self.old
-            → OnErr result (DrawsNothing session self.new) }
+            → OnErr result (AddsNothing session self.new) }
         ensures on { IsOn self.old self.new }
     {
         self.channel.is_sound();
@@ -117,7 +117,7 @@ impl<J: ServiceNames> Session<J> {
             (record { principal = principal.now; ask = ask.now; session = session; hinted = false }) self.new) }
         ensures refused { IfErr result IsClosedOrOutOfMemory }
         ensures unbegun { (session : SessionState) → IsStill session self.old
-            → OnErr result (DrawsNothing session self.new) }
+            → OnErr result (AddsNothing session self.new) }
         ensures on { IsOn self.old self.new }
     {
         self.channel.is_sound();
@@ -145,7 +145,7 @@ impl<J: ServiceNames> Session<J> {
         ensures refused { IfErr result IsClosedOrOutOfMemory }
         ensures unbegun { (outset : Outset) → outset.hinted ≡ course.now.hinted
             → IsUnderWay J.policy outset self.old asked.begun.cut asked.sent.items phase
-            → OnErr result (DrawsNothing outset.session self.new) }
+            → OnErr result (AddsNothing outset.session self.new) }
         ensures on { IsOn self.old self.new }
     {
         self.channel.is_sound();
@@ -253,7 +253,7 @@ impl<J: ServiceNames> Session<J> {
         ensures refused { IfErr result IsClosedOrOutOfMemory }
         ensures unbegun { (outset : Outset) → outset.hinted ≡ course.now.hinted
             → IsWaited J.policy outset self.old asked.begun.cut asked.sent.items phase
-            → OnErr result (DrawsNothing outset.session self.new) }
+            → OnErr result (AddsNothing outset.session self.new) }
         ensures on { IsOn self.old self.new }
     {
         self.channel.is_sound();

@@ -1,5 +1,6 @@
 //! What was asked in one round.
-ghost use Rattle.std.specs.Prelude.{◌≡◌, ◌≤◌, IsTrue, IfSome, Contains, length};
+ghost use Rattle.std.specs.Prelude.{◌≡◌, ◌≤◌, ◌<◌, IsTrue, IfSome, Contains, length};
+ghost use Rattle.album_passes.specs.Cuts.{IsSound};
 ghost use Rattle.album_threads.specs.Replies.{IsLate};
 
 use album_calls::{Body, Message, Node, Request, same_items, same_values};
@@ -11,8 +12,9 @@ use album_stamps::{MAX_PARTS, Refusal, Stamp};
 pub(crate) enum NoReply {
     /// None can come.
     Refused(Refusal),
-    /// The read is overtaken: the partition that replies a version of an item has committed a newer one. What the
-    /// newer one's author had seen may be newer than what else is read, so nothing is shown of this read.
+    /// The read is overtaken: the partition that replies a version of an item has committed a newer one, and the cut
+    /// with which the round began may have that. What the newer one's author had seen may be newer than what else is
+    /// read, so nothing is shown of this read.
     Overtaken,
 }
 
@@ -21,6 +23,8 @@ pub(crate) enum NoReply {
 pub(crate) struct Asked {
     pub(crate) sent: Vec<Message>,
     pub(crate) begun: Pass,
+    /// Whether the session knows all replies by itself, so that nothing was sent.
+    pub(crate) known: bool,
 }
 
 impl Asked {
@@ -55,7 +59,8 @@ impl Asked {
 
     /// Whether the reply's partition had by then, as the pass shows it, all marks with which the round began.
     pub(crate) fn is_before(&self, reply: &Message, pass: &Pass) -> bool
-        ensures { IsTrue result → IsLate self.now.begun.cut pass.now.cut reply.now }
+        ensures late { IsTrue result → IsLate self.now.begun.cut pass.now.cut reply.now }
+        ensures sound { IsTrue result → IsSound pass.now.cut }
     {
         match reply.from() {
             Node::Part(part) => { part < MAX_PARTS && self.begun.length(part) <= pass.length(part) }

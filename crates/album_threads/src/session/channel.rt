@@ -1,5 +1,5 @@
 //! A session's channel to the partitions: its mailbox, theirs, and the pass that goes with each message.
-ghost use Rattle.std.specs.Prelude.{◌≡◌, ◌≢◌, ◌+◌, ◌<◌, ◌≤◌, ◌^◌, IfOk, IfErr, OnOk, OnErr, IfSome, IfNone, Some, None, IsOkUnless};
+ghost use Rattle.std.specs.Prelude.{◌≡◌, ◌≢◌, ◌+◌, ◌<◌, ◌≤◌, ◌^◌, All, IfOk, IfErr, OnOk, OnErr, IfSome, IfNone, Some, None, IsOkUnless};
 ghost use Rattle.album_stamps.specs.Stamps.{client_number};
 ghost use Rattle.album_passes.specs.Changes.{merged, announced_cut};
 ghost use Rattle.album_passes.specs.Cuts.{IsSound, Extends, announced_for};
@@ -7,12 +7,14 @@ ghost use Rattle.std.specs.Arc.{arc_value};
 ghost use Rattle.album_stamps.specs.declared.limits.TheConstants.{MAX_PARTS};
 ghost use Rattle.album_threads.specs.Controls.{Answers};
 ghost use Rattle.album_threads.specs.Sessions.{IsChannel, IsLater, IsClosedOrOutOfMemory};
+ghost use Rattle.album_threads.specs.Sightings.{IfSighted};
 
 use crate::breakage::Breakage;
 use crate::control::{Control, ControlAnswer, ControlReply, ControlRequest};
 use crate::envelopes::ReplyEnvelope;
 use crate::mailbox::{Inbox, PartitionMail, SessionMail};
 use crate::service_names::ServiceNames;
+use crate::session::sightings::{Sighting, clear, put};
 use album_board::{Board, Listened, Published, listen, publish};
 use album_items::ItemId;
 use album_passes::{Desk, Pass, meet};
@@ -44,19 +46,26 @@ pub(crate) struct PartitionChannel<J: ServiceNames> {
     heard: VecDeque<ReplyEnvelope<J>>,
     /// Where, among the messages of a round, the one stands to which a reply was taken last.
     pub(crate) found: usize,
+    /// What the replies of a read's first round have shown, each where the message stands to which it was.
+    pub(crate) sightings: Vec<Option<Sighting>>,
+    /// Whether it may give itself the replies that it knows.
+    pub(crate) repeats: bool,
     breakage: Arc<Breakage, Global>,
 }
 
 impl<J: ServiceNames> Model for PartitionChannel<J> {
-    ghost use Rattle.std.specs.Prelude.{◌≡◌};
+    ghost use Rattle.std.specs.Prelude.{◌≡◌, All};
     ghost use Rattle.std.specs.Arc.{arc_value};
     ghost use Rattle.album_threads.specs.Sessions.{ChannelState, IsChannel};
+    ghost use Rattle.album_threads.specs.Sightings.{IfSighted};
 
     ghost Value = { ChannelState };
 
     ghost view = { λ c. record { client = c.client; cut = c.pass.cut } };
 
-    ghost invariant = { λ c. ((arc_value c.desk).table ≡ J.table) × IsChannel J.table c.client c.parts c.pass };
+    ghost invariant = { λ c. ((arc_value c.desk).table ≡ J.table)
+        × IsChannel J.table c.client c.parts c.pass
+        × All (IfSighted J.terms.limit c.pass.cut) c.sightings.items };
 }
 
 impl<J: ServiceNames> PartitionChannel<J> {
@@ -69,6 +78,7 @@ impl<J: ServiceNames> PartitionChannel<J> {
         parts: u16,
         to: Vec<Sender<PartitionMail<J>>>,
         from: Receiver<SessionMail<J>>,
+        repeats: bool,
         breakage: Arc<Breakage, Global>,
     ) -> PartitionChannel<J>
         requires table { (arc_value desk).table ≡ J.table }
@@ -87,6 +97,8 @@ impl<J: ServiceNames> PartitionChannel<J> {
             from: Inbox::new(from),
             heard: VecDeque::new(alloc),
             found: 0,
+            sightings: Vec::new(alloc),
+            repeats,
             breakage,
         }
     }
@@ -254,6 +266,22 @@ impl<J: ServiceNames> PartitionChannel<J> {
         ensures later { IsLater self.old self.new }
     {
         self.pass.join(&self.desk, pass);
+    }
+
+    /// Begins to keep what the replies to so many messages show. What was kept before is let go.
+    #[tactic(auto, using(crate::proofs::SightingLemmas::none_sighted))]
+    pub(crate) fn sights(&mut self, count: usize)
+        ensures same { self.new ≡ self.old }
+    {
+        clear(&mut self.sightings, count);
+    }
+
+    /// Keeps what the reply to the message of this index has shown.
+    pub(crate) fn keep(&mut self, index: usize, sighting: Option<Sighting>)
+        requires sighted { IfSighted J.terms.limit self.old.cut sighting }
+        ensures same { self.new ≡ self.old }
+    {
+        put(&mut self.sightings, index, sighting);
     }
 
     /// Announces the items for the client's stamp.

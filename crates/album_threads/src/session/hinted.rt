@@ -7,7 +7,7 @@ ghost use Rattle.album_views.specs.Checks.{refusal_of};
 ghost use Rattle.album_views.specs.Steps.{AreReadable};
 ghost use Rattle.album_threads.specs.Asks.{IsOn};
 ghost use Rattle.album_threads.specs.Hints.{are_among, asks_latest, begins_read, is_busy, is_without_view, item_asked, items_asked};
-ghost use Rattle.album_threads.specs.Sessions.{IsClosedOrOutOfMemory, DrawsNothing};
+ghost use Rattle.album_threads.specs.Sessions.{IsClosedOrOutOfMemory, AddsNothing};
 ghost use Rattle.album_threads.specs.Steps.{IsBegunFor, IsBegunWith, IsDone};
 
 use crate::hints::{Hint, Topic};
@@ -80,7 +80,7 @@ impl<J: ServiceNames> Session<J> {
         ensures done { IfOk result (IsDone J.terms.limit J.policy
             (record { principal = principal.now; ask = ask.now; session = self.old; hinted = true }) self.new) }
         ensures refused { IfErr result IsClosedOrOutOfMemory }
-        ensures unbegun { OnErr result (DrawsNothing self.old self.new) }
+        ensures unbegun { OnErr result (AddsNothing self.old self.new) }
         ensures on { IsOn self.old self.new }
     {
         self.channel.is_sound();
@@ -194,7 +194,7 @@ fn is_without_view(transition: &Transition) -> bool
 }
 
 /// Whether a read begins with these messages: the first of them asks for the latest version.
-fn begins_read(sent: &[Message]) -> bool
+pub(crate) fn begins_read(sent: &[Message]) -> bool
     ensures { result ≡ begins_read sent.now }
 {
     match sent.first() {
@@ -204,7 +204,7 @@ fn begins_read(sent: &[Message]) -> bool
 }
 
 /// Whether it is a Get without stamps.
-fn asks_latest(body: &Body) -> bool
+pub(crate) fn asks_latest(body: &Body) -> bool
     ensures { result ≡ asks_latest body.now }
 {
     match body {

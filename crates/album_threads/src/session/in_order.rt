@@ -4,7 +4,7 @@ ghost use Rattle.std.specs.Prelude.{◌≡◌, ◌≤◌, ◌⊎◌, Some, Err, 
 ghost use Rattle.album_passes.specs.Cuts.{Extends, IsSound};
 ghost use Rattle.album_threads.specs.InOrder.{IsInOrder};
 ghost use Rattle.album_threads.specs.Resting.{RestsOn};
-ghost use Rattle.album_threads.specs.Sessions.{IsClosedOrOutOfMemory, DrawsNothing};
+ghost use Rattle.album_threads.specs.Sessions.{IsClosedOrOutOfMemory, AddsNothing};
 ghost use Rattle.album_threads.specs.Steps.{IsStill};
 ghost use Rattle.album_views.specs.Checks.{refusal_of};
 
@@ -45,7 +45,7 @@ impl<J: ServiceNames> Session<J> {
             RestsOn J.terms.limit J.policy principal.now ask self.old self.new given.answer) }
         ensures checked { IfSome (refusal_of ask principal.now) (λ e. (result ≡ Err e) × (self.new ≡ self.old)) }
         ensures refused { IfErr result (λ e. (refusal_of ask principal.now ≡ Some e) ⊎ IsClosedOrOutOfMemory e) }
-        ensures unbegun { OnErr result (DrawsNothing self.old self.new) }
+        ensures unbegun { OnErr result (AddsNothing self.old self.new) }
         ensures grown { Extends self.old.cut self.new.cut }
         ensures sound { IsSound self.new.cut }
         ensures client { self.new.client ≡ self.old.client }

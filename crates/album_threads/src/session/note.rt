@@ -10,14 +10,14 @@ use album_stamps::Refusal;
 use std::sync::Wait;
 
 impl<J: ServiceNames> Session<J> {
-    /// Adds the notes to the audit book, together. They count in the session's share.
+    /// Adds the notes to the audit book, together, as the client's. They count in the session's share.
     ///
     /// # Errors
     ///
     /// `OutOfMemory`. None of them is noted then.
-    pub(crate) fn note_all<R: Wait>(&mut self, rt: &R, notes: &[Note]) -> Result<(), Refusal>
-        ensures shared { OnOk result (AreShared self.old.client self.old.share self.new.share notes.now) }
-        ensures some { OnErr result (notes.now ≢ []) }
+    pub(crate) fn note_all<R: Wait>(&mut self, rt: &R, notes: &Vec<Note>) -> Result<(), Refusal>
+        ensures shared { OnOk result (AreShared self.old.client self.old.share self.new.share notes.now.items) }
+        ensures some { OnErr result (notes.now.items ≢ []) }
         ensures memory { IsOkUnless result Refusal.OutOfMemory }
         ensures unchanged { OnErr result (self.new ≡ self.old) }
         ensures client { self.new.client ≡ self.old.client }

@@ -11,13 +11,16 @@ use crate::mailbox::PartitionMail;
 use crate::service_names::ServiceNames;
 use crate::session::asked::{Asked, NoReply};
 use crate::session::channel::PartitionChannel;
+use crate::session::hinted::begins_read;
+use crate::session::sightings::sighting_of;
 use album_calls::{Body, Message, Request};
 use album_stamps::Refusal;
 use std::sync::Wait;
 use std::time;
 
 impl<J: ServiceNames> PartitionChannel<J> {
-    /// Sends the messages of a round, all of them before the first reply is taken.
+    /// Sends the messages of a round, all of them before the first reply is taken; or none, where the session knows what
+    /// would be replied.
     ///
     /// # Errors
     ///
@@ -35,12 +38,18 @@ impl<J: ServiceNames> PartitionChannel<J> {
         ensures same { self.new ≡ self.old }
     {
         let begun = self.split();
-        for part in 0..self.parts() {
-            self.post(rt, part, &messages)?;
+        let known = self.knows_all(&begun, &messages);
+        if !known {
+            self.post_all(rt, &messages)?;
         }
+        if begins_read(&messages) {
+            self.sights(messages.len());
+        }
+        self.found = 0;
         Ok(Asked {
             sent: messages,
             begun,
+            known,
         })
     }
 
@@ -93,6 +102,18 @@ impl<J: ServiceNames> PartitionChannel<J> {
             }
             Body::Request(_) | Body::Reply(_) => {}
         }
+    }
+
+    /// Sends the messages: to each partition one mail, with those that go there.
+    fn post_all<R: Wait>(&mut self, rt: &R, messages: &[Message]) -> Result<(), Refusal>
+        requires shown { All (Shows self.old.cut) messages.now }
+        ensures refused { IfErr result IsClosedOrOutOfMemory }
+        ensures same { self.new ≡ self.old }
+    {
+        for part in 0..self.parts() {
+            self.post(rt, part, messages)?;
+        }
+        Ok(())
     }
 
     /// Sends those of the messages that go to the partition, as one mail.
@@ -153,7 +174,7 @@ impl<J: ServiceNames> PartitionChannel<J> {
         unreachable!()
     }
 
-    /// Takes the next envelope, and gives the reply, where it is one to one of these messages.
+    /// Takes the next envelope, or what is known, and gives the reply, where it is one to one of these messages.
     #[tactic(auto, using(crate::proofs::SessionLemmas::later_same))]
     fn hear_next<R: Wait + time::Clock>(
         &mut self,
@@ -168,6 +189,9 @@ impl<J: ServiceNames> PartitionChannel<J> {
         ensures refused { IfErr result (IsNoReply reads) }
         ensures later { IsLater self.old self.new }
     {
+        if asked.known {
+            return self.hear_known(asked, reads);
+        }
         match self.next_envelope(rt, asked.tag()) {
             Err(why) => Err(NoReply::Refused(why)),
             Ok(None) => Ok(None),
@@ -176,7 +200,8 @@ impl<J: ServiceNames> PartitionChannel<J> {
     }
 
     /// Takes in what is replied, where it answers one of these messages, at a point of the partition's history that is
-    /// no earlier than what was seen of it when they were sent. A version that is overtaken ends the read.
+    /// no earlier than what was seen of it when they were sent. A version ends the read, where by then a newer one of
+    /// the item may have been committed.
     #[tactic(auto, using(crate::proofs::SessionLemmas::later_same))]
     fn take(
         &mut self,
@@ -191,7 +216,7 @@ impl<J: ServiceNames> PartitionChannel<J> {
         ensures refused { IfErr result (IsNoReply reads) }
         ensures later { IsLater self.old self.new }
     {
-        let overtaken = envelope.is_overtaken();
+        let (overtaken, below) = (envelope.is_overtaken(), envelope.settled_below());
         let (request, reply, pass) = envelope.open();
         let Some(found) = asked.find(&request, self.found) else {
             return Ok(None);
@@ -201,15 +226,21 @@ impl<J: ServiceNames> PartitionChannel<J> {
         }
         self.found = found;
         if overtaken {
-            return ends_read(reads);
+            if !self.is_new_enough(asked, found, &reply) {
+                return ends_read(reads);
+            }
+            self.join(pass);
+            return Ok(Some(reply));
         }
+        let sighting = sighting_of::<J>(&request, &reply, below, &pass);
         self.join(pass);
+        self.keep(found, sighting);
         Ok(Some(reply))
     }
 }
 
 /// What a reply leads to that is overtaken: only a read asks for versions.
-fn ends_read(reads: bool) -> Result<Option<Message>, NoReply>
+pub(crate) fn ends_read(reads: bool) -> Result<Option<Message>, NoReply>
     ensures none { IfOk result (λ reply. reply ≡ None) }
     ensures refused { IfErr result (IsNoReply reads) }
 {

@@ -150,7 +150,7 @@ impl<J: ServiceNames> Session<J> {
         ensures counter { OnOk result (self.new.counter ≡ transition.client.clock.counter) }
         ensures spent { OnOk result (next_of transition.client.clock ≡ Err Refusal.StampsSpent
             → transition.client.clock.counter ≡ MAX_COUNTER) }
-        ensures kept { OnErr result (self.new.counter ≡ self.old.counter) }
+        ensures kept { OnErr result (self.new ≡ self.old) }
         ensures noted { OnErr result (transition.notes.items ≢ []) }
         ensures memory { IsOkUnless result Refusal.OutOfMemory }
         ensures client { self.new.client ≡ self.old.client }

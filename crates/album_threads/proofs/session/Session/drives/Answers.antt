@@ -1,7 +1,7 @@
 use Rattle.std.proofs.Common.{subst}
 use Rattle.album_passes.specs.Cuts.{IsSound}
 use Rattle.album_threads.specs.Steps.{IsLed}
-use Rattle.album_threads.specs.Sessions.{SessionState, DrawsNothing}
+use Rattle.album_threads.specs.Sessions.{SessionState, AddsNothing}
 use Rattle.album_threads.proofs.LookLemmas.{on_self, on_trans}
 use Rattle.album_threads.proofs.StepLemmas.{on_refusal}
 use Rattle.album_threads.proofs.session.Session.drives.Goals as goal
@@ -30,7 +30,7 @@ goes_on-requires-clause-way g c =
 -- it is refused
 pub returns-in_err-answer-clause-unbegun : goal.returns-in_err-answer-clause-unbegun
 returns-in_err-answer-clause-unbegun g c = λ outset by w.
-    on_refusal c.from_residual.result (DrawsNothing outset.session c.goes_on.new.self)
+    on_refusal c.from_residual.result (AddsNothing outset.session c.goes_on.new.self)
     (c.in_err-answer.ensures.unbegun outset by (c.waits-heard.ensures.way outset (c.loop.invariant.way outset by w)))
 
 pub returns-in_err-answer-clause-on : goal.returns-in_err-answer-clause-on

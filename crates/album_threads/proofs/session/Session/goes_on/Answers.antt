@@ -6,7 +6,7 @@ use Rattle.album_threads.specs.Envelopes.{Shows}
 use Rattle.album_threads.specs.Phases.{IsUnderWay}
 use Rattle.album_threads.specs.Sending.{announced_by, sent_at, sent_last, IsFree, IsAnnouncedBy}
 use Rattle.album_passes.specs.Cuts.{IsSound}
-use Rattle.album_threads.specs.Sessions.{SessionState, DrawsNothing}
+use Rattle.album_threads.specs.Sessions.{SessionState, AddsNothing}
 use Rattle.album_threads.specs.Steps.{client_step_in, terms_in, IsReaction}
 use Rattle.album_threads.proofs.ClockLemmas.{moved_clock}
 use Rattle.album_threads.proofs.LookLemmas.{on_trans}
@@ -54,9 +54,9 @@ takes_over-requires g c =
 -- there is no memory for what is noted of it
 pub returns-in_err-answer-clause-unbegun : goal.returns-in_err-answer-clause-unbegun
 returns-in_err-answer-clause-unbegun g c = λ outset by w.
-    on_refusal c.from_residual.result (DrawsNothing outset.session c.takes_over.new.self)
+    on_refusal c.from_residual.result (AddsNothing outset.session c.takes_over.new.self)
     (unbegun_noted g.J.ServiceNames.terms.limit g.J.ServiceNames.policy outset w.before c.args.self.now c.takes_over.new.self c.args.asked.begun.cut
-    c.args.asked.sent.items c.args.phase c.in-Ok.transition w.way w.heard c.takes_over.ensures.cut c.in_err-answer.ensures.kept c.in-Ok.ensures.taken c.in_err-answer.ensures.noted)
+    c.args.asked.sent.items c.args.phase c.in-Ok.transition w.way w.heard c.in_err-answer.ensures.kept c.in-Ok.ensures.taken c.in_err-answer.ensures.noted)
 
 -- it answers the ask
 pub returns-in-Answers-clause-way : goal.returns-in-Answers-clause-way

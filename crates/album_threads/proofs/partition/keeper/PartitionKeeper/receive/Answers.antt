@@ -1,8 +1,8 @@
-use Rattle.std.proofs.Common.{◌≡◌, ℕ, ◌≤◌, List, Some, length, ap, sym, ◌∙◌, subst, arith}
+use Rattle.std.proofs.Common.{◌≡◌, ◌≢◌, ℕ, ◌≤◌, List, Some, length, ap, sym, ◌∙◌, subst, arith}
 use Rattle.std.proofs.lemmas.List.{take_all}
 use Rattle.album_calls.specs.declared.nodes.Node.TheVariants.{Part}
 use Rattle.album_partition.specs.Answers.{answer}
-use Rattle.album_partition.specs.Marks.{latest}
+use Rattle.album_partition.specs.Marks.{latest, state_of}
 use Rattle.album_partition.specs.Partition.{PartitionState}
 use Rattle.album_partition.specs.declared.marks.Mark.{Mark}
 use Rattle.album_partition.proofs.LawLemmas.{to_the_sender}
@@ -10,9 +10,11 @@ use Rattle.album_passes.specs.Cuts.{Extends, prefix_at}
 use Rattle.album_passes.specs.Owner.{OwnerState}
 use Rattle.album_passes.specs.Pass.{PassState}
 use Rattle.album_passes.proofs.CutLemmas.{extends_trans}
+use Rattle.album_terminate.specs.declared.deciding.StampState.TheVariants as state
 use Rattle.album_threads.specs.Keepers.{KeeperState}
 use Rattle.album_threads.specs.Settling.{stamps_in, settled}
 use Rattle.album_threads.proofs.SettleLemmas.{on_err}
+use Rattle.album_threads.proofs.partition.keeper.PartitionKeeper.receive.Given as given
 use Rattle.album_threads.proofs.partition.keeper.PartitionKeeper.receive.Goals as goal
 
 pub returns-in-None-clause-grown : goal.returns-in-None-clause-grown
@@ -48,9 +50,10 @@ returns-in_err-take-clause-unchanged g c =
           ∙ ap (settled c.args.self.now.partition) (sym (take_all (length stamps) stamps (omega arith))),
     )
 
--- a version that is replied is not below the partition's latest one
-pub new-requires-clause-latest : goal.new-requires-clause-latest
-new-requires-clause-latest g c = λ none part item stamp value from is.
+-- the pass shows the partition that has replied as it is
+shown_as : (g : given.Over) (c : goal.After-split-pass g) (part : ℕ) → c.in-Some.reply.from ≡ Part part
+    → c.self.inside.partition.marks ≡ prefix_at c.split-pass.result.cut part
+shown_as g c part from =
     let was = c.take_in.new.self.partition in
     let message = c.open-message.result.0 in
     let answered : answer was message ≡ Some c.in-Some.reply = sym c.in_ok-take.ensures.answered ∙ c.in-Some.is in
@@ -60,9 +63,23 @@ new-requires-clause-latest g c = λ none part item stamp value from is.
     let number : c.self.inside.partition.number ≡ part =
     ap (λ (p : PartitionState). p.number) (kept ∙ c.in_ok-take.ensures.changed) ∙ same in
     let cut : c.split-pass.result.cut ≡ c.self.inside.owner.cut = ap (λ (p : PassState). p.cut) c.split-pass.ensures.split in
-    let shown : c.take.new.self.partition.marks ≡ prefix_at c.split-pass.result.cut part =
-    ap (λ (p : PartitionState). p.marks) (sym kept) ∙ (c.self.invariant.1.shown.marks ∙ (λ i. prefix_at (sym cut i) (number i))) in
-    subst (λ (ms : List Mark). latest ms item ≤ stamp) shown (c.has_newer-overtaken.ensures none item stamp value is)
+    c.self.invariant.1.shown.marks ∙ (λ i. prefix_at (sym cut i) (number i))
   where
     same_part : (i j : ℕ) → Part i ≡ Part j → i ≡ j
     same_part i j e = cc (e)
+
+-- a version that is replied is not below the partition's latest one
+pub new-requires-clause-latest : goal.new-requires-clause-latest
+new-requires-clause-latest g c = λ none part item stamp value from is.
+    let kept : c.self.inside.partition ≡ c.take.new.self.partition = ap (λ (k : KeeperState). k.partition) c.self.view_is in
+    let shown : c.take.new.self.partition.marks ≡ prefix_at c.split-pass.result.cut part =
+    ap (λ (p : PartitionState). p.marks) (sym kept) ∙ shown_as g c part from in
+    subst (λ (ms : List Mark). latest ms item ≤ stamp) shown (c.has_newer-overtaken.ensures none item stamp value is)
+
+-- no stamp below the number is pending
+pub new-requires-clause-settled : goal.new-requires-clause-settled
+new-requires-clause-settled g c = λ part from stamp low.
+    let kept : c.self.inside.partition ≡ c.take.new.self.partition = ap (λ (k : KeeperState). k.partition) c.self.view_is in
+    let shown : c.take.new.self.partition.marks ≡ prefix_at c.split-pass.result.cut part =
+    ap (λ (p : PartitionState). p.marks) (sym kept) ∙ shown_as g c part from in
+    subst (λ (ms : List Mark). state_of ms stamp ≢ state.Pending) shown (c.settled_below-below.ensures stamp low)

@@ -1,4 +1,6 @@
+use Rattle.std.proofs.Common.{rules}
 use Rattle.album_threads.proofs.SessionLemmas.{later_joined}
+use Rattle.album_threads.proofs.SightingLemmas.{all_sighted}
 use Rattle.album_threads.proofs.session.channel.PartitionChannel.meet.Goals as goal
 
 pub returns-clause-one : goal.returns-clause-one
@@ -10,3 +12,20 @@ pub returns-clause-other : goal.returns-clause-other
 returns-clause-other g c =
     later_joined _ c.other.inside.client c.other.inside.pass c.meet.new.other c.other.view_is c.other.invariant.1.number
     c.meet.ensures.other_grown c.meet.ensures.other_own
+
+-- what was sighted is so of the longer cut
+pub invariant_of-self : goal.invariant_of-self
+invariant_of-self g c = (
+  search rules,
+  search rules,
+  all_sighted g.J.ServiceNames.terms.limit c.self.inside.pass.cut c.meet.new.one.cut c.self.inside.sightings.items
+      c.meet.ensures.one_grown c.self.invariant.2,
+)
+
+pub invariant_of-other : goal.invariant_of-other
+invariant_of-other g c = (
+  search rules,
+  search rules,
+  all_sighted g.J.ServiceNames.terms.limit c.other.inside.pass.cut c.meet.new.other.cut c.other.inside.sightings.items
+      c.meet.ensures.other_grown c.other.invariant.2,
+)

@@ -1,4 +1,5 @@
-//! A read that a write overtakes: the session shows nothing of it, and reads anew (docs/PROTOCOL.md, "A service").
+//! A write that is committed between the two rounds of a read: the read is of what was before (docs/PROTOCOL.md, "A
+//! service").
 ghost use Rattle.std.specs.Prelude.{◌≡◌};
 ghost use Rattle.album_threads.specs.Opened.{opened_as};
 
@@ -94,18 +95,20 @@ fn both_over<
     Ok(both)
 }
 
-fn title_overtaken<R: Threads + Wait + time::Clock + Copy + Send + Sync + 'static>(
+fn retitled_between_rounds<R: Threads + Wait + time::Clock + Copy + Send + Sync + 'static>(
     rt: R,
     alloc: Global,
 ) -> Result<Both, Refusal> {
-    let opened = opened(alloc, READABLE, 2)?.without_hints();
+    let opened = opened(alloc, READABLE, 2)?.plain();
     both_over::<Brand, R>(rt, alloc, opened)
 }
 
-/// amy's title is committed between the two rounds of bo's last read. His session reads anew, and is served the title.
+/// amy's title is committed between the two rounds of bo's last read. The picture's partition has a newer version in the
+/// second round then. It had none by what bo's session had seen as that round began, so the read counts, and is not made
+/// anew: he is served the title of before.
 #[test]
-fn a_read_that_is_overtaken(rt: HostRuntime) -> Result<(), Fail> {
-    let Both { amy, bo } = title_overtaken(rt, rt.alloc())?;
+fn a_commit_between_the_rounds_of_a_read(rt: HostRuntime) -> Result<(), Fail> {
+    let Both { amy, bo } = retitled_between_rounds(rt, rt.alloc())?;
     assert_eq!(rt; amy, Ok(65_537));
-    same(&rt, bo, "Bay at 65537")
+    same(&rt, bo, "Sea at 0")
 }

@@ -1,4 +1,4 @@
-use Rattle.album_tests_store.proofs.overtaken.title_overtaken.Given as goal
+use Rattle.album_tests_store.proofs.between_rounds.retitled_between_rounds.Given as goal
 
 -- the desk, the policy and the four ledgers that were opened here
 abbrev pub ghosts-both_over-J-ServiceNames : goal.ghosts-both_over-J-ServiceNames
