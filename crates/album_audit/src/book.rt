@@ -146,24 +146,24 @@ impl<J: Books> AuditBook<J> {
         &mut self,
         share: &mut Share<J>,
         client: ClientNo,
-        notes: &Vec<Note>,
+        notes: Vec<Note>,
     ) -> Result<(), Refusal>
-        ensures book { OnOk result (self.new ≡ book_with self.old (records_of client notes.now.items)) }
-        ensures share { OnOk result (share.new ≡ share_with share.old (records_of client notes.now.items)) }
+        ensures book { OnOk result (self.new ≡ book_with self.old (records_of client notes.items)) }
+        ensures share { OnOk result (share.new ≡ share_with share.old (records_of client notes.items)) }
         ensures memory { IsOkUnless result Refusal.OutOfMemory }
         ensures end { OnErr result
-            ((is_past_end (plus self.old.totals (totals_of (records_of client notes.now.items))) ≡ true)
+            ((is_past_end (plus self.old.totals (totals_of (records_of client notes.items))) ≡ true)
             ⊎ IsSome self.old.kept) }
         ensures counted { OnOk result
-            (is_past_end (plus self.old.totals (totals_of (records_of client notes.now.items))) ≡ false) }
+            (is_past_end (plus self.old.totals (totals_of (records_of client notes.items))) ≡ false) }
         ensures unchanged { OnErr result ((self.new ≡ self.old) × (share.new ≡ share.old)) }
     {
-        let more = Totals::of(notes);
+        let more = Totals::of(&notes);
         if self.is_past_end_with(more) {
             return Err(Refusal::OutOfMemory);
         }
         if let Some(kept) = &mut self.kept {
-            kept.extend_from_slice(&records_of(*kept.allocator(), client, notes)?)?;
+            kept.extend_from_slice(&records_of(*kept.allocator(), client, &notes)?)?;
         }
         self.audit_ok.add(&mut share.audit_ok, more.audit_ok);
         self.audit_failed

@@ -7,14 +7,13 @@ use crate::names::{AlarmFailed, AlarmOk, AuditFailed, AuditOk, Books};
 use album_permits::Note;
 use album_stamps::ClientNo;
 use std::marker::Model;
-use std::snapshot::Snapshot;
 use std::sync::ledger;
 
-/// A client's notes that were noted together. It has no bytes: contracts alone see it, as the records of the notes.
+/// A client's notes that were noted together. Contracts see it as their records, which tell whose they are.
 #[derive(Drop)]
 pub(crate) struct Noted {
-    client: Snapshot<ClientNo>,
-    notes: Snapshot<Vec<Note>>,
+    client: ClientNo,
+    notes: Vec<Note>,
 }
 
 impl Model for Noted {
@@ -24,22 +23,19 @@ impl Model for Noted {
 
     ghost Value = { List Record };
 
-    ghost view = { λ n. records_of n.client.value n.notes.value.items };
+    ghost view = { λ n. records_of n.client n.notes.items };
 }
 
 impl Noted {
-    fn of(client: ClientNo, notes: &Vec<Note>) -> Noted
-        ensures { result ≡ records_of client notes.now.items }
+    fn of(client: ClientNo, notes: Vec<Note>) -> Noted
+        ensures { result ≡ records_of client notes.items }
     {
-        Noted {
-            client: Snapshot::of(&client),
-            notes: Snapshot::of(notes),
-        }
+        Noted { client, notes }
     }
 }
 
 /// One session's share of the book that `J` names. It must be spent, by `AuditBook::gather`. Contracts see it as
-/// the totals of what was noted with it, and the records of what was noted last; it has one byte.
+/// the totals of what was noted with it, and the records of what was noted last.
 pub struct Share<J: Books> {
     pub(crate) audit_ok: ledger::Share<AuditOk<J>>,
     pub(crate) audit_failed: ledger::Share<AuditFailed<J>>,
@@ -74,9 +70,9 @@ impl<J: Books> Model for Share<J> {
 
 impl<J: Books> Share<J> {
     /// These notes were noted last with it, if there are some.
-    pub(crate) fn keep_last(&mut self, client: ClientNo, notes: &Vec<Note>)
+    pub(crate) fn keep_last(&mut self, client: ClientNo, notes: Vec<Note>)
         ensures totals { self.new.totals ≡ self.old.totals }
-        ensures last { self.new.last ≡ last_of self.old.last (records_of client notes.now.items) }
+        ensures last { self.new.last ≡ last_of self.old.last (records_of client notes.items) }
     {
         if !notes.is_empty() {
             self.last = Some(Noted::of(client, notes));

@@ -29,7 +29,7 @@ fn note_all<J: Books>(
     noted: &[Noted],
 ) -> Result<(), Refusal> {
     let notes = notes_of(alloc, noted)?;
-    book.note_all(share, client, &notes)
+    book.note_all(share, client, notes)
 }
 
 fn notes_of(alloc: Global, noted: &[Noted]) -> Result<Vec<Note>, Refusal> {

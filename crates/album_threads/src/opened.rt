@@ -75,13 +75,6 @@ impl Opened {
         })
     }
 
-    /// The same for a service without hints, in which each ask begins with a read of its objects.
-    pub fn without_hints(self) -> Opened
-        ensures { result ≡ self }
-    {
-        Opened { hints: 0, ..self }
-    }
-
     /// The same for a service whose sessions send what a world's clients send: each ask begins with a read of its
     /// objects, and each read asks the partitions in both of its rounds.
     pub fn plain(self) -> Opened

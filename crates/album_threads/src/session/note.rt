@@ -15,9 +15,9 @@ impl<J: ServiceNames> Session<J> {
     /// # Errors
     ///
     /// `OutOfMemory`. None of them is noted then.
-    pub(crate) fn note_all<R: Wait>(&mut self, rt: &R, notes: &Vec<Note>) -> Result<(), Refusal>
-        ensures shared { OnOk result (AreShared self.old.client self.old.share self.new.share notes.now.items) }
-        ensures some { OnErr result (notes.now.items ≢ []) }
+    pub(crate) fn note_all<R: Wait>(&mut self, rt: &R, notes: Vec<Note>) -> Result<(), Refusal>
+        ensures shared { OnOk result (AreShared self.old.client self.old.share self.new.share notes.items) }
+        ensures some { OnErr result (notes.items ≢ []) }
         ensures memory { IsOkUnless result Refusal.OutOfMemory }
         ensures unchanged { OnErr result (self.new ≡ self.old) }
         ensures client { self.new.client ≡ self.old.client }

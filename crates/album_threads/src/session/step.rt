@@ -156,13 +156,9 @@ impl<J: ServiceNames> Session<J> {
         ensures client { self.new.client ≡ self.old.client }
         ensures cut { self.new.cut ≡ self.old.cut }
     {
-        if let Err(why) = self.note_all(rt, &transition.notes) {
-            let_go(transition);
-            return Err(why);
-        }
         let Transition {
             client,
-            notes: _,
+            notes,
             sent,
             answer,
         } = transition;
@@ -171,12 +167,18 @@ impl<J: ServiceNames> Session<J> {
             clock,
             phase,
         } = client;
+        let tag = phase.tag();
+        let reaction = by_answer(phase, sent, answer);
+        if let Err(why) = self.note_all(rt, notes) {
+            let_go(reaction);
+            return Err(why);
+        }
 
         // That a clock which draws no more is at its end is known once it is asked.
         is_spent_at_its_end(clock);
         self.clock = clock;
-        self.tag = phase.tag();
-        Ok(by_answer(phase, sent, answer))
+        self.tag = tag;
+        Ok(reaction)
     }
 
     /// Sends the messages, once what the first of them prepares is announced. Where there are none, replies to what was
@@ -253,9 +255,9 @@ fn taken(
     }
 }
 
-/// The client is let go.
-fn let_go(transition: Transition) {
-    drop(transition);
+/// What the client has come to is let go.
+fn let_go(reaction: Reaction) {
+    drop(reaction);
 }
 
 /// Says what is so of each clock: one that is spent stands at the greatest counter.
