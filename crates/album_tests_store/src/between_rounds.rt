@@ -103,8 +103,8 @@ fn retitled_between_rounds<R: Threads + Wait + time::Clock + Copy + Send + Sync 
     both_over::<Brand, R>(rt, alloc, opened)
 }
 
-/// amy's title is committed between the two rounds of bo's last read. The picture's partition has a newer version in the
-/// second round then. It had none by what bo's session had seen as that round began, so the read counts, and is not made
+/// amy's title is committed between the two rounds of bo's last read. So the picture's partition has a newer version in
+/// the second round. By what bo's session had seen as that round began, it had none. So the read counts, and isn't made
 /// anew: he is served the title of before.
 #[test]
 fn a_commit_between_the_rounds_of_a_read(rt: HostRuntime) -> Result<(), Fail> {

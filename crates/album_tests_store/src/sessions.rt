@@ -404,8 +404,8 @@ fn refused_once_closed<R: Threads + Wait + time::Clock + Copy + Send + 'static>(
     closed_on::<Brand, R>(rt, alloc, opened)
 }
 
-/// A session outlives its service, and is refused `Closed` (21): after what its ask lacks (3), and after a partition that
-/// there isn't (23), but before what a partition would refuse.
+/// A session outlives its service, and is refused `Closed` (21): after what its ask lacks (3), and after a partition
+/// that there isn't (23), but before what a partition would refuse.
 #[test]
 fn a_closed_service(rt: HostRuntime) {
     let refused = refused_once_closed(rt, rt.alloc());

@@ -1,25 +1,24 @@
 -- What a session's answer rests on, it rests on too from before the session had listened. `Session::ask_in_order` cites
 -- `rests_still`, and the law `acknowledged_is_visible` cites `order_visible`.
-use Rattle.std.proofs.Common.{◌≡◌, ℕ, ◌+◌, ◌<◌, ◌≤◌, List, [], ◌∷◌, length, All, None, refl, sym, ap, ◌∙◌, subst, arith, inl, inr, ⊎_elim}
+use Rattle.std.proofs.Common.{◌≡◌, ℕ, ◌+◌, List, refl, sym, ap, ◌∙◌, subst, arith, inl, inr, ⊎_elim}
 use Rattle.album_audit.specs.Books.{ShareState}
 use Rattle.album_eval.specs.declared.facts.Principal.{Principal}
 use Rattle.album_eval.specs.declared.policies.Policy.{Policy}
-use Rattle.album_passes.specs.Cuts.{Cut, IsSound, Extends, announced_for}
-use Rattle.album_passes.proofs.CutLemmas.{extends_self, extends_trans}
+use Rattle.album_passes.specs.Cuts.{Cut, IsSound, Extends}
+use Rattle.album_passes.proofs.CutLemmas.{extends_trans}
 use Rattle.album_permits.specs.Permits.{PermitState}
 use Rattle.album_permits.specs.declared.answers.Answer.{Answer}
 use Rattle.album_permits.specs.declared.answers.Answer.TheVariants as answer
 use Rattle.album_permits.specs.declared.findings.Finding.{Finding}
 use Rattle.album_permits.specs.declared.findings.Finding.TheVariants as finding
 use Rattle.album_reader.specs.Answers.{ReadVersion}
-use Rattle.album_stamps.specs.Stamps.{client_number}
 use Rattle.album_stamps.specs.declared.refusals.Refusal.{Refusal}
 use Rattle.album_views.specs.declared.asks.Ask.{Ask}
 use Rattle.album_views.specs.declared.viewing.Why.TheVariants.{Rounds, Wide}
 use Rattle.album_threads.specs.Asks.{counter_after}
-use Rattle.album_threads.specs.Grounds.{IsSeen, IsOnView, IsWide, AreInVain, IsOutOfReads, trims_in}
+use Rattle.album_threads.specs.Grounds.{IsSeen, IsWide, AreInVain, IsOutOfReads}
 use Rattle.album_threads.specs.Grounds.AreInVain.{NoRead, OneMore}
-use Rattle.album_threads.specs.Resting.{IsShared, IsFoundOnView, HasSeen, IsDrawn, IsAnnounced, IsBegun, IsAlbumFull, IsSpent, IsRefusedBy, RestsOn}
+use Rattle.album_threads.specs.Resting.{IsShared, IsFoundOnView, HasSeen, IsDrawn, IsAnnounced, IsBegun, IsRefusedBy, RestsOn}
 use Rattle.album_threads.specs.Sessions.{ChannelState, SessionState, IsLater, AnnouncesNothing, AddsNothing}
 use Rattle.album_threads.specs.Steps.{IsStill}
 use Rattle.album_threads.proofs.LookLemmas.{seen_from}

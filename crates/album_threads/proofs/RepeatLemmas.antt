@@ -10,13 +10,13 @@ use Rattle.album_calls.specs.declared.messages.Body.{Body}
 use Rattle.album_calls.specs.declared.messages.Body.TheVariants as body
 use Rattle.album_calls.specs.declared.messages.Message.{Message}
 use Rattle.album_calls.specs.declared.nodes.Node.{Node}
-use Rattle.album_calls.specs.declared.nodes.Node.TheVariants.{Part, Client}
+use Rattle.album_calls.specs.declared.nodes.Node.TheVariants.{Part}
 use Rattle.album_calls.specs.declared.replies.Reply.{Reply}
 use Rattle.album_calls.specs.declared.replies.Reply.TheVariants as reply
 use Rattle.album_calls.specs.declared.requests.Request.TheVariants.{Prepare, Commit, Get, Check}
-use Rattle.album_partition.specs.Answers.{action_of, answer, reply_to, on_body, get_by, says, nothing}
+use Rattle.album_partition.specs.Answers.{action_of, reply_to, on_body, get_by, says, nothing}
 use Rattle.album_partition.specs.Laws.{IsLatest, IsReadAt}
-use Rattle.album_partition.specs.Marks.{floor, has_version, is_legal, state_of}
+use Rattle.album_partition.specs.Marks.{floor, has_version, state_of}
 use Rattle.album_partition.specs.Partition.{PartitionState, read_at, value_at}
 use Rattle.album_partition.specs.declared.marks.Mark.{Mark}
 use Rattle.album_partition.proofs.LawLemmas.{to_the_sender, version_is_read}

@@ -1,6 +1,6 @@
 -- What comes of a reply to a session's client, by the phase that it is in: `moved_on`. `Session::goes_on` cites what
 -- follows of it. `Session::gives` cites `taken_so`.
-use Rattle.std.proofs.Common.{◌≡◌, ℕ, ◌≤◌, true, false, List, [], Option, Some, None, Result, Ok, Err, IfOk, refl, sym, ap, ◌∙◌, subst, arith}
+use Rattle.std.proofs.Common.{◌≡◌, ℕ, ◌≤◌, true, false, List, [], Option, Some, None, Result, Ok, Err, IfOk, refl, sym, ◌∙◌, subst, arith}
 use Rattle.std.specs.Option.{unwrap_or}
 use Rattle.std.specs.Prelude.{IsOkAnd, IfSome, IfNone, OnErr}
 use Rattle.album_calls.specs.declared.messages.Message.{Message}
@@ -12,7 +12,7 @@ use Rattle.album_client.specs.declared.clients.Phase.{Phase}
 use Rattle.album_client.specs.declared.clients.Phase.TheVariants as phase
 use Rattle.album_client.specs.declared.transitions.Transition.{Transition}
 use Rattle.album_eval.specs.declared.policies.Policy.{Policy}
-use Rattle.album_passes.specs.Cuts.{Cut, announced_for, Extends, IsSound}
+use Rattle.album_passes.specs.Cuts.{Cut, Extends, IsSound}
 use Rattle.album_passes.proofs.CutLemmas.{extends_self}
 use Rattle.album_stamps.specs.Clocks.{next_of}
 use Rattle.album_stamps.specs.declared.limits.TheConstants.{MAX_COUNTER}

@@ -25,8 +25,8 @@ use Rattle.album_permits.specs.declared.answers.Answer.TheVariants as answer
 use Rattle.album_views.specs.declared.asks.Ask.{Ask}
 use Rattle.album_views.specs.declared.viewing.Why.TheVariants.{Rounds, Wide}
 
--- What is noted of the ruling was added to the share, note by note, each as the client's. Nothing else was, so it is what
--- was noted last.
+-- What is noted of the ruling was added to the share, note by note, each as the client's. Nothing else was, so it is
+-- what was noted last.
 pub record IsShared (client : ℕ) (old new : ShareState) (case : PermitState) : Type 0 where
   pub notes : List Note
   pub noted : Notes case notes

@@ -73,8 +73,8 @@ impl<J: ServiceNames> RequestEnvelope<J> {
 
 /// A partition's reply, with the request that it answers and a pass of the desk that J names. The pass has no number,
 /// and its cut shows the partition exactly as it was when it had replied. Where it replies a version of an item, the
-/// envelope says whether the partition had committed a newer one by then. It has a number, too, below which no stamp was
-/// pending there.
+/// envelope says whether the partition had committed a newer one by then. It has a number, too, below which no stamp
+/// was pending there.
 #[derive(Drop)]
 pub struct ReplyEnvelope<J: ServiceNames> {
     request: Message,

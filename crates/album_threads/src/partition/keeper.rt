@@ -96,9 +96,7 @@ impl<J: ServiceNames> PartitionKeeper<J> {
                 let overtaken = self.has_newer(&reply);
                 let below = self.settled_below();
                 let pass = self.owner.split(desk);
-                Ok(Some(ReplyEnvelope::new(
-                    message, reply, overtaken, below, pass,
-                )))
+                Ok(Some(ReplyEnvelope::new(message, reply, overtaken, below, pass)))
             }
         }
     }

@@ -1,5 +1,5 @@
-//! What a session knows of a read's second round by its first: which versions are new enough, and what a partition would
-//! reply where nothing was pending. There it gives itself the replies, and sends nothing.
+//! What a session knows of a read's second round by its first: which versions are new enough, and what a partition
+//! would reply where none of the round's stamps was pending. There it gives itself the replies, and sends nothing.
 ghost use Rattle.std.specs.Prelude.{◌≡◌, None, IsTrue, IfOk, IfErr, IfSome, IfNone};
 ghost use Rattle.album_passes.specs.Cuts.{IsSound};
 ghost use Rattle.album_threads.specs.Replies.{IsCurrent, IsReplied};
@@ -16,7 +16,7 @@ use std::alloc::AllocError;
 
 impl<J: ServiceNames> PartitionChannel<J> {
     /// Whether it knows what the partitions would reply to each of the messages: to the Gets of a second round, where
-    /// nothing was pending at any of their partitions, and none has made a mark since, by what is known of it.
+    /// none of their stamps was pending, and no partition has made a mark since, by what is known of it.
     pub(crate) fn knows_all(&self, begun: &Pass, messages: &[Message]) -> bool {
         if !self.repeats || messages.is_empty() {
             return false;
@@ -77,8 +77,8 @@ impl<J: ServiceNames> PartitionChannel<J> {
         Ok(Some(sighting.repeat(message)?))
     }
 
-    /// Whether the version that is replied to the message of this index is known to be new enough: the item had no newer
-    /// one by the cut with which the round began.
+    /// Whether the version that is replied to the message of this index is known to be new enough: the item had no
+    /// newer one by the cut with which the round began.
     pub(crate) fn is_new_enough(&self, asked: &Asked, index: usize, reply: &Message) -> bool
         ensures { IsTrue result → IsCurrent asked.now.begun.cut self.now.cut reply.now }
     {

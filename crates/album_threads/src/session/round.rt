@@ -19,8 +19,8 @@ use std::sync::Wait;
 use std::time;
 
 impl<J: ServiceNames> PartitionChannel<J> {
-    /// Sends the messages of a round, all of them before the first reply is taken; or none, where the session knows what
-    /// would be replied.
+    /// Sends the messages of a round, all of them before the first reply is taken; or none, where the session knows
+    /// what would be replied.
     ///
     /// # Errors
     ///

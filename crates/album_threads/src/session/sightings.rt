@@ -1,7 +1,7 @@
-//! Sightings: what partitions have replied in the first round of a read, to Gets without stamps. By them a session knows
-//! in the second round that a version is new enough, though its partition has committed a newer one since. And where
-//! none of the stamps of the second round was pending at a partition, it knows what that one would reply, and need not
-//! ask.
+//! Sightings: what partitions have replied in the first round of a read, to Gets without stamps. By them a session
+//! knows in the second round that a version is new enough, though its partition has committed a newer one since. And
+//! where none of the stamps of the second round was pending at a partition, it knows what that one would reply, and
+//! need not ask.
 ghost use Rattle.std.specs.Prelude.{◌≡◌, ◌<◌, ◌≤◌, ℕ, All, None, length, IsTrue, IfOk, IfSome};
 ghost use Rattle.album_passes.specs.Cuts.{Cut, prefix_at};
 ghost use Rattle.album_threads.specs.Envelopes.{IsAnswered, IsSettledBelow, IsUpToDate};
@@ -15,8 +15,8 @@ use album_passes::Pass;
 use album_stamps::{MAX_PARTS, Stamp};
 use std::alloc::AllocError;
 
-/// A partition's reply to a Get without stamps, how many marks the partition had then, and a number below which no stamp
-/// was pending there.
+/// A partition's reply to a Get without stamps, how many marks the partition had then, and a number below which no
+/// stamp was pending there.
 #[derive(Drop)]
 pub(crate) struct Sighting {
     reply: Message,
@@ -36,14 +36,11 @@ impl Sighting {
         let Some((from, of, stamp)) = version_in(reply) else {
             return false;
         };
-        from == part
-            && of.is(item)
-            && seen.value() <= stamp.value()
-            && self.has_all(begun, part)
+        from == part && of.is(item) && seen.value() <= stamp.value() && self.has_all(begun, part)
     }
 
-    /// Whether the partition would reply the same to this Get, as it was then; and whoever had seen no more than `begun`
-    /// of its marks had seen none that the sighting lacks.
+    /// Whether the partition would reply the same to this Get, as it was then; and whoever had seen no more than
+    /// `begun` of its marks had seen none that the sighting lacks.
     pub(crate) fn repeats(&self, begun: &Pass, message: &Message) -> bool
         ensures { IsTrue result → IsRepeatedBy self.now begun.now.cut message.now }
     {
@@ -72,12 +69,7 @@ impl Sighting {
         ensures { IfOk result (λ reply. reply ≡ repeated self.now message.now) }
     {
         let body = self.reply.body().clone()?;
-        Ok(Message::new(
-            message.to(),
-            message.from(),
-            message.tag(),
-            body,
-        ))
+        Ok(Message::new(message.to(), message.from(), message.tag(), body))
     }
 }
 

@@ -1,4 +1,4 @@
-use Rattle.std.proofs.Common.{rules, sym, ◌∙◌, subst}
+use Rattle.std.proofs.Common.{rules, sym, subst}
 use Rattle.album_calls.specs.declared.messages.Message.{Message}
 use Rattle.album_threads.specs.Sightings.{IsSighted}
 use Rattle.album_threads.proofs.SightingLemmas.{sighted_now}

@@ -1,7 +1,6 @@
-use Rattle.std.proofs.Common.{◌≡◌, ◌≢◌, ℕ, ◌≤◌, List, Contains, refl, ap, subst, sym, arith}
+use Rattle.std.proofs.Common.{◌≡◌, ◌≢◌, ℕ, ◌≤◌, List, Contains, refl, subst, sym, arith}
 use Rattle.std.proofs.lemmas.List.Elements.{All-contains}
 use Rattle.album_partition.specs.Marks.{state_of}
-use Rattle.album_partition.specs.Partition.{PartitionState}
 use Rattle.album_terminate.specs.declared.deciding.StampState.TheVariants as state
 use Rattle.album_threads.specs.Keepers.{KeeperState}
 use Rattle.album_threads.proofs.partition.keeper.PartitionKeeper.settled_below.Goals as goal

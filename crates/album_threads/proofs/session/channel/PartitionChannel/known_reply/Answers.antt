@@ -1,4 +1,4 @@
-use Rattle.std.proofs.Common.{rules, Contains, Some, Option, List, sym, ap, ◌∙◌, subst}
+use Rattle.std.proofs.Common.{rules, Contains, Some, Option, sym, ap, subst}
 use Rattle.std.proofs.lemmas.List.Elements.{All-contains}
 use Rattle.album_calls.specs.declared.messages.Message.{Message}
 use Rattle.album_passes.specs.Cuts.{Cut}
