@@ -1,5 +1,5 @@
 //! The audit book.
-ghost use Rattle.std.specs.Prelude.{◌≡◌, ◌≤◌, ◌⊎◌, ◌+◌, true, false, Some, IsSome, IfOk, IfErr, OnOk, OnErr, IsOkUnless};
+ghost use Rattle.std.specs.Prelude.{◌≡◌, ◌≤◌, ◌⊎◌, ◌+◌, ◌∷◌, [], true, false, Some, IsSome, IfOk, IfErr, OnOk, OnErr, IsOkUnless};
 ghost use Rattle.album_stamps.specs.declared.limits.TheConstants.{CLIENTS};
 ghost use Rattle.album_audit.specs.Totals.{totals_of, records_of, plus};
 ghost use Rattle.album_audit.specs.Books.{is_past_end, new_book, book_with, kept_records, none_kept, new_share, share_with};
@@ -134,6 +134,32 @@ impl<J: Books> AuditBook<J> {
         })
     }
 
+    /// Counts one note, in the book and in the share. Where records are kept, its record is too, after those before it.
+    ///
+    /// # Errors
+    ///
+    /// As `note_all`.
+    pub fn note(
+        &mut self,
+        share: &mut Share<J>,
+        client: ClientNo,
+        note: Note,
+    ) -> Result<(), Refusal>
+        ensures book { OnOk result (self.new ≡ book_with self.old (record { client = client; note = note } ∷ [])) }
+        ensures totals { OnOk result
+            (share.new.totals ≡ plus share.old.totals (totals_of (record { client = client; note = note } ∷ []))) }
+        ensures last { share.new.last ≡ share.old.last }
+        ensures memory { IsOkUnless result Refusal.OutOfMemory }
+        ensures end { OnErr result
+            ((is_past_end (plus self.old.totals (totals_of (record { client = client; note = note } ∷ []))) ≡ true)
+            ⊎ IsSome self.old.kept) }
+        ensures counted { OnOk result
+            (is_past_end (plus self.old.totals (totals_of (record { client = client; note = note } ∷ []))) ≡ false) }
+        ensures unchanged { OnErr result ((self.new ≡ self.old) × (share.new ≡ share.old)) }
+    {
+        self.count(share, client, &[note])
+    }
+
     /// Counts the notes of a client, in the book and in the share, and the share knows them as the last ones. Where
     /// records are kept, theirs are too, together and in order, after those before them.
     ///
@@ -141,7 +167,6 @@ impl<J: Books> AuditBook<J> {
     ///
     /// `OutOfMemory` where a total would come to the end of its numbers, after 2^64 - 1 notes of one kind, or where
     /// records are kept and there is no memory for these. The book and the share stay as they are then.
-    #[tactic(auto, using(crate::proofs::Counting::totals_of_notes))]
     pub fn note_all(
         &mut self,
         share: &mut Share<J>,
@@ -158,12 +183,37 @@ impl<J: Books> AuditBook<J> {
             (is_past_end (plus self.old.totals (totals_of (records_of client notes.items))) ≡ false) }
         ensures unchanged { OnErr result ((self.new ≡ self.old) × (share.new ≡ share.old)) }
     {
-        let more = Totals::of(&notes);
+        self.count(share, client, &notes)?;
+        share.keep_last(client, notes);
+        Ok(())
+    }
+
+    /// Counts the notes. The share does not know them as the last ones yet.
+    #[tactic(auto, using(crate::proofs::Counting::totals_of_notes))]
+    fn count(
+        &mut self,
+        share: &mut Share<J>,
+        client: ClientNo,
+        notes: &[Note],
+    ) -> Result<(), Refusal>
+        ensures book { OnOk result (self.new ≡ book_with self.old (records_of client notes.now)) }
+        ensures totals { OnOk result
+            (share.new.totals ≡ plus share.old.totals (totals_of (records_of client notes.now))) }
+        ensures last { share.new.last ≡ share.old.last }
+        ensures memory { IsOkUnless result Refusal.OutOfMemory }
+        ensures end { OnErr result
+            ((is_past_end (plus self.old.totals (totals_of (records_of client notes.now))) ≡ true)
+            ⊎ IsSome self.old.kept) }
+        ensures counted { OnOk result
+            (is_past_end (plus self.old.totals (totals_of (records_of client notes.now))) ≡ false) }
+        ensures unchanged { OnErr result ((self.new ≡ self.old) × (share.new ≡ share.old)) }
+    {
+        let more = Totals::of(notes);
         if self.is_past_end_with(more) {
             return Err(Refusal::OutOfMemory);
         }
         if let Some(kept) = &mut self.kept {
-            kept.extend_from_slice(&records_of(*kept.allocator(), client, &notes)?)?;
+            kept.extend_from_slice(&records_of(*kept.allocator(), client, notes)?)?;
         }
         self.audit_ok.add(&mut share.audit_ok, more.audit_ok);
         self.audit_failed
@@ -171,7 +221,6 @@ impl<J: Books> AuditBook<J> {
         self.alarm_ok.add(&mut share.alarm_ok, more.alarm_ok);
         self.alarm_failed
             .add(&mut share.alarm_failed, more.alarm_failed);
-        share.keep_last(client, notes);
         Ok(())
     }
 
