@@ -161,9 +161,9 @@ impl Overtakes {
     }
 }
 
-/// Has a write commit between the rounds of a read. Partition 2 is held at the last of amy's reads until bo has read the
-/// picture at partition 0 in the first round of his last read: the messages 8 and 9 there. Then it is held at bo's list,
-/// until amy's new title is prepared and committed at partition 0: the messages 10 and 11.
+/// Has a write commit between the rounds of a read. Partition 2 is held at the last of amy's reads until bo has read
+/// the picture at partition 0 in the first round of his last read: the messages 8 and 9 there. Then it is held at bo's
+/// list, until amy's new title is prepared and committed at partition 0: the messages 10 and 11.
 #[derive(Drop)]
 pub struct Overtaking {
     pub overtakes: Arc<Overtakes, Global>,
