@@ -1,0 +1,94 @@
+"""What the scripts know of the tree: its crates, what each stands on, a checksum of each, and copies of them."""
+import hashlib
+import os
+import pathlib
+import shutil
+
+ROOT = pathlib.Path(__file__).resolve().parent
+PARTS = ("src", "specs", "proofs")
+
+
+def cited():
+    """The crates of crates.txt, and of each those of the repository that it cites, lowest first."""
+    lines = [line.split("#")[0].split(":") for line in (ROOT / "crates.txt").read_text().splitlines()]
+    rows = {line[0].split()[0]: line[1].split() for line in lines if len(line) == 2}
+    return {name: [below for below in rows[name] if below in rows] for name in rows}
+
+
+def wanted(rows, *names):
+    """These crates and all that they stand on, lowest first."""
+    found = set(names)
+    for name in reversed(list(rows)):
+        if name in found:
+            found.update(rows[name])
+    return {name: rows[name] for name in rows if name in found}
+
+
+def sums_of(rows, version):
+    """Of each crate a checksum of its sources, of those that it cites, and of the toolchain."""
+    sums = {}
+    for name, below in rows.items():
+        sum_ = hashlib.sha256(version)
+        for part in PARTS:
+            for file in sorted((ROOT / "crates" / name / part).rglob("*")):
+                if file.is_file():
+                    sum_.update(str(file.relative_to(ROOT)).encode() + b"\0" + file.read_bytes() + b"\0")
+        for other in below:
+            sum_.update(sums[other])
+        sums[name] = sum_.digest()
+    return sums
+
+
+def link_or_copy(one, other):
+    """Gives a file that `rt` writes once a second name. It copies any other, and across two disks."""
+    try:
+        if one.endswith(".oantt") or "/out/rlib/" in one:
+            os.link(one, other)
+            return
+    except OSError:
+        pass
+    shutil.copy2(one, other)
+
+
+def copy_sources(name, crates):
+    """Copies a crate's sources into this folder of crates, in place of what is there."""
+    for part in PARTS:
+        shutil.rmtree(crates / name / part, ignore_errors=True)
+        if (ROOT / "crates" / name / part).exists():
+            shutil.copytree(ROOT / "crates" / name / part, crates / name / part)
+
+
+def link_work(name, crates, *parts):
+    """Takes over what `rt` has made of a crate, or these parts of it, into this folder of crates."""
+    made = ROOT / "crates" / name / "out"
+    for part in parts or [it.name for it in made.glob("*") if it.is_dir()]:
+        if (made / part).exists():
+            shutil.copytree(made / part, crates / name / "out" / part, copy_function=link_or_copy)
+
+
+def copy_tree(top, rows):
+    """Makes a tree of these crates in this folder: their sources, and no work that was kept."""
+    lines = (ROOT / "crates.txt").read_text().splitlines()
+    (top / "crates.txt").write_text("".join(f"{line}\n" for line in lines if line.split(":")[0] in rows))
+    shutil.copy(ROOT / "HANDLES", top)
+    for name in rows:
+        copy_sources(name, top / "crates")
+
+
+class Kept:
+    """What a try of doubt/ came to once, by a checksum of all that it rests on: it is not tried again until something
+    of that changes, so a run that was ended goes on. The files are in doubt/out/."""
+
+    def __init__(self, kind):
+        self.folder = ROOT / "doubt" / "out" / kind
+
+    def place(self, *parts):
+        key = hashlib.sha256(b"\0".join(part if isinstance(part, bytes) else part.encode() for part in parts))
+        return self.folder / key.hexdigest()
+
+    def has(self, *parts):
+        return self.place(*parts).exists()
+
+    def keep(self, name, *parts):
+        self.folder.mkdir(parents=True, exist_ok=True)
+        self.place(*parts).write_text(f"{name}\n")
