@@ -12,7 +12,7 @@ use Rattle.album_views.specs.declared.asks.Ask.{Ask}
 use Rattle.album_permits.specs.declared.answers.Answer.{Answer}
 use Rattle.album_passes.specs.Cuts.{prefix_at}
 use Rattle.album_threads.specs.Asks.{IsOn}
-use Rattle.album_threads.specs.Controls.{IsUntrimmed}
+use Rattle.album_keepers.specs.Controls.{IsUntrimmed}
 use Rattle.album_threads.specs.Resting.{RestsOn}
 use Rattle.album_threads.specs.Sessions.{SessionState, IsClosedOrOutOfMemory, AddsNothing}
 use Rattle.album_permits.specs.declared.outs.Out.TheVariants as out

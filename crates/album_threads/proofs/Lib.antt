@@ -1,11 +1,6 @@
-pub mod SettleLemmas
-pub mod EnvelopeLemmas
-pub mod KeeperLemmas
-pub mod SweepLemmas
 pub mod OpenedLemmas
 pub mod GroundLemmas
 pub mod GoingOnLemmas
-pub mod StartLemmas
 pub mod SessionLemmas
 pub mod GrantedLemmas
 pub mod RoundLemmas

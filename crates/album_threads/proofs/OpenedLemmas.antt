@@ -6,7 +6,7 @@ use Rattle.album_items.specs.Openings.{is_opening}
 use Rattle.album_items.specs.declared.openings.Opening.{Opening}
 use Rattle.album_partition.specs.Partition.{PartitionState, first_partition, first_partitions}
 use Rattle.album_passes.specs.Knowledge.{Terms}
-use Rattle.album_threads.specs.Opened.{AreFirst}
+use Rattle.album_keepers.specs.Firsts.{AreFirst}
 
 -- an opening that passes its check has a partition
 pub some_parts : (o : Opening) → is_opening o ≡ true → 1 ≤ o.parts

@@ -28,7 +28,7 @@ use Rattle.album_reader.specs.StampSets.{stamps_of}
 use Rattle.album_reader.proofs.StampSets.{stamps_of-Contains}
 use Rattle.album_stamps.specs.declared.limits.TheConstants.{MAX_READ_ITEMS, MAX_READS}
 use Rattle.album_threads.specs.Asks.{IsOn, IsViewOf, IsBusy, IsReadFor, LooksOnce}
-use Rattle.album_threads.specs.Envelopes.{Shows}
+use Rattle.album_keepers.specs.Envelopes.{Shows}
 use Rattle.album_threads.specs.Grounds.{AreSettled}
 use Rattle.album_threads.specs.Hints.{are_among, begins_read, is_busy, is_without_view}
 use Rattle.album_threads.specs.Phases.{Outset, IsRound, IsReading, IsUnderWay}
@@ -37,7 +37,7 @@ use Rattle.album_threads.specs.Replies.{IsReplied, IsFirstOver, IsReadOf, IsOver
 use Rattle.album_threads.specs.Resting.{RestsOn}
 use Rattle.album_threads.specs.Sending.{prepared_first}
 use Rattle.album_threads.specs.Sessions.{SessionState, AddsNothing}
-use Rattle.album_threads.specs.Settling.{AreCommitted}
+use Rattle.album_keepers.specs.Settling.{AreCommitted}
 use Rattle.album_threads.specs.Steps.{client_step_in, terms_in, IsBegunFor, IsStarted, IsStill}
 use Rattle.album_threads.specs.declared.session.asked.Asked.{Asked}
 use Rattle.album_threads.proofs.EndLemmas.{mapped_from, read_so, overtaken}

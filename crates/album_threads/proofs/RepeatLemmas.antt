@@ -25,12 +25,12 @@ use Rattle.album_passes.specs.Cuts.{Cut, prefix_at}
 use Rattle.album_terminate.specs.declared.deciding.StampState.TheVariants as state
 use Rattle.album_versions.specs.Best.{best_of}
 use Rattle.album_versions.proofs.Greatest.{best_of-unique}
-use Rattle.album_threads.specs.Envelopes.{IsAnswered}
+use Rattle.album_keepers.specs.Envelopes.{IsAnswered}
 use Rattle.album_threads.specs.Hints.{asks_latest}
-use Rattle.album_threads.specs.Settling.{stamps_in, AreSettledIn}
+use Rattle.album_keepers.specs.Settling.{stamps_in, AreSettledIn}
 use Rattle.album_threads.specs.Sightings.{IsVersion}
 use Rattle.album_threads.proofs.RoundLemmas.{get_marks_nothing, replied_so}
-use Rattle.album_threads.proofs.SettleLemmas.{version_state}
+use Rattle.album_keepers.proofs.SettleLemmas.{version_state}
 
 -- ---- what is read again
 

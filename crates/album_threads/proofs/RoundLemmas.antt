@@ -35,12 +35,12 @@ use Rattle.album_reader.specs.StampSets.{stamps_of}
 use Rattle.album_reader.specs.Others.{IsGone}
 use Rattle.album_reader.proofs.Others.{is_part-own, IsGone-is_gone}
 use Rattle.album_reader.proofs.Rounds.{items_read-in_order, stepped-open, with_answer-in_order}
-use Rattle.album_threads.specs.Envelopes.{Shows}
+use Rattle.album_keepers.specs.Envelopes.{Shows}
 use Rattle.album_threads.specs.Grounds.{AreSettled, AreUpToDate}
 use Rattle.album_threads.specs.Replies.{IsReplied, IsUnder, AreOf, IsGoneBetween, Leads}
-use Rattle.album_threads.specs.Settling.{stamps_in, AreCommitted, AreSettledIn}
+use Rattle.album_keepers.specs.Settling.{stamps_in, AreCommitted, AreSettledIn}
 use Rattle.album_threads.proofs.GroundLemmas.{settled_more}
-use Rattle.album_threads.proofs.SettleLemmas.{read_committed}
+use Rattle.album_keepers.proofs.SettleLemmas.{read_committed}
 
 -- ---- what a message answers
 

@@ -13,13 +13,13 @@ use Rattle.album_passes.specs.Pass.{PassState}
 use Rattle.album_stamps.specs.Stamps.{client_number}
 use Rattle.album_passes.proofs.CutLemmas.{extends_self, longer_at}
 use Rattle.album_passes.proofs.PrefixLemmas.{longer_cases}
-use Rattle.album_threads.specs.Controls.{IsUntrimmed, Answers}
-use Rattle.album_threads.specs.Controls.IsUntrimmed.{Elsewhere, NoRoom}
+use Rattle.album_keepers.specs.Controls.{IsUntrimmed, Answers}
+use Rattle.album_keepers.specs.Controls.IsUntrimmed.{Elsewhere, NoRoom}
 use Rattle.album_threads.specs.Sessions.{ChannelState, IsLater, IsAhead}
-use Rattle.album_threads.specs.declared.control.Control.{Control}
-use Rattle.album_threads.specs.declared.control.Control.TheVariants.{Pending, Sweep, Trim}
-use Rattle.album_threads.specs.declared.control.ControlAnswer.{ControlAnswer}
-use Rattle.album_threads.specs.declared.control.ControlAnswer.TheVariants as answer
+use Rattle.album_keepers.specs.declared.control.Control.{Control}
+use Rattle.album_keepers.specs.declared.control.Control.TheVariants.{Pending, Sweep, Trim}
+use Rattle.album_keepers.specs.declared.control.ControlAnswer.{ControlAnswer}
+use Rattle.album_keepers.specs.declared.control.ControlAnswer.TheVariants as answer
 
 -- ---- what is told, once its pass is joined
 

@@ -9,7 +9,7 @@ use Rattle.album_items.specs.declared.values.Value.{Value}
 use Rattle.album_partition.specs.Marks.{latest}
 use Rattle.album_passes.specs.Cuts.{Cut, prefix_at, IsSound, Extends}
 use Rattle.album_passes.proofs.CutLemmas.{extends_self, extends_trans}
-use Rattle.album_threads.specs.Envelopes.{IsAnswered, IsSettledBelow, IsUpToDate}
+use Rattle.album_keepers.specs.Envelopes.{IsAnswered, IsSettledBelow, IsUpToDate}
 use Rattle.album_threads.specs.Hints.{asks_latest}
 use Rattle.album_threads.specs.Replies.{IsCurrent, IsLate, IsReplied}
 use Rattle.album_threads.specs.Sightings.{repeated, IfSighted, IsRepeatedBy, IsShownBy, IsSighted, IsVersion}

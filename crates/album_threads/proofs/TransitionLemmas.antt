@@ -12,7 +12,7 @@ use Rattle.album_stamps.specs.Clocks.{next_of}
 use Rattle.album_stamps.specs.declared.limits.TheConstants.{MAX_COUNTER}
 use Rattle.album_stamps.specs.declared.refusals.Refusal.TheVariants.{StampsSpent}
 use Rattle.album_threads.specs.Asks.{IsOn, IsHeard, AreShared}
-use Rattle.album_threads.specs.Envelopes.{Shows}
+use Rattle.album_keepers.specs.Envelopes.{Shows}
 use Rattle.album_threads.specs.Phases.{Outset, IsUnderWay}
 use Rattle.album_threads.specs.Resting.{RestsOn}
 use Rattle.album_threads.specs.Sending.{prepared_first, announced_with, announced_by, IsFreeFor, IsFree, IsAnnouncedBy, sent_last, sent_at}

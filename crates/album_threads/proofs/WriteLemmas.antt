@@ -39,11 +39,11 @@ use Rattle.album_passes.proofs.PrefixLemmas.{prefix_trans, any_more}
 use Rattle.album_permits.specs.Permits.{PermitState}
 use Rattle.album_reader.proofs.Others.{is_part-own}
 use Rattle.album_threads.specs.Grounds.{items_of, IsKept, IsWithoutRoom}
-use Rattle.album_threads.specs.Envelopes.{Shows}
+use Rattle.album_keepers.specs.Envelopes.{Shows}
 use Rattle.album_threads.specs.Replies.{IsReplied}
 use Rattle.album_threads.specs.Writes.{IsPreparedAt, IsCommittedAt, IsFurther, IsEndOf, AreCommits, AreAllCommitted, PrepareShows, CommitShows}
 use Rattle.album_threads.proofs.GroundLemmas.{has_more}
-use Rattle.album_threads.proofs.EnvelopeLemmas.{discarded_tells}
+use Rattle.album_keepers.proofs.EnvelopeLemmas.{discarded_tells}
 use Rattle.album_writer.specs.Rounds.{answered_by, prepares_left, prepares_by, prepare_stepped, commits_left, commits_by, commit_stepped}
 use Rattle.album_writer.specs.Rounds.WriteStep.{Waits}
 use Rattle.album_writer.specs.WriteReplies.{reply_in}

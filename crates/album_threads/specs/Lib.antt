@@ -1,8 +1,3 @@
-pub mod ServiceNames
-pub mod Settling
-pub mod Envelopes
-pub mod Controls
-pub mod Keepers
 pub mod Opened
 pub mod Grounds
 pub mod Granted

@@ -1,21 +1,16 @@
 -- What a service starts with.
-use Rattle.std.specs.Prelude.{◌≡◌, ℕ, ◌<◌, ◌≤◌, List, length, slice_index_or}
+use Rattle.std.specs.Prelude.{◌≡◌, ℕ, ◌≤◌, List}
 use Rattle.atomic_table.specs.Seated.{TableId}
 use Rattle.album_stamps.specs.declared.limits.TheConstants.{MAX_PARTS}
 use Rattle.album_eval.specs.declared.policies.Policy.{Policy}
-use Rattle.album_partition.specs.Partition.{PartitionState, first_partition}
-use Rattle.album_passes.specs.Desk.{DeskState, first_owner, AreOwners, first_pass}
+use Rattle.album_partition.specs.Partition.{PartitionState}
+use Rattle.album_passes.specs.Desk.{DeskState, AreOwners, first_pass}
 use Rattle.album_passes.specs.Knowledge.{Terms}
 use Rattle.album_passes.specs.Owner.{OwnerState}
 use Rattle.album_passes.specs.Pass.{PassState}
 use Rattle.album_audit.specs.Books.{LedgerNames}
 use Rattle.album_board.specs.Entries.{ListName}
-
--- the first partitions as they open, so many of them, in order
-pub record AreFirst (terms : Terms) (count : ℕ) (partitions : List PartitionState) : Type 0 where
-  pub count_is : length partitions ≡ count
-  pub each : (part : ℕ) (other : PartitionState) → part < count
-      → slice_index_or partitions part other ≡ first_partition terms.parts terms.limit terms.opening part
+use Rattle.album_keepers.specs.Firsts.{AreFirst}
 
 -- a desk, the policy of rulings, and the names of a board's list and of the ledgers of an audit book
 pub record OpenedState : Type 0 where
@@ -50,9 +45,3 @@ pub record IsOpened
   pub owned : AreOwners desk owners
   pub opened : AreFirst desk.terms desk.terms.parts partitions
   pub first : pass ≡ first_pass desk
-
--- the owners of the first partitions, so many of them, in order
-pub record AreFirstOwners (desk : DeskState) (count : ℕ) (owners : List OwnerState) : Type 0 where
-  pub count_is : length owners ≡ count
-  pub each : (part : ℕ) (other : OwnerState) → part < count
-      → slice_index_or owners part other ≡ first_owner desk part

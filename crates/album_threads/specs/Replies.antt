@@ -12,7 +12,7 @@ use Rattle.album_reader.specs.Rounds.Step.{Same, Next, Done, Gone}
 use Rattle.album_reader.specs.Snapshots.{items_read}
 use Rattle.album_reader.specs.StampSets.{stamps_of}
 use Rattle.album_threads.specs.Grounds.{AreSettled, AreUpToDate, IsSeen, trims_in}
-use Rattle.album_threads.specs.Envelopes.{IsAnswered, IsUpToDate}
+use Rattle.album_keepers.specs.Envelopes.{IsAnswered, IsUpToDate}
 
 -- ---- a reply
 

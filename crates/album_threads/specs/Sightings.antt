@@ -7,7 +7,7 @@ use Rattle.album_calls.specs.declared.replies.Reply.TheVariants as reply
 use Rattle.album_calls.specs.declared.requests.Request.TheVariants.{Get}
 use Rattle.album_items.specs.declared.values.Value.{Value}
 use Rattle.album_passes.specs.Cuts.{Cut, prefix_at, IsSound, Extends}
-use Rattle.album_threads.specs.Envelopes.{IsAnswered, IsUpToDate, IsSettledBelow}
+use Rattle.album_keepers.specs.Envelopes.{IsAnswered, IsUpToDate, IsSettledBelow}
 use Rattle.album_threads.specs.Hints.{asks_latest}
 use Rattle.album_threads.specs.declared.session.sightings.Sighting.{Sighting}
 

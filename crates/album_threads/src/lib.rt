@@ -2,20 +2,17 @@
 //!
 //! What comes in: an opening, and then requests of sessions. What goes out: answers, and at the end the audit totals.
 //!
-//! A session sends envelopes to the mailboxes of partitions (`session/channel`, `session/round`). A partition's thread
-//! takes each, gives its message to the partition, and sends the reply back with a pass that shows the reply's history
-//! (`partition/thread`, `partition/keeper`). The session joins that pass, and gives the reply to its client, which is
-//! `album_client`'s (`session/step`), until the client answers (`session/ask`). The first read asks for the items of an
-//! earlier view, where `hints` has them (`session/hinted`). Asked in order (`session/in_order`), a session listens to
-//! the service's board before it asks, and publishes there what it has seen before it answers.
+//! A session sends envelopes to the mailboxes of partitions (`session/channel`, `session/round`). A partition's thread,
+//! which is `album_keepers`', gives the message to the partition, and sends the reply back with a pass that shows the
+//! reply's history. The session joins that pass, and gives the reply to its client, which is `album_client`'s
+//! (`session/step`), until the client answers (`session/ask`). The first read asks for the items of an earlier view,
+//! where `hints` has them (`session/hinted`). Asked in order (`session/in_order`), a session listens to the service's
+//! board before it asks, and publishes there what it has seen before it answers.
 //!
-//! Read `service`, `session` and `session/ask` first, then `partition/keeper`, and specs/ in the order of
-//! specs/Lib.antt.
+//! Read `service`, `session` and `session/ask` first, and specs/ in the order of specs/Lib.antt.
 #![tactic(auto)]
 
 // What a service is opened with, and the service: its threads, its sessions, its totals.
-mod breakage;
-mod gate;
 mod gauge;
 mod opened;
 mod service;
@@ -27,21 +24,13 @@ mod hints;
 mod owned_session;
 mod session;
 
-// A partition's thread, and what it keeps.
-mod partition;
-
-// What goes between sessions and threads: messages with their passes, and requests of whoever runs the service.
-mod control;
-mod envelopes;
-mod mailbox;
-
 // What holds of the answers.
 mod laws;
 
-pub use album_partition::Figures;
-pub use control::{Control, ControlAnswer, ControlReply, ControlRequest};
-pub use envelopes::{ReplyEnvelope, RequestEnvelope};
-pub use gate::{Gate, Open};
+pub use album_keepers::{
+    Control, ControlAnswer, ControlReply, ControlRequest, DeskNames, Figures, Gate, Open,
+    ReplyEnvelope, RequestEnvelope,
+};
 pub use gauge::Gauge;
 pub use laws::{
     acknowledged_is_visible, grounds_stay, no_new_enemy, reads_are_stable, reads_go_on,

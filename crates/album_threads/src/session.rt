@@ -5,7 +5,7 @@ ghost use Rattle.album_partition.specs.Marks.{ArePending, state_of, latest, floo
 ghost use Rattle.album_passes.specs.Changes.{IsUnheard};
 ghost use Rattle.album_passes.specs.Cuts.{Extends, IsSound, prefix_at};
 ghost use Rattle.album_terminate.specs.declared.deciding.StampState.TheVariants as StampState;
-ghost use Rattle.album_threads.specs.Controls.{Answers, IsUntrimmed};
+ghost use Rattle.album_keepers.specs.Controls.{Answers, IsUntrimmed};
 ghost use Rattle.album_threads.specs.Granted.{AreGranted};
 ghost use Rattle.album_threads.specs.Sessions.{IsClosedOrOutOfMemory, AddsNothing};
 
@@ -20,7 +20,6 @@ mod round;
 mod sightings;
 mod step;
 
-use crate::control::{Control, ControlAnswer};
 use crate::hints::Hints;
 use crate::service_names::ServiceNames;
 use crate::session::channel::PartitionChannel;
@@ -29,6 +28,7 @@ use album_board::Board;
 use album_calls::Stamps;
 use album_eval::Policy;
 use album_items::ItemId;
+use album_keepers::{Control, ControlAnswer};
 use album_stamps::{ClientNo, Clock, Refusal, Stamp};
 use std::alloc::Global;
 use std::marker::Model;

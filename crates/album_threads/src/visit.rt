@@ -2,11 +2,11 @@
 ghost use Rattle.std.specs.Prelude.{◌≡◌};
 ghost use Rattle.album_threads.specs.Opened.{opened_as};
 
-use crate::gate::{Gate, Open};
 use crate::opened::Opened;
 use crate::service::Service;
 use crate::service_names::ServiceNames;
 use album_items::Opening;
+use album_keepers::{Gate, Open};
 use album_stamps::Refusal;
 use std::alloc::Global;
 use std::marker::Brand;

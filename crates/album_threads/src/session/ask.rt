@@ -6,7 +6,7 @@ ghost use Rattle.album_passes.specs.Cuts.{Extends, IsSound};
 ghost use Rattle.album_stamps.specs.Stamps.{is_client};
 ghost use Rattle.album_views.specs.Checks.{refusal_of};
 ghost use Rattle.album_threads.specs.Asks.{IsOn};
-ghost use Rattle.album_threads.specs.Envelopes.{Shows};
+ghost use Rattle.album_keepers.specs.Envelopes.{Shows};
 ghost use Rattle.album_threads.specs.Phases.{Outset, IsUnderWay};
 ghost use Rattle.album_threads.specs.Replies.{IsReplied};
 ghost use Rattle.album_threads.specs.Resting.{RestsOn};

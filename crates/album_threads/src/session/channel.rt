@@ -5,18 +5,18 @@ ghost use Rattle.album_passes.specs.Changes.{merged, announced_cut};
 ghost use Rattle.album_passes.specs.Cuts.{IsSound, Extends, announced_for};
 ghost use Rattle.std.specs.Arc.{arc_value};
 ghost use Rattle.album_stamps.specs.declared.limits.TheConstants.{MAX_PARTS};
-ghost use Rattle.album_threads.specs.Controls.{Answers};
+ghost use Rattle.album_keepers.specs.Controls.{Answers};
 ghost use Rattle.album_threads.specs.Sessions.{IsChannel, IsLater, IsClosedOrOutOfMemory};
 ghost use Rattle.album_threads.specs.Sightings.{IfSighted};
 
-use crate::breakage::Breakage;
-use crate::control::{Control, ControlAnswer, ControlReply, ControlRequest};
-use crate::envelopes::ReplyEnvelope;
-use crate::mailbox::{Inbox, PartitionMail, SessionMail};
 use crate::service_names::ServiceNames;
 use crate::session::sightings::{Sighting, clear, put};
 use album_board::{Board, Listened, Published, listen, publish};
 use album_items::ItemId;
+use album_keepers::{
+    Breakage, Control, ControlAnswer, ControlReply, ControlRequest, Inbox, PartitionMail,
+    ReplyEnvelope, SessionMail,
+};
 use album_passes::{Desk, Pass, meet};
 use album_stamps::{ClientNo, Refusal, Stamp};
 use crossbeam_channel::{Receiver, SendError, Sender};

@@ -1,19 +1,18 @@
 //! Rounds: messages that a session sends, and the replies to them.
 ghost use Rattle.std.specs.Prelude.{◌≡◌, All, None, IfOk, IfErr, OnOk, IfSome, IfNone, IsOkUnless};
 ghost use Rattle.album_passes.specs.Cuts.{Extends, IsSound};
-ghost use Rattle.album_threads.specs.Envelopes.{Shows};
+ghost use Rattle.album_keepers.specs.Envelopes.{Shows};
 ghost use Rattle.album_threads.specs.Replies.{IsReplied};
 ghost use Rattle.album_threads.specs.Sending.{announced_with, prepared_first, prepared_in, sent_at, sent_last, IsUnused};
 ghost use Rattle.album_threads.specs.Sessions.{IsLater, IsClosedOrOutOfMemory, IsNoReply};
 
-use crate::envelopes::{ReplyEnvelope, RequestEnvelope};
-use crate::mailbox::PartitionMail;
 use crate::service_names::ServiceNames;
 use crate::session::asked::{Asked, NoReply};
 use crate::session::channel::PartitionChannel;
 use crate::session::hinted::begins_read;
 use crate::session::sightings::sighting_of;
 use album_calls::{Body, Message, Request};
+use album_keepers::{PartitionMail, ReplyEnvelope, RequestEnvelope};
 use album_stamps::Refusal;
 use std::sync::Wait;
 use std::time;

@@ -4,7 +4,7 @@
 //! need not ask.
 ghost use Rattle.std.specs.Prelude.{◌≡◌, ◌<◌, ◌≤◌, ℕ, All, None, length, IsTrue, IfOk, IfSome};
 ghost use Rattle.album_passes.specs.Cuts.{Cut, prefix_at};
-ghost use Rattle.album_threads.specs.Envelopes.{IsAnswered, IsSettledBelow, IsUpToDate};
+ghost use Rattle.album_keepers.specs.Envelopes.{IsAnswered, IsSettledBelow, IsUpToDate};
 ghost use Rattle.album_threads.specs.Sightings.{repeated, IfSighted, IsRepeatedBy, IsShownBy, IsVersion};
 
 use crate::service_names::ServiceNames;

@@ -6,7 +6,7 @@ ghost use Rattle.album_client.specs.Steps.{is_waiting, transition_of, IsTakenBy}
 ghost use Rattle.album_stamps.specs.Clocks.{next_of};
 ghost use Rattle.album_stamps.specs.declared.limits.TheConstants.{MAX_COUNTER};
 ghost use Rattle.album_threads.specs.Asks.{IsHeard, IsOn, AreShared};
-ghost use Rattle.album_threads.specs.Envelopes.{Shows};
+ghost use Rattle.album_keepers.specs.Envelopes.{Shows};
 ghost use Rattle.album_threads.specs.Phases.{Outset, IsUnderWay};
 ghost use Rattle.album_threads.specs.Replies.{IsReplied};
 ghost use Rattle.album_threads.specs.Sending.{announced_by, IsFree, IsAnnouncedBy};

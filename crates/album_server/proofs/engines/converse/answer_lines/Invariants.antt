@@ -7,11 +7,11 @@ use Rattle.album_server.proofs.engines.converse.answer_lines.Given as goal
 
 abbrev pub invariant-loop-line : goal.invariant-loop-line
 invariant-loop-line g l = record {
-  written : Writes (Talks g.J.ServiceNames.terms.limit g.J.ServiceNames.policy l.admins
+  written : Writes (Talks g.J.DeskNames.terms.limit g.J.ServiceNames.policy l.admins
       (record { who = l.initial.who; session = l.initial.session }) (map said (take l.line-index l.lines))
       (record { who = l.who; session = l.session }))
       (g.W.Write.contents l.initial.writer) (g.W.Write.contents l.writer);
-  recorded : Writes (IsRecordedTalk g.J.ServiceNames.terms.limit g.J.ServiceNames.policy l.admins (g.A.Journal.recorded l.journal)
+  recorded : Writes (IsRecordedTalk g.J.DeskNames.terms.limit g.J.ServiceNames.policy l.admins (g.A.Journal.recorded l.journal)
       (record { who = l.initial.who; session = l.initial.session }) (record { who = l.who; session = l.session }))
       (g.W.Write.contents l.initial.writer) (g.W.Write.contents l.writer);
   on : IsOn l.initial.session l.session;

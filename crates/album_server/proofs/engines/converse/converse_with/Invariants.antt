@@ -7,11 +7,11 @@ use Rattle.album_server.proofs.engines.converse.converse_with.Given as goal
 
 abbrev pub invariant-loop-turn : goal.invariant-loop-turn
 invariant-loop-turn g l = record {
-  talked : HasTalked g.J.ServiceNames.terms.limit g.J.ServiceNames.policy l.admins l.initial.session
+  talked : HasTalked g.J.DeskNames.terms.limit g.J.ServiceNames.policy l.admins l.initial.session
       (record { who = l.who; session = l.session }) l._turn l.lines
       (g.R.Read.remaining l.initial.reader) (g.R.Read.remaining l.reader)
       (g.W.Write.contents l.initial.writer) (g.W.Write.contents l.writer);
-  recorded : Writes (IsRecordedTalk g.J.ServiceNames.terms.limit g.J.ServiceNames.policy l.admins (g.A.Journal.recorded l.journal)
+  recorded : Writes (IsRecordedTalk g.J.DeskNames.terms.limit g.J.ServiceNames.policy l.admins (g.A.Journal.recorded l.journal)
       (stranger l.initial.session) (record { who = l.who; session = l.session }))
       (g.W.Write.contents l.initial.writer) (g.W.Write.contents l.writer);
   on : IsOn l.initial.session l.session;

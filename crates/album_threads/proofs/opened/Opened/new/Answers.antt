@@ -3,7 +3,7 @@ use Rattle.album_stamps.specs.declared.limits.TheConstants.{MAX_PARTS}
 use Rattle.album_passes.specs.Desk.{terms_of}
 use Rattle.album_passes.specs.Knowledge.{Terms}
 use Rattle.album_passes.proofs.DeskLemmas.{few_parts}
-use Rattle.album_threads.specs.Opened.{AreFirst}
+use Rattle.album_keepers.specs.Firsts.{AreFirst}
 use Rattle.album_threads.proofs.OpenedLemmas.{some_parts, all_first}
 use Rattle.album_threads.proofs.opened.Opened.new.Goals as goal
 

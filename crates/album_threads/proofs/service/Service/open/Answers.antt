@@ -2,7 +2,7 @@ use Rattle.std.proofs.Common.{◌≤◌, ap, ◌∙◌, subst}
 use Rattle.album_stamps.specs.declared.limits.TheConstants.{MAX_PARTS}
 use Rattle.album_passes.specs.Knowledge.{Terms}
 use Rattle.album_threads.specs.Opened.{OpenedState}
-use Rattle.album_threads.proofs.StartLemmas.{owners_first, partitions_first}
+use Rattle.album_keepers.proofs.StartLemmas.{owners_first, partitions_first}
 use Rattle.album_threads.proofs.service.Service.open.Goals as goal
 
 pub start_all-started-requires-clause-few : goal.start_all-started-requires-clause-few
@@ -13,10 +13,10 @@ start_all-started-requires-clause-few g c = λ κs apart.
 pub start_all-started-requires-clause-owners : goal.start_all-started-requires-clause-owners
 start_all-started-requires-clause-owners g c = λ κs apart.
     let named = c.opened.view_is ∙ c.requires.named in
-    owners_first c.opened.inside.desk g.J.BoardNames.table g.J.ServiceNames.terms _ (ap (λ (o : OpenedState). o.desk.table) named)
+    owners_first c.opened.inside.desk g.J.BoardNames.table g.J.DeskNames.terms _ (ap (λ (o : OpenedState). o.desk.table) named)
     (ap (λ (o : OpenedState). o.desk.terms) named) c.opened.invariant.owned
 
 pub start_all-started-requires-clause-partitions : goal.start_all-started-requires-clause-partitions
 start_all-started-requires-clause-partitions g c = λ κs apart.
     let terms = ap (λ (o : OpenedState). o.desk.terms) (c.opened.view_is ∙ c.requires.named) in
-    partitions_first c.opened.inside.desk.terms g.J.ServiceNames.terms _ terms c.opened.invariant.opened
+    partitions_first c.opened.inside.desk.terms g.J.DeskNames.terms _ terms c.opened.invariant.opened

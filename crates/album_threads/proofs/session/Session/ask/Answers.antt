@@ -10,14 +10,14 @@ use Rattle.album_threads.proofs.session.Session.ask.Goals as goal
 pub returns-clause-rests : goal.returns-clause-rests
 returns-clause-rests g c =
     let outset : Outset = record { principal = c.args.principal.now; ask = c.args.ask; session = c.args.self.now; hinted = true } in
-    let tried = subst (IsDone g.J.ServiceNames.terms.limit g.J.ServiceNames.policy outset c.tries.new.self) c.in_default.is c.in_ok-answer.ensures.done in
+    let tried = subst (IsDone g.J.DeskNames.terms.limit g.J.ServiceNames.policy outset c.tries.new.self) c.in_default.is c.in_ok-answer.ensures.done in
     let sound = subst (λ (s : SessionState). IsSound s.cut) c.self.view_is c.is_sound.ensures in
     c.asks_by_objects.ensures.rests c.args.self.now (record { sound = sound; on = c.tries.ensures.on; adds = tried.adds })
 
 pub returns-clause-unbegun : goal.returns-clause-unbegun
 returns-clause-unbegun g c =
     let outset : Outset = record { principal = c.args.principal.now; ask = c.args.ask; session = c.args.self.now; hinted = true } in
-    let tried = subst (IsDone g.J.ServiceNames.terms.limit g.J.ServiceNames.policy outset c.tries.new.self) c.in_default.is c.in_ok-answer.ensures.done in
+    let tried = subst (IsDone g.J.DeskNames.terms.limit g.J.ServiceNames.policy outset c.tries.new.self) c.in_default.is c.in_ok-answer.ensures.done in
     let sound = subst (λ (s : SessionState). IsSound s.cut) c.self.view_is c.is_sound.ensures in
     c.asks_by_objects.ensures.unbegun c.args.self.now (record { sound = sound; on = c.tries.ensures.on; adds = tried.adds })
 

@@ -22,7 +22,7 @@ returns-clause-in_order g c =
       still = c.listen-listened.ensures.still;
       has_listened = c.listen-listened.ensures.listened;
       rests = subst
-          (λ (s : SessionState). RestsOn g.J.ServiceNames.terms.limit g.J.ServiceNames.policy c.args.principal.now
+          (λ (s : SessionState). RestsOn g.J.DeskNames.terms.limit g.J.ServiceNames.policy c.args.principal.now
           c.args.ask begun s c.in_ok-answer.answer)
           (sym same) c.in_ok-answer.ensures.rests;
       published_all = c.publish-published.ensures.cut ∙ sym (ap (λ (s : SessionState). s.cut) same);
@@ -30,7 +30,7 @@ returns-clause-in_order g c =
 
 pub returns-clause-rests : goal.returns-clause-rests
 returns-clause-rests g c =
-    let limit = g.J.ServiceNames.terms.limit in
+    let limit = g.J.DeskNames.terms.limit in
     let policy = g.J.ServiceNames.policy in
     let answer = c.in_ok-answer.answer in
     let old = c.args.self.now in

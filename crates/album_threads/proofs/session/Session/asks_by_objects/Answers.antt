@@ -18,7 +18,7 @@ loop-preserved g c = record {
   still = λ session still.
       let was = c.loop.invariant.still session still in
       let outset : Outset = record { principal = c.args.principal.now; ask = c.args.ask.now; session = session; hinted = false } in
-      let tried = subst (IsDone g.J.ServiceNames.terms.limit g.J.ServiceNames.policy outset c.asks_once.new.self) c.in_default.is
+      let tried = subst (IsDone g.J.DeskNames.terms.limit g.J.ServiceNames.policy outset c.asks_once.new.self) c.in_default.is
       (c.in_ok-answer.ensures.done session was) in
       record { sound = was.sound; on = on_trans session c.loop.self c.asks_once.new.self was.on c.asks_once.ensures.on; adds = tried.adds };
   on = on_trans c.args.self.now c.loop.self c.asks_once.new.self c.loop.invariant.on c.asks_once.ensures.on;

@@ -15,7 +15,7 @@ loop-init g c = record {
 -- it goes on
 pub loop-preserved : goal.loop-preserved
 loop-preserved g c = record {
-  way = λ outset by w. subst (IsLed g.J.ServiceNames.terms.limit g.J.ServiceNames.policy outset c.goes_on.new.self) c.in-Awaits.is
+  way = λ outset by w. subst (IsLed g.J.DeskNames.terms.limit g.J.ServiceNames.policy outset c.goes_on.new.self) c.in-Awaits.is
       (c.in_ok-answer.ensures.way outset by (c.waits-heard.ensures.way outset (c.loop.invariant.way outset by w)));
   on = on_trans c.args.self.now c.loop.self c.goes_on.new.self c.loop.invariant.on
       (on_trans c.loop.self c.waits-heard.new.self c.goes_on.new.self c.waits-heard.ensures.on c.goes_on.ensures.on);
@@ -41,7 +41,7 @@ returns-in_err-answer-clause-on g c =
 -- it is answered
 pub returns-in-Answered-clause-done : goal.returns-in-Answered-clause-done
 returns-in-Answered-clause-done g c = λ outset by w.
-    subst (IsLed g.J.ServiceNames.terms.limit g.J.ServiceNames.policy outset c.goes_on.new.self) c.in-Answered.is
+    subst (IsLed g.J.DeskNames.terms.limit g.J.ServiceNames.policy outset c.goes_on.new.self) c.in-Answered.is
     (c.in_ok-answer.ensures.way outset by (c.waits-heard.ensures.way outset (c.loop.invariant.way outset by w)))
 
 pub returns-in-Answered-clause-on : goal.returns-in-Answered-clause-on
@@ -52,7 +52,7 @@ returns-in-Answered-clause-on g c =
 -- its hint was in vain
 pub returns-in-InVain-clause-done : goal.returns-in-InVain-clause-done
 returns-in-InVain-clause-done g c = λ outset by w.
-    subst (IsLed g.J.ServiceNames.terms.limit g.J.ServiceNames.policy outset c.goes_on.new.self) c.in-InVain.is
+    subst (IsLed g.J.DeskNames.terms.limit g.J.ServiceNames.policy outset c.goes_on.new.self) c.in-InVain.is
     (c.in_ok-answer.ensures.way outset by (c.waits-heard.ensures.way outset (c.loop.invariant.way outset by w)))
 
 pub returns-in-InVain-clause-on : goal.returns-in-InVain-clause-on

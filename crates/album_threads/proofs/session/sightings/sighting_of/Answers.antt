@@ -7,7 +7,7 @@ use Rattle.album_threads.proofs.session.sightings.sighting_of.Goals as goal
 -- the copy is what was replied
 pub returns : goal.returns
 returns g c =
-    let limit = g.J.ServiceNames.terms.limit in
+    let limit = g.J.DeskNames.terms.limit in
     let cut = c.args.pass.now.cut in
     subst (λ (r : Message). IsSighted limit cut (record { reply = r; marks = c.length-marks.result; settled_below = c.args.settled_below }))
     (sym c.in-Ok.ensures.copy)

@@ -13,6 +13,6 @@ pub invariant_of-self : goal.invariant_of-self
 invariant_of-self g c = (
   search rules,
   search rules,
-  all_sighted g.J.ServiceNames.terms.limit c.self.inside.pass.cut c.join.new.self.cut c.self.inside.sightings.items
+  all_sighted g.J.DeskNames.terms.limit c.self.inside.pass.cut c.join.new.self.cut c.self.inside.sightings.items
       c.join.ensures.grown c.self.invariant.2,
 )

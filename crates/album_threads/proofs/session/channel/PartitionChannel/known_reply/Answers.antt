@@ -12,7 +12,7 @@ use Rattle.album_threads.proofs.session.channel.PartitionChannel.known_reply.Goa
 -- what it gives is what the partition would reply by what it has replied
 pub returns : goal.returns
 returns g c =
-    let limit = g.J.ServiceNames.terms.limit in
+    let limit = g.J.DeskNames.terms.limit in
     let begun = c.args.asked.now.begun.cut in
     let sent = c.args.asked.now.sent.items in
     let message = c.index-message.result.now in

@@ -18,7 +18,7 @@ pub invariant_of-self : goal.invariant_of-self
 invariant_of-self g c = (
   search rules,
   search rules,
-  all_sighted g.J.ServiceNames.terms.limit c.self.inside.pass.cut c.meet.new.one.cut c.self.inside.sightings.items
+  all_sighted g.J.DeskNames.terms.limit c.self.inside.pass.cut c.meet.new.one.cut c.self.inside.sightings.items
       c.meet.ensures.one_grown c.self.invariant.2,
 )
 
@@ -26,6 +26,6 @@ pub invariant_of-other : goal.invariant_of-other
 invariant_of-other g c = (
   search rules,
   search rules,
-  all_sighted g.J.ServiceNames.terms.limit c.other.inside.pass.cut c.meet.new.other.cut c.other.inside.sightings.items
+  all_sighted g.J.DeskNames.terms.limit c.other.inside.pass.cut c.meet.new.other.cut c.other.inside.sightings.items
       c.meet.ensures.other_grown c.other.invariant.2,
 )

@@ -1,5 +1,5 @@
 use Rattle.std.proofs.Common.{rules, ℕ, sym, ◌∙◌, subst}
-use Rattle.album_threads.specs.Envelopes.{IsSettledBelow}
+use Rattle.album_keepers.specs.Envelopes.{IsSettledBelow}
 use Rattle.album_threads.specs.Replies.{IsReplied}
 use Rattle.album_threads.specs.Sessions.{ChannelState}
 use Rattle.album_threads.proofs.SightingLemmas.{current_more, sighted_more}
@@ -29,13 +29,13 @@ sighting_of-sighting-requires-clause-settled g c =
 
 pub keep-requires : goal.keep-requires
 keep-requires g c = record {
-  sighted = sighted_more g.J.ServiceNames.terms.limit c.open-request.result.2.cut c.join-2.new.self.cut
+  sighted = sighted_more g.J.DeskNames.terms.limit c.open-request.result.2.cut c.join-2.new.self.cut
       c.sighting_of-sighting.result c.join-2.ensures.heard c.sighting_of-sighting.ensures;
 }
 
 pub returns-clause-replied : goal.returns-clause-replied
 returns-clause-replied g c =
-    let limit = g.J.ServiceNames.terms.limit in
+    let limit = g.J.DeskNames.terms.limit in
     let begun = c.args.asked.now.begun.cut in
     let sent = c.args.asked.now.sent.items in
     subst (λ (k : ChannelState). IsReplied limit begun k.cut sent c.open-request.result.1) (sym c.keep.ensures.same) (record {

@@ -1,0 +1,5 @@
+pub mod SettleLemmas
+pub mod EnvelopeLemmas
+pub mod KeeperLemmas
+pub mod SweepLemmas
+pub mod StartLemmas

@@ -1,0 +1,6 @@
+pub mod DeskNames
+pub mod Settling
+pub mod Envelopes
+pub mod Controls
+pub mod Keepers
+pub mod Firsts

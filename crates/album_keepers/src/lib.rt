@@ -1,0 +1,36 @@
+//! A partition on a thread of its own, and what is sent to it and back.
+//!
+//! What comes in: an envelope with a message, or a control request, each with a pass that shows what it rests on. What
+//! goes out: the partition's reply, with a pass that shows the partition as it was when it had replied.
+//!
+//! Read `envelopes` and `control` first, then `keeper`: a partition with the owner of its history, which settles the
+//! stamps that a reader has seen committed elsewhere, does what the message asks, and makes each mark in both. `thread`
+//! is the loop around it, `mailbox` is how threads wait, and `start` starts them. The service, and its sessions, are
+//! `album_threads`'.
+#![tactic(auto)]
+
+// What is sent to a partition and back: messages with their passes, and requests of whoever runs the service.
+mod control;
+mod envelopes;
+
+// A partition with the owner of its history.
+mod keeper;
+
+// Its thread: how it waits, what it does, how it starts, and what tests hold it by.
+mod breakage;
+mod gate;
+mod mailbox;
+mod start;
+mod thread;
+
+// The names by which all of that is tied to one service.
+mod names;
+
+pub use album_partition::Figures;
+pub use breakage::Breakage;
+pub use control::{Control, ControlAnswer, ControlReply, ControlRequest};
+pub use envelopes::{ReplyEnvelope, RequestEnvelope};
+pub use gate::{Gate, Open};
+pub use mailbox::{Inbox, PartitionMail, SessionMail};
+pub use names::DeskNames;
+pub use start::start_all;

@@ -1,0 +1,134 @@
+//! How the threads of a service start.
+ghost use Rattle.std.specs.Prelude.{◌≡◌, ◌<◌, ◌≤◌};
+ghost use Rattle.std.specs.Arc.{arc_value};
+ghost use Rattle.album_stamps.specs.declared.limits.TheConstants.{MAX_PARTS};
+ghost use Rattle.album_passes.specs.Desk.{first_owner};
+ghost use Rattle.album_partition.specs.Partition.{first_partition};
+ghost use Rattle.album_keepers.specs.Firsts.{AreFirst, AreFirstOwners};
+
+use crate::breakage::Breakage;
+use crate::gate::Gate;
+use crate::keeper::PartitionKeeper;
+use crate::mailbox::{Inbox, PartitionMail};
+use crate::names::DeskNames;
+use crate::thread::{Outbox, PartitionLoop};
+use album_partition::Partition;
+use album_passes::{Desk, Owner};
+use crossbeam_channel::{Receiver, Sender};
+use std::alloc::{AllocError, Global};
+use std::sync::{Arc, Wait};
+use std::thread::{JoinHandle, Threads, spawn};
+use std::time;
+
+/// Starts the threads of all partitions, as they open, the last one first, and puts them into
+/// `threads`. Where one can't be had, those that run stay there.
+pub fn start_all<
+    J: DeskNames + Send + 'static,
+    R: Threads + Wait + time::Clock + Copy + Send + 'static,
+    G: Gate + Drop + Send + Sync + 'static,
+>(
+    rt: R,
+    alloc: Global,
+    desk: &Arc<Desk, Global>,
+    gate: &Arc<G, Global>,
+    breakage: &Arc<Breakage, Global>,
+    mut owners: Vec<Owner>,
+    mut partitions: Vec<Partition>,
+    mailboxes: &[Sender<PartitionMail<J>>],
+    mut mails: Vec<Receiver<PartitionMail<J>>>,
+    threads: &mut Vec<JoinHandle<()>>,
+) -> Result<(), AllocError>
+    requires table { (arc_value desk.now).table ≡ J.table }
+    requires terms { (arc_value desk.now).terms ≡ J.terms }
+    requires few { J.terms.parts ≤ MAX_PARTS }
+    requires owners { AreFirstOwners (record { table = J.table; terms = J.terms }) J.terms.parts owners.items }
+    requires partitions { AreFirst J.terms J.terms.parts partitions.items }
+{
+    let count = owners.len();
+    for done in 0..count {
+        let Some(owner) = owners.pop() else {
+            return Err(AllocError);
+        };
+        let Some(partition) = partitions.pop() else {
+            return Err(AllocError);
+        };
+        let Some(from) = mails.pop() else {
+            return Err(AllocError);
+        };
+        let part = (count - 1 - done) as u16;
+        let post = loop_of(alloc, part, partition, owner, mailboxes, breakage)?;
+        let desk = Arc::try_clone(desk)?;
+        let gate = Arc::try_clone(gate)?;
+        // Room first: a thread that runs is kept.
+        threads.reserve(1)?;
+        threads.push_reserved(start(rt, alloc, desk, gate, post, from)?);
+    }
+    Ok(())
+}
+
+/// A partition as it opens, with its owner, and the mailboxes of all.
+fn loop_of<J: DeskNames>(
+    alloc: Global,
+    part: u16,
+    partition: Partition,
+    owner: Owner,
+    mailboxes: &[Sender<PartitionMail<J>>],
+    breakage: &Arc<Breakage, Global>,
+) -> Result<PartitionLoop<J>, AllocError>
+    requires partition { partition ≡ first_partition J.terms.parts J.terms.limit J.terms.opening part }
+    requires owner { owner ≡ first_owner (record { table = J.table; terms = J.terms }) part }
+{
+    let mut parts = Vec::new(alloc);
+    for mailbox in mailboxes {
+        parts.push(mailbox.clone()?)?;
+    }
+    let keeper = PartitionKeeper::new(part, partition, owner);
+    Ok(PartitionLoop::new(
+        part,
+        keeper,
+        Outbox::new(alloc, parts),
+        Arc::try_clone(breakage)?,
+    ))
+}
+
+/// Starts the thread of a partition.
+fn start<
+    J: DeskNames + Send + 'static,
+    R: Threads + Wait + time::Clock + Copy + Send + 'static,
+    G: Gate + Drop + Send + Sync + 'static,
+>(
+    rt: R,
+    alloc: Global,
+    desk: Arc<Desk, Global>,
+    gate: Arc<G, Global>,
+    post: PartitionLoop<J>,
+    mails: Receiver<PartitionMail<J>>,
+) -> Result<JoinHandle<()>, AllocError>
+    requires table { (arc_value desk).table ≡ J.table }
+    requires terms { (arc_value desk).terms ≡ J.terms }
+{
+    let Ok(thread) = spawn(
+        &rt,
+        move || -> ()
+            requires { ((arc_value desk).table ≡ J.table) × ((arc_value desk).terms ≡ J.terms) }
+        { run_alone::<J, R, G>(rt, alloc, desk, gate, post, mails) },
+    ) else {
+        return Err(AllocError);
+    };
+    Ok(thread)
+}
+
+/// The body of the thread, which owns all it needs.
+fn run_alone<J: DeskNames, R: Wait + time::Clock + Copy, G: Gate + Drop>(
+    rt: R,
+    alloc: Global,
+    desk: Arc<Desk, Global>,
+    gate: Arc<G, Global>,
+    mut post: PartitionLoop<J>,
+    mails: Receiver<PartitionMail<J>>,
+)
+    requires table { (arc_value desk).table ≡ J.table }
+    requires terms { (arc_value desk).terms ≡ J.terms }
+{
+    post.run(&rt, alloc, &desk, &*gate, &mut Inbox::new(mails));
+}
