@@ -43,7 +43,7 @@ use Rattle.album_world.specs.Past.{World}
 use Rattle.album_world.specs.Committing.{history}
 use Rattle.album_world.proofs.ListLemmas.{in_right, any_in, same_or_not, some_same, none_some}
 use Rattle.album_world.proofs.MarkLemmas.{IsPreparedIn, prepared_in, wrote, version_wrote, some_is, stamp_for_is}
-use Rattle.album_world.proofs.PlaceLemmas.{item_in, other_in, told_is, IsNoted}
+use Rattle.album_world.proofs.PlaceLemmas.{item_in, other_in, given_is, IsNoted}
 use Rattle.album_world.proofs.Invariant.{IsKept, IsPrepareOf, IsSettled, IsAgainst, IsPlacedAt, IsVote, IsValue, IsSay, IsFine, IsSound, IsPlaced, SaysWith}
 use Rattle.album_world.proofs.GrowthLemmas.{Grows, prepared_grows, any_grows, settled_grows, against_grows, value_grows}
 use Rattle.album_world.proofs.WroteLemmas.{written_here}
@@ -70,7 +70,7 @@ pub record IsAction (o : Opening) (w : World) (p : ℕ) (ms : List Mark) (m : Me
   pub noted : (n : NotedVote) → e.vote ≡ Some n → IsPreparedIn (history w n.part) n.stamp
   pub replied : (v : World) → Grows o w v → history v p ≡ ms ++ option_to_list e.mark → (r : Reply) → e.reply ≡ Some r
       → IsSay o v (Part p) r
-  pub tells : (P : ℕ → ℕ → Type 0)
+  pub gives : (P : ℕ → ℕ → Type 0)
       → ((i : ℕ) (ts : List ℕ) → m.body ≡ body.Request (Get i ts) → place_of o.parts i ≡ p → P i (stamp_for ms i ts))
       → (r : Reply) → e.reply ≡ Some r → SaysWith P r
 
@@ -80,7 +80,7 @@ module _ (o : Opening) (w : World) (p : ℕ) (ms : List Mark) (m : Message) wher
     marked = no_mark;
     noted = λ n h. none_some h;
     replied = λ v g e r h. none_some h;
-    tells = λ P f r h. none_some h;
+    gives = λ P f r h. none_some h;
   }
 
   says_action : (b : Reply) → ((v : World) → Grows o w v → IsSay o v (Part p) b)
@@ -89,7 +89,7 @@ module _ (o : Opening) (w : World) (p : ℕ) (ms : List Mark) (m : Message) wher
     marked = no_mark;
     noted = λ n h. none_some h;
     replied = λ v g e r h. subst (IsSay o v (Part p)) (some_same h) (fine v g);
-    tells = λ P f r h. subst (SaysWith P) (some_same h) (quiet P);
+    gives = λ P f r h. subst (SaysWith P) (some_same h) (quiet P);
   }
 
   marks_action : (x : Mark) (b : Reply) → IsMarked o w p ms (Some x)
@@ -99,7 +99,7 @@ module _ (o : Opening) (w : World) (p : ℕ) (ms : List Mark) (m : Message) wher
     marked = marked;
     noted = λ n h. none_some h;
     replied = λ v g e r h. subst (IsSay o v (Part p)) (some_same h) (fine v g e);
-    tells = λ P f r h. subst (SaysWith P) (some_same h) (quiet P);
+    gives = λ P f r h. subst (SaysWith P) (some_same h) (quiet P);
   }
 
   mark_action : (x : Mark) → IsMarked o w p ms (Some x) → IsAction o w p ms m (marks x)
@@ -107,7 +107,7 @@ module _ (o : Opening) (w : World) (p : ℕ) (ms : List Mark) (m : Message) wher
     marked = marked;
     noted = λ n h. none_some h;
     replied = λ v g e r h. none_some h;
-    tells = λ P f r h. none_some h;
+    gives = λ P f r h. none_some h;
   }
 
   else_action : (b : Bool) (e f : Action) → (b ≡ true → IsAction o w p ms m e) → IsAction o w p ms m f
@@ -130,8 +130,8 @@ module _ (o : Opening) (some : 0 < o.parts) (w : World) (k : IsKept o w) (p : �
   sound : IsSound o w p h.marks
   sound = subst (IsSound o w p) here_is (k.sound p)
 
-  told : (b : Body) → m.body ≡ b → IsFine o w m.from (Part p) b
-  told b e = subst (λ (z : Body). IsFine o w m.from (Part p) z) e
+  given : (b : Body) → m.body ≡ b → IsFine o w m.from (Part p) b
+  given b e = subst (λ (z : Body). IsFine o w m.from (Part p) z) e
       (subst (λ (z : Node). IsFine o w m.from z m.body) to (k.fine m sent))
 
   now_prepared : (t : ℕ) → IsPreparedIn h.marks t → IsPreparedIn (history w p) t
@@ -173,7 +173,7 @@ module _ (o : Opening) (some : 0 < o.parts) (w : World) (k : IsKept o w) (p : �
   prepare_action t ws js e true same f state.Unknown u = no_room t u f
   prepare_action t ws js e false same f state.Unknown u =
       marks_action o w p h.marks m (Prepared t ws js) (reply.Prepared t)
-      (made_prepared u (sym full_here ∙ f) (told (body.Request (Prepare t ws js)) e))
+      (made_prepared u (sym full_here ∙ f) (given (body.Request (Prepare t ws js)) e))
       (λ v g q. prepared_in (history v p) t
       (subst (λ (z : List Mark). list_any (prepares t) z ≡ true) (sym q)
       (any_in (prepares t) (h.marks ++ Prepared t ws js ∷ []) (in_right h.marks here) (eq-eqb t t refl))))
@@ -194,7 +194,7 @@ module _ (o : Opening) (some : 0 < o.parts) (w : World) (k : IsKept o w) (p : �
   commit_action t e state.Unknown u = says_action o w p h.marks m (reply.NotPrepared t) (λ v g. tt) (λ P. tt)
   commit_action t e state.Pending u =
       marks_action o w p h.marks m (Committed t) (reply.Committed t)
-      (made_committed u (told (body.Request (Commit t)) e))
+      (made_committed u (given (body.Request (Commit t)) e))
       (λ v g q. subst (λ (z : List Mark). list_any (commits t) z ≡ true) (sym q)
       (any_in (commits t) (h.marks ++ Committed t ∷ []) (in_right h.marks here) (eq-eqb t t refl)))
       (λ P. tt)
@@ -219,7 +219,7 @@ module _ (o : Opening) (some : 0 < o.parts) (w : World) (k : IsKept o w) (p : �
       → (s : StampState) → state_of h.marks t ≡ s → IsAction o w p h.marks m (check_by full s t)
   check_action t e true f state.Unknown u = no_room t u f
   check_action t e false f state.Unknown u =
-      let d = told (body.Request (Check t)) e in
+      let d = given (body.Request (Check t)) e in
       marks_action o w p h.marks m (Discarded t) (reply.Status t vote.Never) (made_refused u (sym full_here ∙ f) d)
       (λ v g q. against_here v t g d u q) (λ P. tt)
   check_action t e full f state.Pending u =
@@ -264,7 +264,7 @@ module _ (o : Opening) (some : 0 < o.parts) (w : World) (k : IsKept o w) (p : �
           (λ (n : IsNoted h.votes t (place_of o.parts i)).
           subst (λ (z : ℕ). IsPreparedIn (history w z) t) n.part
           (subst (λ (z : ℕ). IsPreparedIn (history w n.by.part) z) n.stamp (k.noted p h got n.by n.noted)))
-          (told_is q t (place_of o.parts i) h.votes _ all other))
+          (given_is q t (place_of o.parts i) h.votes _ all other))
           (same_or_not (place_of o.parts i) p)
 
   new_is : (t q : ℕ) (n : NotedVote) → new_vote h.votes t q ≡ Some n → IsPreparedIn (history w q) t
@@ -291,13 +291,13 @@ module _ (o : Opening) (some : 0 < o.parts) (w : World) (k : IsKept o w) (p : �
         marked = made_committed u (settled_by_votes t q u d e);
         noted = λ n f. new_is t q n f d;
         replied = λ v g f r l. none_some l;
-        tells = λ P f r l. none_some l;
+        gives = λ P f r l. none_some l;
       }
       go false e = record {
         marked = no_mark;
         noted = λ n f. new_is t q n f d;
         replied = λ v g f r l. none_some l;
-        tells = λ P f r l. none_some l;
+        gives = λ P f r l. none_some l;
       }
 
   prepared_action : (n : Node) (t : ℕ) → state_of h.marks t ≡ state.Pending → IsVote o w n t vote.Prepared
@@ -315,7 +315,7 @@ module _ (o : Opening) (some : 0 < o.parts) (w : World) (k : IsKept o w) (p : �
   status_action : (t : ℕ) (x : Vote) → m.body ≡ body.Reply (reply.Status t x)
       → IsAction o w p h.marks m (on_status h m.from t x)
   status_action t x e = else_action o w p h.marks m (is_pending (state_of h.marks t)) _ _
-      (λ l. vote_action t x (is_pending_tells (state_of h.marks t) l) (told (body.Reply (reply.Status t x)) e))
+      (λ l. vote_action t x (is_pending_tells (state_of h.marks t) l) (given (body.Reply (reply.Status t x)) e))
       (silent_action o w p h.marks m)
 
   -- the value that is read at a stamp
@@ -358,7 +358,7 @@ module _ (o : Opening) (some : 0 < o.parts) (w : World) (k : IsKept o w) (p : �
                 (value_grows o w v g i s (value_at h i s)
                 (read_value i s at (subst (λ (z : ℕ). (z ≡ 0) ⊎ (is_some (version h.marks i z) ≡ true)) is
                 (stamp_for_is h.marks i ts))));
-            tells = λ P f r l. subst (SaysWith P) (some_same l) (subst (λ (z : ℕ). P i z) is (f i ts e at));
+            gives = λ P f r l. subst (SaysWith P) (some_same l) (subst (λ (z : ℕ). P i z) is (f i ts e at));
           }
 
   request_action : (r : Request) → m.body ≡ body.Request r → IsAction o w p h.marks m (on_request h r)

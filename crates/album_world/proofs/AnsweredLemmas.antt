@@ -55,7 +55,7 @@ served_alone t w fresh a h = record {
   one_write = h.one_write;
   one_answer = h.one_answer;
   answered = λ x l. let d = h.answers x (within _ l) in
-      record { kept = contains d.told; last = d.last; begun = d.begun };
+      record { kept = contains d.given; last = d.last; begun = d.begun };
 }
 
 got : (xs : List Asked) (j : ℕ) (d : Asked) → j < length xs → In (slice_index_or xs j d) xs
@@ -78,7 +78,7 @@ answers_are_to_requests o es is =
     let fresh = views_are_fresh o es is in
     record {
       alone = λ a l. served_alone (terms_of o) w fresh a (q.alone a (within _ l));
-      answers = λ x l. let d = q.told x (within _ l) in
+      answers = λ x l. let d = q.given x (within _ l) in
           record { asked = d.asked; made = contains d.made; answers = contains d.answers; is = d.is };
       begun = λ r l. let d = q.begun r (within _ l) in
           record { asked = d.asked; made = contains d.made; writes = contains d.writes };

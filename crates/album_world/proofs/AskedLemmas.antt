@@ -66,7 +66,7 @@ use Rattle.album_world.proofs.ListLemmas.In.{there}
 use Rattle.album_world.proofs.ClientLemmas.{rows_client, next_client}
 use Rattle.album_world.proofs.Invariant.{IsKept, HasBegun as BeganFrom, IsDoing}
 use Rattle.album_world.proofs.ReplyLemmas.{with_past}
-use Rattle.album_world.proofs.EventLemmas.{TellsAnswer, answer_of_change}
+use Rattle.album_world.proofs.EventLemmas.{GivesAnswer, answer_of_change}
 use Rattle.album_world.proofs.RunLemmas.{opening_is, start_kept, event_kept}
 use Rattle.album_world.proofs.StopLemmas.{request_kept}
 use Rattle.album_world.proofs.BookLemmas.{begun_client, last_here}
@@ -199,10 +199,10 @@ module _ (o : Opening) (w : World) (k : IsKept o w) (c : ℕ) (q : IsRequestedBu
         ∙ last_of w.past.reads)
 
     -- nothing is begun, and it is answered
-    tells_had : (y : Client) → y.number ≡ c → y.clock.client ≡ c → (n : Option (List Note)) (a : Answer)
+    answers_had : (y : Client) → y.number ≡ c → y.clock.client ≡ c → (n : Option (List Note)) (a : Answer)
         → ((ws : List Transaction) → ws ≡ [] → HasBegun ws a)
         → IsHad w c (with_past (ask_ends y tag a) (Some ended) n)
-    tells_had y ny oy n a none =
+    answers_had y ny oy n a none =
         let turn = with_past (ask_ends y tag a) (Some ended) n in
         let h : IsTurnFor w c turn u.asked = record {
           over = over_here turn refl;
@@ -307,18 +307,18 @@ module _ (o : Opening) (w : World) (k : IsKept o w) (c : ℕ) (q : IsRequestedBu
       draws_had (Ok stamp) = go (is_full_for permit stamp)
         where
           go : (f : Bool) → IsHad w c (noting (writes_unless t drawn tag permit stamp f))
-          go true = tells_had drawn ny drawn_own n (answer.Refused refusal.AlbumFull) (λ ws e. e)
+          go true = answers_had drawn ny drawn_own n (answer.Refused refusal.AlbumFull) (λ ws e. e)
           go false = write_had drawn ny drawn_own stamp
-      draws_had (Err why) = tells_had drawn ny drawn_own n (answer.Refused why) (λ ws e. e)
+      draws_had (Err why) = answers_had drawn ny drawn_own n (answer.Refused why) (λ ws e. e)
 
       grants_had : (f : Option Served) → IsHad w c (noting (grants t y tag permit f))
-      grants_had (Some served) = tells_had y ny oy n (answer.Served served) (λ ws e. e)
+      grants_had (Some served) = answers_had y ny oy n (answer.Served served) (λ ws e. e)
       grants_had None = draws_had (next_of y.clock)
 
       rules_had : (f : Finding) → IsHad w c (noting (rules_by t y tag permit f))
       rules_had finding.Granted = grants_had (served_for permit permit.view.ask)
-      rules_had (finding.Denied reasons) = tells_had y ny oy n (answer.Denied reasons) (λ ws e. e)
-      rules_had (finding.Missing object) = tells_had y ny oy n (answer.Missing object) (λ ws e. e)
+      rules_had (finding.Denied reasons) = answers_had y ny oy n (answer.Denied reasons) (λ ws e. e)
+      rules_had (finding.Missing object) = answers_had y ny oy n (answer.Missing object) (λ ws e. e)
 
     again_had : ((p : ℕ) → BeganFrom w begun_here.partitions p) → (items : List ℕ)
         → IsHad w c (read_ends t x tag pending_ask rows (again pending_ask.viewing items))
@@ -327,7 +327,7 @@ module _ (o : Opening) (w : World) (k : IsKept o w) (c : ℕ) (q : IsRequestedBu
         go : (f : Bool) → IsHad w c (read_ends t x tag pending_ask rows
             (if f then Busy Rounds
             else Again (record { ask = pending_ask.viewing.ask; reads = pending_ask.viewing.reads + 1 }) items))
-        go true = tells_had x number own None (answer.Busy Rounds) (λ ws e. e)
+        go true = answers_had x number own None (answer.Busy Rounds) (λ ws e. e)
         go false = reads_again began (record { ask = pending_ask.viewing.ask; reads = pending_ask.viewing.reads + 1 }) items refl
 
   done_had : (pending_ask : PendingAsk) → ReadsFor w c pending_ask → ((p : ℕ) → BeganFrom w begun_here.partitions p) → (tag : ℕ)
@@ -336,7 +336,7 @@ module _ (o : Opening) (w : World) (k : IsKept o w) (c : ℕ) (q : IsRequestedBu
     where
       wide : (f : Bool) → IsHad w c (read_ends t x tag pending_ask (Some rows)
           (if f then Busy Wide else again pending_ask.viewing (names_of rows pending_ask.viewing.ask)))
-      wide true = tells_had pending_ask u (Some rows) tag x number own None (answer.Busy Wide) (λ ws e. e)
+      wide true = answers_had pending_ask u (Some rows) tag x number own None (answer.Busy Wide) (λ ws e. e)
       wide false = again_had pending_ask u (Some rows) tag began (names_of rows pending_ask.viewing.ask)
 
       go : (f : Bool) → IsHad w c (read_ends t x tag pending_ask (Some rows)
@@ -435,7 +435,7 @@ module _ (w : World) (q : IsRequested w) (partitions : List PartitionState) (mes
   }
 
   alike_lasts : Lasts w alike
-  alike_lasts = record { transactions = λ r i. i; reads = λ f i. i; told = λ x i. i }
+  alike_lasts = record { transactions = λ r i. i; reads = λ f i. i; given = λ x i. i }
 
   alike_writes : (c : ℕ) (z : WritingState) → WritesFor w c z → WritesFor alike c z
   alike_writes c z u = record {
@@ -466,7 +466,7 @@ module _ (w : World) (q : IsRequested w) (partitions : List PartitionState) (mes
   still_requested : IsRequested alike
   still_requested = record {
     alone = λ a i. alone_lasts w alike alike_lasts a (q.alone a i);
-    told = λ x i. let d = q.told x i in
+    given = λ x i. let d = q.given x i in
         record { asked = d.asked; made = d.made; answers = d.answers; is = d.is };
     begun = λ r i. let d = q.begun r i in record { asked = d.asked; made = d.made; writes = d.writes };
     turns = q.turns;
@@ -483,7 +483,7 @@ module _ (w : World) (q : IsRequested w) (c : ℕ) (who : Principal) (ask : Ask)
   more = requested w (event.Ask c who ask)
 
   more_lasts : Lasts w more
-  more_lasts = record { transactions = λ r i. i; reads = λ f i. i; told = λ x i. i }
+  more_lasts = record { transactions = λ r i. i; reads = λ f i. i; given = λ x i. i }
 
   beside_last : (d : ℕ) → eqb c d ≡ false → last_asked more.past.asked d ≡ last_asked w.past.asked d
   beside_last d ne = ap (λ (f : Bool). if f then Some request else last_asked w.past.asked d) ne
@@ -529,7 +529,7 @@ module _ (w : World) (q : IsRequested w) (c : ℕ) (who : Principal) (ask : Ask)
         (λ (e : a ≡ request). subst (IsAlone more) (sym e) new_alone)
         (λ j. alone_lasts w more more_lasts a (q.alone a j))
         (in_uncons i);
-    told = λ x i. let d = q.told x i in
+    given = λ x i. let d = q.given x i in
         record { asked = d.asked; made = there d.made; answers = d.answers; is = d.is };
     begun = λ r i. let d = q.begun r i in
         record { asked = d.asked; made = there d.made; writes = d.writes };
@@ -559,7 +559,7 @@ module _ (o : Opening) (some : 0 < o.parts) (w : World) (k : IsKept o w) (q : Is
   ts = terms_of o
 
   but : (c : ℕ) → IsRequestedBut w c
-  but c = record { alone = q.alone; told = q.told; begun = q.begun; turns = q.turns; at = λ d ne. q.at d }
+  but c = record { alone = q.alone; given = q.given; begun = q.begun; turns = q.turns; at = λ d ne. q.at d }
 
   unless_by : (e : Event) (f : Bool) (r : Refusal) (g : Result Change Refusal) → IsKeptBy w e g
       → IsKeptBy w e (if f then Err r else g)
@@ -637,7 +637,7 @@ module _ (o : Opening) (some : 0 < o.parts) (w : World) (k : IsKept o w) (q : Is
       (still_requested w q w.now.partitions w.now.messages _, tt)
   event_had (event.Trim p i) = trim_had p i (slice_get w.now.partitions p)
 
-  last_of_change : (next : World) (ch : Change) (c : ℕ) (a : Answer) → AnswersLast next ch → TellsAnswer ch c a
+  last_of_change : (next : World) (ch : Change) (c : ℕ) (a : Answer) → AnswersLast next ch → GivesAnswer ch c a
       → IsAnsweredLast next c a
   last_of_change next Nothing c a h s = absurd s
   last_of_change next (AtPart p m sent) c a h s = absurd s
@@ -673,7 +673,7 @@ always_requested o es is =
     run_requested o d.some (start o) (start_kept o d)
     (record {
       alone = λ a h. in_nil h;
-      told = λ x h. in_nil h;
+      given = λ x h. in_nil h;
       begun = λ r h. in_nil h;
       turns = tt;
       at = λ c. λ a e. none_some e;

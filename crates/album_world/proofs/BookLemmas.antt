@@ -46,17 +46,17 @@ pub record IsBegunFull (t : Terms) (w : World) (c s : ℕ) (permit : PermitState
 
 -- what led to an answer
 abbrev pub IsLed : Terms → World → PastAnswer → Answer → Type 0
-IsLed t w told (answer.Served served) = IsOnView t w told.client told.last (λ case. IsServedBy case served)
-IsLed t w told (answer.Denied reasons) = IsOnView t w told.client told.last
+IsLed t w given (answer.Served served) = IsOnView t w given.client given.last (λ case. IsServedBy case served)
+IsLed t w given (answer.Denied reasons) = IsOnView t w given.client given.last
     (λ case. Finds case (finding.Denied reasons))
-IsLed t w told (answer.Missing object) = IsOnView t w told.client told.last
+IsLed t w given (answer.Missing object) = IsOnView t w given.client given.last
     (λ case. Finds case (finding.Missing object))
-IsLed t w told (answer.Busy why) = HasCause w told why
-IsLed t w told (answer.Committed s) = IsOnView t w told.client told.last (IsBegunBy w told.client s)
-IsLed t w told (answer.Aborted s) = IsOnView t w told.client told.last (IsBegunBy w told.client s)
-IsLed t w told (answer.Unsettled s why) = IsOnView t w told.client told.last (IsBegunFull t w told.client s)
-IsLed t w told (answer.Refused why) = IsOnView t w told.client told.last
-    (λ case. IsPermit case × IsRefusedFor w told.client why case)
+IsLed t w given (answer.Busy why) = HasCause w given why
+IsLed t w given (answer.Committed s) = IsOnView t w given.client given.last (IsBegunBy w given.client s)
+IsLed t w given (answer.Aborted s) = IsOnView t w given.client given.last (IsBegunBy w given.client s)
+IsLed t w given (answer.Unsettled s why) = IsOnView t w given.client given.last (IsBegunFull t w given.client s)
+IsLed t w given (answer.Refused why) = IsOnView t w given.client given.last
+    (λ case. IsPermit case × IsRefusedFor w given.client why case)
 
 -- a client's write was begun on the view that it had read last
 pub record IsWriteOn (t : Terms) (w : World) (c : ℕ) (z : WritingState) (T : Transaction → Type 0) : Type 0 where
@@ -95,8 +95,8 @@ IsAt t w c (phase.Commits z) = IsWriteOn t w c z (λ by. Unit {0})
 
 pub record IsBooked (t : Terms) (w : World) : Type 0 where
   pub granted : (by : Transaction) → In by w.past.transactions → IsGranted t w by
-  pub led : (told : PastAnswer) → In told w.past.answers → IsLed t w told told.answer
-  pub noting : (told : PastAnswer) → In told w.past.answers → IsNotedFor w told told.answer
+  pub led : (given : PastAnswer) → In given w.past.answers → IsLed t w given given.answer
+  pub noting : (given : PastAnswer) → In given w.past.answers → IsNotedFor w given given.answer
   pub noted : (n : Noted) → In n w.past.noted → IsOnView t w n.client n.last (λ case. Notes case n.notes)
   pub at : (c : ℕ) → IsAt t w c (client_at w.now.clients c).phase
 
@@ -180,8 +180,8 @@ module _ (t : Terms) (w1 w2 : World) (g : Adds w1 w2) where
       (λ (d : (why ≡ refusal.StampsSpent) × IsSpent w1 c). inr (d.0, le_trans d.1 (g.clocks c)))
       h
 
-  cause_adds : (told : PastAnswer) (why : Why) → HasCause w1 told why → HasCause w2 told why
-  cause_adds told why h =
+  cause_adds : (given : PastAnswer) (why : Why) → HasCause w1 given why → HasCause w2 given why
+  cause_adds given why h =
       record {
         read = h.read;
         last_is = h.last_is;
@@ -190,40 +190,40 @@ module _ (t : Terms) (w1 w2 : World) (g : Adds w1 w2) where
         cause = h.cause;
       }
 
-  pub led_adds : (told : PastAnswer) (a : Answer) → IsLed t w1 told a → IsLed t w2 told a
-  led_adds told (answer.Served served) h = view_adds told.client told.last _ _ (λ case e. e) h
-  led_adds told (answer.Denied reasons) h = view_adds told.client told.last _ _ (λ case e. e) h
-  led_adds told (answer.Missing object) h = view_adds told.client told.last _ _ (λ case e. e) h
-  led_adds told (answer.Busy why) h = cause_adds told why h
-  led_adds told (answer.Committed s) h = view_adds told.client told.last (IsBegunBy w1 told.client s)
-      (IsBegunBy w2 told.client s) (begun_adds told.client s) h
-  led_adds told (answer.Aborted s) h = view_adds told.client told.last (IsBegunBy w1 told.client s)
-      (IsBegunBy w2 told.client s) (begun_adds told.client s) h
-  led_adds told (answer.Unsettled s why) h =
-      view_adds told.client told.last (IsBegunFull t w1 told.client s) (IsBegunFull t w2 told.client s)
-      (λ case e. record { begun = begun_adds told.client s case e.begun; full = full_adds e.begun.by e.full }) h
-  led_adds told (answer.Refused why) h =
-      view_adds told.client told.last (λ case. IsPermit case × IsRefusedFor w1 told.client why case)
-      (λ case. IsPermit case × IsRefusedFor w2 told.client why case)
-      (λ case e. (e.0, refused_adds told.client why case e.1)) h
+  pub led_adds : (given : PastAnswer) (a : Answer) → IsLed t w1 given a → IsLed t w2 given a
+  led_adds given (answer.Served served) h = view_adds given.client given.last _ _ (λ case e. e) h
+  led_adds given (answer.Denied reasons) h = view_adds given.client given.last _ _ (λ case e. e) h
+  led_adds given (answer.Missing object) h = view_adds given.client given.last _ _ (λ case e. e) h
+  led_adds given (answer.Busy why) h = cause_adds given why h
+  led_adds given (answer.Committed s) h = view_adds given.client given.last (IsBegunBy w1 given.client s)
+      (IsBegunBy w2 given.client s) (begun_adds given.client s) h
+  led_adds given (answer.Aborted s) h = view_adds given.client given.last (IsBegunBy w1 given.client s)
+      (IsBegunBy w2 given.client s) (begun_adds given.client s) h
+  led_adds given (answer.Unsettled s why) h =
+      view_adds given.client given.last (IsBegunFull t w1 given.client s) (IsBegunFull t w2 given.client s)
+      (λ case e. record { begun = begun_adds given.client s case e.begun; full = full_adds e.begun.by e.full }) h
+  led_adds given (answer.Refused why) h =
+      view_adds given.client given.last (λ case. IsPermit case × IsRefusedFor w1 given.client why case)
+      (λ case. IsPermit case × IsRefusedFor w2 given.client why case)
+      (λ case e. (e.0, refused_adds given.client why case e.1)) h
 
-  notes_add : (told : PastAnswer) → HasNotes w1 told → HasNotes w2 told
-  notes_add told h = record {
+  notes_add : (given : PastAnswer) → HasNotes w1 given → HasNotes w2 given
+  notes_add given h = record {
     noted = h.noted;
     kept = contains (g.noted h.noted (within _ h.kept));
     own = h.own;
     same = h.same;
   }
 
-  pub noting_adds : (told : PastAnswer) (a : Answer) → IsNotedFor w1 told a → IsNotedFor w2 told a
-  noting_adds told (answer.Served served) h = notes_add told h
-  noting_adds told (answer.Denied reasons) h = notes_add told h
-  noting_adds told (answer.Missing object) h = notes_add told h
-  noting_adds told (answer.Busy why) h = tt
-  noting_adds told (answer.Committed s) h = notes_add told h
-  noting_adds told (answer.Aborted s) h = notes_add told h
-  noting_adds told (answer.Unsettled s why) h = notes_add told h
-  noting_adds told (answer.Refused why) h = notes_add told h
+  pub noting_adds : (given : PastAnswer) (a : Answer) → IsNotedFor w1 given a → IsNotedFor w2 given a
+  noting_adds given (answer.Served served) h = notes_add given h
+  noting_adds given (answer.Denied reasons) h = notes_add given h
+  noting_adds given (answer.Missing object) h = notes_add given h
+  noting_adds given (answer.Busy why) h = tt
+  noting_adds given (answer.Committed s) h = notes_add given h
+  noting_adds given (answer.Aborted s) h = notes_add given h
+  noting_adds given (answer.Unsettled s why) h = notes_add given h
+  noting_adds given (answer.Refused why) h = notes_add given h
 
   pub write_adds : (c : ℕ) (z : WritingState) (T : Transaction → Type 0)
       → last_read w2.past.reads c ≡ last_read w1.past.reads c → IsWriteOn t w1 c z T → IsWriteOn t w2 c z T
@@ -259,27 +259,27 @@ module _ (t : Terms) (w1 w2 : World) (g : Adds w1 w2) where
   at_adds c (phase.Commits z) n same h = write_adds c z (λ by. Unit {0}) same h
 
 -- where notes were made, whatever the answer is
-pub noting_by : (w : World) (told : PastAnswer) (a : Answer) → HasNotes w told → IsNotedFor w told a
-noting_by w told (answer.Served served) h = h
-noting_by w told (answer.Denied reasons) h = h
-noting_by w told (answer.Missing object) h = h
-noting_by w told (answer.Busy why) h = tt
-noting_by w told (answer.Committed s) h = h
-noting_by w told (answer.Aborted s) h = h
-noting_by w told (answer.Unsettled s why) h = h
-noting_by w told (answer.Refused why) h = h
+pub noting_by : (w : World) (given : PastAnswer) (a : Answer) → HasNotes w given → IsNotedFor w given a
+noting_by w given (answer.Served served) h = h
+noting_by w given (answer.Denied reasons) h = h
+noting_by w given (answer.Missing object) h = h
+noting_by w given (answer.Busy why) h = tt
+noting_by w given (answer.Committed s) h = h
+noting_by w given (answer.Aborted s) h = h
+noting_by w given (answer.Unsettled s why) h = h
+noting_by w given (answer.Refused why) h = h
 
 -- ---- at a partition, and at a stop
 
 same_booked : (t : Terms) (w next : World) → Adds w next → IsBooked t w
     → ((r : Transaction) → In r next.past.transactions → In r w.past.transactions)
-    → ((told : PastAnswer) → In told next.past.answers → In told w.past.answers)
+    → ((given : PastAnswer) → In given next.past.answers → In given w.past.answers)
     → ((n : Noted) → In n next.past.noted → In n w.past.noted)
     → ((c : ℕ) → IsAt t next c (client_at next.now.clients c).phase) → IsBooked t next
 same_booked t w next g b rs ts ns at = record {
   granted = λ r l. granted_adds t w next g r (b.granted r (rs r l));
-  led = λ told l. led_adds t w next g told told.answer (b.led told (ts told l));
-  noting = λ told l. noting_adds t w next g told told.answer (b.noting told (ts told l));
+  led = λ given l. led_adds t w next g given given.answer (b.led given (ts given l));
+  noting = λ given l. noting_adds t w next g given given.answer (b.noting given (ts given l));
   noted = λ n l. view_adds t w next g n.client n.last (λ case. Notes case n.notes) (λ case. Notes case n.notes)
       (λ case e. e) (b.noted n (ns n l));
   at = at;
@@ -300,7 +300,7 @@ pub part_booked : (t : Terms) (w : World) → IsBooked t w → (p : ℕ) (h : Pa
 part_booked t w b p h sent =
     let next = changed w (AtPart p h sent) in
     let g = part_adds w p h sent in
-    same_booked t w next g b (λ r l. l) (λ told l. l) (λ n l. l)
+    same_booked t w next g b (λ r l. l) (λ given l. l) (λ n l. l)
     (λ c. at_adds t w next g c (client_at w.now.clients c).phase refl refl (b.at c))
 
 -- who was stopped, and what was asked, is nothing to what is booked
@@ -319,7 +319,7 @@ module _ (t : Terms) (w : World) (b : IsBooked t w) (stopped : List ℕ) (asked 
   }
 
   still_booked : IsBooked t alike
-  still_booked = same_booked t w alike alike_adds b (λ r l. l) (λ told l. l) (λ n l. l)
+  still_booked = same_booked t w alike alike_adds b (λ r l. l) (λ given l. l) (λ n l. l)
       (λ d. at_adds t w alike alike_adds d (client_at w.now.clients d).phase refl refl (b.at d))
 
 pub stop_booked : (t : Terms) (w : World) → IsBooked t w → (c : ℕ) → IsBooked t (changed w (Stops c))

@@ -224,8 +224,8 @@ found_is r m f h = version (body_version m.body) refl h
   where
     lacking : (g : ReadVersion) → body_version m.body ≡ Some g → is_answer r.asker m g.item ≡ true → (b : Bool)
         → lacks r g.item ≡ b → (if b then Some g else None) ≡ Some f → IsFoundBy r m f
-    lacking g told own false e k = none_some k
-    lacking g told own true e k =
+    lacking g given own false e k = none_some k
+    lacking g given own true e k =
         let rest = and_left (m.tag == r.asker.tag && is_client m.to r.asker.client)
         (is_part m.from (place_of r.asker.parts g.item)) own in
         subst (IsFoundBy r m) (some_same k)
@@ -235,15 +235,15 @@ found_is r m f h = version (body_version m.body) refl h
           from = part_is m.from (place_of r.asker.parts g.item)
               (and_right (m.tag == r.asker.tag && is_client m.to r.asker.client)
               (is_part m.from (place_of r.asker.parts g.item)) own);
-          says = version_in_is m.body g told;
+          says = version_in_is m.body g given;
           asked = has_in r.items g.item
               (and_left (has_item r.items g.item) (not (has_answer (answers_there r.answers) g.item)) e);
         })
 
     answers : (g : ReadVersion) → body_version m.body ≡ Some g → (b : Bool) → is_answer r.asker m g.item ≡ b
         → option_and_then (if_lacking r) (if b then Some g else None) ≡ Some f → IsFoundBy r m f
-    answers g told false e k = none_some k
-    answers g told true e k = lacking g told e (lacks r g.item) refl k
+    answers g given false e k = none_some k
+    answers g given true e k = lacking g given e (lacks r g.item) refl k
 
     version : (v : Option ReadVersion) → body_version m.body ≡ v
         → option_and_then (if_lacking r) (option_and_then (if_answer r.asker m) v) ≡ Some f → IsFoundBy r m f
@@ -302,7 +302,7 @@ IsSomething write_reply.Full = Unit {0}
 IsSomething write_reply.Nothing = ⊥
 
 -- a participant gives the round's client this reply under its tag
-pub record IsToldTo (x : WritingState) (m : Message) (what : WriteReply) : Type 0 where
+pub record IsGivenTo (x : WritingState) (m : Message) (what : WriteReply) : Type 0 where
   pub tag : m.tag ≡ x.tag
   pub to : m.to ≡ ToClient x.client
   pub part : ℕ
@@ -310,12 +310,12 @@ pub record IsToldTo (x : WritingState) (m : Message) (what : WriteReply) : Type 
   pub from : m.from ≡ Part part
   pub says : IsReplyFrom x.stamp what m.body
 
-pub told_to_is : (x : WritingState) (m : Message) (what : WriteReply) → reply_in x m ≡ what → IsSomething what
-    → IsToldTo x m what
-told_to_is x m what h some = go (is_from_participant x m) refl h
+pub given_to_is : (x : WritingState) (m : Message) (what : WriteReply) → reply_in x m ≡ what → IsSomething what
+    → IsGivenTo x m what
+given_to_is x m what h some = go (is_from_participant x m) refl h
   where
     go : (b : Bool) → is_from_participant x m ≡ b → (if b then body_reply x.stamp m.body else write_reply.Nothing) ≡ what
-        → IsToldTo x m what
+        → IsGivenTo x m what
     go true e k =
         let rest = and_left (m.tag == x.tag && is_client m.to x.client) (list_any (is_part m.from) (places_in x)) e in
         let a = in_any (is_part m.from) (places_in x)

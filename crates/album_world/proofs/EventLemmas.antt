@@ -46,14 +46,14 @@ no_note first (suc count) h = ⊎_elim (λ l. no_note first count l) (λ l. sent
     (in_cases (numbers_after first count) (out.Sent (first + count + 1) ∷ []) h)
 
 -- the change is a turn of the client, and the answer is its own
-abbrev pub TellsAnswer : Change → ℕ → Answer → Type 0
-TellsAnswer Nothing c a = ⊥
-TellsAnswer (AtPart p held sent) c a = ⊥
-TellsAnswer (AtClient d t) c a = (c ≡ d) × (t.answer ≡ Some a)
-TellsAnswer (Stops d) c a = ⊥
+abbrev pub GivesAnswer : Change → ℕ → Answer → Type 0
+GivesAnswer Nothing c a = ⊥
+GivesAnswer (AtPart p held sent) c a = ⊥
+GivesAnswer (AtClient d t) c a = (c ≡ d) × (t.answer ≡ Some a)
+GivesAnswer (Stops d) c a = ⊥
 
 pub answer_of_change : (now : Now) (ch : Change) (c : ℕ) (a : Answer) → In (out.Answered c a) (outs_of now ch)
-    → TellsAnswer ch c a
+    → GivesAnswer ch c a
 answer_of_change now Nothing c a h = in_nil h
 answer_of_change now (Stops d) c a h = in_nil h
 answer_of_change now (AtPart p held sent) c a h = no_answer (length now.messages) (length sent) h
@@ -69,7 +69,7 @@ answer_of_change now (AtClient d t) c a h = ⊎_elim
     (in_cases (map (out.Noted d) (unwrap_or t.noted []))
     (sent_after (length now.messages) t.sent ++ option_to_list (option_map (out.Answered d) t.answer)) h)
 
-answer_in : (w : World) (ch : Change) (c : ℕ) (a : Answer) → TellsAnswer ch c a
+answer_in : (w : World) (ch : Change) (c : ℕ) (a : Answer) → GivesAnswer ch c a
     → In (past_answer (changed w ch).past.reads c a) (changed w ch).past.answers
 answer_in w Nothing c a h = absurd h
 answer_in w (Stops d) c a h = absurd h

@@ -29,7 +29,7 @@ use Rattle.album_world.specs.Past.{World}
 use Rattle.album_world.specs.Committing.{history, IsCommitted}
 use Rattle.album_world.proofs.ListLemmas.{any_more}
 use Rattle.album_world.proofs.MarkLemmas.{IsPreparedIn, prepared_more, wrote, wrote_more}
-use Rattle.album_world.proofs.Invariant.{IsPrepareOf, IsSettled, IsAgainst, IsPlacedAt, IsVote, IsFullFor, IsValue, IsZeroOrCommitted, IsNoLater, IsAsk, IsSay, IsFine, IsTagged, tag_at, HasBegun, FirstRound, SecondRound, IsCollectedStamp, HasFresh, AreFound, IsRead, IsAnswer, IsDrawn, IsSound, SaysWith, TellsWith}
+use Rattle.album_world.proofs.Invariant.{IsPrepareOf, IsSettled, IsAgainst, IsPlacedAt, IsVote, IsFullFor, IsValue, IsZeroOrCommitted, IsNoLater, IsAsk, IsSay, IsFine, IsTagged, tag_at, HasBegun, FirstRound, SecondRound, IsCollectedStamp, HasFresh, AreFound, IsRead, IsAnswer, IsDrawn, IsSound, SaysWith, AnswersWith}
 
 -- w2 comes after w1
 pub record Grows (o : Opening) (w1 w2 : World) : Type 0 where
@@ -246,6 +246,6 @@ says_more P Q more reply.Clash h = tt
 says_more P Q more (reply.Full t) h = tt
 says_more P Q more (reply.Gone i) h = tt
 
-pub tells_more : (P Q : ℕ → ℕ → Type 0) → ((i s : ℕ) → P i s → Q i s) → (b : Body) → TellsWith P b → TellsWith Q b
-tells_more P Q more (body.Request r) h = tt
-tells_more P Q more (body.Reply r) h = says_more P Q more r h
+pub answers_more : (P Q : ℕ → ℕ → Type 0) → ((i s : ℕ) → P i s → Q i s) → (b : Body) → AnswersWith P b → AnswersWith Q b
+answers_more P Q more (body.Request r) h = tt
+answers_more P Q more (body.Reply r) h = says_more P Q more r h

@@ -178,9 +178,9 @@ SaysWith P reply.Clash = Unit {0}
 SaysWith P (reply.Full t) = Unit {0}
 SaysWith P (reply.Gone i) = Unit {0}
 
-abbrev pub TellsWith : (ℕ → ℕ → Type 0) → Body → Type 0
-TellsWith P (body.Request r) = Unit {0}
-TellsWith P (body.Reply r) = SaysWith P r
+abbrev pub AnswersWith : (ℕ → ℕ → Type 0) → Body → Type 0
+AnswersWith P (body.Request r) = Unit {0}
+AnswersWith P (body.Reply r) = SaysWith P r
 
 -- the Gets of a client's round ask with these stamps
 pub record IsAsked (w : World) (c g : ℕ) (ts : List ℕ) : Type 0 where
@@ -188,7 +188,7 @@ pub record IsAsked (w : World) (c g : ℕ) (ts : List ℕ) : Type 0 where
 
 -- and the versions that were sent in answer have this
 pub record IsAnswered (w : World) (c g : ℕ) (P : ℕ → ℕ → Type 0) : Type 0 where
-  pub at : (m : Message) → In m w.now.messages → m.to ≡ ToClient c → m.tag ≡ g → TellsWith P m.body
+  pub at : (m : Message) → In m w.now.messages → m.to ≡ ToClient c → m.tag ≡ g → AnswersWith P m.body
 
 -- the histories as the read began are a beginning of those now, and what they committed was written
 pub record HasBegun (w : World) (began : List PartitionState) (p : ℕ) : Type 0 where
@@ -256,7 +256,7 @@ pub record IsWriting (o : Opening) (w : World) (c : ℕ) (x : WritingState) (P :
   pub stamp : of.stamp ≡ x.stamp
   pub parts : places_in x ≡ places_of o.parts (items_written of.writes)
   pub client : x.client ≡ c
-  pub told : (p : ℕ) → In p (places_in x) → In p x.outstanding ⊎ P p x.stamp
+  pub given : (p : ℕ) → In p (places_in x) → In p x.outstanding ⊎ P p x.stamp
 
 abbrev pub HasPrepared : World → ℕ → ℕ → Type 0
 HasPrepared w p t = IsPreparedIn (history w p) t

@@ -65,7 +65,7 @@ use Rattle.album_world.specs.Outcomes.{IsRefusedFor}
 use Rattle.album_world.specs.Busy.{IsNarrow}
 use Rattle.album_world.proofs.ListLemmas.{In, contains, within, in_right, in_cases, in_nil, and_both, self_eqb, some_same, none_some}
 use Rattle.album_world.proofs.ListLemmas.In.{here}
-use Rattle.album_world.proofs.ClientLemmas.{rows_client, rows_raise, rows_seen, IsDraw, draw_is, next_client, next_raise, told_to_is}
+use Rattle.album_world.proofs.ClientLemmas.{rows_client, rows_raise, rows_seen, IsDraw, draw_is, next_client, next_raise, given_to_is}
 use Rattle.album_world.proofs.Invariant.{IsKept, IsDoing}
 use Rattle.album_world.proofs.TurnLemmas.{IsNew, not_same, same_now}
 use Rattle.album_world.proofs.ReplyLemmas.{with_past}
@@ -241,12 +241,12 @@ module _ (o : Opening) (w : World) (k : IsKept o w) (b : IsBooked (terms_of o) w
           (some_same l)
           (on_view v made (λ case. Notes case notes) (record { basis = basis; based = based; is = refl }))
 
-      tells_booked : (y : Client) → y.number ≡ c → y.clock.client ≡ c → x.clock.counter ≤ y.clock.counter → (a : Answer)
+      answers_booked : (y : Client) → y.number ≡ c → y.clock.client ≡ c → x.clock.counter ≤ y.clock.counter → (a : Answer)
           → ((v : World) → In here_read v.past.reads
           → client_at v.now.clients c ≡ (record y { phase = phase.Idle tag })
           → v.past.transactions ≡ w.past.transactions ++ [] → IsLed t v (past_answer (here_read ∷ w.past.reads) c a) a)
           → IsBooked t (changed w (AtClient c (over_with (ask_ends y tag a))))
-      tells_booked y ny oy up a led =
+      answers_booked y ny oy up a led =
           let turn = over_with (ask_ends y tag a) in
           let next = changed w (AtClient c turn) in
           turn_booked o w k b c turn ny oy up (λ r l. none_some l) tt (λ r l. none_some l)
@@ -320,7 +320,7 @@ module _ (o : Opening) (w : World) (k : IsKept o w) (b : IsBooked (terms_of o) w
 
           full_booked : is_full_for permit stamp ≡ true
               → IsBooked t (changed w (AtClient c (over_with (ask_ends drawn tag (answer.Refused refusal.AlbumFull)))))
-          full_booked full = tells_booked drawn number drawn_own drawn_up (answer.Refused refusal.AlbumFull)
+          full_booked full = answers_booked drawn number drawn_own drawn_up (answer.Refused refusal.AlbumFull)
               (λ v made at none. on_view v made (λ case. IsPermit case × IsRefusedFor v c refusal.AlbumFull case) (
                 granted,
                 inl (
@@ -406,7 +406,7 @@ module _ (o : Opening) (w : World) (k : IsKept o w) (b : IsBooked (terms_of o) w
         draws_booked unserved (Ok stamp) e = unless_booked stamp e unserved (is_full_for permit stamp) refl
         draws_booked unserved (Err why) e =
             let spent = spent_is seen.clock why e in
-            tells_booked drawn number drawn_own drawn_up (answer.Refused why)
+            answers_booked drawn number drawn_own drawn_up (answer.Refused why)
             (λ v made at none. on_view v made (λ case. IsPermit case × IsRefusedFor v c why case) (
               granted,
               inr (
@@ -418,7 +418,7 @@ module _ (o : Opening) (w : World) (k : IsKept o w) (b : IsBooked (terms_of o) w
 
         grants_booked : (f : Option Served) → served_for permit pending_ask.viewing.ask ≡ f
             → IsBooked t (changed w (AtClient c (over_with (grants t seen tag permit f))))
-        grants_booked (Some served) e = tells_booked seen number seen_own seen_up (answer.Served served)
+        grants_booked (Some served) e = answers_booked seen number seen_own seen_up (answer.Served served)
             (λ v made at none. on_view v made _
             (record { granted = granted; is = served_is permit pending_ask.viewing.ask refl served e }))
         grants_booked None e = draws_booked e (next_of seen.clock) refl
@@ -428,9 +428,9 @@ module _ (o : Opening) (w : World) (k : IsKept o w) (b : IsBooked (terms_of o) w
       rules_booked finding.Granted e =
           grants_booked (record { taken = counted.taken; basis = basis; based = based; granted = e })
           (served_for permit pending_ask.viewing.ask) refl
-      rules_booked (finding.Denied reasons) e = tells_booked seen number seen_own seen_up (answer.Denied reasons)
+      rules_booked (finding.Denied reasons) e = answers_booked seen number seen_own seen_up (answer.Denied reasons)
           (λ v made at none. on_view v made _ (record { basis = basis; based = based; is = e }))
-      rules_booked (finding.Missing object) e = tells_booked seen number seen_own seen_up (answer.Missing object)
+      rules_booked (finding.Missing object) e = answers_booked seen number seen_own seen_up (answer.Missing object)
           (λ v made at none. on_view v made _ (record { basis = basis; based = based; is = e }))
 
     -- ---- a snapshot
@@ -580,7 +580,7 @@ module _ (o : Opening) (w : World) (k : IsKept o w) (b : IsBooked (terms_of o) w
     prepared_booked h write_reply.Discarded e = outcome_booked z.tag (answer.Aborted z.stamp) (committed_led z Tagged h)
         (noting_of z Tagged h (answer.Aborted z.stamp))
     prepared_booked h write_reply.Full e =
-        let d = told_to_is z m write_reply.Full e tt in
+        let d = given_to_is z m write_reply.Full e tt in
         outcome_booked z.tag (answer.Unsettled z.stamp refusal.Full)
         (on_write z Tagged h (IsBegunFull t w c z.stamp)
         (record {

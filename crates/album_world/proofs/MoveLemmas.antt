@@ -198,21 +198,21 @@ number_turn terms x message (phase.Commits writing) = number_commit x writing.ta
 -- ---- outputs
 
 -- all outputs of a transition
-pub told_is : (before one number : ℕ) (turn : TransitionState) (transition : Transition) (outs : List Out) → one ≡ number
+pub given_is : (before one number : ℕ) (turn : TransitionState) (transition : Transition) (outs : List Out) → one ≡ number
     → IsMoved turn transition
     → outs
     ≡ map (out.Noted one) transition.notes.items
     ++ (numbers_after before (length transition.sent.items) ++ option_to_list (option_map (out.Answered one) transition.answer))
     → outs ≡ outs_of_transition before number turn
-told_is before one number turn transition outs same is e = rw (← same, ← is.noted, ← is.sent, ← is.answer) e
+given_is before one number turn transition outs same is e = rw (← same, ← is.noted, ← is.sent, ← is.answer) e
 
 -- a turn in which nothing is noted
-pub untold_is : (before one : ℕ) (x new : Client) (turn : TransitionState) (transition : Transition) (outs : List Out) → one ≡ x.number
+pub ungiven_is : (before one : ℕ) (x new : Client) (turn : TransitionState) (transition : Transition) (outs : List Out) → one ≡ x.number
     → turn.noted ≡ None → IsMoved turn transition → new ≡ transition.client
     → outs
     ≡ numbers_after before (length transition.sent.items) ++ option_to_list (option_map (out.Answered one) transition.answer)
     → IsInstalled before x.number turn new transition.sent.items outs
-untold_is before one x new turn transition outs same none is now e = record {
+ungiven_is before one x new turn transition outs same none is now e = record {
   client = now ∙ is.client;
   sent_is = is.sent;
   outputs = rw (none, ← same, ← is.sent, ← is.answer) e;

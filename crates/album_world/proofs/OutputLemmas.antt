@@ -40,22 +40,22 @@ no_notes before (suc count) =
     ∙ ap (λ (xs : List (ℕ × Note)). xs ++ []) (no_notes before count)
 
 -- and their outputs are their numbers
-numbers_told : (before count : ℕ)
+numbers_given : (before count : ℕ)
     → range_with_len 1 (before + count)
     ≡ range_with_len 1 before ++ filter_map output_number (numbers_after before count)
-numbers_told before zero =
+numbers_given before zero =
     let none : before + zero ≡ before = omega arith in
     ap (λ (n : ℕ). range_with_len 1 n) none ∙ sym (append-nil (range_with_len 1 before))
-numbers_told before (suc count) =
+numbers_given before (suc count) =
     let first = range_with_len 1 before in
-    let told = filter_map output_number (numbers_after before count) in
+    let given = filter_map output_number (numbers_after before count) in
     let more : before + suc count ≡ suc (before + count) = omega arith in
     let last : 1 + (before + count) ≡ before + count + 1 = omega arith in
     ap (λ (n : ℕ). range_with_len 1 n) more
     ∙ range_end 1 (before + count)
-    ∙ ap (λ (xs : List ℕ). xs ++ (1 + (before + count)) ∷ []) (numbers_told before count)
-    ∙ append_assoc first told ((1 + (before + count)) ∷ [])
-    ∙ ap (λ (n : ℕ). first ++ (told ++ n ∷ [])) last
+    ∙ ap (λ (xs : List ℕ). xs ++ (1 + (before + count)) ∷ []) (numbers_given before count)
+    ∙ append_assoc first given ((1 + (before + count)) ∷ [])
+    ∙ ap (λ (n : ℕ). first ++ (given ++ n ∷ [])) last
     ∙ ap (λ (xs : List ℕ). first ++ xs)
     (sym (filter_map-append output_number (numbers_after before count) (out.Sent (before + count + 1) ∷ [])))
 
@@ -158,29 +158,29 @@ numbers_of_turn before client turn =
 -- ---- a change
 
 -- there are no outputs, and nothing is more
-nothing_told : (w : World) → AreGivenOnce w w []
-nothing_told w = record {
+nothing_given : (w : World) → AreGivenOnce w w []
+nothing_given w = record {
   answers = sym (append-nil (all_answers w));
   notes = sym (append-nil (all_notes w));
   numbers = sym (append-nil (all_numbers w));
 }
 
-told_by_change : (w : World) (ch : Change) → AreGivenOnce w (changed w ch) (outs_of w.now ch)
-told_by_change w Nothing = nothing_told w
-told_by_change w (Stops client) = record {
+given_by_change : (w : World) (ch : Change) → AreGivenOnce w (changed w ch) (outs_of w.now ch)
+given_by_change w Nothing = nothing_given w
+given_by_change w (Stops client) = record {
   answers = sym (append-nil (all_answers w));
   notes = sym (append-nil (all_notes w));
   numbers = sym (append-nil (all_numbers w));
 }
-told_by_change w (AtPart part held sent) = record {
+given_by_change w (AtPart part held sent) = record {
   answers = sym (append-nil (all_answers w))
       ∙ ap (λ (xs : List (ℕ × Answer)). all_answers w ++ xs) (sym (no_answers (length w.now.messages) (length sent)));
   notes = sym (append-nil (all_notes w))
       ∙ ap (λ (xs : List (ℕ × Note)). all_notes w ++ xs) (sym (no_notes (length w.now.messages) (length sent)));
   numbers = ap (λ (n : ℕ). range_with_len 1 n) (length-append w.now.messages sent)
-      ∙ numbers_told (length w.now.messages) (length sent);
+      ∙ numbers_given (length w.now.messages) (length sent);
 }
-told_by_change w (AtClient client turn) =
+given_by_change w (AtClient client turn) =
     let before = length w.now.messages in
     let reads = reads_after w.past client turn in
     record {
@@ -190,24 +190,24 @@ told_by_change w (AtClient client turn) =
           (option_to_list (option_map (noted_of reads client) turn.noted))
           ∙ ap (λ (xs : List (ℕ × Note)). all_notes w ++ xs) (notes_of_turn reads before client turn);
       numbers = ap (λ (n : ℕ). range_with_len 1 n) (length-append w.now.messages turn.sent)
-          ∙ numbers_told before (length turn.sent)
+          ∙ numbers_given before (length turn.sent)
           ∙ ap (λ (xs : List ℕ). all_numbers w ++ xs) (numbers_of_turn before client turn);
     }
 
 -- ---- an event, and a run
 
-pub told_by_event : (t : Terms) (w : World) (e : Event) → AreGivenOnce w (happens t w e) (event_outputs t w e)
-told_by_event t w e = go (change_of t w.now e)
+pub given_by_event : (t : Terms) (w : World) (e : Event) → AreGivenOnce w (happens t w e) (event_outputs t w e)
+given_by_event t w e = go (change_of t w.now e)
   where
     go : (f : Result Change Refusal) → AreGivenOnce w (changed_by w e f) (outs_by w.now f)
     go (Ok ch) =
-        let q = told_by_change (requested w e) ch in
+        let q = given_by_change (requested w e) ch in
         record { answers = q.answers; notes = q.notes; numbers = q.numbers }
-    go (Err r) = nothing_told w
+    go (Err r) = nothing_given w
 
 -- the outputs from one world to the next, and from that on, are those from the first on
-told_on : (a b c : World) (xs ys : List Out) → AreGivenOnce a b xs → AreGivenOnce b c ys → AreGivenOnce a c (xs ++ ys)
-told_on a b c xs ys h k = record {
+given_on : (a b c : World) (xs ys : List Out) → AreGivenOnce a b xs → AreGivenOnce b c ys → AreGivenOnce a c (xs ++ ys)
+given_on a b c xs ys h k = record {
   answers = more output_answer (all_answers a) (all_answers b) (all_answers c) h.answers k.answers;
   notes = more output_note (all_notes a) (all_notes b) (all_notes c) h.notes k.notes;
   numbers = more output_number (all_numbers a) (all_numbers b) (all_numbers c) h.numbers k.numbers;
@@ -221,8 +221,8 @@ told_on a b c xs ys h k = record {
         ∙ append_assoc a (filter_map h xs) (filter_map h ys)
         ∙ ap (λ (zs : List X). a ++ zs) (sym (filter_map-append h xs ys))
 
-pub told_by_run : (t : Terms) (w : World) (es : List Event) → AreGivenOnce w (run t w es) (run_outputs t w es)
-told_by_run t w [] = nothing_told w
-told_by_run t w (e ∷ es) =
-    told_on w (happens t w e) (run t (happens t w e) es) (event_outputs t w e) (run_outputs t (happens t w e) es)
-    (told_by_event t w e) (told_by_run t (happens t w e) es)
+pub given_by_run : (t : Terms) (w : World) (es : List Event) → AreGivenOnce w (run t w es) (run_outputs t w es)
+given_by_run t w [] = nothing_given w
+given_by_run t w (e ∷ es) =
+    given_on w (happens t w e) (run t (happens t w e) es) (event_outputs t w e) (run_outputs t (happens t w e) es)
+    (given_by_event t w e) (given_by_run t (happens t w e) es)

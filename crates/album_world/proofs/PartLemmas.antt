@@ -50,8 +50,8 @@ use Rattle.album_world.specs.Committing.{history}
 use Rattle.album_world.proofs.ListLemmas.{in_cases, in_map, in_nil, in_one, find_push, set_same, set_other, none_some, some_same, same_or_not, any_in, in_any, any_more, true_or_false}
 use Rattle.album_world.proofs.MarkLemmas.{IsPreparedIn, prepared_in, commits_is, discards_is, wrote, wrote_more, version_is, some_is, is_some_of, best_least, best_is, latest_least, latest_is, stamp_for_best}
 use Rattle.album_world.proofs.PlaceLemmas.{other_item, left_noted}
-use Rattle.album_world.proofs.Invariant.{IsKept, IsPlaced, IsPlacedAt, IsPrepareOf, IsSettled, IsAgainst, IsFine, IsTagged, IsSound, GetsWith, TellsWith, IsAsked, IsAnswered, HasBegun, FirstRound, SecondRound, IsCollectedStamp, IsFetching, IsRound, IsWriting, HasPrepared, HasCommitted, IsDoing}
-use Rattle.album_world.proofs.GrowthLemmas.{Grows, any_grows, tells_more, prepared_grows, fine_grows, tagged_grows, begun_grows, first_round_grows, second_round_grows, founds_grows, stamp_grows, has_fresh_grows, read_grows, answer_grows, drawn_grows, sound_grows, settled_grows, against_grows, prepare_grows}
+use Rattle.album_world.proofs.Invariant.{IsKept, IsPlaced, IsPlacedAt, IsPrepareOf, IsSettled, IsAgainst, IsFine, IsTagged, IsSound, GetsWith, AnswersWith, IsAsked, IsAnswered, HasBegun, FirstRound, SecondRound, IsCollectedStamp, IsFetching, IsRound, IsWriting, HasPrepared, HasCommitted, IsDoing}
+use Rattle.album_world.proofs.GrowthLemmas.{Grows, any_grows, answers_more, prepared_grows, fine_grows, tagged_grows, begun_grows, first_round_grows, second_round_grows, founds_grows, stamp_grows, has_fresh_grows, read_grows, answer_grows, drawn_grows, sound_grows, settled_grows, against_grows, prepare_grows}
 use Rattle.album_world.proofs.WroteLemmas.{apart}
 use Rattle.album_world.proofs.ActLemmas.{IsMarked, action_is}
 use Rattle.album_world.proofs.ActLemmas.IsMarked.{no_mark, made_prepared, made_committed, made_refused, made_discarded, made_trimmed}
@@ -171,8 +171,8 @@ pub record IsSaid (o : Opening) (w next : World) (p : ℕ) (n : Message) : Type 
   pub is : n ≡ record { from = Part p; to = to; tag = tag; body = body }
   pub tagged : IsTagged w to tag
   pub fine : IsFine o next (Part p) to body
-  pub tells : (c : ℕ) (ts : List ℕ) (P : ℕ → ℕ → Type 0) → to ≡ ToClient c → IsAsked w c tag ts
-      → ((i : ℕ) → place_of o.parts i ≡ p → P i (stamp_for (history w p) i ts)) → TellsWith P body
+  pub gives : (c : ℕ) (ts : List ℕ) (P : ℕ → ℕ → Type 0) → to ≡ ToClient c → IsAsked w c tag ts
+      → ((i : ℕ) → place_of o.parts i ≡ p → P i (stamp_for (history w p) i ts)) → AnswersWith P body
 
 -- partition p, which is h, becomes h', by a mark and a vote, and sends messages
 module _ (o : Opening) (w : World) (k : IsKept o w) (p : ℕ) (h : PartitionState)
@@ -409,10 +409,10 @@ module _ (o : Opening) (w : World) (k : IsKept o w) (p : ℕ) (h : PartitionStat
         → IsAnswered next c g Q
     answered_all c g ts P Q asked answered more now = record {
       at = λ n l f t. ⊎_elim
-          (λ i. tells_more P Q more n.body (answered.at n i f t))
+          (λ i. answers_more P Q more n.body (answered.at n i f t))
           (λ i. let s = said n i in
-          subst (λ (z : Message). TellsWith Q z.body) (sym s.is)
-          (s.tells c ts Q (ap (λ (z : Message). z.to) (sym s.is) ∙ f)
+          subst (λ (z : Message). AnswersWith Q z.body) (sym s.is)
+          (s.gives c ts Q (ap (λ (z : Message). z.to) (sym s.is) ∙ f)
           (subst (λ (z : ℕ). IsAsked w c z ts) (sym (ap (λ (z : Message). z.tag) (sym s.is) ∙ t)) asked) now))
           (in_cases w.now.messages sent l);
     }
@@ -450,7 +450,7 @@ module _ (o : Opening) (w : World) (k : IsKept o w) (p : ℕ) (h : PartitionStat
       stamp = d.stamp;
       parts = d.parts;
       client = d.client;
-      told = λ q l. ⊎_elim inl (λ e. inr (more q z.stamp e)) (d.told q l);
+      given = λ q l. ⊎_elim inl (λ e. inr (more q z.stamp e)) (d.given q l);
     }
 
     doing_all : (c : ℕ) (began : List PartitionState) (f : Phase) → IsDoing o w c began f → IsDoing o next c began f
@@ -539,7 +539,7 @@ part_kept o some w k p m sent to h got =
       tagged = k.from m sent;
       fine = f.replied (changed w (AtPart p (after h m) replies)) g
           (here_now o w k p h got (after h m) e.mark e.vote d' refl noted f.marked f.noted replies) r.0 r.1;
-      tells = λ c ts P from asked now. f.tells P
+      gives = λ c ts P from asked now. f.gives P
           (λ i ss q d. subst (λ (z : List ℕ). P i (stamp_for h.marks i z))
           (sym (subst (GetsWith ts) q (asked.at m sent from refl)))
           (subst (λ (z : List Mark). P i (stamp_for z i ts)) (ap marks_of got) (now i d)))
@@ -588,7 +588,7 @@ sweep_kept o w k p t h got = go (is_pending (state_of h.marks t)) refl
           tagged = tt;
           fine = prepared_grows o w (changed w (AtPart p h sent)) (grown sent) p t
               (subst (λ (z : List Mark). IsPreparedIn z t) (sym (ap marks_of got)) (prepared e));
-          tells = λ c ts P e. part_apart e;
+          gives = λ c ts P e. part_apart e;
         })
     tell (q ∷ qs) e l =
         let sent = sent_by h.number t (q ∷ qs) in
@@ -613,7 +613,7 @@ sweep_kept o w k p t h got = go (is_pending (state_of h.marks t)) refl
             in_them = j.in_them;
             at = sym (ap (λ (z : ℕ). place_of z j.item) d.parts) ∙ j.at;
           };
-          tells = λ c ts P e. part_apart e;
+          gives = λ c ts P e. part_apart e;
         })
 
     go : (b : Bool) → is_pending (state_of h.marks t) ≡ b

@@ -120,9 +120,9 @@ heard_is votes t q h =
     let f = in_filter (λ (vote : NotedVote). vote.stamp == t) r.0 votes r.1 in
     record { by = r.0; noted = f.0; stamp = eqb-true r.0.stamp t f.1; part = sym r.2 }
 
-pub told_is : (part t q : ℕ) (votes : List NotedVote) (others : List ℕ)
+pub given_is : (part t q : ℕ) (votes : List NotedVote) (others : List ℕ)
     → have_voted (part ∷ heard votes t) others ≡ true → In q others → (q ≡ part) ⊎ IsNoted votes t q
-told_is part t q votes others h k =
+given_is part t q votes others h k =
     let a = in_all (λ other. list_any (λ one. one == other) (part ∷ heard votes t)) others h k in
     let r = in_any (λ one. one == q) (part ∷ heard votes t) a in
     let e : r.0 ≡ q = eqb-true r.0 q r.2 in

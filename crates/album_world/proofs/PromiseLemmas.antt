@@ -146,9 +146,9 @@ always_booked o es is =
 
 -- ---- the promises
 
-map_view : (t : Terms) (w : World) (told : PastAnswer) (P Q : PermitState → Type 0)
-    → ((case : PermitState) → P case → Q case) → IsAnsweredOnView t w told P → IsAnsweredOnView t w told Q
-map_view t w told P Q more h = record {
+map_view : (t : Terms) (w : World) (given : PastAnswer) (P Q : PermitState → Type 0)
+    → ((case : PermitState) → P case → Q case) → IsAnsweredOnView t w given P → IsAnsweredOnView t w given Q
+map_view t w given P Q more h = record {
   read = h.read;
   rows = h.rows;
   last_is = h.last_is;
@@ -159,24 +159,24 @@ map_view t w told P Q more h = record {
   holds = more _ h.holds;
 }
 
-ruled_by : (t : Terms) (w : World) (told : PastAnswer) (a : Answer) → IsLed t w told a → IsRuledBy t w told a
-ruled_by t w told (answer.Served served) h = h
-ruled_by t w told (answer.Denied reasons) h = h
-ruled_by t w told (answer.Missing object) h = h
-ruled_by t w told (answer.Busy why) h = tt
-ruled_by t w told (answer.Committed s) h = h
-ruled_by t w told (answer.Aborted s) h = h
-ruled_by t w told (answer.Unsettled s why) h = map_view t w told (IsBegunFull t w told.client s)
-    (IsBegunBy w told.client s) (λ case e. e.begun) h
-ruled_by t w told (answer.Refused why) h = map_view t w told
-    (λ case. IsPermit case × IsRefusedFor w told.client why case) IsPermit (λ case e. e.0) h
+ruled_by : (t : Terms) (w : World) (given : PastAnswer) (a : Answer) → IsLed t w given a → IsRuledBy t w given a
+ruled_by t w given (answer.Served served) h = h
+ruled_by t w given (answer.Denied reasons) h = h
+ruled_by t w given (answer.Missing object) h = h
+ruled_by t w given (answer.Busy why) h = tt
+ruled_by t w given (answer.Committed s) h = h
+ruled_by t w given (answer.Aborted s) h = h
+ruled_by t w given (answer.Unsettled s why) h = map_view t w given (IsBegunFull t w given.client s)
+    (IsBegunBy w given.client s) (λ case e. e.begun) h
+ruled_by t w given (answer.Refused why) h = map_view t w given
+    (λ case. IsPermit case × IsRefusedFor w given.client why case) IsPermit (λ case e. e.0) h
 
 pub rulings_hold : (o : Opening) (es : List Event) → is_opening o ≡ true → RulingsHold (terms_of o) (run_of o es)
 rulings_hold o es is =
     let b = always_booked o es is in
     record {
-      answers = λ told h. ruled_by (terms_of o) (run_of o es) told told.answer (b.led told (within _ h));
-      noted = λ told h. b.noting told (within _ h);
+      answers = λ given h. ruled_by (terms_of o) (run_of o es) given given.answer (b.led given (within _ h));
+      noted = λ given h. b.noting given (within _ h);
       notes = λ n h. b.noted n (within _ h);
     }
 
@@ -188,51 +188,51 @@ one_finding case f g a b =
     (record { same = λ item n. refl }) a.based b.based
     ∙ b.is
 
-caused_by : (t : Terms) (w : World) (told : PastAnswer) (a : Answer) → IsLed t w told a → IsCaused w told a
-caused_by t w told (answer.Served served) h = tt
-caused_by t w told (answer.Denied reasons) h = tt
-caused_by t w told (answer.Missing object) h = tt
-caused_by t w told (answer.Busy why) h = h
-caused_by t w told (answer.Committed s) h = tt
-caused_by t w told (answer.Aborted s) h = tt
-caused_by t w told (answer.Unsettled s why) h = tt
-caused_by t w told (answer.Refused why) h = tt
+caused_by : (t : Terms) (w : World) (given : PastAnswer) (a : Answer) → IsLed t w given a → IsCaused w given a
+caused_by t w given (answer.Served served) h = tt
+caused_by t w given (answer.Denied reasons) h = tt
+caused_by t w given (answer.Missing object) h = tt
+caused_by t w given (answer.Busy why) h = h
+caused_by t w given (answer.Committed s) h = tt
+caused_by t w given (answer.Aborted s) h = tt
+caused_by t w given (answer.Unsettled s why) h = tt
+caused_by t w given (answer.Refused why) h = tt
 
 pub busy_has_its_cause : (o : Opening) (es : List Event) → is_opening o ≡ true → BusyHasItsCause (run_of o es)
-busy_has_its_cause o es is told h = caused_by (terms_of o) (run_of o es) told told.answer
-    ((always_booked o es is).led told (within _ h))
+busy_has_its_cause o es is given h = caused_by (terms_of o) (run_of o es) given given.answer
+    ((always_booked o es is).led given (within _ h))
 
 of_write : (w : World) (c s : ℕ) (case : PermitState) (P : Transaction → Type 0) → (h : IsBegunBy w c s case) → P h.by
     → IsOfWrite w c s P
 of_write w c s case P h holds = record { by = h.by; begun = h.begun; own = h.own; at = h.at; holds = holds }
 
-true_outcome : (o : Opening) → 0 < o.parts → (w : World) → IsKept o w → (told : PastAnswer) (a : Answer)
-    → IsLed (terms_of o) w told a → IsAnswer o w a → IsTrueOutcome (terms_of o) w told a
-true_outcome o some w k told (answer.Served served) h d = tt
-true_outcome o some w k told (answer.Denied reasons) h d = tt
-true_outcome o some w k told (answer.Missing object) h d = tt
-true_outcome o some w k told (answer.Busy why) h d = tt
-true_outcome o some w k told (answer.Committed s) h d =
-    of_write w told.client s _ (IsCommittedEverywhere (terms_of o) w) h.holds
+true_outcome : (o : Opening) → 0 < o.parts → (w : World) → IsKept o w → (given : PastAnswer) (a : Answer)
+    → IsLed (terms_of o) w given a → IsAnswer o w a → IsTrueOutcome (terms_of o) w given a
+true_outcome o some w k given (answer.Served served) h d = tt
+true_outcome o some w k given (answer.Denied reasons) h d = tt
+true_outcome o some w k given (answer.Missing object) h d = tt
+true_outcome o some w k given (answer.Busy why) h d = tt
+true_outcome o some w k given (answer.Committed s) h d =
+    of_write w given.client s _ (IsCommittedEverywhere (terms_of o) w) h.holds
     (everywhere o w k s d h.holds.by (within _ h.holds.begun) h.holds.at)
-true_outcome o some w k told (answer.Aborted s) h d = (
-  of_write w told.client s _ (IsPromisedSomewhere (terms_of o) w) h.holds
+true_outcome o some w k given (answer.Aborted s) h d = (
+  of_write w given.client s _ (IsPromisedSomewhere (terms_of o) w) h.holds
       (against o w k some s d h.holds.by (within _ h.holds.begun) h.holds.at),
   lost_against o w k s d,
 )
-true_outcome o some w k told (answer.Unsettled s why) h d =
-    (d.1, of_write w told.client s _ (IsRepliedFull (terms_of o) w) h.holds.begun h.holds.full, lost_unsettled o w k s d.0)
-true_outcome o some w k told (answer.Refused why) h d =
-    map_view (terms_of o) w told (λ case. IsPermit case × IsRefusedFor w told.client why case)
-    (IsRefusedFor w told.client why) (λ case e. e.1) h
+true_outcome o some w k given (answer.Unsettled s why) h d =
+    (d.1, of_write w given.client s _ (IsRepliedFull (terms_of o) w) h.holds.begun h.holds.full, lost_unsettled o w k s d.0)
+true_outcome o some w k given (answer.Refused why) h d =
+    map_view (terms_of o) w given (λ case. IsPermit case × IsRefusedFor w given.client why case)
+    (IsRefusedFor w given.client why) (λ case e. e.1) h
 
 pub outcomes_are_true : (o : Opening) (es : List Event) → is_opening o ≡ true
     → OutcomesAreTrue (terms_of o) (run_of o es)
-outcomes_are_true o es is told h =
+outcomes_are_true o es is given h =
     let d = opening_is o is in
     let k = always_kept o es is in
-    true_outcome o d.some (run_of o es) k told told.answer ((always_booked o es is).led told (within _ h))
-    (k.answers told (within _ h))
+    true_outcome o d.some (run_of o es) k given given.answer ((always_booked o es is).led given (within _ h))
+    (k.answers given (within _ h))
 
 pub views_are_read_atomic : (o : Opening) (es : List Event) → is_opening o ≡ true → ViewsAreReadAtomic o (run_of o es)
 views_are_read_atomic o es is = views_atomic o (run_of o es) (always_kept o es is)

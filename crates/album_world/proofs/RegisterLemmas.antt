@@ -253,7 +253,7 @@ may_there n i cs old terms p a at is h =
 -- a client that had its turn, or was refused it, keeps its number
 pub turned_number : {Outs : Type 0} (r : Result Outs Refusal) (old new : Client) (turn : TransitionState) (before : ℕ)
     (sent : Outs → List Message) (outs : Outs → List Out) → turn.client.number ≡ old.number
-    → IfOk r (λ told. IsInstalled before old.number turn new (sent told) (outs told)) → OnErr r (new ≡ old)
+    → IfOk r (λ given. IsInstalled before old.number turn new (sent given) (outs given)) → OnErr r (new ≡ old)
     → new.number ≡ old.number
-turned_number (Ok told) old new turn before sent outs same h e = ap (λ (c : Client). c.number) h.client ∙ same
+turned_number (Ok given) old new turn before sent outs same h e = ap (λ (c : Client). c.number) h.client ∙ same
 turned_number (Err why) old new turn before sent outs same h e = ap (λ (c : Client). c.number) e

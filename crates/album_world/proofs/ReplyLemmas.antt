@@ -60,8 +60,8 @@ use Rattle.album_world.proofs.ListLemmas.{In, in_right, in_cases, in_map, filter
 use Rattle.album_world.proofs.ListLemmas.In.{here}
 use Rattle.album_world.proofs.MarkLemmas.{IsPreparedIn, prepared_in, wrote}
 use Rattle.album_world.proofs.PlaceLemmas.{place_in, item_in, stamp_in, in_stamps}
-use Rattle.album_world.proofs.ClientLemmas.{rows_client, rows_raise, draw_is, next_client, next_raise, each_item, own_nothing, none_found, there_in, IsFoundBy, found_is, put_cases, put_own, told_to_is}
-use Rattle.album_world.proofs.Invariant.{IsKept, IsSettled, IsValue, IsFine, IsTagged, GetsWith, TellsWith, IsAsked, IsAnswered, FirstRound, SecondRound, IsCollectedStamp, HasFresh, IsAsking, IsFetching, IsRound, IsReading, IsWriting, HasPrepared, HasCommitted, IsDoing, IsAnswer, IsRead, IsDone}
+use Rattle.album_world.proofs.ClientLemmas.{rows_client, rows_raise, draw_is, next_client, next_raise, each_item, own_nothing, none_found, there_in, IsFoundBy, found_is, put_cases, put_own, given_to_is}
+use Rattle.album_world.proofs.Invariant.{IsKept, IsSettled, IsValue, IsFine, IsTagged, GetsWith, AnswersWith, IsAsked, IsAnswered, FirstRound, SecondRound, IsCollectedStamp, HasFresh, IsAsking, IsFetching, IsRound, IsReading, IsWriting, HasPrepared, HasCommitted, IsDoing, IsAnswer, IsRead, IsDone}
 use Rattle.album_world.proofs.GrowthLemmas.{begun_grows, stamp_grows, has_fresh_grows, settled_grows}
 use Rattle.album_world.proofs.WroteLemmas.{written_here}
 use Rattle.album_world.proofs.TurnLemmas.{IsSent, IsNew, turn_kept, turn_grows, doing_lasts}
@@ -248,7 +248,7 @@ module _ (o : Opening) (some : 0 < o.parts) (w : World) (k : IsKept o w) (c : �
               } in s) ny;
           fine = record { of = r; begun = mine; stamp = refl; writes = refl; items = refl };
         })
-        (record { of = r; begun = mine; stamp = refl; parts = refl; client = ny; told = λ p l. inl l })
+        (record { of = r; begun = mine; stamp = refl; parts = refl; client = ny; given = λ p l. inl l })
         (λ s i. subst (λ (a : Transaction). IsNew c x.clock.counter t a) (some_same i)
         (record { at = y.clock.counter; is = is; above = above; low = low; high = high; drawn = le_refl _ }))
         reads (λ b i. none_some i)
@@ -410,7 +410,7 @@ module _ (o : Opening) (some : 0 < o.parts) (w : World) (k : IsKept o w) (c : �
               (λ i. a.founds g i)
               (λ (i : g ≡ f). subst
               (λ (z : ReadVersion). FirstRound o w began z.item z.stamp × IsValue o w z.item z.stamp z.value) (sym i) (
-                subst (TellsWith (FirstRound o w began)) b.says
+                subst (AnswersWith (FirstRound o w began)) b.says
                     (a.answered.at m sent (b.to ∙ ap ToClient h.client) b.tag_is),
                 value,
               ))
@@ -424,7 +424,7 @@ module _ (o : Opening) (some : 0 < o.parts) (w : World) (k : IsKept o w) (c : �
               (λ (i : g ≡ f).
               let d : In f.item r.items
               → SecondRound o w began ts f.item f.stamp = subst
-              (TellsWith (λ j s. In j r.items → SecondRound o w began ts j s)) b.says
+              (AnswersWith (λ j s. In j r.items → SecondRound o w began ts j s)) b.says
               (a.answered.at m sent (b.to ∙ ap ToClient h.client) b.tag_is) in
               subst (λ (z : ReadVersion). SecondRound o w began ts z.item z.stamp × IsValue o w z.item z.stamp z.value)
               (sym i) (d b.asked, value))
@@ -486,20 +486,20 @@ module _ (o : Opening) (some : 0 < o.parts) (w : World) (k : IsKept o w) (c : �
     stamp = h.stamp;
     parts = h.parts;
     client = h.client;
-    told = λ p l. ⊎_elim
+    given = λ p l. ⊎_elim
         (λ i. ⊎_elim
         (λ (e : is_part n p ≡ true).
         let q : part ≡ p = eqb-true part p (sym (ap (λ (a : Node). is_part a p) from) ∙ e) in
         inr (subst (λ (a : ℕ). P a z.stamp) q d))
         (λ (e : is_part n p ≡ false). inl (filter_in (λ part. not (is_part n part)) p z.outstanding i (ap not e)))
         (true_or_false (is_part n p)))
-        inr (h.told p l);
+        inr (h.given p l);
   }
 
   -- all have answered
-  all_told : (z : WritingState) (P : ℕ → ℕ → Type 0) → z.outstanding ≡ [] → IsWriting o w c z P → (p : ℕ)
+  all_given : (z : WritingState) (P : ℕ → ℕ → Type 0) → z.outstanding ≡ [] → IsWriting o w c z P → (p : ℕ)
       → In p (places_in z) → P p z.stamp
-  all_told z P e h p l = ⊎_elim (λ i. in_nil (subst (λ (a : List ℕ). In p a) e i)) (λ d. d) (h.told p l)
+  all_given z P e h p l = ⊎_elim (λ i. in_nil (subst (λ (a : List ℕ). In p a) e i)) (λ d. d) (h.given p l)
 
   settled_by_all : (z : WritingState) → z.outstanding ≡ [] → IsWriting o w c z (HasPrepared w) → IsSettled o w z.stamp
   settled_by_all z e h = record {
@@ -507,7 +507,7 @@ module _ (o : Opening) (some : 0 < o.parts) (w : World) (k : IsKept o w) (c : �
     begun = h.begun;
     stamp = h.stamp;
     ready = λ i v q.
-        let d : IsPreparedIn (history w (place_of o.parts i)) z.stamp = all_told z (HasPrepared w) e h
+        let d : IsPreparedIn (history w (place_of o.parts i)) z.stamp = all_given z (HasPrepared w) e h
         (place_of o.parts i) (subst (λ (a : List ℕ). In (place_of o.parts i) a) (sym h.parts)
         (place_in o.parts (items_written h.of.writes) i some (item_in h.of.writes i v q))) in
         subst (λ (a : ℕ). wrote (history w (place_of o.parts i)) a i ≡ Some v) h.stamp
@@ -520,7 +520,7 @@ module _ (o : Opening) (some : 0 < o.parts) (w : World) (k : IsKept o w) (c : �
     of = h.of;
     begun = h.begun;
     stamp = h.stamp;
-    at = λ p l. all_told z (HasCommitted w) e h p (subst (λ (a : List ℕ). In p a) (sym h.parts) l);
+    at = λ p l. all_given z (HasCommitted w) e h p (subst (λ (a : List ℕ). In p a) (sym h.parts) l);
   }
 
   abbrev committing : WritingState → Client
@@ -548,7 +548,7 @@ module _ (o : Opening) (some : 0 < o.parts) (w : World) (k : IsKept o w) (c : �
         stamp = h.stamp;
         parts = h.parts;
         client = h.client;
-        told = λ p l. inl l;
+        given = λ p l. inl l;
       })
       (λ r i. none_some i) (λ d rows i. none_some i) (λ b i. none_some i)
 
@@ -572,17 +572,17 @@ module _ (o : Opening) (some : 0 < o.parts) (w : World) (k : IsKept o w) (c : �
     prepared_kept : IsWriting o w c z (HasPrepared w) → (what : WriteReply) → reply_in z m ≡ what
         → IsKept o (changed w (AtClient c (prepare_transition x z.tag (prepares_by z m.from what))))
     prepared_kept h write_reply.Prepared e =
-        let d = told_to_is z m write_reply.Prepared e tt in
+        let d = given_to_is z m write_reply.Prepared e tt in
         commits_kept (answered_by z m.from) refl
         (writing_with z (HasPrepared w) d.part m.from d.from
         (says_from (body.Reply (reply.Prepared z.stamp)) d.part d.from d.says) h) (answered_by z m.from).outstanding
         refl
     prepared_kept h write_reply.Discarded e =
-        let d = told_to_is z m write_reply.Discarded e tt in
+        let d = given_to_is z m write_reply.Discarded e tt in
         outcome_ends z.tag tag (answer.Aborted z.stamp)
         (says_from (body.Reply (reply.Discarded z.stamp)) d.part d.from d.says)
     prepared_kept h write_reply.Full e =
-        let d = told_to_is z m write_reply.Full e tt in
+        let d = given_to_is z m write_reply.Full e tt in
         outcome_ends z.tag tag (answer.Unsettled z.stamp refusal.Full) (
           record {
             of = h.of;
@@ -607,7 +607,7 @@ module _ (o : Opening) (some : 0 < o.parts) (w : World) (k : IsKept o w) (c : �
     committed_kept : IsWriting o w c z (HasCommitted w) → (what : WriteReply) → reply_in z m ≡ what
         → IsKept o (changed w (AtClient c (commit_transition x z.tag (commits_by z m.from what))))
     committed_kept h write_reply.Committed e =
-        let d = told_to_is z m write_reply.Committed e tt in
+        let d = given_to_is z m write_reply.Committed e tt in
         ended_kept (answered_by z m.from) refl
         (writing_with z (HasCommitted w) d.part m.from d.from
         (says_from (body.Reply (reply.Committed z.stamp)) d.part d.from d.says) h) (answered_by z m.from).outstanding

@@ -35,7 +35,7 @@ pub record IsWriteOf (w : World) (a : Asked) (r : Transaction) : Type 0 where
   pub principal : r.permit.principal ≡ a.principal
 
 pub record IsAnswerOf (w : World) (a : Asked) (x : Answer) : Type 0 where
-  pub told : In (past_answer a.reads a.client x) w.past.answers
+  pub given : In (past_answer a.reads a.client x) w.past.answers
   pub last : last_read a.reads a.client ≡ None → ⊥
   pub begun : HasBegun a.writes x
 
@@ -95,14 +95,14 @@ AreInTurn (a ∷ more) =
 -- all this, but for one client that is having its turn
 pub record IsRequestedBut (w : World) (c : ℕ) : Type 0 where
   pub alone : (a : Asked) → In a w.past.asked → IsAlone w a
-  pub told : (x : PastAnswer) → In x w.past.answers → IsToOne w x
+  pub given : (x : PastAnswer) → In x w.past.answers → IsToOne w x
   pub begun : (r : Transaction) → In r w.past.transactions → IsForOne w r
   pub turns : AreInTurn w.past.asked
   pub at : (d : ℕ) → eqb c d ≡ false → IsUnder w d (client_at w.now.clients d).phase
 
 pub record IsRequested (w : World) : Type 0 where
   pub alone : (a : Asked) → In a w.past.asked → IsAlone w a
-  pub told : (x : PastAnswer) → In x w.past.answers → IsToOne w x
+  pub given : (x : PastAnswer) → In x w.past.answers → IsToOne w x
   pub begun : (r : Transaction) → In r w.past.transactions → IsForOne w r
   pub turns : AreInTurn w.past.asked
   pub at : (c : ℕ) → IsUnder w c (client_at w.now.clients c).phase
@@ -216,7 +216,7 @@ all_answered (a ∷ xs) c h last b i e = go (eqb a.client c) refl last (in_uncon
 pub record Lasts (w1 w2 : World) : Type 0 where
   pub transactions : (r : Transaction) → In r w1.past.transactions → In r w2.past.transactions
   pub reads : (f : Read) → In f w1.past.reads → In f w2.past.reads
-  pub told : (x : PastAnswer) → In x w1.past.answers → In x w2.past.answers
+  pub given : (x : PastAnswer) → In x w1.past.answers → In x w2.past.answers
 
 module _ (w1 w2 : World) (l : Lasts w1 w2) where
   read_lasts : (a : Asked) (f : Read) → IsReadOf w1 a f → IsReadOf w2 a f
@@ -239,7 +239,7 @@ module _ (w1 w2 : World) (l : Lasts w1 w2) where
     one_write = h.one_write;
     one_answer = h.one_answer;
     answers = λ x i. let q = h.answers x i in
-        record { told = l.told _ q.told; last = q.last; begun = q.begun };
+        record { given = l.given _ q.given; last = q.last; begun = q.begun };
   }
 
 -- ---- a client's turn
@@ -284,7 +284,7 @@ module _ (o : Opening) (w : World) (k : IsKept o w) (c : ℕ) (q : IsRequestedBu
   lasts = record {
     transactions = λ r i. in_left (option_to_list t.writes) i;
     reads = λ f i. in_right (option_to_list (option_map (read_over begun_here) t.over)) i;
-    told = λ x i. in_left (option_to_list (option_map (past_answer (reads_after w.past c t) c) t.answer)) i;
+    given = λ x i. in_left (option_to_list (option_map (past_answer (reads_after w.past c t) c) t.answer)) i;
   }
 
   pub on_last : last_asked next.past.asked c ≡ Some now_on
@@ -323,8 +323,8 @@ module _ (o : Opening) (w : World) (k : IsKept o w) (c : ℕ) (q : IsRequestedBu
   one_here None e = inr (refl, (q.alone b was).one_write)
   one_here (Some r) e = inl (h.writes r e).0
 
-  told_here : (x : Answer) → t.answer ≡ Some x → past_answer now_on.reads now_on.client x ≡ past_answer (reads_after w.past c t) c x
-  told_here x e =
+  given_here : (x : Answer) → t.answer ≡ Some x → past_answer now_on.reads now_on.client x ≡ past_answer (reads_after w.past c t) c x
+  given_here x e =
       ap (λ (z : ℕ). past_answer now_on.reads z x) mine
       ∙ ap (λ (z : Option Read). let d : PastAnswer = record { client = c; last = z; answer = x } in d) (h.read x e)
 
@@ -334,8 +334,8 @@ module _ (o : Opening) (w : World) (k : IsKept o w) (c : ℕ) (q : IsRequestedBu
       (λ j. in_option t.answer j)
       (in_cases b.answers (option_to_list t.answer) i)
 
-  answer_told : (x : Answer) → t.answer ≡ Some x → In (past_answer (reads_after w.past c t) c x) next.past.answers
-  answer_told x e = in_right w.past.answers (go t.answer e)
+  answer_given : (x : Answer) → t.answer ≡ Some x → In (past_answer (reads_after w.past c t) c x) next.past.answers
+  answer_given x e = in_right w.past.answers (go t.answer e)
     where
       go : (f : Option Answer) → f ≡ Some x → In (past_answer (reads_after w.past c t) c x)
           (option_to_list (option_map (past_answer (reads_after w.past c t) c) f))
@@ -355,7 +355,7 @@ module _ (o : Opening) (w : World) (k : IsKept o w) (c : ℕ) (q : IsRequestedBu
         one_answer = few_more b.answers t.answer (inl unanswered);
         answers = λ x i. let e = answer_in x i in
             record {
-              told = subst (λ (z : PastAnswer). In z next.past.answers) (sym (told_here x e)) (answer_told x e);
+              given = subst (λ (z : PastAnswer). In z next.past.answers) (sym (given_here x e)) (answer_given x e);
               last = λ none. h.some x e (sym (h.read x e)
                   ∙ subst (λ (z : ℕ). last_read now_on.reads z ≡ None) mine none);
               begun = h.begun x e;
@@ -363,8 +363,8 @@ module _ (o : Opening) (w : World) (k : IsKept o w) (c : ℕ) (q : IsRequestedBu
       }
 
   -- an answer that was given before is to the same request as before
-  told_lasts : (x : PastAnswer) → IsToOne w x → IsToOne next x
-  told_lasts x d = record {
+  given_lasts : (x : PastAnswer) → IsToOne w x → IsToOne next x
+  given_lasts x d = record {
     asked = d.asked;
     made = ⊎_elim (λ i. i)
         (λ e. in_nil (subst (λ (z : List Answer). In x.answer z)
@@ -421,15 +421,15 @@ module _ (o : Opening) (w : World) (k : IsKept o w) (c : ℕ) (q : IsRequestedBu
         (λ j. alone_lasts w next lasts a (q.alone a j))
         (λ (e : a ≡ now_on). subst (IsAlone next) (sym e) alone_now)
         (was_or_on begun_here c t w.past.asked a b last i);
-    told = λ x i. ⊎_elim
-        (λ j. told_lasts x (q.told x j))
+    given = λ x i. ⊎_elim
+        (λ j. given_lasts x (q.given x j))
         (λ j. let p = in_mapped (past_answer (reads_after w.past c t) c) t.answer j in
         subst (IsToOne next) (sym p.2)
         (record {
           asked = now_on;
           made = on_in begun_here c t w.past.asked b last;
           answers = in_right b.answers (option_in t.answer p.1);
-          is = sym (told_here p.0 p.1);
+          is = sym (given_here p.0 p.1);
         }))
         (in_cases w.past.answers (option_to_list (option_map (past_answer (reads_after w.past c t) c) t.answer)) i);
     begun = λ r i. ⊎_elim

@@ -14,7 +14,7 @@ use Rattle.album_world.specs.Runs.{changed}
 use Rattle.album_world.specs.Committing.{history}
 use Rattle.album_world.proofs.ListLemmas.{In}
 use Rattle.album_world.proofs.Invariant.{IsKept, FirstRound, SecondRound, IsRound, IsWriting, HasPrepared, HasCommitted, IsDoing}
-use Rattle.album_world.proofs.GrowthLemmas.{Grows, any_grows, tells_more, prepared_grows, fine_grows, tagged_grows, begun_grows, first_round_grows, second_round_grows, founds_grows, stamp_grows, has_fresh_grows, read_grows, answer_grows, drawn_grows, sound_grows}
+use Rattle.album_world.proofs.GrowthLemmas.{Grows, any_grows, answers_more, prepared_grows, fine_grows, tagged_grows, begun_grows, first_round_grows, second_round_grows, founds_grows, stamp_grows, has_fresh_grows, read_grows, answer_grows, drawn_grows, sound_grows}
 
 -- who was stopped, and what was asked, is nothing to what is kept
 module _ (o : Opening) (w : World) (k : IsKept o w) (stopped : List ℕ) (asked : List Asked) where
@@ -35,7 +35,7 @@ module _ (o : Opening) (w : World) (k : IsKept o w) (stopped : List ℕ) (asked 
   round_lasts d began r None h = record {
     asked = record { at = h.asked.at };
     answered = record {
-      at = λ n l f e. tells_more (FirstRound o w began) (FirstRound o next began)
+      at = λ n l f e. answers_more (FirstRound o w began) (FirstRound o next began)
           (λ i s q. first_round_grows o w next grows began i s q) n.body (h.answered.at n l f e);
     };
     founds = founds_grows o w next grows (FirstRound o w began) (FirstRound o next began)
@@ -44,7 +44,7 @@ module _ (o : Opening) (w : World) (k : IsKept o w) (stopped : List ℕ) (asked 
   round_lasts d began r (Some ts) h = record {
     asked = record { at = h.asked.at };
     answered = record {
-      at = λ n l f e. tells_more (λ i s. In i r.items → SecondRound o w began ts i s)
+      at = λ n l f e. answers_more (λ i s. In i r.items → SecondRound o w began ts i s)
           (λ i s. In i r.items → SecondRound o next began ts i s)
           (λ i s q j. second_round_grows o w next grows began ts i s (q j)) n.body (h.answered.at n l f e);
     };
@@ -62,7 +62,7 @@ module _ (o : Opening) (w : World) (k : IsKept o w) (stopped : List ℕ) (asked 
     stamp = h.stamp;
     parts = h.parts;
     client = h.client;
-    told = λ q l. ⊎_elim inl (λ e. inr (more q x.stamp e)) (h.told q l);
+    given = λ q l. ⊎_elim inl (λ e. inr (more q x.stamp e)) (h.given q l);
   }
 
   doing_lasts : (d : ℕ) (began : List PartitionState) (f : Phase) → IsDoing o w d began f → IsDoing o next d began f

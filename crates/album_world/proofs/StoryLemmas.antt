@@ -31,9 +31,9 @@ leads t w old new e outs same d =
     ∙ sym (ap (λ (r : Result Change Refusal). (changed_by w e r).now) (ap (λ (n : Now). change_of t n e) same ∙ d.is))
 
 -- and its outputs are those of the event
-told : (t : Terms) (w : World) (old new : Now) (e : Event) (outs : List Out) → w.now ≡ old → IsDone t old e new outs
+given : (t : Terms) (w : World) (old new : Now) (e : Event) (outs : List Out) → w.now ≡ old → IsDone t old e new outs
     → outs ≡ event_outputs t w e
-told t w old new e outs same d =
+given t w old new e outs same d =
     d.outputs ∙ ap (λ (n : Now). outs_of n d.change) (sym same)
     ∙ sym (ap (λ (r : Result Change Refusal). outs_by w.now r) (ap (λ (n : Now). change_of t n e) same ∙ d.is))
 
@@ -62,9 +62,9 @@ in_past_of o es is e outs same =
     })
 
 -- the past of the run with the event has the outputs of the event
-pub in_past_told : (o : Opening) (es : List Event) → is_opening o ≡ true → (e : Event)
+pub in_past_given : (o : Opening) (es : List Event) → is_opening o ≡ true → (e : Event)
     → IsInPast (run_of o (es ++ e ∷ [])) (event_outputs (terms_of o) (run_of o es) e)
-in_past_told o es is e =
+in_past_given o es is e =
     subst (λ (w : World). IsInPast w (event_outputs (terms_of o) (run_of o es) e)) (sym (run_more (terms_of o) (start o) es e))
     (in_past_of o es is e (event_outputs (terms_of o) (run_of o es) e) refl)
 
@@ -73,7 +73,7 @@ in_past_more : (o : Opening) (es : List Event) (e : Event) (old : WorldState) (n
 in_past_more o es e old new outs b d =
     let done : IsDone (terms_of o) old.kept e new outs = subst (λ (t : Terms). IsDone t old.kept e new outs) b.terms d in
     subst (λ (w : World). IsInPast w outs) (sym (run_more (terms_of o) (start o) es e))
-    (in_past_of o es b.passes e outs (told (terms_of o) (run_of o es) old.kept new e outs (sym b.kept) done))
+    (in_past_of o es b.passes e outs (given (terms_of o) (run_of o es) old.kept new e outs (sym b.kept) done))
 
 -- ---- for `step`
 

@@ -23,7 +23,7 @@ use Rattle.album_world.specs.Committing.{history}
 use Rattle.album_world.proofs.ListLemmas.{in_left, in_cases, in_option, in_mapped, some_same, same_or_not, apart}
 use Rattle.album_world.proofs.ClientLemmas.{client_same, client_other}
 use Rattle.album_world.proofs.Invariant.{IsKept, IsFine, IsTagged, tag_at, FirstRound, SecondRound, IsRound, IsWriting, HasPrepared, HasCommitted, IsDoing, IsClient, IsAnswer, IsRead}
-use Rattle.album_world.proofs.GrowthLemmas.{Grows, any_grows, tells_more, prepared_grows, fine_grows, tagged_grows, begun_grows, first_round_grows, second_round_grows, founds_grows, stamp_grows, has_fresh_grows, read_grows, answer_grows, drawn_grows, sound_grows}
+use Rattle.album_world.proofs.GrowthLemmas.{Grows, any_grows, answers_more, prepared_grows, fine_grows, tagged_grows, begun_grows, first_round_grows, second_round_grows, founds_grows, stamp_grows, has_fresh_grows, read_grows, answer_grows, drawn_grows, sound_grows}
 
 pub begun_other : (b : Bool) (c d n : ℕ) (ps : List PartitionState) (bs : List Begun) → eqb c d ≡ false
     → last_begun (cond b (record { client = c; nth = n; partitions = ps } ∷ bs) bs) d ≡ last_begun bs d
@@ -102,7 +102,7 @@ module _ (o : Opening) (w : World) (k : IsKept o w) (c : ℕ) (t : TransitionSta
       };
       answered = record {
         at = λ n l f e. ⊎_elim
-            (λ i. tells_more (FirstRound o w began) (FirstRound o next began)
+            (λ i. answers_more (FirstRound o w began) (FirstRound o next began)
             (λ i s q. first_round_grows o w next gr began i s q) n.body (h.answered.at n i f e))
             (λ i. absurd (nt n i f)) (in_cases w.now.messages t.sent l);
       };
@@ -116,7 +116,7 @@ module _ (o : Opening) (w : World) (k : IsKept o w) (c : ℕ) (t : TransitionSta
       };
       answered = record {
         at = λ n l f e. ⊎_elim
-            (λ i. tells_more (λ i s. In i r.items → SecondRound o w began ts i s)
+            (λ i. answers_more (λ i s. In i r.items → SecondRound o w began ts i s)
             (λ i s. In i r.items → SecondRound o next began ts i s)
             (λ i s q j. second_round_grows o w next gr began ts i s (q j)) n.body (h.answered.at n i f e))
             (λ i. absurd (nt n i f)) (in_cases w.now.messages t.sent l);
@@ -135,7 +135,7 @@ module _ (o : Opening) (w : World) (k : IsKept o w) (c : ℕ) (t : TransitionSta
       stamp = h.stamp;
       parts = h.parts;
       client = h.client;
-      told = λ q l. ⊎_elim inl (λ e. inr (more q x.stamp e)) (h.told q l);
+      given = λ q l. ⊎_elim inl (λ e. inr (more q x.stamp e)) (h.given q l);
     }
 
     -- what a client does lasts where it sends and is sent nothing

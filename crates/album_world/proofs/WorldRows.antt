@@ -82,7 +82,7 @@ abbrev delivers : ℕ → ℕ → List Event
 delivers first count = map event.Deliver (range_with_len first count)
 
 abbrev answers : ℕ → List Event → List Answer
-answers limit events = map (λ (told : PastAnswer). told.answer) (run_of (opening limit) events).past.answers
+answers limit events = map (λ (given : PastAnswer). given.answer) (run_of (opening limit) events).past.answers
 
 abbrev retitle : Event
 retitle = event.Ask 1 amy (ask.Retitle (picture 0) (66 ∷ []))

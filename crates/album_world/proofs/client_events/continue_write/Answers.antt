@@ -3,7 +3,7 @@ use Rattle.album_client.specs.declared.clients.Phase.TheVariants as phase
 use Rattle.album_client.specs.Clients.{Client}
 use Rattle.album_client.specs.Transitions.{client_of}
 use Rattle.album_client.specs.Steps.{transition_of}
-use Rattle.album_world.proofs.MoveLemmas.{moved_so, number_turn, taken_done, unnoted, untold_is, writes_none}
+use Rattle.album_world.proofs.MoveLemmas.{moved_so, number_turn, taken_done, unnoted, ungiven_is, writes_none}
 use Rattle.album_world.proofs.client_events.continue_write.Goals as goal
 
 -- the client's next state, and all outputs
@@ -20,7 +20,7 @@ returns-clause-done c =
     let outs = rw (c.in_ok-outs.ensures.items, count) at c.push_outputs.ensures in
     taken_done c.args.before c.args.terms x c.replace_client.new.client c.args.message.now
     c.write_transition-next.result.sent.items c.push_outputs.new.outs.items (writes_none x.phase c.requires.writing)
-    (untold_is c.args.before _ x c.replace_client.new.client (transition_of c.args.terms x c.args.message.now x.phase)
+    (ungiven_is c.args.before _ x c.replace_client.new.client (transition_of c.args.terms x c.args.message.now x.phase)
     c.write_transition-next.result c.push_outputs.new.outs.items (ap (λ (y : Client). y.number) c.client.view_is)
     (unnoted c.args.terms x c.args.message.now x.phase c.requires.writing) is c.replace_client.ensures outs)
 

@@ -1,6 +1,6 @@
 use Rattle.std.proofs.Common.{◌≡◌, length, ap, rules, ◌∙◌}
 use Rattle.album_client.specs.Clients.{Client}
-use Rattle.album_world.proofs.MoveLemmas.{told_is}
+use Rattle.album_world.proofs.MoveLemmas.{given_is}
 use Rattle.album_world.proofs.client_events.install.Goals as goal
 
 -- the client's next state, its messages, and the outputs
@@ -12,6 +12,6 @@ returns-clause-installed c = λ turn is.
       client = c.replace_client.ensures ∙ is.client;
       sent_is = is.sent;
       outputs =
-          told_is c.args.before _ c.args.client.now.number turn c.args.transition _
+          given_is c.args.before _ c.args.client.now.number turn c.args.transition _
           (ap (λ (x : Client). x.number) c.client.view_is) is outs;
     }

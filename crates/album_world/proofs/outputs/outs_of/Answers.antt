@@ -7,4 +7,4 @@ pub returns : goal.returns
 returns c =
     let all = take_all c.loop-note.note-index c.args.notes.now c.loop-note-test.false in
     let i = c.loop-note.invariant in
-    rw (c.push_outputs.ensures, c.in_ok-reserve.ensures.items, i.told, i.answer, all) refl
+    rw (c.push_outputs.ensures, c.in_ok-reserve.ensures.items, i.given, i.answer, all) refl

@@ -4,6 +4,6 @@ use Rattle.album_world.proofs.outputs.outs_of.Given as goal
 
 abbrev pub invariant-loop-note : goal.invariant-loop-note
 invariant-loop-note l = record {
-  told : l.outs.items ≡ map (out.Noted l.number) (take l.note-index l.notes);
+  given : l.outs.items ≡ map (out.Noted l.number) (take l.note-index l.notes);
   answer : l.answer ≡ l.fn.answer;
 }

@@ -18,6 +18,6 @@ returns-clause-done c =
     let sent : new.messages ≡ now.messages ++ c.in_ok-sent.sent.items = search rules in
     let clients : new.clients ≡ now.clients = search rules in
     let stops : new.stopped ≡ now.stopped = search rules in
-    let told : c.push_sent.new.outs.items ≡ sent_after (length now.messages) c.in_ok-sent.sent.items = search rules in
+    let given : c.push_sent.new.outs.items ≡ sent_after (length now.messages) c.in_ok-sent.sent.items = search rules in
     swept_done now new c.args.part c.args.stamp c.index.result.now c.in_ok-sent.sent.items c.push_sent.new.outs.items
-    there sends parts sent clients stops told
+    there sends parts sent clients stops given
