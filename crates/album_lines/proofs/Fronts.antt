@@ -14,8 +14,6 @@ use Rattle.json.specs.Word.{ends_word}
 use Rattle.json.proofs.Printed.Strings.{escape_byte_plain, content-escape, lex-escape}
 use Rattle.json.proofs.Printed.Numbers.{lex-number}
 use Rattle.json.proofs.Printed.Decimals.{IsNumber-decimal}
-use Rattle.album_lists.specs.Whos.{whole_number_of}
-use Rattle.album_lists.proofs.Numbers.{number_spelled}
 use Rattle.album_lines.specs.Front.{MayBegin, MayClose, GoesOn, is_blank}
 use Rattle.album_lines.proofs.Newlines.{all_in_prefix}
 
@@ -64,12 +62,12 @@ split_parts text front back n is_front is_back = sym (ap₂ (λ (a b : List ℕ)
 
 pub a_number : (text front more : List ℕ) (n : ℕ)
     → text ≡ front ++ more
-    → whole_number_of front ≡ Some n
+    → n < 2 ^ 64
+    → front ≡ decimal n
     → ends_word more ≡ true
     → (n < 2 ^ 64) × (lex between text ≡ token (number (decimal n)) ∷ lex between more)
-a_number text front more n parts is ended =
-    let spelled = number_spelled n front is in
-    (spelled.0, ap (lex between) (parts ∙ ap (λ f. f ++ more) spelled.1) ∙ lex-number (decimal n) more (IsNumber-decimal n spelled.0) ended)
+a_number text front more n parts small is ended =
+    (small, ap (lex between) (parts ∙ ap (λ f. f ++ more) is) ∙ lex-number (decimal n) more (IsNumber-decimal n small) ended)
 
 -- ---- blanks
 

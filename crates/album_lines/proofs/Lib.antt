@@ -11,6 +11,7 @@ pub mod Entries
 pub mod Questions
 pub mod Lanes
 pub mod Runs
+pub mod Numerals
 pub mod Fronts
 pub mod Taking
 pub mod TakenFields

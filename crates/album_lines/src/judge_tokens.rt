@@ -1,11 +1,11 @@
 //! The shape of a judge line, taken token by token, with no tree between. Of a line that hasn't the shape nothing is
 //! taken, nor of one that has it with an escape: the line's tree tells what it is, or what is wrong with it.
-ghost use Rattle.std.specs.Prelude.{◌≡◌, ◌∷◌, ◌<◌, List, Some, Ok, IfSome, OnSome, map, length};
+ghost use Rattle.std.specs.Prelude.{◌≡◌, ◌∷◌, [], ◌++◌, ◌<◌, List, Some, Ok, IfSome, OnSome, map, length};
 ghost use Rattle.json.specs.Token.{begin_array, end_array};
 ghost use Rattle.json.specs.Json.{object};
 ghost use Rattle.json.specs.Json as json;
 ghost use Rattle.album_lines.specs.Fields.{text_of, whole_of};
-ghost use Rattle.album_lines.specs.Shapes.{spelled_entry, entry_shape_of, entry_shapes_of};
+ghost use Rattle.album_lines.specs.Shapes.{SpelledEntry, spelled_entry, entry_shape_of, entry_shapes_of};
 ghost use Rattle.album_lines.specs.JudgeShape.{spelled_group, spelled_judge, group_shape_of, judge_shape_of, groups_shape_of};
 ghost use Rattle.album_lines.specs.Trees.{data_in};
 ghost use Rattle.album_lines.specs.Tokens.{line_shape_of, Takes, TakesAll, AreFields, TakesField, TakesFields};
@@ -173,13 +173,16 @@ fn take_each_entry<'a>(alloc: Global, tokens: &mut Tokens<'a>) -> Option<Vec<Ent
 {
     let mut shapes = Vec::with_capacity(alloc, ENTRIES_AT_FIRST).ok()?;
     while !tokens.take_end()? {
-        shapes.push(take_entry(tokens)?).ok()?;
+        put_entry(tokens, &mut shapes)?;
     }
     Some(shapes)
 }
 
-fn take_entry<'a>(tokens: &mut Tokens<'a>) -> Option<EntryShape<'a>>
-    ensures { IfSome result (λ shape. Takes 1 entry_shape_of tokens.old (spelled_entry shape) tokens.new) }
+/// Puts an entry behind the shapes. (Given back as an option it would be copied once more, a fortieth of a line's time.)
+fn put_entry<'a>(tokens: &mut Tokens<'a>, shapes: &mut Vec<EntryShape<'a>>) -> Option<()>
+    ensures { OnSome result ((entry : SpelledEntry)
+        × (map spelled_entry shapes.new.items ≡ map spelled_entry shapes.old.items ++ entry ∷ [])
+        × Takes 1 entry_shape_of tokens.old entry tokens.new) }
 {
     take_list(tokens)?;
     let sort = sort(take_text(tokens)?)?;
@@ -187,12 +190,14 @@ fn take_entry<'a>(tokens: &mut Tokens<'a>) -> Option<EntryShape<'a>>
     let mask = take_whole(tokens)?;
     let flags = take_whole(tokens)?;
     take_end(tokens)?;
-    Some(EntryShape {
+    let shape = EntryShape {
         sort,
         who,
         mask,
         flags,
-    })
+    };
+    shapes.push(shape).ok()?;
+    Some(())
 }
 
 /// A whole number.

@@ -1,9 +1,8 @@
 //! A JSON text, taken token by token from its front: those tokens that lines of the usual form have, and no others.
 //! A text with an escape isn't taken, nor is a number that isn't whole: None then, and nothing more is to be taken.
-ghost use Rattle.std.specs.Prelude.{◌≡◌, ◌<◌, ◌^◌, ◌∷◌, [], IsTrue, IfSome, OnSome, MatchOption, true, false, decimal, ◌+◌, ◌≤◌, length, drop, map};
+ghost use Rattle.std.specs.Prelude.{◌≡◌, ◌<◌, ◌^◌, ◌∷◌, [], IsTrue, IfSome, OnSome, MatchOption, true, false, decimal, ◌+◌, ◌≤◌, length, take, drop, map};
 ghost use Rattle.std.specs.Bool.{MatchBool};
 ghost use Rattle.std.specs.List.{prefix_len};
-ghost use Rattle.std.specs.Char.{is_ascii_digit};
 ghost use Rattle.std.specs.Simd.Lanes.{mask_l};
 ghost use Rattle.json.specs.Lex.{between, lex, begins_colon, token};
 ghost use Rattle.json.specs.Lex as lexed;
@@ -12,9 +11,11 @@ ghost use Rattle.json.specs.Run.{is_plain, is_stop};
 ghost use Rattle.json.specs.Word.{ends_word};
 ghost use Rattle.album_lines.specs.Front.{MayBegin, MayClose, GoesOn, is_blank};
 
-use album_lists::whole_number;
 use std::marker::Model;
 use std::simd::prelude::*;
+
+/// So many digits a number has at most: more don't fit into 64 bits with any digits.
+const MAX_DIGITS: usize = 18;
 
 /// What stands before what is left: a bracket or a colon, a comma, or a value.
 #[derive(Clone, Copy, Drop)]
@@ -218,23 +219,34 @@ fn whole(text: &str) -> Option<(u64, &str)>
     ensures { IfSome result (λ parts. (parts.0 < 2 ^ 64)
         × (lex between text.now ≡ token (number (decimal parts.0)) ∷ lex between parts.1.now)) }
 {
-    let (front, more) = text.split_at_checked(digits_len(text.as_bytes()))?;
+    let (n, len) = number_at_front(text.as_bytes())?;
+    let (_, more) = text.split_at_checked(len)?;
     if !ends_word(more) {
         return None;
     }
-    let n = whole_number(front)?;
     Some((n, more))
 }
 
-/// How many digits stand at the front.
-fn digits_len(text: &[u8]) -> usize
-    ensures { result ≡ prefix_len is_ascii_digit text.now }
+/// The number at the front, without leading zeros, and how many digits it has. One of more than `MAX_DIGITS` isn't
+/// taken, so none is too large here.
+fn number_at_front(text: &[u8]) -> Option<(u64, usize)>
+    ensures { IfSome result (λ found. (found.0 < 2 ^ 64) × (take found.1 text.now ≡ decimal found.0)) }
 {
-    let mut len = 0;
+    if text.is_empty() {
+        return None;
+    }
+    if text[0] == b'0' {
+        return Some((0, 1));
+    }
+    let (mut n, mut len) = (0, 0);
     while len < text.len() && text[len].is_ascii_digit() {
+        if len == MAX_DIGITS {
+            return None;
+        }
+        n = n * 10 + u64::from(text[len] - b'0');
         len += 1;
     }
-    len
+    if len == 0 { None } else { Some((n, len)) }
 }
 
 /// Whether a number may end here.

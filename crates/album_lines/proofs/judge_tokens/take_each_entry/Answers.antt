@@ -10,17 +10,16 @@ use Rattle.album_lines.proofs.judge_tokens.take_each_entry.Goals as goal
 pub loop-shapes-smaller : goal.loop-shapes-smaller
 loop-shapes-smaller c =
     let going : c.take_end.new.self ≡ c.loop-shapes.tokens = grind arith in
-    let taken : Takes 1 entry_shape_of c.loop-shapes.tokens (spelled_entry c.in_ok-take_entry.field-0) c.take_entry.new.tokens =
-    rw (← going) c.in_ok-take_entry.ensures in
-    shorter 1 c.loop-shapes.tokens c.take_entry.new.tokens taken.0 taken.1
+    let put = c.in_ok-put_entry.ensures in
+    let taken : Takes 1 entry_shape_of c.loop-shapes.tokens put.0 c.put_entry.new.tokens = rw (← going) put.2 in
+    shorter 1 c.loop-shapes.tokens c.put_entry.new.tokens taken.0 taken.1
 
 pub loop-shapes-preserved : goal.loop-shapes-preserved
 loop-shapes-preserved c =
     let going : c.take_end.new.self ≡ c.loop-shapes.tokens = grind arith in
-    let taken : Takes 1 entry_shape_of c.loop-shapes.tokens (spelled_entry c.in_ok-take_entry.field-0) c.take_entry.new.tokens =
-    rw (← going) c.in_ok-take_entry.ensures in
-    let pushed : c.push.new.self.items ≡ c.loop-shapes.shapes.items ++ c.in_ok-take_entry.field-0 ∷ [] = search rules in
-    one_more 1 entry_shape_of c.args.tokens.now c.loop-shapes.tokens c.take_entry.new.tokens _ _ _ c.loop-shapes.invariant (rw (pushed, map-append) refl) taken
+    let put = c.in_ok-put_entry.ensures in
+    let taken : Takes 1 entry_shape_of c.loop-shapes.tokens put.0 c.put_entry.new.tokens = rw (← going) put.2 in
+    one_more 1 entry_shape_of c.args.tokens.now c.loop-shapes.tokens c.put_entry.new.tokens _ _ _ c.loop-shapes.invariant put.1 taken
 
 pub returns : goal.returns
 returns c =

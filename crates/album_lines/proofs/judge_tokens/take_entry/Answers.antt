@@ -1,8 +1,0 @@
-use Rattle.std.proofs.Common.{sym, ◌∙◌}
-use Rattle.album_lines.proofs.Taking.{an_entry}
-use Rattle.album_lines.proofs.judge_tokens.take_entry.Goals as goal
-
-pub returns : goal.returns
-returns c =
-    an_entry c.args.tokens.now c.take_list.new.tokens c.take_text.new.tokens c.take_text-2.new.tokens c.take_whole.new.tokens c.take_whole-2.new.tokens c.take_end.new.tokens _ _ _ _ _
-    c.in_ok-take_list.ensures c.in_ok-take_text.ensures (sym c.sort.ensures ∙ c.in_ok-sort.was) c.in_ok-who.ensures c.in_ok-mask.ensures c.in_ok-flags.ensures c.in_ok-take_end.ensures
