@@ -3,8 +3,12 @@ use Rattle.album_tests_lines.proofs.talk_runs.talks_alone.Given as goal
 -- the desk, the policy and the four ledgers that were opened here
 abbrev pub ghosts-talks_over-J-ServiceNames : goal.ghosts-talks_over-J-ServiceNames
 ghosts-talks_over-J-ServiceNames g a = record {
-  terms = a.opened.desk.terms;
   policy = a.opened.policy;
+}
+
+abbrev pub ghosts-talks_over-J-DeskNames : goal.ghosts-talks_over-J-DeskNames
+ghosts-talks_over-J-DeskNames g a = record {
+  terms = a.opened.desk.terms;
 }
 
 abbrev pub ghosts-talks_over-J-BoardNames : goal.ghosts-talks_over-J-BoardNames

@@ -3,8 +3,12 @@ use Rattle.album_tests_store.proofs.between_rounds.retitled_between_rounds.Given
 -- the desk, the policy and the four ledgers that were opened here
 abbrev pub ghosts-both_over-J-ServiceNames : goal.ghosts-both_over-J-ServiceNames
 ghosts-both_over-J-ServiceNames g a = record {
-  terms = a.opened.desk.terms;
   policy = a.opened.policy;
+}
+
+abbrev pub ghosts-both_over-J-DeskNames : goal.ghosts-both_over-J-DeskNames
+ghosts-both_over-J-DeskNames g a = record {
+  terms = a.opened.desk.terms;
 }
 
 abbrev pub ghosts-both_over-J-BoardNames : goal.ghosts-both_over-J-BoardNames

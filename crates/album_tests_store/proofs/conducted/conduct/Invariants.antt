@@ -3,8 +3,12 @@ use Rattle.album_tests_store.proofs.conducted.conduct.Given as goal
 -- the desk, the policy and the four ledgers that were opened here
 abbrev pub ghosts-conduct_by-J-ServiceNames : goal.ghosts-conduct_by-J-ServiceNames
 ghosts-conduct_by-J-ServiceNames g a = record {
-  terms = a.opened.desk.terms;
   policy = a.opened.policy;
+}
+
+abbrev pub ghosts-conduct_by-J-DeskNames : goal.ghosts-conduct_by-J-DeskNames
+ghosts-conduct_by-J-DeskNames g a = record {
+  terms = a.opened.desk.terms;
 }
 
 abbrev pub ghosts-conduct_by-J-BoardNames : goal.ghosts-conduct_by-J-BoardNames

@@ -3,8 +3,12 @@ use Rattle.album_tests_store.proofs.sessions.hundred_retitled.Given as goal
 -- the desk, the policy and the four ledgers that were opened here
 abbrev pub ghosts-four_over-J-ServiceNames : goal.ghosts-four_over-J-ServiceNames
 ghosts-four_over-J-ServiceNames g a = record {
-  terms = a.opened.desk.terms;
   policy = a.opened.policy;
+}
+
+abbrev pub ghosts-four_over-J-DeskNames : goal.ghosts-four_over-J-DeskNames
+ghosts-four_over-J-DeskNames g a = record {
+  terms = a.opened.desk.terms;
 }
 
 abbrev pub ghosts-four_over-J-BoardNames : goal.ghosts-four_over-J-BoardNames

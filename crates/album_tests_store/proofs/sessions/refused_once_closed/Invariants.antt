@@ -3,8 +3,12 @@ use Rattle.album_tests_store.proofs.sessions.refused_once_closed.Given as goal
 -- the desk, the policy and the four ledgers that were opened here
 abbrev pub ghosts-closed_on-J-ServiceNames : goal.ghosts-closed_on-J-ServiceNames
 ghosts-closed_on-J-ServiceNames g a = record {
-  terms = a.opened.desk.terms;
   policy = a.opened.policy;
+}
+
+abbrev pub ghosts-closed_on-J-DeskNames : goal.ghosts-closed_on-J-DeskNames
+ghosts-closed_on-J-DeskNames g a = record {
+  terms = a.opened.desk.terms;
 }
 
 abbrev pub ghosts-closed_on-J-BoardNames : goal.ghosts-closed_on-J-BoardNames

@@ -3,8 +3,12 @@ use Rattle.album_threads.proofs.visit.with_opened.Given as goal
 -- the desk, the policy and the four ledgers that were opened here
 abbrev pub ghosts-visited_as-J-ServiceNames : goal.ghosts-visited_as-J-ServiceNames
 ghosts-visited_as-J-ServiceNames g a = record {
-  terms = a.opened.desk.terms;
   policy = a.opened.policy;
+}
+
+abbrev pub ghosts-visited_as-J-DeskNames : goal.ghosts-visited_as-J-DeskNames
+ghosts-visited_as-J-DeskNames g a = record {
+  terms = a.opened.desk.terms;
 }
 
 abbrev pub ghosts-visited_as-J-BoardNames : goal.ghosts-visited_as-J-BoardNames

@@ -3,8 +3,12 @@ use Rattle.album_server.proofs.engines.serve.serve_opened.Given as goal
 -- the desk, the policy and the ledgers that were opened here
 abbrev pub ghosts-serve_at-J-ServiceNames : goal.ghosts-serve_at-J-ServiceNames
 ghosts-serve_at-J-ServiceNames g a = record {
-  terms = a.opened.desk.terms;
   policy = a.opened.policy;
+}
+
+abbrev pub ghosts-serve_at-J-DeskNames : goal.ghosts-serve_at-J-DeskNames
+ghosts-serve_at-J-DeskNames g a = record {
+  terms = a.opened.desk.terms;
 }
 
 abbrev pub ghosts-serve_at-J-BoardNames : goal.ghosts-serve_at-J-BoardNames
