@@ -20,7 +20,7 @@ use Rattle.album_world.specs.Seen.{IsInPast}
 use Rattle.album_permits.specs.declared.events.Event.{Event}
 use Rattle.album_permits.specs.declared.outs.Out.{Out}
 use Rattle.album_permits.specs.declared.outs.Out.TheVariants as out
-use Rattle.album_world.proofs.StoryLemmas.{run_more, in_past_told}
+use Rattle.album_world.proofs.StoryLemmas.{run_more, in_past_given}
 use Rattle.album_world.proofs.AnsweredLemmas.{answers_are_to_requests}
 use Rattle.album_world.proofs.PromiseLemmas.{rulings_hold, writes_are_granted, views_are_read_atomic, views_are_fresh, outcomes_are_true, busy_has_its_cause}
 use Rattle.album_world.proofs.ListLemmas.{In, contains, within, in_cases, in_nil, in_uncons, in_map}
@@ -126,7 +126,7 @@ module _ (input lines later first others : List Line) (before : input ≡ lines 
       let shown : Out → Option Message = λ output. message_shown trace (now_after w.now ch) output in
       let of : Out → Printed = λ output. Output lines o (es ++ e ∷ []) output (shown output) in
       let past : IsInPast (run_of o (es ++ e ∷ [])) outs = subst (IsInPast (run_of o (es ++ e ∷ [])))
-      (ap (outs_by w.now) is) (in_past_told o es opens.passes e) in
+      (ap (outs_by w.now) is) (in_past_given o es opens.passes e) in
       record {
         parts = map of outs;
         whole = text_map outs of (λ output. out_line output (shown output)) (λ output. refl);
