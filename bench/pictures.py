@@ -51,9 +51,8 @@ def line(made):
     return json.dumps(made, separators=(",", ":"), sort_keys=True) + "\n"
 
 
-def opening(parts, is_audited=False):
-    """The lines of the opening of a service, in which each picture that is read may be noted."""
-    yield line({"open": {"limit": 1000000, "parts": parts}})
+def items(is_audited=False):
+    """Each item with its value; each picture that is read may be noted."""
     for kind, n, head in heads():
         if kind == "picture":
             head.update(title="Sea", content=CONTENT, home=n // EACH)
@@ -62,9 +61,21 @@ def opening(parts, is_audited=False):
         else:
             users, groups = members(n)
             head.update(members=users + [f"{group}@groups" for group in groups])
-        yield line({"item": f"{kind}/{n}", "value": head})
-        yield line({"item": f"list/{head['list']}", "value": {"entries": entries(head["list"], 2, is_audited)}})
+        yield f"{kind}/{n}", head
+        yield f"list/{head['list']}", {"entries": entries(head["list"], 2, is_audited)}
+
+
+def opening_of(made, parts):
+    """The lines of the opening of a service with these items."""
+    yield line({"open": {"limit": 1000000, "parts": parts}})
+    for item, value in made:
+        yield line({"item": item, "value": value})
     yield line({"begin": True})
+
+
+def opening(parts, is_audited=False):
+    """The lines of the opening of a service with this store."""
+    return opening_of(items(is_audited), parts)
 
 
 def command(*words):
@@ -76,19 +87,28 @@ def command(*words):
     return made
 
 
+def commands_of(made):
+    """The same items in Redis: a hash for a head, a list for an album's children, a text for a list, and sets for the
+    members of a group."""
+    for item, value in made:
+        key = item.replace("/", ":")
+        if key.startswith("list:"):
+            yield command("SET", key, line(value["entries"]))
+            continue
+        fields = [word for field in value.items() if field[0] not in ("children", "members") for word in field]
+        yield command("HSET", key + ":head" if key.startswith("group:") else key, *fields)
+        if value.get("children"):
+            yield command("RPUSH", key + ":children", *[child.replace("/", ":") for child in value["children"]])
+        users = [member for member in value.get("members", ()) if not member.endswith("@groups")]
+        groups = [member.partition("@")[0] for member in value.get("members", ()) if member.endswith("@groups")]
+        for name, members_of in ((key, users), (key + ":groups", groups)):
+            if members_of:
+                yield command("SADD", name, *members_of)
+
+
 def commands():
-    """The same store in Redis: a hash for a head, a text for a list, and sets for the members of a group."""
-    for kind, n, head in heads():
-        if kind == "picture":
-            head.update(title="Sea", content=CONTENT, home=n // EACH)
-        fields = [word for field in head.items() for word in field]
-        yield command("HSET", f"{kind}:{n}" if kind != "group" else f"group:{n}:head", *fields)
-        yield command("SET", f"list:{head['list']}", line(entries(head["list"])))
-        if kind == "group":
-            users, groups = members(n)
-            yield command("SADD", f"group:{n}", *users)
-            for group in groups:
-                yield command("SADD", f"group:{n}:groups", group)
+    """This store in Redis."""
+    return commands_of(items())
 
 
 class Request:

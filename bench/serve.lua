@@ -1,7 +1,8 @@
--- One request, judged by the access lists that Redis keeps as the store judges it: who asks, what (read, retitle or
--- set_lists), the number of the picture, and for a write the title, or the new lists of the picture and its album.
+-- One request, judged by the access lists that Redis keeps as the store judges it: who asks, what (read, retitle,
+-- set_lists or list), the number of the picture, or of the album that is listed, and for a write the title, or the new
+-- lists of the picture and its album.
 local who, verb, picture = ARGV[1], ARGV[2], "picture:" .. ARGV[3]
-local MASKS = { read = 1, retitle = 256, set_lists = 262144 }
+local MASKS = { read = 1, retitle = 256, set_lists = 262144, list = 1, row = 128 }
 local GROUP, INHERIT_ONLY = 64, 8
 local is_in = {}
 
@@ -29,9 +30,8 @@ local function means(entry, owner, group)
     return text == who
 end
 
--- Whether each bit of the mask is allowed by the first entry that mentions it.
-local function is_granted(object, mask)
-    local owner, group, list = unpack(redis.call("HMGET", object, "owner", "group", "list"))
+-- Whether each bit of the mask is allowed by the first entry of the list that mentions it.
+local function grants(mask, owner, group, list)
     local entries = cjson.decode(redis.call("GET", "list:" .. list))
     look_up(group)
     for _, entry in ipairs(entries) do
@@ -45,6 +45,31 @@ local function is_granted(object, mask)
         end
     end
     return mask == 0
+end
+
+local function is_granted(object, mask)
+    return grants(mask, unpack(redis.call("HMGET", object, "owner", "group", "list")))
+end
+
+-- The titles of the children of an album that may be seen, each behind the child.
+local function rows_of(album)
+    local rows = {}
+    for _, child in ipairs(redis.call("LRANGE", album .. ":children", 0, -1)) do
+        local head = redis.call("HMGET", child, "title", "home", "owner", "group", "list")
+        local title, home, owner, group, list = unpack(head)
+        if home == ARGV[3] and grants(MASKS.row, owner, group, list) then
+            rows[#rows + 1] = child .. " " .. title
+        end
+    end
+    return rows
+end
+
+if verb == "list" then
+    local album = "album:" .. ARGV[3]
+    if not is_granted(album, MASKS[verb]) then
+        return { ok = "denied" }
+    end
+    return { ok = "listed " .. table.concat(rows_of(album), " ") }
 end
 
 local title, content, home, list = unpack(redis.call("HMGET", picture, "title", "content", "home", "list"))

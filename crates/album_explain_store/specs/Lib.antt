@@ -1,4 +1,5 @@
 pub mod Telling
+pub mod Tables
 pub mod Readings
 pub mod Steps
 pub mod Openings

@@ -101,7 +101,7 @@ fn bad_line_form(
     for (name, part) in parts {
         let found = match member(line, name) {
             None => Some(missing(alloc, name)?),
-            Some(value) => bad_part_form(alloc, name, *part, value)?,
+            Some(value) => bad_part_form(alloc, line, name, *part, value)?,
         };
         if found.is_some() {
             return Ok(found);
@@ -112,11 +112,12 @@ fn bad_line_form(
 
 fn bad_part_form(
     alloc: Global,
+    line: &Value<'_>,
     name: &str,
     part: Part,
     value: &Value<'_>,
 ) -> Result<Option<Found>, AllocError> {
-    match (part, rows_of(part, value)) {
+    match (part, rows_of(line, part, value)) {
         (Part::Plain(form), _) => bad_form(alloc, name, form, value),
         (_, Some(rows)) => within(alloc, name, bad_object_form(alloc, value, rows)?),
         (_, None) => within(alloc, name, bad_word(alloc, value)?),
@@ -169,7 +170,7 @@ fn bad_line_value(
 ) -> Result<Option<Found>, AllocError> {
     for (name, part) in valued_parts_of(table, line) {
         if let Some(value) = member(line, name) {
-            let found = match (*part, rows_of(*part, value)) {
+            let found = match (*part, rows_of(line, *part, value)) {
                 (Part::Plain(form), _) => bad_value(alloc, name, form, value)?,
                 (_, Some(rows)) => within(alloc, name, bad_object_value(alloc, value, rows)?)?,
                 (_, None) => None,

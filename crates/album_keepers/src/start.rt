@@ -1,5 +1,5 @@
 //! How the threads of a service start.
-ghost use Rattle.std.specs.Prelude.{◌≡◌, ◌<◌, ◌≤◌};
+ghost use Rattle.std.specs.Prelude.{◌≡◌, ◌+◌, ◌<◌, ◌≤◌, OnOk};
 ghost use Rattle.std.specs.Arc.{arc_value};
 ghost use Rattle.album_stamps.specs.declared.limits.TheConstants.{MAX_PARTS};
 ghost use Rattle.album_passes.specs.Desk.{first_owner};
@@ -46,23 +46,58 @@ pub fn start_all<
 {
     let count = owners.len();
     for done in 0..count {
-        let Some(owner) = owners.pop() else {
-            return Err(AllocError);
-        };
-        let Some(partition) = partitions.pop() else {
-            return Err(AllocError);
-        };
-        let Some(from) = mails.pop() else {
-            return Err(AllocError);
-        };
         let part = (count - 1 - done) as u16;
-        let post = loop_of(alloc, part, partition, owner, mailboxes, breakage)?;
-        let desk = Arc::try_clone(desk)?;
-        let gate = Arc::try_clone(gate)?;
-        // Room first: a thread that runs is kept.
-        threads.reserve(1)?;
-        threads.push_reserved(start(rt, alloc, desk, gate, post, from)?);
+        start_last(
+            rt,
+            alloc,
+            desk,
+            gate,
+            breakage,
+            part,
+            &mut owners,
+            &mut partitions,
+            mailboxes,
+            &mut mails,
+            threads,
+        )?;
     }
+    Ok(())
+}
+
+/// Starts the thread of the last of these partitions, which has this number, and takes it from them.
+fn start_last<
+    J: DeskNames + Send + 'static,
+    R: Threads + Wait + time::Clock + Copy + Send + 'static,
+    G: Gate + Drop + Send + Sync + 'static,
+>(
+    rt: R,
+    alloc: Global,
+    desk: &Arc<Desk, Global>,
+    gate: &Arc<G, Global>,
+    breakage: &Arc<Breakage, Global>,
+    part: u16,
+    owners: &mut Vec<Owner>,
+    partitions: &mut Vec<Partition>,
+    mailboxes: &[Sender<PartitionMail<J>>],
+    mails: &mut Vec<Receiver<PartitionMail<J>>>,
+    threads: &mut Vec<JoinHandle<()>>,
+) -> Result<(), AllocError>
+    requires table { (arc_value desk.now).table ≡ J.table }
+    requires terms { (arc_value desk.now).terms ≡ J.terms }
+    requires owners { AreFirstOwners (record { table = J.table; terms = J.terms }) (part + 1) owners.old.items }
+    requires partitions { AreFirst J.terms (part + 1) partitions.old.items }
+    ensures owners { OnOk result (AreFirstOwners (record { table = J.table; terms = J.terms }) part owners.new.items) }
+    ensures partitions { OnOk result (AreFirst J.terms part partitions.new.items) }
+{
+    let owner = owners.pop().ok_or(AllocError)?;
+    let partition = partitions.pop().ok_or(AllocError)?;
+    let from = mails.pop().ok_or(AllocError)?;
+    let post = loop_of(alloc, part, partition, owner, mailboxes, breakage)?;
+    let desk = Arc::try_clone(desk)?;
+    let gate = Arc::try_clone(gate)?;
+    // Room first: a thread that runs is kept.
+    threads.reserve(1)?;
+    threads.push_reserved(start(rt, alloc, desk, gate, post, from)?);
     Ok(())
 }
 

@@ -1,13 +1,5 @@
-pub mod Replaying
-pub mod OnLiterals
-pub mod Leaving
-pub mod OutputTexts
-pub mod Happening
-pub mod Standing
-pub mod ReplayTurns
 pub mod Talking
 pub mod TalkTurns
 pub mod Recording
 pub mod AuditLines
 pub mod Naming
-pub mod Promising

@@ -1,5 +1,4 @@
-//! The engines of a store. Each reads lines and writes answers; `album_judge` has the one that needs no store.
+//! The engines of a service. Each reads lines and writes answers.
 
 pub mod converse;
-pub mod replay;
 pub mod serve;

@@ -1,19 +1,14 @@
-//! The engines of a store: each from a reader of lines to a writer of what comes of them.
+//! The engines of a service: each from a reader of lines to a writer of what comes of them.
 //!
 //! What comes in: a reader and a writer, whatever they are; for a connection a session too, and for a service the port.
 //! What goes out: the text that the lines read bring about; or a fault, before which a prefix of such a text was
 //! written.
 //!
-//! Read `engines/replay` first: `Stage` takes a line (`replay/stages`), and a line's events run (`replay/events`).
-//! specs/Replay.antt has the text of a replay, specs/Promise.antt what is promised of it, and `laws` what holds of
-//! both. Then `engines/converse`, the engine of a connection, with specs/Talk.antt; and `engines/serve`, which opens a
+//! Read `engines/converse` first, the engine of a connection, with specs/Talk.antt; then `engines/serve`, which opens a
 //! service and gives each connection a thread (`serve/accepting`, `serve/connections`), writes its notes to a file
-//! (`serve/audit`) and prints its figures (`serve/watch`). The engine of judge lines is `album_judge`'s, and is passed
-//! on here.
+//! (`serve/audit`) and prints its figures (`serve/watch`). The engine of judge lines is `album_judge`'s, that of scripts
+//! `album_replay`'s; both are passed on here.
 #![tactic(auto)]
-
-// What the lines of an opening say. Both a replay and a service begin with them.
-mod openings;
 
 // Who may say what over a connection.
 mod admins;
@@ -24,11 +19,12 @@ mod journal;
 // The engines.
 mod engines;
 
-// What holds of replays.
-mod laws;
-
 pub use admins::{Admins, only_admins_are_heard};
 pub use album_judge::{Fault, judge, one_judgement};
+pub use album_replay::{
+    a_replay_runs_what_its_lines_spell, replay, replays_are_computed, replays_go_on,
+    what_replay_prints, worked_replays,
+};
 pub use album_stamps::Refusal;
 
 // What a program of one's own needs beside, to open a store and ask (album_first is one).
@@ -39,12 +35,7 @@ pub use album_threads::{OwnedSession, Service, ServiceNames, Session, Visit, wit
 pub use album_views::Ask;
 pub use album_wire::write_out;
 pub use engines::converse::{converse, converse_with};
-pub use engines::replay::replay;
 pub use engines::serve::{
     AuditFile, Host, Served, Serving, opening_of_text, serve, serve_beside, serve_for, serve_until,
 };
 pub use journal::{Journal, NoJournal};
-pub use laws::{
-    a_replay_runs_what_its_lines_spell, replays_are_computed, replays_go_on, what_replay_prints,
-    worked_replays,
-};

@@ -1,6 +1,9 @@
 //! The byte from which on a line is no JSON: the first of the token that can't stand where it stands, or behind the
 //! last byte where more would have to come.
-ghost use Rattle.std.specs.Prelude.{length};
+ghost use Rattle.std.specs.Prelude.{◌≡◌, ◌+◌, take, drop, slice_index, length, IfSome};
+ghost use Rattle.std.specs.List.{prefix_len};
+ghost use Rattle.std.specs.Str.{IsAsciiWhitespaceFrom};
+ghost use Rattle.album_explain.specs.Bytes.{is_in_word};
 
 use album_lines::data;
 use album_stamps::Refusal;
@@ -28,6 +31,19 @@ pub(crate) fn bad_byte(alloc: Global, bytes: &[u8]) -> Result<usize, AllocError>
         Ok(text) => text,
         Err(error) => return Ok(error.valid_up_to()),
     };
+    let at = bad_token(alloc, text)?;
+    // The reader takes a text right behind a number or a word for a part of that, and refuses it as no number and no
+    // word. So what stands before the text is looked at alone: if all of it may stand there, the text may not.
+    match text.split_at_checked(word_end(bytes, at)) {
+        Some((before, behind)) if behind.as_bytes().first() == Some(&b'"') => {
+            bad_token(alloc, before)
+        }
+        _ => Ok(at),
+    }
+}
+
+/// Where the first token of the reader begins that can't stand where it stands, or the text's end where there is none.
+fn bad_token(alloc: Global, text: &str) -> Result<usize, AllocError> {
     let mut scratch = Scratch::new(alloc);
     let mut numerals = Scratch::new(alloc);
     let mut reader = Reader::new(text, &mut scratch)?;
@@ -42,8 +58,45 @@ pub(crate) fn bad_byte(alloc: Global, bytes: &[u8]) -> Result<usize, AllocError>
             return Ok(at);
         }
         at = reader.offset();
+        // The reader passes over a comma behind any value, and behind the whole one none may stand.
+        if place.is_whole {
+            if let Some(comma) = comma_before(text, at) {
+                return Ok(comma);
+            }
+        }
     }
-    Ok(bytes.len())
+    Ok(text.len())
+}
+
+/// Where the comma stands that has nothing but blanks between itself and this byte, if one does.
+fn comma_before(text: &str, end: usize) -> Option<usize>
+    ensures comma { IfSome result (λ at. slice_index text.now at ≡ 44) }
+    ensures blanks { IfSome result (λ at. IsAsciiWhitespaceFrom (take end text.now) (at + 1)) }
+{
+    let (before, _) = text.split_at_checked(end)?;
+    let more = before.trim_ascii_end().strip_suffix(',')?;
+    Some(more.len())
+}
+
+/// Where the number or the word ends that begins at this byte. Where none begins it is this byte.
+fn word_end(bytes: &[u8], from: usize) -> usize
+    ensures { result ≡ from + prefix_len is_in_word (drop from bytes.now) }
+{
+    let mut end = from;
+    while end < bytes.len() && is_in_word(bytes[end]) {
+        end += 1;
+    }
+    end
+}
+
+/// Whether a number or a word may have this byte.
+fn is_in_word(byte: u8) -> bool
+    ensures { result ≡ is_in_word byte }
+{
+    !matches!(
+        byte,
+        b'"' | b'{' | b'}' | b'[' | b']' | b':' | b',' | b' ' | b'\t' | b'\n' | b'\r'
+    )
 }
 
 /// Whether the token is no number that is out of range.

@@ -81,7 +81,7 @@ fn is_stamp(value: &Value<'_>) -> bool {
 }
 
 /// The item that the value is.
-fn item_in(value: &Value<'_>) -> Option<ItemId> {
+pub(crate) fn item_in(value: &Value<'_>) -> Option<ItemId> {
     read_item(text(value).ok()?)
 }
 

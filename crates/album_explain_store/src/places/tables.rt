@@ -1,6 +1,12 @@
 //! What stands in each line: the names of its members, and of those of the objects within it, in the order in which
 //! their forms are tested.
-use album_lines::{field, has, text};
+ghost use Rattle.std.specs.Prelude.{◌≡◌};
+ghost use Rattle.album_lines.specs.Trees.{value_data};
+ghost use Rattle.album_explain_store.specs.Tables.{kind_told};
+
+use crate::places::forms::item_in;
+use album_items::Kind;
+use album_lines::{field, has, member, text};
 use json::Value;
 
 /// What stands under a name.
@@ -49,7 +55,7 @@ pub(crate) enum Part {
     Trim,
     /// An ask, whose word tells which members it has.
     Ask,
-    /// The value of an item, whose names tell which members it has.
+    /// The value of an item. Its names tell which members it has, or else its item does.
     Value,
 }
 
@@ -141,16 +147,16 @@ pub(crate) fn valued_parts_of(table: Table, line: &Value<'_>) -> Parts {
     }
 }
 
-/// The members of the part, in the order in which they are tested. None are known of an ask whose word is none, and a
-/// plain part has none.
-pub(crate) fn rows_of(part: Part, value: &Value<'_>) -> Option<Rows> {
+/// The members of a part of the line, in the order in which they are tested. None are known of an ask whose word is
+/// none, and a plain part has none.
+pub(crate) fn rows_of(line: &Value<'_>, part: Part, value: &Value<'_>) -> Option<Rows> {
     match part {
         Part::Plain(_) => None,
         Part::Open => Some(OPEN),
         Part::Sweep => Some(SWEEP),
         Part::Trim => Some(TRIM),
         Part::Ask => ask_rows(value),
-        Part::Value => Some(value_rows(value)),
+        Part::Value => Some(value_rows(line, value)),
     }
 }
 
@@ -206,14 +212,35 @@ fn ask_rows(ask: &Value<'_>) -> Option<Rows> {
     }
 }
 
-fn value_rows(value: &Value<'_>) -> Rows {
-    if has(value, "entries") {
-        LIST
-    } else if has(value, "members") {
-        GROUP
-    } else if has(value, "children") {
-        ALBUM
-    } else {
-        PICTURE
+/// The members of an item's value. The item is one, since its form is tested before that of the value.
+fn value_rows(line: &Value<'_>, value: &Value<'_>) -> Rows {
+    match kind_told(kind_of_item(line).unwrap_or(Kind::Picture), value) {
+        Kind::Picture => PICTURE,
+        Kind::Album => ALBUM,
+        Kind::List => LIST,
+        Kind::Group => GROUP,
     }
+}
+
+/// Of which kind an item's value is told. With entries it is a list, with members a group, with children an album, and
+/// with a content a picture. With none of these it is told as one of its item's kind.
+fn kind_told(item: Kind, value: &Value<'_>) -> Kind
+    ensures { result ≡ kind_told item (value_data value.now) }
+{
+    if has(value, "entries") {
+        Kind::List
+    } else if has(value, "members") {
+        Kind::Group
+    } else if has(value, "children") {
+        Kind::Album
+    } else if has(value, "content") {
+        Kind::Picture
+    } else {
+        item
+    }
+}
+
+fn kind_of_item(line: &Value<'_>) -> Option<Kind> {
+    let item = item_in(member(line, "item")?)?;
+    Some(item.kind())
 }

@@ -2,10 +2,10 @@
 ghost use Rattle.std.specs.Prelude.{◌≡◌, true, IfOk};
 ghost use Rattle.album_items.specs.Openings.{is_opening};
 
-use crate::openings::{SoFar, first_line, later_line, opening_of};
 use album_items::Opening;
 use album_judge::{Fault, PIECE};
 use album_lines::{LineIn, Lines};
+use album_replay::{SoFar, first_line, later_line, opening_of};
 use album_stamps::Refusal;
 use json::Scratch;
 use std::alloc::Global;

@@ -1,0 +1,135 @@
+"""What is asked over TCP, `album serve` and Redis, and the program that sends requests to them."""
+import contextlib
+import os
+import shutil
+import socket
+import subprocess
+import sys
+import tempfile
+import time
+from typing import NamedTuple
+
+import pictures
+from measure import ALBUM, HERE, finish, free_port, processor_time
+from pictures import ASKERS
+
+PATIENCE = 60
+
+
+class Figures(NamedTuple):
+    """What came of a run."""
+    a_second: float
+    half: float  # microseconds that half of the answers took at most
+    most: float  # and 99 of 100
+    stolen: float  # percent of the processors' time that the host took
+
+
+def build(folder):
+    """The program that sends requests."""
+    path = os.path.join(folder, "load")
+    source = os.path.join(HERE, "serve_load.c")
+    subprocess.run(["gcc", "-std=gnu11", "-O2", "-pthread", "-o", path, source], check=True)
+    return path
+
+
+def connect(port):
+    """A connection as a file; where there is no one yet, it waits for one."""
+    until = time.monotonic() + PATIENCE
+    while True:
+        try:
+            talk = socket.create_connection(("127.0.0.1", port), PATIENCE)
+            talk.setsockopt(socket.IPPROTO_TCP, socket.TCP_NODELAY, 1)
+            return talk.makefile("rwb")
+        except ConnectionRefusedError:
+            if time.monotonic() > until:
+                raise
+            time.sleep(0.01)
+
+
+def told(talk, said):
+    """What is answered to bytes."""
+    talk.write(said)
+    talk.flush()
+    return talk.readline()
+
+
+@contextlib.contextmanager
+def service(opening, connections, more=(), tool=(), program=ALBUM, errors=None):
+    """A service of the opening's lines and so many connections, as its process and its port. It has to end well once
+    they have. `more` are further words for the program, `tool` words before it; `errors` takes its standard error."""
+    port = free_port()
+    words = [*tool, program, "serve", str(port), "--conns", str(connections), *more]
+    with tempfile.TemporaryFile() as lines:
+        lines.write("".join(opening).encode())
+        lines.seek(0)
+        process = subprocess.Popen(words, stdin=lines, stdout=subprocess.PIPE, stderr=errors)
+    with process:
+        try:
+            if b'"serving"' not in process.stdout.readline():
+                sys.exit("bench: the service doesn't begin")
+            yield process, port
+            finish(process)
+        finally:
+            process.kill()
+
+
+@contextlib.contextmanager
+def redis(commands):
+    """A Redis that has the store of these commands and the script, as its port and the script's name; None where there
+    is no Redis."""
+    program = shutil.which("redis-server")
+    if program is None:
+        yield None
+        return
+    port = free_port()
+    words = [program, "--port", str(port), "--bind", "127.0.0.1", "--save", "", "--appendonly", "no"]
+    with tempfile.TemporaryDirectory() as folder:
+        with subprocess.Popen(words, cwd=folder, stdout=subprocess.DEVNULL) as server:
+            try:
+                yield port, fill(port, commands)
+            finally:
+                server.terminate()
+
+
+def fill(port, commands):
+    """Puts the store and the script into Redis, and gives the script's name."""
+    with connect(port) as talk:
+        for made in (pictures.command("FLUSHALL"), *commands):
+            if told(talk, made)[:1] not in b"+:":
+                sys.exit("bench: Redis doesn't take the store")
+        with open(os.path.join(HERE, "serve.lua")) as script:
+            told(talk, pictures.command("SCRIPT", "LOAD", script.read()))
+        return talk.readline().strip().decode()
+
+
+def split(folder, requests, connections, greeting, spell, sign):
+    """Writes what each connection sends into a file of its own: what it says first, and its share of the requests."""
+    paths = []
+    for n in range(connections):
+        who = ASKERS[n % len(ASKERS)]
+        paths.append(os.path.join(folder, "requests%d" % n))
+        with open(paths[-1], "wb") as file:
+            share = [(sign + request.answer(), spell(request, who)) for request in requests[n::connections]]
+            for prefix, text in [greeting(who)] + share:
+                file.write(b"%d %s\n%s" % (len(text), prefix.encode(), text))
+    return paths
+
+
+def sent(load, port, seconds, paths):
+    """Sends the requests of the files, and gives the figures of that."""
+    stolen, passed = processor_time()
+    run = subprocess.run([load, str(port), str(seconds), *paths], stdout=subprocess.PIPE, check=True)
+    stolen_then, passed_then = processor_time()
+    count, took, half, most = map(float, run.stdout.split())
+    a_second = count / took if took > 0 else 0.0
+    return Figures(a_second, half, most, 100 * (stolen_then - stolen) / max(passed_then - passed, 1))
+
+
+def album_files(folder, requests, connections):
+    return split(folder, requests, connections, lambda who: ('{"answer":"hello"', pictures.line({"who": who}).encode()),
+                 lambda request, _: request.talk(), '{"answer":"')
+
+
+def redis_files(folder, requests, connections, sha):
+    return split(folder, requests, connections, lambda _: ("+PONG", pictures.command("PING")),
+                 lambda request, who: request.script(sha, who), "+")

@@ -1,0 +1,348 @@
+-- What a line makes of where a replay stands. For the methods of `Stage`, and for `take_lines` and `finish`.
+use Rattle.std.proofs.Common.{◌≡◌, ◌≢◌, ◌⊎◌, ◌+◌, ◌<◌, ℕ, List, [], ◌∷◌, ◌++◌, length, map, take, drop, get_or, Bool, true, false, Option, Result, Ok, Err, OnErr, IfErr, inl, inr, refl, sym, ap, ◌∙◌, subst, append_assoc, append-nil, if◌then◌else◌}
+use Rattle.std.specs.Bool.{MatchBool}
+use Rattle.std.specs.Io.KnownBytes.{Appends}
+use Rattle.album_stamps.specs.declared.refusals.Refusal.{Refusal}
+use Rattle.album_stamps.specs.declared.refusals.Refusal.TheVariants.{OutOfMemory, BadOpening}
+use Rattle.album_items.specs.Openings.{is_opening}
+use Rattle.album_items.specs.declared.openings.Opening.{Opening}
+use Rattle.std.proofs.KnownBytes.{Appends-trans, Appends-nil}
+use Rattle.album_client.specs.Terms.{terms_of}
+use Rattle.album_world.specs.Past.{Past}
+use Rattle.album_world.specs.Runs.{start}
+use Rattle.album_world.specs.Seen.{WorldState, opened}
+use Rattle.album_wire.specs.declared.opening_line.OpeningLine.{OpeningLine}
+use Rattle.album_lines.specs.Lines.{Line, is_blank}
+use Rattle.album_lines.specs.Output.{refusal_line}
+use Rattle.album_judge.specs.declared.fault.Fault.{Fault}
+use Rattle.album_judge.specs.declared.fault.Fault.TheVariants.{Reading, Writing, Memory}
+use Rattle.album_replay.specs.declared.openings.SoFar.{SoFar}
+use Rattle.album_replay.specs.declared.engines.replay.stages.Stage.{Stage as Kept}
+use Rattle.album_replay.specs.declared.engines.replay.stages.Stage.TheVariants as kept
+use Rattle.album_replay.specs.Replay.{Stage, Running, Over, Step, IsStep, IsOpened, IsRun, IsPrinted, Takes, Prints, Replays, begun, opened_by, refused, silently, end_text, replayed}
+use Rattle.album_replay.specs.Stages.{GoesOn, Opens, Steps, Replayed, Ends, IsLeftAmid, IsLeftAtEnd, Leads, MayLead, is_over, no_past, stage_of, step_by, with_past}
+use Rattle.album_judge.specs.Writes.{Writes, IsPrefixOf, LeavesOf}
+use Rattle.album_replay.proofs.Happening.{memory_or_not}
+use Rattle.album_replay.proofs.Leaving.{writes_left}
+use Rattle.album_replay.proofs.Replaying.{replays, replays_append}
+use Rattle.album_judge.proofs.Answering.{goes_on}
+use Rattle.album_judge.proofs.Texts.{writes_weaker, up_to_next, with_others}
+
+-- ---- a line
+
+pub skipped : (stage : Stage) (line : Line) → is_blank line ≡ true → IsStep stage line (silently stage)
+skipped stage line is =
+    subst (λ b. MatchBool b (silently stage ≡ silently stage) (Takes stage line (silently stage))) (sym is) refl
+
+pub not_skipped : (stage : Stage) (line : Line) (step : Step)
+    → is_blank line ≡ false
+    → Takes stage line step
+    → IsStep stage line step
+not_skipped stage line step is h = subst (λ b. MatchBool b (step ≡ silently stage) (Takes stage line step)) (sym is) h
+
+abbrev pub step_from : Stage → List ℕ → Step
+step_from next text = record { next = next; text = text }
+
+same_step : (a b : Stage) (x y : List ℕ) → a ≡ b → x ≡ y → step_from a x ≡ step_from b y
+same_step a b x y stages texts = ap (λ s. step_from s x) stages ∙ ap (step_from b) texts
+
+-- a step of the opening is what its line says, unless memory runs out
+pub is_opened : (says : Step) (result : Result Kept Refusal) (next : Stage) (text : List ℕ)
+    → Opens says result
+    → next ≡ (step_by result).next
+    → text ≡ (step_by result).text
+    → IsOpened says (step_from next text)
+is_opened says (Ok kept) next text opens stage whole =
+    inl (same_step next (stage_of kept no_past) text [] stage whole ∙ sym opens)
+is_opened says (Err e) next text opens stage whole = go (memory_or_not e)
+  where
+    is : step_from next text ≡ refused e
+    is = same_step next Over text (refusal_line e) stage whole
+
+    go : (e ≡ OutOfMemory) ⊎ (e ≢ OutOfMemory) → IsOpened says (step_from next text)
+    go (inl memory) = inr (is ∙ ap refused memory)
+    go (inr why) = inl (is ∙ sym (opens why))
+
+-- ---- the opening
+
+-- its line can't be read, or is read
+module _ (taken : OpeningLine → Step) (read : Result OpeningLine Refusal) where
+  pub unread : (e : Refusal) → (e ≢ OutOfMemory → read ≡ Err e) → GoesOn (opened_by taken read) (Err e)
+  unread e h why = ap (opened_by taken) (h why)
+
+  pub read_so : (said : OpeningLine) (result : Result SoFar Refusal) → read ≡ Ok said → GoesOn (taken said) result
+      → GoesOn (opened_by taken read) result
+  read_so said result is goes_on = subst (λ r. GoesOn (opened_by taken r) result) (sym is) goes_on
+
+-- the world opens, or doesn't
+module _ (o : Opening) (trace : Bool) where
+  abbrev opened_if : Bool → Result WorldState Refusal
+  opened_if b = if b then Ok (record { terms = terms_of o; kept = (start o).now }) else Err BadOpening
+
+  abbrev begun_if : Bool → Step
+  begun_if b = if b then silently (Running (terms_of o) trace (start o)) else refused BadOpening
+
+  opens_by : (b : Bool) (world : WorldState) → opened_if b ≡ Ok world
+      → begun_if b ≡ silently (stage_of (kept.Running trace world) no_past)
+  opens_by true world e =
+      let is : record { terms = terms_of o; kept = (start o).now } ≡ world = cc in
+      ap (λ (w : WorldState). silently (stage_of (kept.Running trace w) no_past)) is
+  opens_by false world e = absurd (cc)
+
+  pub world_opens : (world : WorldState) → opened o ≡ Ok world
+      → begun o trace ≡ silently (stage_of (kept.Running trace world) no_past)
+  world_opens world e = opens_by (is_opening o) world e
+
+  refused_by : (b : Bool) (why : Refusal) → opened_if b ≡ Err why → begun_if b ≡ refused why
+  refused_by true why e = absurd (cc)
+  refused_by false why e =
+      let is : BadOpening ≡ why = cc in
+      ap refused is
+
+  pub world_refused : (why : Refusal) → opened o ≡ Err why → begun o trace ≡ refused why
+  world_refused why e = refused_by (is_opening o) why e
+
+pub over : (kept : Kept) (past : Past) → is_over kept ≡ true → stage_of kept past ≡ Over
+over kept.Unopened past is = cc
+over (kept.BeingOpened header rows) past is = cc
+over (kept.Running trace world) past is = cc
+over kept.Over past is = refl
+
+-- ---- lines
+
+pub one_step : (stage next : Stage) (line : Line) (text : List ℕ)
+    → IsStep stage line (step_from next text)
+    → Replays stage (line ∷ []) next text
+one_step stage next line text h = (step_from next text, [], h, (refl, refl), sym (append-nil text))
+
+-- whatever is printed of a line, there is a text of the lines behind it
+pub goes_on_printing : (stage : Stage) (line : Line) (later : List Line) (text : List ℕ)
+    → Prints stage line text
+    → IsPrefixOf (λ whole. (last : Stage) × Replays stage (line ∷ later) last whole) text
+goes_on_printing stage line later text h =
+    let rest = replayed h.0 later in
+    (rest.1, (rest.0, (step_from h.0 text, rest.1, h.1, replays h.0 later, refl)))
+
+-- lines are taken, and of the next one this is left
+pub lines_left : (fault : Fault) (stage between : Stage) (lines done later : List Line) (line : Line) (front part : List ℕ)
+    → lines ≡ done ++ line ∷ later
+    → Replays stage done between front
+    → LeavesOf fault (Prints between line) part
+    → IsLeftAmid fault stage lines (front ++ part)
+lines_left Reading stage between lines done later line front part split taken h = absurd h
+lines_left Writing stage between lines done later line front part split taken h =
+    let more = goes_on_printing between line later (part ++ h.0) h.2 in
+    let all : Replays stage (done ++ line ∷ later) more.1.0 (front ++ ((part ++ h.0) ++ more.0)) =
+    replays_append stage between more.1.0 done (line ∷ later) front ((part ++ h.0) ++ more.0) taken more.1.1 in
+    let text : front ++ ((part ++ h.0) ++ more.0) ≡ (front ++ part) ++ (h.0 ++ more.0) = simp append_assoc in
+    let whole : Replays stage lines more.1.0 ((front ++ part) ++ (h.0 ++ more.0)) =
+    subst (λ t. Replays stage lines more.1.0 t) text
+    (subst (λ ls. Replays stage ls more.1.0 (front ++ ((part ++ h.0) ++ more.0))) (sym split) all) in
+    (h.0 ++ more.0, goes_on h.0 more.0 h.1, (more.1.0, whole))
+lines_left Memory stage between lines done later line front part split taken h = record {
+  done = done;
+  line = line;
+  later = later;
+  between = between;
+  front = front;
+  part = part;
+  split = split;
+  taken = taken;
+  amid = h;
+  whole = refl;
+}
+
+-- ---- the end
+
+pub some_line_text : (e : Refusal) → refusal_line e ≢ []
+unfolding refusal_line
+some_line_text e none = cc
+
+pub last_lines_left : (fault : Fault) (stage : Stage) (lines : List Line) (text : List ℕ)
+    → IsLeftAmid fault stage lines text
+    → IsLeftAtEnd fault stage lines text
+last_lines_left Reading stage lines text h = absurd h
+last_lines_left Writing stage lines text h =
+    let end = end_text h.2.0 in (
+      h.0 ++ end,
+      goes_on h.0 end h.1,
+      record {
+        last = h.2.0;
+        front = text ++ h.0;
+        taken = h.2.1;
+        whole = sym (append_assoc text h.0 end);
+      },
+    )
+last_lines_left Memory stage lines text h = inl h
+
+pub end_left : (fault : Fault) (stage last : Stage) (lines : List Line) (front part : List ℕ)
+    → Replays stage lines last front
+    → end_text last ≢ []
+    → LeavesOf fault (λ whole. whole ≡ end_text last) part
+    → IsLeftAtEnd fault stage lines (front ++ part)
+end_left Reading stage last lines front part taken due h = absurd h
+end_left Writing stage last lines front part taken due h = (
+  h.0,
+  h.1,
+  record {
+    last = last;
+    front = front;
+    taken = taken;
+    whole = append_assoc front part h.0 ∙ ap (λ t. front ++ t) h.2;
+  },
+)
+end_left Memory stage last lines front part taken due h = inr (record {
+  last = last;
+  front = front;
+  part = part;
+  taken = taken;
+  due = due;
+  amid = h;
+  whole = refl;
+})
+
+-- ---- what the methods of `Stage` write
+
+pub blank_taken : (kept : Kept) (past : Past) (line : Line) (a : Option (List ℕ))
+    → is_blank line ≡ true
+    → Writes (Steps kept past line kept) a a
+blank_taken kept past line a is = ([], (past, skipped (stage_of kept past) line is), Appends-nil a)
+
+-- a line of the opening, by which it goes on or is refused
+module _ (old : Stage) (line : Line) (says : Step) (opening : (step : Step) → IsOpened says step → Takes old line step)
+    (is : is_blank line ≡ false) (result : Result Kept Refusal) (opens : Opens says result) where
+  pub opening_taken : (new : Kept) (a b : Option (List ℕ))
+      → stage_of new no_past ≡ (step_by result).next
+      → Appends a b (step_by result).text
+      → Writes (λ text. (after : Past) × IsStep old line (record { next = stage_of new after; text = text })) a b
+  opening_taken new a b stage w =
+      let text = (step_by result).text in
+      let step = step_from (stage_of new no_past) text in
+      let opened : IsOpened says step = is_opened says result (stage_of new no_past) text opens stage refl in
+      (text, (no_past, not_skipped old line step is (opening step opened)), w)
+
+  pub opening_left : (fault : Fault) (a b : Option (List ℕ))
+      → Writes (LeavesOf fault (λ whole. whole ≡ (step_by result).text)) a b
+      → Writes (LeavesOf fault (Prints old line)) a b
+  opening_left fault a b w =
+      writes_left (λ whole. whole ≡ (step_by result).text) (Prints old line)
+      (λ text e.
+      let step = step_from (step_by result).next text in (
+        (step_by result).next,
+        not_skipped old line step is
+            (opening step (is_opened says result (step_by result).next text opens refl e)),
+      ))
+      fault a b w
+
+-- a line of events
+module _ (trace : Bool) (old : WorldState) (past : Past) (line : Line) (is : is_blank line ≡ false) where
+  pub events_taken : (new : WorldState) (a b : Option (List ℕ))
+      → new.terms ≡ old.terms
+      → Writes (Leads (IsPrinted old.terms trace line) old new past) a b
+      → Writes (Steps (kept.Running trace old) past line (kept.Running trace new)) a b
+  events_taken new a b same w =
+      let next = stage_of (kept.Running trace new) w.1.0 in
+      let step = step_from next w.0 in
+      let run : IsRun old.terms trace (with_past old past) line step =
+      record {
+        world_then = with_past new w.1.0;
+        runs = ap (λ terms. Running terms trace (with_past new w.1.0)) same;
+        printed = w.1.1;
+      } in
+      (w.0, (w.1.0, not_skipped (stage_of (kept.Running trace old) past) line step is run), w.2)
+
+  pub events_left : (fault : Fault) (a b : Option (List ℕ))
+      → Writes (LeavesOf fault (MayLead (IsPrinted old.terms trace line) old past)) a b
+      → Writes (LeavesOf fault (Prints (stage_of (kept.Running trace old) past) line)) a b
+  events_left fault a b w =
+      writes_left (MayLead (IsPrinted old.terms trace line) old past) (Prints (stage_of (kept.Running trace old) past) line)
+      (λ text h.
+      let next = Running old.terms trace h.0 in
+      let step = step_from next text in
+      let run : IsRun old.terms trace (with_past old past) line step =
+      record { world_then = h.0; runs = refl; printed = h.1 } in
+      (next, not_skipped (stage_of (kept.Running trace old) past) line step is run))
+      fault a b w
+
+pub over_taken : (past : Past) (line : Line) (a : Option (List ℕ))
+    → is_blank line ≡ false
+    → Writes (Steps kept.Over past line kept.Over) a a
+over_taken past line a is = ([], (past, not_skipped Over line (silently Over) is refl), Appends-nil a)
+
+-- ---- what the loop over lines writes
+
+pub lines_begin : (kept : Kept) (past : Past) (a : Option (List ℕ)) → Writes (Replayed kept past [] kept) a a
+lines_begin kept past a = ([], (past, (refl, refl)), Appends-nil a)
+
+module _ {X : Type 0} (f : X → Line) (xs : List X) (i : ℕ) (x : X) (inside : i < length xs) (is : x ≡ get_or xs i x)
+    (old mid : Kept) (a b c : Option (List ℕ))
+    (so_far : (past : Past) → Writes (Replayed old past (map f (take i xs)) mid) a b) where
+  pub lines_next : (new : Kept)
+      → ((past : Past) → Writes (Steps mid past (f x) new) b c)
+      → (past : Past) → Writes (Replayed old past (map f (take (i + 1) xs)) new) a c
+  lines_next new next past =
+      let s = so_far past in
+      let n = next s.1.0 in
+      let one = one_step (stage_of mid s.1.0) (stage_of new n.1.0) (f x) n.0 n.1.1 in
+      let all =
+      replays_append (stage_of old past) (stage_of mid s.1.0) (stage_of new n.1.0) (map f (take i xs)) (f x ∷ []) s.0 n.0 s.1.1 one in (
+        s.0 ++ n.0,
+        (n.1.0, subst (λ ls. Replays (stage_of old past) ls (stage_of new n.1.0) (s.0 ++ n.0)) (sym (up_to_next f xs i x inside is)) all),
+        Appends-trans a b c s.0 n.0 s.2 n.2,
+      )
+
+  pub lines_stop : (fault : Fault)
+      → ((past : Past) → Writes (LeavesOf fault (Prints (stage_of mid past) (f x))) b c)
+      → (past : Past) → Writes (IsLeftAmid fault (stage_of old past) (map f xs)) a c
+  lines_stop fault next past =
+      let s = so_far past in
+      let n = next s.1.0 in
+      let later = map f (drop (i + 1) xs) in
+      let split : map f xs ≡ map f (take i xs) ++ f x ∷ later =
+      with_others f xs (i + 1)
+      ∙ ap (λ ls. ls ++ later) (up_to_next f xs i x inside is)
+      ∙ append_assoc (map f (take i xs)) (f x ∷ []) later in (
+        s.0 ++ n.0,
+        lines_left fault (stage_of old past) (stage_of mid s.1.0) (map f xs) (map f (take i xs)) later (f x) s.0 n.0 split s.1.1 n.1,
+        Appends-trans a b c s.0 n.0 s.2 n.2,
+      )
+
+-- ---- what is written at the end
+
+module _ (old new : Kept) (lines : List Line) (a b c : Option (List ℕ))
+    (so_far : (past : Past) → Writes (Replayed old past lines new) a b) where
+  pub end_written : ((past : Past) → Appends b c (end_text (stage_of new past)))
+      → (past : Past) → Writes (Ends (stage_of old past) lines) a c
+  end_written end past =
+      let s = so_far past in
+      let text = end_text (stage_of new s.1.0) in
+      let ends : Ends (stage_of old past) lines (s.0 ++ text) =
+      record { last = stage_of new s.1.0; front = s.0; taken = s.1.1; whole = refl } in
+      (s.0 ++ text, ends, Appends-trans a b c s.0 text s.2 (end s.1.0))
+
+  pub end_begun : (fault : Fault)
+      → ((past : Past) → end_text (stage_of new past) ≢ [])
+      → ((past : Past) → Writes (LeavesOf fault (λ whole. whole ≡ end_text (stage_of new past))) b c)
+      → (past : Past) → Writes (IsLeftAtEnd fault (stage_of old past) lines) a c
+  end_begun fault due end past =
+      let s = so_far past in
+      let e = end s.1.0 in (
+        s.0 ++ e.0,
+        end_left fault (stage_of old past) (stage_of new s.1.0) lines s.0 e.0 s.1.1 (due s.1.0) e.1,
+        Appends-trans a b c s.0 e.0 s.2 e.2,
+      )
+
+-- where the end is not written wholly, there is a text of it
+pub end_stops : {X : Type 0} (result : Result X Fault) (old new : Kept) (lines : List Line) (a b c : Option (List ℕ))
+    → ((past : Past) → Writes (Replayed old past lines new) a b)
+    → OnErr result ((past : Past) → end_text (stage_of new past) ≢ [])
+    → IfErr result (λ fault. (past : Past) → Writes (LeavesOf fault (λ whole. whole ≡ end_text (stage_of new past))) b c)
+    → IfErr result (λ fault. (past : Past) → Writes (IsLeftAtEnd fault (stage_of old past) lines) a c)
+end_stops (Ok x) old new lines a b c so_far due end = tt
+end_stops (Err fault) old new lines a b c so_far due end = end_begun old new lines a b c so_far fault due end
+
+pub last_lines_begun : (fault : Fault) (stage : Stage) (lines : List Line) (a b : Option (List ℕ))
+    → Writes (IsLeftAmid fault stage lines) a b
+    → Writes (IsLeftAtEnd fault stage lines) a b
+last_lines_begun fault stage lines a b w =
+    writes_weaker (IsLeftAmid fault stage lines) (IsLeftAtEnd fault stage lines) (last_lines_left fault stage lines) a b w

@@ -1,0 +1,4 @@
+pub mod Replay
+pub mod Promise
+pub mod WorkedOpening
+pub mod Stages

@@ -1,0 +1,137 @@
+-- What is promised of all that `replay` prints.
+--
+-- The first lines of an input spell an opening, and the others events. Whatever is printed is either a refusal, or it
+-- is an output of the world that opened so, once events of the lines before it, in their order, have happened there.
+-- (An event that memory ran out on, or on whose line it did, is left out, and so are those that come later in the same
+-- line.) On that world, and of its whole past, all promises hold; and each line that is printed as an answer is the one
+-- answer to the last request that its client made there.
+use Rattle.std.specs.Prelude.{◌≡◌, ℕ, List, [], ◌∷◌, ◌++◌, not, true, map, filter, if◌then◌else◌, Contains, Option, Result, Ok, Err}
+use Rattle.std.specs.List.{flat_map}
+use Rattle.album_stamps.specs.declared.refusals.Refusal.{Refusal}
+use Rattle.album_items.specs.Openings.{Row, is_opening}
+use Rattle.album_items.specs.declared.openings.Opening.{Opening}
+use Rattle.album_calls.specs.declared.messages.Message.{Message}
+use Rattle.album_client.specs.Terms.{Terms, terms_of}
+use Rattle.album_world.specs.Past.{World}
+use Rattle.album_world.specs.Atomic.{ViewsAreReadAtomic}
+use Rattle.album_world.specs.Busy.{BusyHasItsCause}
+use Rattle.album_world.specs.Events.{IsNoteKept}
+use Rattle.album_world.specs.Fresh.{ViewsAreFresh}
+use Rattle.album_world.specs.Granted.{WritesAreGranted}
+use Rattle.album_world.specs.Outcomes.{OutcomesAreTrue}
+use Rattle.album_world.specs.Requests.{AnswersAreToRequests, IsAnsweredLast}
+use Rattle.album_world.specs.Rulings.{RulingsHold}
+use Rattle.album_world.specs.Runs.{run_of, past_answer}
+use Rattle.album_permits.specs.declared.events.Event.{Event}
+use Rattle.album_permits.specs.declared.outs.Out.{Out}
+use Rattle.album_permits.specs.declared.outs.Out.TheVariants as out
+use Rattle.album_wire.specs.EventLine.{deliveries}
+use Rattle.album_lines.specs.Lines.{Line, is_blank, lines_of}
+use Rattle.album_lines.specs.Output.{refusal_line}
+use Rattle.album_wire.specs.OutJson.{out_line}
+use Rattle.album_wire.specs.declared.event_shape.Spelled.{Spelled}
+use Rattle.album_wire.specs.declared.event_shape.Spelled.TheVariants as spelled
+use Rattle.album_wire.specs.declared.opening_line.OpeningLine.{OpeningLine}
+use Rattle.album_wire.specs.declared.opening_line.OpeningLine.TheVariants as line
+use Rattle.album_wire.specs.declared.opening_shape.Header.{Header}
+use Rattle.album_replay.specs.Replay.{event_line_read, opening_line_read, opening_of}
+
+-- ---- what lines spell
+
+-- what the lines of an opening say, of which blank ones count for nothing
+abbrev pub opening_said : List Line → List (Result OpeningLine Refusal)
+opening_said lines = map opening_line_read (filter (λ line. not (is_blank line)) lines)
+
+-- an item with its first value
+abbrev pub item_said : Row → Result OpeningLine Refusal
+item_said row = Ok (line.Item row.0 row.1)
+
+-- a header, the items, and that these are all; and the opening that this makes passes its check
+pub record SpellsOpening (lines : List Line) (opening : Opening) : Type 0 where
+  pub header : Header
+  pub rows : List Row
+  pub said : opening_said lines ≡ Ok (line.Open header) ∷ map item_said rows ++ Ok line.Begin ∷ []
+  pub is : opening ≡ opening_of header rows
+  pub passes : is_opening opening ≡ true
+
+-- the events that a line spells, where it is read
+abbrev pub events_read : Result Spelled Refusal → List Event
+events_read (Ok (spelled.One event)) = event ∷ []
+events_read (Ok (spelled.Range first last)) = deliveries first last
+events_read (Err refusal) = []
+
+-- the events that lines spell, one line after another
+abbrev pub events_spelled : List Line → List Event
+events_spelled lines = flat_map (λ line. if is_blank line then [] else events_read (event_line_read line)) lines
+
+-- some of these events, in their order
+pub data AreAmong : List Event → List Event → Type 0 where
+  nothing : AreAmong [] []
+  taken : {event : Event} {some all : List Event} → AreAmong some all → AreAmong (event ∷ some) (event ∷ all)
+  left : {event : Event} {some all : List Event} → AreAmong some all → AreAmong some (event ∷ all)
+
+-- the first of the lines spell the opening, and these are events of the others
+pub record Spell (lines : List Line) (opening : Opening) (events : List Event) : Type 0 where
+  pub first : List Line
+  pub others : List Line
+  pub split : lines ≡ first ++ others
+  pub opens : SpellsOpening first opening
+  pub among : AreAmong events (events_spelled others)
+
+-- the world is the run of the opening and of these events
+pub record IsSpelledBy (lines : List Line) (terms : Terms) (world : World) : Type 0 where
+  pub opening : Opening
+  pub events : List Event
+  pub spelled : Spell lines opening events
+  pub terms_are : terms ≡ terms_of opening
+  pub is : world ≡ run_of opening events
+
+-- ---- what is printed
+
+-- all promises hold of a world that opened so
+pub record AllHold (opening : Opening) (world : World) : Type 0 where
+  pub rulings_hold : RulingsHold (terms_of opening) world
+  pub writes_are_granted : WritesAreGranted (terms_of opening) world
+  pub views_are_read_atomic : ViewsAreReadAtomic opening world
+  pub views_are_fresh : ViewsAreFresh (terms_of opening) world
+  pub outcomes_are_true : OutcomesAreTrue (terms_of opening) world
+  pub busy_has_its_cause : BusyHasItsCause world
+  pub answers_are_to_requests : AnswersAreToRequests (terms_of opening) world
+
+-- An answer is the one to its client's last request, and is in the past with what was read for that; so is a note.
+abbrev pub IsOf : World → Out → Type 0
+IsOf world (out.Sent number) = Unit {0}
+IsOf world (out.Noted client note) = IsNoteKept world client note
+IsOf world (out.Answered client answer) =
+    IsAnsweredLast world client answer × Contains world.past.answers (past_answer world.past.reads client answer)
+
+-- a part of what is printed: a refusal, or an output, once these lines are read, of the world that opened so and in
+-- which these events have happened, with the message of it in a trace
+pub data Printed : Type 0 where
+  Refused : Refusal → Printed
+  Output : List Line → Opening → List Event → Out → Option Message → Printed
+
+-- its text
+abbrev pub text_of : Printed → List ℕ
+text_of (Refused refusal) = refusal_line refusal
+text_of (Output lines opening events output shown) = out_line output shown
+
+-- the output is of the world that the lines before it spell, and all promises hold there
+pub record IsOutputOf (input lines : List Line) (opening : Opening) (events : List Event) (output : Out) : Type 0 where
+  pub later : List Line
+  pub before : input ≡ lines ++ later
+  pub spelled : Spell lines opening events
+  pub hold : AllHold opening (run_of opening events)
+  pub is : IsOf (run_of opening events) output
+
+abbrev pub IsRight : List Line → Printed → Type 0
+IsRight input (Refused refusal) = Unit {0}
+IsRight input (Output lines opening events output shown) = IsOutputOf input lines opening events output
+
+-- ---- the promise
+
+-- the text is that of such parts, one after another
+pub record IsAsPromised (input text : List ℕ) : Type 0 where
+  pub parts : List Printed
+  pub whole : text ≡ flat_map text_of parts
+  pub right : (part : Printed) → Contains parts part → IsRight (lines_of input) part

@@ -1,0 +1,100 @@
+-- Where the engine of replays stands, as the definition of what is printed sees it: the past that this knows, no code
+-- keeps.
+use Rattle.std.specs.Prelude.{◌≡◌, ◌≢◌, ◌⊎◌, ◌++◌, ℕ, List, [], Bool, true, false, Result, Ok, Err}
+use Rattle.album_stamps.specs.declared.refusals.Refusal.{Refusal}
+use Rattle.album_stamps.specs.declared.refusals.Refusal.TheVariants.{OutOfMemory}
+use Rattle.album_world.specs.Past.{Past, World}
+use Rattle.album_world.specs.Seen.{WorldState}
+use Rattle.album_lines.specs.Lines.{Line}
+use Rattle.album_replay.specs.Replay.{Stage, Unopened, BeingOpened, Running, Over, Step, IsStep, Replays, StopsAmid, EndsAmid, begun, opening_of, refused, silently, end_text}
+use Rattle.album_judge.specs.declared.fault.Fault.{Fault}
+use Rattle.album_judge.specs.declared.fault.Fault.TheVariants.{Reading, Writing, Memory}
+use Rattle.album_replay.specs.declared.openings.SoFar.{SoFar}
+use Rattle.album_replay.specs.declared.openings.SoFar.TheVariants as so_far
+use Rattle.album_replay.specs.declared.engines.replay.stages.Stage.{Stage as Kept}
+use Rattle.album_replay.specs.declared.engines.replay.stages.Stage.TheVariants as kept
+use Rattle.album_judge.specs.Writes.{IsCutShort}
+
+-- the world that is kept, where this has happened to it
+abbrev pub with_past : WorldState → Past → World
+with_past world past = record { now = world.kept; past = past }
+
+-- where the engine stands
+abbrev pub stage_of : Kept → Past → Stage
+stage_of kept.Unopened past = Unopened
+stage_of (kept.BeingOpened header rows) past = BeingOpened header rows.items
+stage_of (kept.Running trace world) past = Running world.terms trace (with_past world past)
+stage_of kept.Over past = Over
+
+-- whatever had happened to the world, what is kept now goes on from it, and this is printed
+abbrev pub Leads : (World → World → List ℕ → Type 0) → WorldState → WorldState → Past → List ℕ → Type 0
+Leads Goes old new past text = (after : Past) × Goes (with_past old past) (with_past new after) text
+
+-- some world goes on from it
+abbrev pub MayLead : (World → World → List ℕ → Type 0) → WorldState → Past → List ℕ → Type 0
+MayLead Goes old past text = (next : World) × Goes (with_past old past) next text
+
+-- ---- the opening
+
+-- nothing has happened to a world that opens
+abbrev pub no_past : Past
+no_past = record { asked = []; transactions = []; begun = []; reads = []; answers = []; noted = [] }
+
+-- what the lines have said so far, as a step
+abbrev pub step_to : SoFar → Step
+step_to (so_far.More header rows) = silently (BeingOpened header rows.items)
+step_to (so_far.Whole header rows) = begun (opening_of header rows.items) header.trace
+
+-- A step of the opening: its lines go on, or it is refused for the reason that it says, or for memory.
+abbrev pub GoesOn : Step → Result SoFar Refusal → Type 0
+GoesOn says (Ok so_far) = says ≡ step_to so_far
+GoesOn says (Err refusal) = refusal ≢ OutOfMemory → says ≡ refused refusal
+
+-- A step of the opening: it goes on without a text, or is refused for the reason that it says, or for memory.
+abbrev pub Opens : Step → Result Kept Refusal → Type 0
+Opens says (Ok next) = says ≡ silently (stage_of next no_past)
+Opens says (Err refusal) = refusal ≢ OutOfMemory → says ≡ refused refusal
+
+-- what comes of that, as a step
+abbrev pub step_by : Result Kept Refusal → Step
+step_by (Ok next) = silently (stage_of next no_past)
+step_by (Err refusal) = refused refusal
+
+-- ---- a line
+
+-- the opening was refused
+abbrev pub is_over : Kept → Bool
+is_over kept.Unopened = false
+is_over (kept.BeingOpened header rows) = false
+is_over (kept.Running trace world) = false
+is_over kept.Over = true
+
+-- whatever had happened to the world, the line is taken, and this is printed of it
+abbrev pub Steps : Kept → Past → Line → Kept → List ℕ → Type 0
+Steps old past line new text =
+    (after : Past) × IsStep (stage_of old past) line (record { next = stage_of new after; text = text })
+
+-- what a fault leaves of the text of lines
+abbrev pub IsLeftAmid : Fault → Stage → List Line → List ℕ → Type 0
+IsLeftAmid Reading stage lines text = ⊥
+IsLeftAmid Writing stage lines text = IsCutShort (λ whole. (last : Stage) × Replays stage lines last whole) text
+IsLeftAmid Memory stage lines text = StopsAmid stage lines text
+
+-- the same of lines, one after another
+abbrev pub Replayed : Kept → Past → List Line → Kept → List ℕ → Type 0
+Replayed old past lines new text = (after : Past) × Replays (stage_of old past) lines (stage_of new after) text
+
+-- ---- the end
+
+-- the last lines are taken, and the end's text is printed
+pub record Ends (stage : Stage) (lines : List Line) (text : List ℕ) : Type 0 where
+  pub last : Stage
+  pub front : List ℕ
+  pub taken : Replays stage lines last front
+  pub whole : text ≡ front ++ end_text last
+
+-- what a fault leaves of that
+abbrev pub IsLeftAtEnd : Fault → Stage → List Line → List ℕ → Type 0
+IsLeftAtEnd Reading stage lines text = ⊥
+IsLeftAtEnd Writing stage lines text = IsCutShort (Ends stage lines) text
+IsLeftAtEnd Memory stage lines text = StopsAmid stage lines text ⊎ EndsAmid stage lines text

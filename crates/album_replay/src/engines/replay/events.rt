@@ -1,0 +1,206 @@
+//! The events of a line: they run one after another, and the outputs of each are written before the next.
+ghost use Rattle.std.specs.Prelude.{◌≡◌, ◌==◌, ◌||◌, not, true, IfErr, OnOk};
+ghost use Rattle.std.specs.Option.{option_copied};
+ghost use Rattle.std.specs.Io.KnownBytes.{Appends};
+ghost use Rattle.album_stamps.specs.Outcome.{Gives};
+ghost use Rattle.album_stamps.specs.Refusals.{number_of};
+ghost use Rattle.album_world.specs.Past.{Past};
+ghost use Rattle.album_wire.specs.EventLine.{deliveries};
+ghost use Rattle.album_lines.specs.Lines.{said};
+ghost use Rattle.album_wire.specs.OutJson.{out_line};
+ghost use Rattle.album_replay.specs.Replay.{Happens, Delivers, Spells, IsPrinted, delivery_text, text_in, event_line_read, message_shown, outputs_text};
+ghost use Rattle.album_replay.specs.Stages.{Leads, MayLead};
+ghost use Rattle.album_judge.specs.Writes.{Writes, LeavesOf};
+
+use album_calls::Message;
+use album_judge::{Fault, write_refused, write_text};
+use album_lines::LineIn;
+use album_permits::{Event, Out};
+use album_stamps::Refusal;
+use album_wire::{Spelled, read_event, write_out};
+use album_world::World;
+use json::Scratch;
+use std::alloc::Global;
+use std::io::Write;
+
+/// Runs the events of a line, and writes their outputs; or the line's refusal, where it has one.
+pub(crate) fn run<W: Write>(
+    alloc: Global,
+    scratch: &mut Scratch,
+    trace: bool,
+    world: &mut World,
+    line: &LineIn,
+    writer: &mut W,
+) -> Result<(), Fault>
+    ensures ok { OnOk result ((past : Past) → Writes
+        (Leads (IsPrinted world.old.terms trace (said line.now)) world.old world.new past)
+        (W.contents writer.old) (W.contents writer.new)) }
+    ensures fault { IfErr result (λ fault. (past : Past) → Writes
+        (LeavesOf fault (MayLead (IsPrinted world.old.terms trace (said line.now)) world.old past))
+        (W.contents writer.old) (W.contents writer.new)) }
+    ensures terms { world.new.terms ≡ world.old.terms }
+{
+    match event_line(alloc, scratch, line) {
+        Ok(events) => run_events(alloc, trace, world, events, writer),
+        Err(refusal) => write_refused(alloc, refusal, writer),
+    }
+}
+
+/// The events that a line spells. Of a line that is too long nothing is read.
+fn event_line(alloc: Global, scratch: &mut Scratch, line: &LineIn) -> Result<Spelled, Refusal>
+    ensures { Gives (λ events. events) result (event_line_read (said line.now)) }
+{
+    read_event(alloc, scratch, line.bytes()?)
+}
+
+fn run_events<W: Write>(
+    alloc: Global,
+    trace: bool,
+    world: &mut World,
+    events: Spelled,
+    writer: &mut W,
+) -> Result<(), Fault>
+    ensures ok { OnOk result ((past : Past) → Writes
+        (Leads (λ before. Spells world.old.terms trace before events) world.old world.new past)
+        (W.contents writer.old) (W.contents writer.new)) }
+    ensures fault { IfErr result (λ fault. (past : Past) → Writes
+        (LeavesOf fault (MayLead (λ before. Spells world.old.terms trace before events) world.old past))
+        (W.contents writer.old) (W.contents writer.new)) }
+    ensures terms { world.new.terms ≡ world.old.terms }
+{
+    match events {
+        Spelled::One(event) => run_event(alloc, trace, false, world, &event, writer),
+        Spelled::Range(first, last) => deliver_range(alloc, trace, world, first, last, writer),
+    }
+}
+
+/// Runs the event, and writes its outputs, or why it is refused. Of one in a range that is written only for memory.
+fn run_event<W: Write>(
+    alloc: Global,
+    trace: bool,
+    in_range: bool,
+    world: &mut World,
+    event: &Event,
+    writer: &mut W,
+) -> Result<(), Fault>
+    ensures ok { OnOk result ((past : Past) → Writes
+        (Leads (λ before. Happens (text_in in_range) world.old.terms trace before event.now) world.old world.new past)
+        (W.contents writer.old) (W.contents writer.new)) }
+    ensures fault { IfErr result (λ fault. (past : Past) → Writes
+        (LeavesOf fault
+        (MayLead (λ before. Happens (text_in in_range) world.old.terms trace before event.now) world.old past))
+        (W.contents writer.old) (W.contents writer.new)) }
+    ensures terms { world.new.terms ≡ world.old.terms }
+{
+    match world.step(event) {
+        Ok(outs) => write_outs(alloc, trace, world, &outs, writer),
+        Err(refusal) => {
+            if is_printed(in_range, refusal) {
+                return write_refused(alloc, refusal, writer);
+            }
+            Ok(())
+        }
+    }
+}
+
+/// Whether the refusal of an event is written.
+fn is_printed(in_range: bool, refusal: Refusal) -> bool
+    ensures { result ≡ (not in_range || number_of refusal == number_of Refusal.OutOfMemory) }
+{
+    !in_range || refusal.number() == Refusal::OutOfMemory.number()
+}
+
+/// Gives the messages of the range to whom they are sent.
+fn deliver_range<W: Write>(
+    alloc: Global,
+    trace: bool,
+    world: &mut World,
+    first: u64,
+    last: u64,
+    writer: &mut W,
+) -> Result<(), Fault>
+    ensures ok { OnOk result ((past : Past) → Writes
+        (Leads (λ before. Delivers world.old.terms trace before (deliveries first last)) world.old world.new past)
+        (W.contents writer.old) (W.contents writer.new)) }
+    ensures fault { IfErr result (λ fault. (past : Past) → Writes
+        (LeavesOf fault
+        (MayLead (λ before. Delivers world.old.terms trace before (deliveries first last)) world.old past))
+        (W.contents writer.old) (W.contents writer.new)) }
+    ensures terms { world.new.terms ≡ world.old.terms }
+{
+    if first > last {
+        return Ok(());
+    }
+    for number in first..last {
+        deliver(alloc, trace, world, number, writer)?;
+    }
+    deliver(alloc, trace, world, last, writer)
+}
+
+/// Gives the message of this number to whom it is sent.
+fn deliver<W: Write>(
+    alloc: Global,
+    trace: bool,
+    world: &mut World,
+    number: u64,
+    writer: &mut W,
+) -> Result<(), Fault>
+    ensures ok { OnOk result ((past : Past) → Writes
+        (Leads (λ before. Happens delivery_text world.old.terms trace before (Event.Deliver number))
+        world.old world.new past)
+        (W.contents writer.old) (W.contents writer.new)) }
+    ensures fault { IfErr result (λ fault. (past : Past) → Writes
+        (LeavesOf fault (MayLead (λ before. Happens delivery_text world.old.terms trace before (Event.Deliver number))
+        world.old past))
+        (W.contents writer.old) (W.contents writer.new)) }
+    ensures terms { world.new.terms ≡ world.old.terms }
+{
+    run_event(alloc, trace, true, world, &Event::Deliver(number), writer)
+}
+
+/// Writes the outputs, line by line.
+fn write_outs<W: Write>(
+    alloc: Global,
+    trace: bool,
+    world: &World,
+    outs: &[Out],
+    writer: &mut W,
+) -> Result<(), Fault>
+    ensures ok { OnOk result (Appends (W.contents writer.old) (W.contents writer.new)
+        (outputs_text trace world.now.kept outs.now)) }
+    ensures fault { IfErr result (λ fault. Writes
+        (LeavesOf fault (λ whole. whole ≡ outputs_text trace world.now.kept outs.now))
+        (W.contents writer.old) (W.contents writer.new)) }
+{
+    for out in outs {
+        write_outputs(alloc, trace, world, out, writer)?;
+    }
+    Ok(())
+}
+
+fn write_outputs<W: Write>(
+    alloc: Global,
+    trace: bool,
+    world: &World,
+    out: &Out,
+    writer: &mut W,
+) -> Result<(), Fault>
+    ensures ok { OnOk result (Appends (W.contents writer.old) (W.contents writer.new)
+        (out_line out.now (message_shown trace world.now.kept out.now))) }
+    ensures fault { IfErr result (λ fault.
+        Writes (LeavesOf fault (λ whole. whole ≡ out_line out.now (message_shown trace world.now.kept out.now)))
+        (W.contents writer.old) (W.contents writer.new)) }
+{
+    let text = write_out(alloc, out, message_shown(trace, world, out))?;
+    write_text(writer, &text)
+}
+
+/// The message that is sent, where the world runs in a trace.
+fn message_shown<'a>(trace: bool, world: &'a World, out: &Out) -> Option<&'a Message>
+    ensures { option_copied result ≡ message_shown trace world.now.kept out.now }
+{
+    match out {
+        Out::Sent(number) => { if trace { world.message(*number) } else { None } }
+        Out::Noted(..) | Out::Answered(..) => None,
+    }
+}

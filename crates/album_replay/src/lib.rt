@@ -1,0 +1,25 @@
+//! The engine that replays a script, from a reader of lines to a writer of what its events bring about.
+//!
+//! What comes in: a reader and a writer, whatever they are. What goes out: the text that the lines read bring about; or
+//! a fault, before which a prefix of such a text was written. No thread is needed, and no connection.
+//!
+//! Read `engines/replay` first: `Stage` takes a line (`replay/stages`), and a line's events run (`replay/events`).
+//! specs/Replay.antt has the text of a replay, specs/Promise.antt what is promised of it, and `laws` what holds of
+//! both. What the lines of an opening say (`openings`) a service needs too.
+#![tactic(auto)]
+
+// What the lines of an opening say. Both a replay and a service begin with them.
+mod openings;
+
+// The engine.
+mod engines;
+
+// What holds of replays.
+mod laws;
+
+pub use engines::replay::replay;
+pub use laws::{
+    a_replay_runs_what_its_lines_spell, replays_are_computed, replays_go_on, what_replay_prints,
+    worked_replays,
+};
+pub use openings::{SoFar, first_line, later_line, opening_of};

@@ -1,0 +1,73 @@
+//! An opening, line by line: the header comes first, behind it the items, and then that these are all.
+ghost use Rattle.std.specs.Prelude.{◌≡◌};
+ghost use Rattle.album_stamps.specs.Outcome.{Gives};
+ghost use Rattle.album_lines.specs.Lines.{said};
+ghost use Rattle.album_replay.specs.Replay.{first_line, later_line, opened_by, opening_line_read, opening_of};
+ghost use Rattle.album_replay.specs.Stages.{GoesOn};
+
+use album_items::{ItemId, ItemValues, Opening, Value};
+use album_lines::LineIn;
+use album_stamps::Refusal;
+use album_wire::{Header, OpeningLine, read_opening_line};
+use json::Scratch;
+use std::alloc::Global;
+
+/// What the lines of an opening have said so far.
+#[derive(Drop)]
+pub enum SoFar {
+    /// This header, and behind it these items.
+    More(Header, Vec<(ItemId, Value)>),
+    /// The same, and that these are all.
+    Whole(Header, Vec<(ItemId, Value)>),
+}
+
+/// The header comes first.
+#[tactic(auto, using(crate::proofs::Standing::unread, crate::proofs::Standing::read_so))]
+pub fn first_line(alloc: Global, scratch: &mut Scratch, line: &LineIn) -> Result<SoFar, Refusal>
+    ensures { GoesOn (opened_by first_line (opening_line_read (said line.now))) result }
+{
+    match opening_line(alloc, scratch, line)? {
+        OpeningLine::Open(header) => Ok(SoFar::More(header, Vec::new(alloc))),
+        OpeningLine::Item(..) | OpeningLine::Begin => Err(Refusal::BadRequest),
+    }
+}
+
+/// Behind it come the items, and then that these are all.
+#[tactic(auto, using(crate::proofs::Standing::unread, crate::proofs::Standing::read_so))]
+pub fn later_line(
+    alloc: Global,
+    scratch: &mut Scratch,
+    header: Header,
+    mut rows: Vec<(ItemId, Value)>,
+    line: &LineIn,
+) -> Result<SoFar, Refusal>
+    ensures { GoesOn (opened_by (later_line header rows.items) (opening_line_read (said line.now))) result }
+{
+    match opening_line(alloc, scratch, line)? {
+        OpeningLine::Open(_) => Err(Refusal::BadRequest),
+        OpeningLine::Item(item, value) => {
+            rows.push((item, value))?;
+            Ok(SoFar::More(header, rows))
+        }
+        OpeningLine::Begin => Ok(SoFar::Whole(header, rows)),
+    }
+}
+
+/// What a line of the opening says. Of a line that is too long nothing is read.
+fn opening_line(alloc: Global, scratch: &mut Scratch, line: &LineIn) -> Result<OpeningLine, Refusal>
+    ensures { Gives (λ line. line) result (opening_line_read (said line.now)) }
+{
+    read_opening_line(alloc, scratch, line.bytes()?)
+}
+
+/// The opening that they have said.
+pub fn opening_of(header: Header, rows: Vec<(ItemId, Value)>) -> Opening
+    ensures { result ≡ opening_of header rows.items }
+{
+    Opening {
+        parts: header.parts,
+        limit: header.limit,
+        policy: header.policy,
+        items: ItemValues::of(rows),
+    }
+}

@@ -1,5 +1,0 @@
-use Rattle.album_server.proofs.Replaying.{is_replay}
-use Rattle.album_server.proofs.laws.replays_are_computed.Goals as goal
-
-pub returns : goal.returns
-returns c = is_replay
