@@ -1,9 +1,20 @@
-//! Gates for the tests of sessions: one that counts, and one that holds two partitions till both are in a message.
+//! Gates for the tests of sessions: one that counts, and others that hold partitions until something else has happened.
 use album_threads::Gate;
 use std::alloc::Global;
 use std::sync::Arc;
 use std::sync::atomic::{AtomicBool, AtomicU64, Ordering};
 use std::thread;
+
+/// Waits until the number is so great, and says whether it is. It gives up after some seconds.
+fn comes_to(number: &AtomicU64, least: u64) -> bool {
+    for _ in 0..1_000_000u32 {
+        if number.load(Ordering::SeqCst) >= least {
+            return true;
+        }
+        thread::yield_now();
+    }
+    false
+}
 
 /// How many messages partitions 0 and 2 of three took.
 #[derive(Drop)]
@@ -31,6 +42,15 @@ impl Counts {
         let now = self.so_far();
         (now.0.wrapping_sub(before.0), now.1.wrapping_sub(before.1))
     }
+
+    /// Counts the message of this number, which the partition takes.
+    fn take(&self, part: u16, number: u64) {
+        match part {
+            0 => count(&self.zero, number),
+            2 => count(&self.two, number),
+            _ => {}
+        }
+    }
 }
 
 /// Counts the messages that are taken, where each has the number of those before it.
@@ -48,12 +68,7 @@ fn count(counter: &AtomicU64, number: u64) {
 
 impl Gate for Counting {
     fn enter(&self, part: u16, number: u64) {
-        let counts: &Counts = &self.counts;
-        match part {
-            0 => count(&counts.zero, number),
-            2 => count(&counts.two, number),
-            _ => {}
-        }
+        self.counts.take(part, number);
     }
 
     fn leave(&self, _part: u16, _number: u64) {}
@@ -62,37 +77,34 @@ impl Gate for Counting {
 /// Whether partitions 0 and 1 took their first messages, and whether one of them gave up the other.
 #[derive(Drop)]
 pub struct Entered {
-    zero: AtomicBool,
-    one: AtomicBool,
+    /// 1 once partition 0 has taken its first message, and so on.
+    zero: AtomicU64,
+    one: AtomicU64,
     gave_up: AtomicBool,
 }
 
 impl Entered {
     pub fn new() -> Entered {
         Entered {
-            zero: AtomicBool::new(false),
-            one: AtomicBool::new(false),
+            zero: AtomicU64::new(0),
+            one: AtomicU64::new(0),
             gave_up: AtomicBool::new(false),
         }
     }
 
     /// Whether both took their first messages, and neither gave up the other.
     pub fn at_once(&self) -> bool {
-        self.zero.load(Ordering::SeqCst)
-            && self.one.load(Ordering::SeqCst)
+        self.zero.load(Ordering::SeqCst) == 1
+            && self.one.load(Ordering::SeqCst) == 1
             && !self.gave_up.load(Ordering::SeqCst)
     }
 
     /// Says that one of them is here, and waits for the other.
-    fn wait(&self, here: &AtomicBool, other: &AtomicBool) {
-        here.store(true, Ordering::SeqCst);
-        for _ in 0..1_000_000u32 {
-            if other.load(Ordering::SeqCst) {
-                return;
-            }
-            thread::yield_now();
+    fn wait(&self, here: &AtomicU64, other: &AtomicU64) {
+        here.store(1, Ordering::SeqCst);
+        if !comes_to(other, 1) {
+            self.gave_up.store(true, Ordering::SeqCst);
         }
-        self.gave_up.store(true, Ordering::SeqCst);
     }
 }
 
@@ -118,7 +130,8 @@ impl Gate for Together {
 /// How far a read and a write have come that go on side by side.
 #[derive(Drop)]
 pub struct Overtakes {
-    amy: AtomicBool,
+    /// 1 once partition 2 has come to the last message of amy's reads.
+    amy: AtomicU64,
     /// How many messages partition 0 has taken.
     zero: AtomicU64,
     gave_up: AtomicBool,
@@ -127,7 +140,7 @@ pub struct Overtakes {
 impl Overtakes {
     pub fn new() -> Overtakes {
         Overtakes {
-            amy: AtomicBool::new(false),
+            amy: AtomicU64::new(0),
             zero: AtomicU64::new(0),
             gave_up: AtomicBool::new(false),
         }
@@ -140,24 +153,18 @@ impl Overtakes {
 
     /// Waits until partition 2 has come to the last message of amy's reads.
     pub fn wait_for_amy(&self) {
-        for _ in 0..1_000_000u32 {
-            if self.amy.load(Ordering::SeqCst) {
-                return;
-            }
-            thread::yield_now();
-        }
-        self.gave_up.store(true, Ordering::SeqCst);
+        self.wait_for(&self.amy, 1);
     }
 
     /// Waits until partition 0 has taken so many messages.
     fn wait_for_zero(&self, count: u64) {
-        for _ in 0..1_000_000u32 {
-            if self.zero.load(Ordering::SeqCst) >= count {
-                return;
-            }
-            thread::yield_now();
+        self.wait_for(&self.zero, count);
+    }
+
+    fn wait_for(&self, number: &AtomicU64, least: u64) {
+        if !comes_to(number, least) {
+            self.gave_up.store(true, Ordering::SeqCst);
         }
-        self.gave_up.store(true, Ordering::SeqCst);
     }
 }
 
@@ -174,7 +181,7 @@ impl Gate for Overtaking {
         let overtakes: &Overtakes = &self.overtakes;
         match (part, number) {
             (2, 1) => {
-                overtakes.amy.store(true, Ordering::SeqCst);
+                overtakes.amy.store(1, Ordering::SeqCst);
                 overtakes.wait_for_zero(10);
             }
             (2, 2) => overtakes.wait_for_zero(12),
@@ -189,4 +196,64 @@ impl Gate for Overtaking {
                 .store(number.wrapping_add(1), Ordering::SeqCst);
         }
     }
+}
+
+/// How many messages partitions took while a write is held between its two rounds.
+#[derive(Drop)]
+pub struct Hold {
+    pub counts: Counts,
+    /// 1 once the write may go on.
+    released: AtomicU64,
+    gave_up: AtomicBool,
+}
+
+impl Hold {
+    pub fn new() -> Hold {
+        Hold {
+            counts: Counts::new(),
+            released: AtomicU64::new(0),
+            gave_up: AtomicBool::new(false),
+        }
+    }
+
+    /// Waits until partitions 0 and 2 have taken so many messages.
+    pub fn wait_for(&self, zero: u64, two: u64) {
+        if !(comes_to(&self.counts.zero, zero) && comes_to(&self.counts.two, two)) {
+            self.gave_up.store(true, Ordering::SeqCst);
+        }
+    }
+
+    /// Lets the write go on.
+    pub fn release(&self) {
+        self.released.store(1, Ordering::SeqCst);
+    }
+
+    /// Whether somebody has waited in vain.
+    pub fn has_given_up(&self) -> bool {
+        self.gave_up.load(Ordering::SeqCst)
+    }
+
+    fn wait(&self) {
+        if !comes_to(&self.released, 1) {
+            self.gave_up.store(true, Ordering::SeqCst);
+        }
+    }
+}
+
+/// Counts the messages, and holds partition 2 at its message 1 until the write is released.
+#[derive(Drop)]
+pub struct Holding {
+    pub hold: Arc<Hold, Global>,
+}
+
+impl Gate for Holding {
+    fn enter(&self, part: u16, number: u64) {
+        let hold: &Hold = &self.hold;
+        hold.counts.take(part, number);
+        if (part, number) == (2, 1) {
+            hold.wait();
+        }
+    }
+
+    fn leave(&self, _part: u16, _number: u64) {}
 }

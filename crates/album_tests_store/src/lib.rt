@@ -6,6 +6,8 @@
 #[cfg(test)]
 mod acknowledged;
 #[cfg(test)]
+mod asked;
+#[cfg(test)]
 mod between_rounds;
 #[cfg(test)]
 mod conducted;
@@ -13,6 +15,8 @@ mod conducted;
 mod doors;
 #[cfg(test)]
 mod gates;
+#[cfg(test)]
+mod hints;
 #[cfg(test)]
 mod mails;
 #[cfg(test)]
@@ -23,6 +27,8 @@ mod orders;
 mod partition;
 #[cfg(test)]
 mod passes;
+#[cfg(test)]
+mod pending;
 #[cfg(test)]
 mod reader;
 #[cfg(test)]

@@ -145,7 +145,8 @@ fn new_list(alloc: Global, object: &str, entries: &[Entry]) -> Result<NewList, R
     Ok(NewList { object, list })
 }
 
-fn new_lists(
+/// New lists: of each object these entries.
+pub fn new_lists(
     alloc: Global,
     rows: &[(&'static str, &'static [Entry])],
 ) -> Result<NewLists, Refusal> {

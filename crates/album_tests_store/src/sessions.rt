@@ -26,7 +26,7 @@ use std::thread::Threads;
 use std::{thread, time};
 
 /// The owner may do anything.
-const OWNED: &[Entry] = &[(AceType::Allowed, "OWNER@", 2_032_127, 0)];
+pub(crate) const OWNED: &[Entry] = &[(AceType::Allowed, "OWNER@", 2_032_127, 0)];
 
 /// All others may read.
 pub(crate) const READABLE: &[Entry] = &[
@@ -34,7 +34,7 @@ pub(crate) const READABLE: &[Entry] = &[
     (AceType::Allowed, "EVERYONE@", 1, 0),
 ];
 
-fn list(alloc: Global, entries: &[Entry]) -> Result<Value, Refusal> {
+pub(crate) fn list(alloc: Global, entries: &[Entry]) -> Result<Value, Refusal> {
     Ok(Value::List(list_of(alloc, entries)?))
 }
 

@@ -1,7 +1,7 @@
 //! What clients are told, as texts.
 use crate::refused::whole_text;
 use album_eval::Verdict;
-use album_listing::Reason;
+use album_listing::{Reason, Row};
 use album_permits::{Note, Served};
 use album_stamps::Refusal;
 use album_writer::Answer;
@@ -38,16 +38,29 @@ fn denied_text(alloc: Global, reasons: &[Reason]) -> Result<String, Refusal> {
     Ok(text)
 }
 
+/// The items that are listed.
+fn listed_text(alloc: Global, rows: &[Row]) -> Result<String, Refusal> {
+    let mut text = String::from_str(alloc, "listed")?;
+    for row in rows {
+        let item = row.item.text(alloc)?;
+        text.push_str(" ")?;
+        text.push_str(item.as_str())?;
+    }
+    Ok(text)
+}
+
 fn served_text(alloc: Global, served: &Served) -> Result<String, Refusal> {
     match served {
         Served::Picture { stamp, title, .. } => {
             Ok(format!(in alloc; "{} at {}", title.as_str(), stamp.value())?)
         }
+        Served::Listed { rows, .. } => listed_text(alloc, rows.as_slice()),
         _ => whole_text(alloc, served),
     }
 }
 
-fn text_of(alloc: Global, answer: &Answer) -> Result<String, Refusal> {
+/// The answer as a short text.
+pub fn text_of(alloc: Global, answer: &Answer) -> Result<String, Refusal> {
     match answer {
         Answer::Served(served) => served_text(alloc, served),
         Answer::Denied(denial) => denied_text(alloc, denial.as_slice()),
