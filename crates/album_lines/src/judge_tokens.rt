@@ -178,7 +178,7 @@ fn take_each_entry<'a>(alloc: Global, tokens: &mut Tokens<'a>) -> Option<Vec<Ent
     Some(shapes)
 }
 
-/// Puts an entry behind the shapes. (Given back as an option it would be copied once more, a fortieth of a line's time.)
+/// Puts an entry behind the shapes.
 fn put_entry<'a>(tokens: &mut Tokens<'a>, shapes: &mut Vec<EntryShape<'a>>) -> Option<()>
     ensures { OnSome result ((entry : SpelledEntry)
         × (map spelled_entry shapes.new.items ≡ map spelled_entry shapes.old.items ++ entry ∷ [])

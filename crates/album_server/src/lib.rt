@@ -6,8 +6,8 @@
 //!
 //! Read `engines/converse` first, the engine of a connection, with specs/Talk.antt; then `engines/serve`, which opens a
 //! service and gives each connection a thread (`serve/accepting`, `serve/connections`), writes its notes to a file
-//! (`serve/audit`) and prints its figures (`serve/watch`). The engine of judge lines is `album_judge`'s, that of scripts
-//! `album_replay`'s; both are passed on here.
+//! (`serve/audit`) and prints its figures (`serve/watch`). The engine of judge lines is `album_judge`'s, and that of
+//! scripts is `album_replay`'s; both are passed on here.
 #![tactic(auto)]
 
 // Who may say what over a connection.
