@@ -29,7 +29,7 @@ mod laws;
 
 pub use album_keepers::{
     Control, ControlAnswer, ControlReply, ControlRequest, DeskNames, Figures, Gate, Open,
-    ReplyEnvelope, RequestEnvelope,
+    PartitionMail, ReplyEnvelope, RequestEnvelope,
 };
 pub use gauge::Gauge;
 pub use laws::{

@@ -28,8 +28,9 @@ use album_board::Board;
 use album_calls::Stamps;
 use album_eval::Policy;
 use album_items::ItemId;
-use album_keepers::{Control, ControlAnswer};
+use album_keepers::{Control, ControlAnswer, PartitionMail};
 use album_stamps::{ClientNo, Clock, Refusal, Stamp};
+use crossbeam_channel::Sender;
 use std::alloc::Global;
 use std::marker::Model;
 use std::sync::{Arc, Mutex, Wait};
@@ -233,6 +234,20 @@ impl<J: ServiceNames> Session<J> {
     {
         self.channel.meet(&mut other.channel);
         self.channel.is_sound();
+    }
+
+    /// Has the session send to the partition by this mailbox from now on, and gives the one that it had, or `None` where
+    /// there is no partition of this number. Who takes the mails passes them on by that one, in their order: so a mail
+    /// can be held on its way, as in a network. No promise rests on what becomes of them. One that is lost leaves the
+    /// session waiting.
+    pub fn relay(
+        &mut self,
+        part: u16,
+        mailbox: Sender<PartitionMail<J>>,
+    ) -> Option<Sender<PartitionMail<J>>>
+        ensures same { self.new ≡ self.old }
+    {
+        self.channel.relay(part, mailbox)
     }
 
     /// Ends the session: its share goes back to the audit book, and the partitions forget it.

@@ -24,7 +24,7 @@ use std::alloc::{AllocError, Global};
 use std::collections::VecDeque;
 use std::marker::Model;
 use std::sync::{Arc, Mutex, Wait};
-use std::time;
+use std::{mem, time};
 
 /// A session's channel to the partitions. Contracts see the client, and the cut of its pass.
 #[derive(Drop)]
@@ -153,6 +153,18 @@ impl<J: ServiceNames> PartitionChannel<J> {
             }
         }
         Ok(())
+    }
+
+    /// Sends to the partition by this mailbox from now on, and gives the one that it had, if there is the partition.
+    pub(crate) fn relay(
+        &mut self,
+        part: u16,
+        mailbox: Sender<PartitionMail<J>>,
+    ) -> Option<Sender<PartitionMail<J>>>
+        ensures same { self.new ≡ self.old }
+    {
+        let place = self.to.get_mut(usize::from(part))?;
+        Some(mem::replace(place, mailbox))
     }
 
     /// Has each partition forget the session.
