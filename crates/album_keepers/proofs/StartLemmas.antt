@@ -1,4 +1,4 @@
--- A keeper as it begins. `loop_of` cites `first_keeper`.
+-- A keeper as it begins. `last_keeper` cites `first_keeper`.
 use Rattle.std.proofs.Common.{◌≡◌, ℕ, zero, suc, ◌+◌, ◌<◌, List, [], ◌∷◌, ◌++◌, length, length-append, get_or, replicate, Option, Some, option_to_list, refl, sym, ap, ◌∙◌, subst, arith}
 use Rattle.std.proofs.lemmas.List.{get_or_push, get_or_append_left}
 use Rattle.std.proofs.lemmas.List.Elements.{All-nil}

@@ -2,8 +2,6 @@
 ghost use Rattle.std.specs.Prelude.{◌≡◌, ◌+◌, ◌<◌, ◌≤◌, OnOk};
 ghost use Rattle.std.specs.Arc.{arc_value};
 ghost use Rattle.album_stamps.specs.declared.limits.TheConstants.{MAX_PARTS};
-ghost use Rattle.album_passes.specs.Desk.{first_owner};
-ghost use Rattle.album_partition.specs.Partition.{first_partition};
 ghost use Rattle.album_keepers.specs.Firsts.{AreFirst, AreFirstOwners};
 
 use crate::breakage::Breakage;
@@ -89,41 +87,76 @@ fn start_last<
     ensures owners { OnOk result (AreFirstOwners (record { table = J.table; terms = J.terms }) part owners.new.items) }
     ensures partitions { OnOk result (AreFirst J.terms part partitions.new.items) }
 {
-    let owner = owners.pop().ok_or(AllocError)?;
-    let partition = partitions.pop().ok_or(AllocError)?;
-    let from = mails.pop().ok_or(AllocError)?;
-    let post = loop_of(alloc, part, partition, owner, mailboxes, breakage)?;
-    let desk = Arc::try_clone(desk)?;
-    let gate = Arc::try_clone(gate)?;
     // Room first: a thread that runs is kept.
     threads.reserve(1)?;
-    threads.push_reserved(start(rt, alloc, desk, gate, post, from)?);
+    let shared = Shared::<J, G>::copied(alloc, desk, gate, breakage, mailboxes)?;
+    let keeper = last_keeper::<J>(part, owners, partitions)?;
+    let mails = mails.pop().ok_or(AllocError)?;
+    threads.push_reserved(start(rt, alloc, part, keeper, shared, mails)?);
     Ok(())
 }
 
-/// A partition as it opens, with its owner, and the mailboxes of all.
-fn loop_of<J: DeskNames>(
-    alloc: Global,
+/// The last of these partitions, which has this number, with its owner: both are taken from the others.
+fn last_keeper<J: DeskNames>(
     part: u16,
-    partition: Partition,
-    owner: Owner,
-    mailboxes: &[Sender<PartitionMail<J>>],
-    breakage: &Arc<Breakage, Global>,
-) -> Result<PartitionLoop<J>, AllocError>
-    requires partition { partition ≡ first_partition J.terms.parts J.terms.limit J.terms.opening part }
-    requires owner { owner ≡ first_owner (record { table = J.table; terms = J.terms }) part }
+    owners: &mut Vec<Owner>,
+    partitions: &mut Vec<Partition>,
+) -> Result<PartitionKeeper<J>, AllocError>
+    requires owners { AreFirstOwners (record { table = J.table; terms = J.terms }) (part + 1) owners.old.items }
+    requires partitions { AreFirst J.terms (part + 1) partitions.old.items }
+    ensures owners { OnOk result (AreFirstOwners (record { table = J.table; terms = J.terms }) part owners.new.items) }
+    ensures partitions { OnOk result (AreFirst J.terms part partitions.new.items) }
 {
+    let owner = owners.pop().ok_or(AllocError)?;
+    let partition = partitions.pop().ok_or(AllocError)?;
+    Ok(PartitionKeeper::new(part, partition, owner))
+}
+
+/// What a partition's thread shares with the others.
+#[derive(Drop)]
+struct Shared<J: DeskNames, G: Drop> {
+    desk: Arc<Desk, Global>,
+    gate: Arc<G, Global>,
+    breakage: Arc<Breakage, Global>,
+    outbox: Outbox<J>,
+    ghost table_is: { (arc_value desk).table ≡ J.table },
+    ghost terms_are: { (arc_value desk).terms ≡ J.terms },
+}
+
+impl<J: DeskNames, G: Drop> Shared<J, G> {
+    /// The same once more, with the mailboxes of all partitions, and of no session.
+    fn copied(
+        alloc: Global,
+        desk: &Arc<Desk, Global>,
+        gate: &Arc<G, Global>,
+        breakage: &Arc<Breakage, Global>,
+        mailboxes: &[Sender<PartitionMail<J>>],
+    ) -> Result<Shared<J, G>, AllocError>
+        requires table { (arc_value desk.now).table ≡ J.table }
+        requires terms { (arc_value desk.now).terms ≡ J.terms }
+    {
+        let desk = Arc::try_clone(desk)?;
+        let gate = Arc::try_clone(gate)?;
+        let breakage = Arc::try_clone(breakage)?;
+        let outbox = outbox_to(alloc, mailboxes)?;
+        Ok(Shared {
+            desk,
+            gate,
+            breakage,
+            outbox,
+        })
+    }
+}
+
+fn outbox_to<J: DeskNames>(
+    alloc: Global,
+    mailboxes: &[Sender<PartitionMail<J>>],
+) -> Result<Outbox<J>, AllocError> {
     let mut parts = Vec::new(alloc);
     for mailbox in mailboxes {
         parts.push(mailbox.clone()?)?;
     }
-    let keeper = PartitionKeeper::new(part, partition, owner);
-    Ok(PartitionLoop::new(
-        part,
-        keeper,
-        Outbox::new(alloc, parts),
-        Arc::try_clone(breakage)?,
-    ))
+    Ok(Outbox::new(alloc, parts))
 }
 
 /// Starts the thread of a partition.
@@ -134,20 +167,14 @@ fn start<
 >(
     rt: R,
     alloc: Global,
-    desk: Arc<Desk, Global>,
-    gate: Arc<G, Global>,
-    post: PartitionLoop<J>,
+    part: u16,
+    keeper: PartitionKeeper<J>,
+    shared: Shared<J, G>,
     mails: Receiver<PartitionMail<J>>,
-) -> Result<JoinHandle<()>, AllocError>
-    requires table { (arc_value desk).table ≡ J.table }
-    requires terms { (arc_value desk).terms ≡ J.terms }
-{
-    let Ok(thread) = spawn(
-        &rt,
-        move || -> ()
-            requires { ((arc_value desk).table ≡ J.table) × ((arc_value desk).terms ≡ J.terms) }
-        { run_alone::<J, R, G>(rt, alloc, desk, gate, post, mails) },
-    ) else {
+) -> Result<JoinHandle<()>, AllocError> {
+    let Ok(thread) = spawn(&rt, move || {
+        run_alone(rt, alloc, part, keeper, shared, mails)
+    }) else {
         return Err(AllocError);
     };
     Ok(thread)
@@ -157,13 +184,17 @@ fn start<
 fn run_alone<J: DeskNames, R: Wait + time::Clock + Copy, G: Gate + Drop>(
     rt: R,
     alloc: Global,
-    desk: Arc<Desk, Global>,
-    gate: Arc<G, Global>,
-    mut post: PartitionLoop<J>,
+    part: u16,
+    keeper: PartitionKeeper<J>,
+    shared: Shared<J, G>,
     mails: Receiver<PartitionMail<J>>,
-)
-    requires table { (arc_value desk).table ≡ J.table }
-    requires terms { (arc_value desk).terms ≡ J.terms }
-{
+) {
+    let Shared {
+        desk,
+        gate,
+        breakage,
+        outbox,
+    } = shared;
+    let mut post = PartitionLoop::new(part, keeper, outbox, breakage);
     post.run(&rt, alloc, &desk, &*gate, &mut Inbox::new(mails));
 }
