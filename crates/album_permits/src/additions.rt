@@ -40,20 +40,38 @@ pub(crate) fn picture_added(
         ∷ []) }
     ensures memory { IsOkUnless result Refusal.OutOfMemory }
 {
-    let picture = Picture {
+    let picture = new_picture(lookup, principal, stamp, into, title, content)?;
+    let mut writes = vec![in alloc; (picture_at(stamp), Value::Picture(picture))]?;
+    let list = heritage(alloc, lookup, Holder::Plain, into)?;
+    writes.push((list_at(stamp), Value::List(list)))?;
+    let album = with_child(alloc, lookup.value(into), picture_at(stamp))?;
+    writes.push((into, album))?;
+    Ok(writes)
+}
+
+fn new_picture(
+    lookup: &ViewLookup,
+    principal: &Principal,
+    stamp: Stamp,
+    into: ItemId,
+    title: &Title,
+    content: &Content,
+) -> Result<Picture, Refusal>
+    requires known { IsTrue (is_known principal.now) }
+    ensures picture { IfOk result (λ picture. picture ≡ record {
+      title = title.now;
+      content = content.now;
+      head = new_head (seen lookup.now.view.now.rows) principal.now stamp into;
+      home = number_of into;
+    }) }
+    ensures memory { IsOkUnless result Refusal.OutOfMemory }
+{
+    Ok(Picture {
         title: title.copy()?,
         content: content.copy()?,
         head: new_head(lookup, principal, stamp, into)?,
         home: into.number(),
-    };
-    let list = heritage(alloc, lookup, Holder::Plain, into)?;
-    let album = with_child(alloc, lookup.value(into), picture_at(stamp))?;
-    three(
-        alloc,
-        (picture_at(stamp), Value::Picture(picture)),
-        (list_at(stamp), Value::List(list)),
-        (into, album),
-    )
+    })
 }
 
 /// A new album of this title in the album, with its list; and the album with it.
@@ -80,20 +98,38 @@ pub(crate) fn album_added(
         ∷ []) }
     ensures memory { IsOkUnless result Refusal.OutOfMemory }
 {
-    let inner = Album {
+    let inner = new_album(alloc, lookup, principal, stamp, into, title)?;
+    let mut writes = vec![in alloc; (album_at(stamp), Value::Album(inner))]?;
+    let list = heritage(alloc, lookup, Holder::Folder, into)?;
+    writes.push((list_at(stamp), Value::List(list)))?;
+    let outer = with_child(alloc, lookup.value(into), album_at(stamp))?;
+    writes.push((into, outer))?;
+    Ok(writes)
+}
+
+fn new_album(
+    alloc: Global,
+    lookup: &ViewLookup,
+    principal: &Principal,
+    stamp: Stamp,
+    into: ItemId,
+    title: &Title,
+) -> Result<Album, Refusal>
+    requires known { IsTrue (is_known principal.now) }
+    ensures album { IfOk result (λ album. album ≡ record {
+      title = title.now;
+      head = new_head (seen lookup.now.view.now.rows) principal.now stamp into;
+      home = Some (number_of into);
+      children = [];
+    }) }
+    ensures memory { IsOkUnless result Refusal.OutOfMemory }
+{
+    Ok(Album {
         title: title.copy()?,
         head: new_head(lookup, principal, stamp, into)?,
         home: Some(into.number()),
         children: Items::of(Vec::new(alloc)),
-    };
-    let list = heritage(alloc, lookup, Holder::Folder, into)?;
-    let outer = with_child(alloc, lookup.value(into), album_at(stamp))?;
-    three(
-        alloc,
-        (album_at(stamp), Value::Album(inner)),
-        (list_at(stamp), Value::List(list)),
-        (into, outer),
-    )
+    })
 }
 
 /// A new picture has the stamp's number.
@@ -115,18 +151,6 @@ fn list_at(stamp: Stamp) -> ItemId
     ensures { result ≡ list stamp }
 {
     ItemId::new(Kind::List, stamp.value())
-}
-
-fn three(
-    alloc: Global,
-    first: (ItemId, Value),
-    second: (ItemId, Value),
-    third: (ItemId, Value),
-) -> Result<Vec<(ItemId, Value)>, Refusal>
-    ensures writes { IfOk result (λ writes. writes.items ≡ first ∷ second ∷ third ∷ []) }
-    ensures memory { IsOkUnless result Refusal.OutOfMemory }
-{
-    Ok(vec![in alloc; first, second, third]?)
 }
 
 /// A new object in the album is the principal's, in the album's head group.

@@ -100,23 +100,38 @@ fn count_of_others(child: ItemId, children: &[ItemId]) -> usize
 }
 
 /// What the ask of the permit writes at the stamp.
-#[tactic(auto, using(crate::proofs::Transacting::effect_items))]
 fn effect_of(alloc: Global, permit: &Permit, stamp: Stamp) -> Result<ItemValues, Refusal>
     requires change { IsTrue (is_write permit.now.view.ask) }
     ensures items { IfOk result (λ _. IsTrue (are_items (items_written (effect_of permit.now stamp)))) }
     ensures writes { IfOk result (λ writes. writes ≡ effect_of permit.now stamp) }
     ensures memory { IsOkUnless result Refusal.OutOfMemory }
 {
+    let writes = merged(alloc, written_by(alloc, permit, stamp)?)?;
+    Ok(ItemValues::of(writes))
+}
+
+/// What the ask of the permit writes at the stamp, in order; an item may stand twice. Merged, that is what one
+/// transaction may write.
+#[tactic(auto, using(crate::proofs::Transacting::effect_items))]
+fn written_by(
+    alloc: Global,
+    permit: &Permit,
+    stamp: Stamp,
+) -> Result<Vec<(ItemId, Value)>, Refusal>
+    requires change { IsTrue (is_write permit.now.view.ask) }
+    ensures items { IfOk result (λ _. IsTrue (are_items (items_written (effect_of permit.now stamp)))) }
+    ensures writes { IfOk result (λ writes.
+        writes.items ≡ written (seen permit.now.view.rows) permit.now.principal stamp permit.now.view.ask) }
+    ensures memory { IsOkUnless result Refusal.OutOfMemory }
+{
     let lookup = ViewLookup::of(alloc, permit.view());
-    let writes = written(
+    written(
         alloc,
         &lookup,
         permit.principal(),
         stamp,
         permit.view().ask(),
-    )?;
-    let writes = merged(alloc, writes)?;
-    Ok(ItemValues::of(writes))
+    )
 }
 
 /// What the ask writes at the stamp, in order; an item may stand twice.

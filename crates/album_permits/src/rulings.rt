@@ -69,8 +69,7 @@ fn find_on(
     ensures memory { IsOkUnless result Refusal.OutOfMemory }
 {
     let context = RulingContext::of(alloc, view, principal, policy)?;
-    let found = find_of(alloc, &context, view.ask())?;
-    Ok(found)
+    find_of(alloc, &context, view.ask())
 }
 
 /// The ruling by what is found.

@@ -1,9 +1,11 @@
 //! What a granted ask is served that writes nothing.
 ghost use Rattle.std.specs.Prelude.{◌≡◌, IfOk, IfErr, IsOkUnless, IsTrue, false};
 ghost use Rattle.album_items.specs.Values.{members_of};
-ghost use Rattle.album_views.specs.Asks.{is_write};
+ghost use Rattle.album_views.specs.Asks.{is_list, is_write};
 ghost use Rattle.album_views.specs.Seen.{seen};
-ghost use Rattle.album_permits.specs.Serving.{read_of, IsServed};
+ghost use Rattle.album_views.specs.declared.asks.Ask.TheVariants as Ask;
+ghost use Rattle.album_listing.specs.ViewLookups.{entries_named};
+ghost use Rattle.album_permits.specs.Serving.{read_of, IsServed, IsServedFor};
 
 use crate::permits::Permit;
 use album_items::{Content, ItemId, Members, Title, Value};
@@ -71,25 +73,63 @@ fn serve_ask(alloc: Global, permit: &Permit) -> Result<Served, Refusal>
     ensures served { IfOk result (IsServed permit.now) }
     ensures memory { IsOkUnless result Refusal.OutOfMemory }
 {
-    let lookup = ViewLookup::of(alloc, permit.view());
     match permit.view().ask() {
-        Ask::Read { object } => read(alloc, *object, lookup.stamp(*object), lookup.value(*object)),
-        Ask::List { album } => Ok(Served::Listed {
-            album: *album,
-            stamp: lookup.stamp(*album),
-            rows: list(alloc, permit.view(), permit.principal())?,
-        }),
-        Ask::GetList { object } => Ok(Served::Entries {
-            object: *object,
-            stamp: lookup.stamp_of_list(*object),
-            list: lookup.list_of(*object).copy()?,
-        }),
+        Ask::Read { object } => object_served(alloc, permit, *object),
+        Ask::List { album } => rows_served(alloc, permit, *album),
+        Ask::GetList { object } => list_served(alloc, permit, *object),
         // The ask of a permit that is served writes nothing, and these write.
         Ask::AddPicture { .. } | Ask::AddAlbum { .. } | Ask::Retitle { .. } => unreachable!(),
         Ask::Replace { .. } | Ask::Delete { .. } | Ask::Move { .. } => unreachable!(),
         Ask::SetLists { .. } | Ask::SetOwner { .. } | Ask::SetMembers { .. } => unreachable!(),
         Ask::Share { .. } => unreachable!(),
     }
+}
+
+/// The object as the permit's view has it.
+fn object_served(alloc: Global, permit: &Permit, object: ItemId) -> Result<Served, Refusal>
+    ensures served { IfOk result (λ served. IsServedFor permit.now served (Ask.Read object)) }
+    ensures memory { IsOkUnless result Refusal.OutOfMemory }
+{
+    let lookup = ViewLookup::of(alloc, permit.view());
+    read(alloc, object, lookup.stamp(object), lookup.value(object))
+}
+
+/// The rows of the permit's listing, with the album's stamp.
+fn rows_served(alloc: Global, permit: &Permit, album: ItemId) -> Result<Served, Refusal>
+    requires { IsTrue (is_list permit.now.view.ask) }
+    ensures served { IfOk result (λ served. IsServedFor permit.now served (Ask.List album)) }
+    ensures memory { IsOkUnless result Refusal.OutOfMemory }
+{
+    let rows = list(alloc, permit.view(), permit.principal())?;
+    let lookup = ViewLookup::of(alloc, permit.view());
+    Ok(Served::Listed {
+        album,
+        stamp: lookup.stamp(album),
+        rows,
+    })
+}
+
+/// The list of the object, with its own stamp.
+fn list_served(alloc: Global, permit: &Permit, object: ItemId) -> Result<Served, Refusal>
+    ensures served { IfOk result (λ served. IsServedFor permit.now served (Ask.GetList object)) }
+    ensures memory { IsOkUnless result Refusal.OutOfMemory }
+{
+    let list = list_of(alloc, permit, object)?;
+    let lookup = ViewLookup::of(alloc, permit.view());
+    Ok(Served::Entries {
+        object,
+        stamp: lookup.stamp_of_list(object),
+        list,
+    })
+}
+
+/// The list of the object.
+fn list_of(alloc: Global, permit: &Permit, object: ItemId) -> Result<AccessList, Refusal>
+    ensures list { IfOk result (λ list. list ≡ entries_named (seen permit.now.view.rows) object) }
+    ensures memory { IsOkUnless result Refusal.OutOfMemory }
+{
+    let lookup = ViewLookup::of(alloc, permit.view());
+    Ok(lookup.list_of(object).copy()?)
 }
 
 /// The title and the content of a picture, or the members of a group.
