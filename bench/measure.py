@@ -29,8 +29,9 @@ def seconds_of(subcommand, path):
 
 
 def started(subcommand):
-    """The words that start the program as the script `album` does, without the shell."""
-    built = os.path.join(HERE, "..", "crates", "album", "out", "album")
+    """The words that start the program as the script `album` does, without the shell: the small one judges."""
+    name = "album_judge_alone" if subcommand == "judge" else "album"
+    built = os.path.join(HERE, "..", "crates", name, "out", name)
     os.environ.setdefault("GLIBC_TUNABLES", "glibc.malloc.tcache_count=100")
     return [os.environ.get("ALBUM", built), subcommand]
 

@@ -13,7 +13,8 @@ use crate::explaining::{explain_command, explain_lines, flags_command, mask_comm
 use crate::replaying::{replay_command, replay_lines};
 use crate::texts::{ABOUT, JUDGE_ABOUT, JUDGE_HELP, NO_TEXT, SERVE_ABOUT, SERVE_HELP};
 use album_server::{
-    Admins, AuditFile, Fault, Refusal, Served, Serving, judge, serve_beside, serve_for, serve_until,
+    Admins, AuditFile, Fault, Refusal, Served, Serving, judge_buffered, serve_beside, serve_for,
+    serve_until,
 };
 use clap::error::ErrorKind;
 use clap::{Arg, ArgAction, ArgMatches, Command, Error, value_parser};
@@ -204,14 +205,14 @@ fn judge_lines<T: Files + Eprint, R: Read, W: Write>(
 ) -> Result<(), Fault> {
     let named = matches.subcommand_matches("judge");
     match named.and_then(|m| m.get_strs("FILE")) {
-        None => judge(alloc, reader, writer, TURNS)?,
+        None => judge_buffered(alloc, reader, writer, TURNS),
         Some(paths) => {
             for path in paths {
-                judge(alloc, &mut open(rt, path)?, writer, TURNS)?;
+                judge_buffered(alloc, open(rt, path)?, &mut *writer, TURNS)?;
             }
+            Ok(())
         }
     }
-    writer.flush().map_err(|_| Fault::Writing)
 }
 
 /// The file at the path, to be read. Why it can't be is told on standard error.

@@ -4,18 +4,21 @@
 //! verdict or of its refusal; or a fault, before which a prefix of the answers was written. The crates of the store are
 //! not needed.
 //!
-//! Read `engines/judge` first: `judge` reads, `answer_line` answers one line, and `verdict` judges it. Then
+//! Read `engines/judge` first: `judge` reads, `answer_line` answers one line, and `verdict` judges it. The programs call
+//! it by `buffered`. Then
 //! specs/Judge.antt, which says what an answer is, and specs/Writes.antt, which says how what was written goes with
 //! what was read. The other engines, in `album_server`, end by the same faults and write by the same `writing`.
 #![tactic(auto)]
 
-// The engine.
+// The engine, and the same with a buffer on both sides.
+mod buffered;
 mod engines;
 
 // What engines share: why one ended early, and how a text is written.
 mod fault;
 mod writing;
 
+pub use buffered::judge_buffered;
 pub use engines::judge::{PIECE, group_map, judge, one_judgement};
 pub use fault::Fault;
 pub use writing::{write_refused, write_text};

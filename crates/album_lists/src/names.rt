@@ -83,5 +83,8 @@ fn has_name_bytes(text: &str) -> bool
 fn is_name_byte(byte: u8) -> bool
     ensures { result ≡ is_name_byte byte }
 {
-    matches!(byte, b'a'..=b'z' | b'0'..=b'9' | b'.' | b'-' | b'_')
+    let letter = (b'a' <= byte) & (byte <= b'z');
+    let digit = (b'0' <= byte) & (byte <= b'9');
+    let mark = (byte == b'.') | (byte == b'-') | (byte == b'_');
+    letter | digit | mark
 }
