@@ -1,11 +1,13 @@
 //! What a session asks, what it is told, and how many messages partitions take for that.
 use crate::gates::Counts;
-use crate::messages::{item_of, same};
+use crate::messages::{item_of, same, stamp_of};
 use crate::scripts::new_lists;
 use crate::sessions::{OWNED, READABLE};
 use crate::told::text_of;
+use crate::values::Entry;
 use album_eval::Principal;
-use album_items::Title;
+use album_items::{Members, Title};
+use album_lists::{Member, Name};
 use album_stamps::Refusal;
 use album_threads::{ServiceNames, Session};
 use album_views::Ask;
@@ -15,25 +17,31 @@ use std::sync::Wait;
 use std::test::Fail;
 use std::time;
 
-/// What is asked.
+/// What is asked: by whom it says, or else for amy.
 #[derive(Clone, Copy)]
 pub enum Wish {
     /// To read the object, for whom this is.
     Read(&'static str, &'static str),
-    /// That the picture has the title "Bay", for amy.
-    Retitle(&'static str),
-    /// Other lists, for amy: picture/0 is for its owner alone, and all may read picture/1.
+    /// To list album/0, for whom this is.
+    List(&'static str),
+    /// That the picture has this title.
+    Retitle(&'static str, &'static str),
+    /// That picture/0 has this head group.
+    SetGroup(u64),
+    /// That picture/0 is for its owner alone.
+    SetList,
+    /// The same, and that all may read picture/1.
     SetLists,
-    /// To list album/0, for amy.
-    List,
-    /// To delete the picture, for amy.
+    /// That bo alone is in group/7.
+    SetMembers,
+    /// To delete the picture.
     Delete(&'static str),
 }
 
 impl Wish {
     fn principal(self) -> Result<Principal, Refusal> {
         match self {
-            Wish::Read(who, _) => Principal::read(who),
+            Wish::Read(who, _) | Wish::List(who) => Principal::read(who),
             _ => Principal::read("amy@users"),
         }
     }
@@ -43,13 +51,19 @@ impl Wish {
             Wish::Read(_, object) => Ok(Ask::Read {
                 object: item_of(object)?,
             }),
-            Wish::Retitle(object) => Ok(Ask::Retitle {
-                object: item_of(object)?,
-                title: Title::of(alloc, "Bay")?,
-            }),
-            Wish::SetLists => set_lists(alloc),
-            Wish::List => Ok(Ask::List {
+            Wish::List(_) => Ok(Ask::List {
                 album: item_of("album/0")?,
+            }),
+            Wish::Retitle(object, title) => Ok(Ask::Retitle {
+                object: item_of(object)?,
+                title: Title::of(alloc, title)?,
+            }),
+            Wish::SetGroup(group) => set_group(group),
+            Wish::SetList => set_lists(alloc, &[("picture/0", OWNED)]),
+            Wish::SetLists => set_lists(alloc, &[("picture/0", OWNED), ("picture/1", READABLE)]),
+            Wish::SetMembers => Ok(Ask::SetMembers {
+                object: item_of("group/7")?,
+                members: member(alloc, "bo@users")?,
             }),
             Wish::Delete(object) => Ok(Ask::Delete {
                 object: item_of(object)?,
@@ -58,9 +72,24 @@ impl Wish {
     }
 }
 
-fn set_lists(alloc: Global) -> Result<Ask, Refusal> {
-    let lists = new_lists(alloc, &[("picture/0", OWNED), ("picture/1", READABLE)])?;
+fn set_group(group: u64) -> Result<Ask, Refusal> {
+    Ok(Ask::SetOwner {
+        object: item_of("picture/0")?,
+        owner: Name::of("amy")?,
+        group,
+    })
+}
+
+fn set_lists(alloc: Global, rows: &[(&'static str, &'static [Entry])]) -> Result<Ask, Refusal> {
+    let lists = new_lists(alloc, rows)?;
     Ok(Ask::SetLists { lists })
+}
+
+/// This one as the members.
+pub fn member(alloc: Global, who: &str) -> Result<Members, Refusal> {
+    let mut members = Vec::new(alloc);
+    members.push(Member::read(who)?)?;
+    Ok(Members::of(members))
 }
 
 /// What is asked, and what is told. Numbers are of partitions 0 and 2: how many messages they take for it.
@@ -94,5 +123,56 @@ pub fn told_so<J: ServiceNames, R: Wait + time::Clock + Abort>(
         same(rt, told(rt, alloc, session, *wish), expected)?;
         assert_eq!(rt; counts.since(before), *messages, "messages at {expected}");
     }
+    Ok(())
+}
+
+/// What whoever runs the service wants of a partition, by its number.
+#[derive(Clone, Copy)]
+pub enum Order {
+    Pending(u16),
+    Sweep(u16, u64),
+    /// To let versions of picture/0 go.
+    Trim(u16),
+}
+
+fn carried_out<J: ServiceNames, R: Wait + time::Clock>(
+    rt: &R,
+    alloc: Global,
+    session: &mut Session<J>,
+    order: Order,
+) -> Result<String, Refusal> {
+    match order {
+        Order::Pending(part) => {
+            let stamps = session.pending(rt, part)?;
+            Ok(format!(in alloc; "{} pending", stamps.as_slice().len())?)
+        }
+        Order::Sweep(part, stamp) => {
+            session.sweep(rt, part, stamp_of(stamp)?)?;
+            Ok(String::from_str(alloc, "swept")?)
+        }
+        Order::Trim(part) => {
+            session.trim(rt, part, item_of("picture/0")?)?;
+            Ok(String::from_str(alloc, "trimmed")?)
+        }
+    }
+}
+
+/// What comes of the order, or the name of its refusal. It is no message.
+pub fn ordered_so<J: ServiceNames, R: Wait + time::Clock + Abort>(
+    rt: &R,
+    alloc: Global,
+    session: &mut Session<J>,
+    counts: &Counts,
+    rows: &[(Order, &'static str)],
+) -> Result<(), Fail> {
+    let before = counts.so_far();
+    for (order, expected) in rows {
+        let text = match carried_out(rt, alloc, session, *order) {
+            Ok(text) => text,
+            Err(refusal) => String::from_str(alloc, refusal.name())?,
+        };
+        same(rt, Ok(text), expected)?;
+    }
+    assert_eq!(rt; counts.since(before), (0, 0), "messages of orders");
     Ok(())
 }

@@ -3,9 +3,11 @@
 ghost use Rattle.std.specs.Prelude.{◌≡◌};
 ghost use Rattle.album_threads.specs.Opened.{opened_as};
 
+use crate::asked::Wish::{Read, Retitle};
+use crate::asked::told;
 use crate::gates::{Overtakes, Overtaking};
 use crate::messages::same;
-use crate::sessions::{READABLE, committed, opened, read, read_text, retitle};
+use crate::sessions::{READABLE, opened};
 use album_stamps::Refusal;
 use album_threads::{Opened, OwnedSession, Service, ServiceNames};
 use std::alloc::{AllocError, Global};
@@ -15,16 +17,16 @@ use std::test::Fail;
 use std::thread::Threads;
 use std::{thread, time};
 
-/// amy's new title; the stamp at which it is written.
+/// What amy is told, who asks for a new title.
 fn retitled<J: ServiceNames, R: Wait + time::Clock + Copy>(
     alloc: Global,
     mut amy: OwnedSession<J, R>,
-) -> Result<u64, Refusal> {
+) -> Result<String, Refusal> {
     let rt = amy.rt;
-    committed(retitle(&rt, alloc, &mut amy.session, "Bay")?)
+    told(&rt, alloc, &mut amy.session, Retitle("picture/0", "Bay"))
 }
 
-/// What bo is served, who asks once amy's last read is held.
+/// What bo is told, who asks once amy's last read is held.
 fn served<J: ServiceNames, R: Wait + time::Clock + Copy>(
     alloc: Global,
     mut bo: OwnedSession<J, R>,
@@ -32,13 +34,13 @@ fn served<J: ServiceNames, R: Wait + time::Clock + Copy>(
 ) -> Result<String, Refusal> {
     let rt = bo.rt;
     overtakes.wait_for_amy();
-    read_text(alloc, &read(&rt, &mut bo.session, "bo@users")?)
+    told(&rt, alloc, &mut bo.session, Read("bo@users", "picture/0"))
 }
 
-/// What both are answered, each on a thread of its own.
+/// What both are told, each on a thread of its own.
 #[derive(Drop)]
 struct Both {
-    amy: Result<u64, Refusal>,
+    amy: Result<String, Refusal>,
     bo: Result<String, Refusal>,
 }
 
@@ -109,6 +111,6 @@ fn retitled_between_rounds<R: Threads + Wait + time::Clock + Copy + Send + Sync 
 #[test]
 fn a_commit_between_the_rounds_of_a_read(rt: HostRuntime) -> Result<(), Fail> {
     let Both { amy, bo } = retitled_between_rounds(rt, rt.alloc())?;
-    assert_eq!(rt; amy, Ok(65_537));
+    same(&rt, amy, "committed at 65537")?;
     same(&rt, bo, "Sea at 0")
 }

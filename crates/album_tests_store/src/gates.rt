@@ -198,11 +198,11 @@ impl Gate for Overtaking {
     }
 }
 
-/// How many messages partitions took while a write is held between its two rounds.
+/// How many messages partitions took while something is held: a write between its two rounds, or a mail on its way.
 #[derive(Drop)]
 pub struct Hold {
     pub counts: Counts,
-    /// 1 once the write may go on.
+    /// 1 once it may go on.
     released: AtomicU64,
     gave_up: AtomicBool,
 }
@@ -223,7 +223,7 @@ impl Hold {
         }
     }
 
-    /// Lets the write go on.
+    /// Lets it go on.
     pub fn release(&self) {
         self.released.store(1, Ordering::SeqCst);
     }
@@ -233,11 +233,26 @@ impl Hold {
         self.gave_up.load(Ordering::SeqCst)
     }
 
-    fn wait(&self) {
+    /// Waits until it is released.
+    pub fn wait(&self) {
         if !comes_to(&self.released, 1) {
             self.gave_up.store(true, Ordering::SeqCst);
         }
     }
+}
+
+/// Counts the messages, and holds none.
+#[derive(Drop)]
+pub struct Watching {
+    pub hold: Arc<Hold, Global>,
+}
+
+impl Gate for Watching {
+    fn enter(&self, part: u16, number: u64) {
+        self.hold.counts.take(part, number);
+    }
+
+    fn leave(&self, _part: u16, _number: u64) {}
 }
 
 /// Counts the messages, and holds partition 2 at its message 1 until the write is released.

@@ -6,8 +6,8 @@ use crate::asked::{Row, Wish, told_so};
 use crate::gates::{Counting, Counts};
 use crate::messages::item_of;
 use crate::sessions::{OWNED, READABLE, list};
-use crate::values::{head, picture};
-use album_items::{Album, ItemId, ItemValues, Items, Kind, Opening, Title, Value};
+use crate::values::{album_of_two, picture};
+use album_items::{ItemId, ItemValues, Opening, Value};
 use album_stamps::Refusal;
 use album_threads::{Opened, OwnedSession, Service, ServiceNames, Visit, with_opened};
 use std::alloc::Global;
@@ -16,19 +16,6 @@ use std::sync::{Arc, Wait};
 use std::test::Fail;
 use std::thread::Threads;
 use std::time;
-
-/// amy's album/0 with two pictures.
-fn album(alloc: Global) -> Result<Value, Refusal> {
-    let mut children = Vec::new(alloc);
-    children.push(ItemId::new(Kind::Picture, 0))?;
-    children.push(ItemId::new(Kind::Picture, 1))?;
-    Ok(Value::Album(Album {
-        title: Title::of(alloc, "Trip")?,
-        head: head(2)?,
-        home: None,
-        children: Items::of(children),
-    }))
-}
 
 fn push(
     items: &mut Vec<(ItemId, Value)>,
@@ -46,7 +33,7 @@ fn items(alloc: Global) -> Result<ItemValues, Refusal> {
     push(&mut items, "picture/0", picture(alloc, 0))?;
     push(&mut items, "picture/1", picture(alloc, 1))?;
     push(&mut items, "picture/31555", picture(alloc, 4))?;
-    push(&mut items, "album/0", album(alloc))?;
+    push(&mut items, "album/0", album_of_two(alloc))?;
     push(&mut items, "list/0", list(alloc, READABLE))?;
     push(&mut items, "list/1", list(alloc, OWNED))?;
     push(&mut items, "list/2", list(alloc, READABLE))?;
@@ -95,10 +82,15 @@ const WIDE: &[Twice] = &[
 /// A listing reads the album, then its children with it, then their lists too. Once picture/0 is deleted its hint still
 /// names it and list/0, at partition 2: both are read, and not listed.
 const LISTED: &[Twice] = &[
-    (List, "listed picture/0 picture/1", (5, 1), (10, 2)),
+    (
+        List("amy@users"),
+        "listed picture/0 picture/1",
+        (5, 1),
+        (10, 2),
+    ),
     (Delete("picture/0"), "committed at 65537", (7, 4), (12, 6)),
-    (List, "listed picture/1", (3, 1), (6, 0)),
-    (List, "listed picture/1", (3, 1), (6, 0)),
+    (List("amy@users"), "listed picture/1", (3, 1), (6, 0)),
+    (List("amy@users"), "listed picture/1", (3, 1), (6, 0)),
 ];
 
 /// The hints of picture/0 and picture/31555 have one place of the 4,096, by the numbers of both: each takes that of the

@@ -12,6 +12,8 @@ mod between_rounds;
 #[cfg(test)]
 mod conducted;
 #[cfg(test)]
+mod delayed;
+#[cfg(test)]
 mod doors;
 #[cfg(test)]
 mod gates;

@@ -22,7 +22,7 @@ use std::time;
 /// all that is read for it is at 0, which is below what is pending. bo reads that title, at 65538, and by it can't know
 /// what list/1 was at that stamp. So he asks for it and for the group once more, and is denied by the list of before.
 const PENDING: &[Row] = &[
-    (Retitle("picture/1"), "committed at 65538", (2, 0)),
+    (Retitle("picture/1", "Bay"), "committed at 65538", (2, 0)),
     (
         Read("bo@users", "picture/1"),
         "denied picture/1 at the end",

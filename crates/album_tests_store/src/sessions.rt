@@ -3,6 +3,9 @@
 ghost use Rattle.std.specs.Prelude.{◌≡◌, ◌<◌};
 ghost use Rattle.album_threads.specs.Opened.{opened_as};
 
+use crate::asked::Order::{Pending, Sweep, Trim};
+use crate::asked::Wish::{Read, Retitle, SetGroup, SetLists};
+use crate::asked::{Order, Row, ordered_so, told, told_so};
 use crate::gates::{Counting, Counts, Entered, Together};
 use crate::messages::{item_of, same, stamp_of};
 use crate::values::{Entry, list_of, picture};
@@ -10,13 +13,12 @@ use album_access::AceType;
 use album_audit::Totals;
 use album_eval::Principal;
 use album_items::{ItemValues, Opening, Title, Value};
-use album_lists::Name;
 use album_permits::{Answer, Served};
 use album_stamps::Refusal;
 use album_threads::{
     Open, Opened, OwnedSession, Service, ServiceNames, Session, Visit, with_opened,
 };
-use album_views::{Ask, NewList, NewLists};
+use album_views::{Ask, NewLists};
 use std::alloc::{AllocError, Global};
 use std::marker::Brand;
 use std::process::Abort;
@@ -28,10 +30,10 @@ use std::{thread, time};
 /// The owner may do anything.
 pub(crate) const OWNED: &[Entry] = &[(AceType::Allowed, "OWNER@", 2_032_127, 0)];
 
-/// All others may read.
+/// All others may read, and are shown the title.
 pub(crate) const READABLE: &[Entry] = &[
     (AceType::Allowed, "OWNER@", 2_032_127, 0),
-    (AceType::Allowed, "EVERYONE@", 1, 0),
+    (AceType::Allowed, "EVERYONE@", 129, 0),
 ];
 
 pub(crate) fn list(alloc: Global, entries: &[Entry]) -> Result<Value, Refusal> {
@@ -83,22 +85,6 @@ pub(crate) fn retitle<J: ServiceNames, R: Wait + time::Clock>(
     session.ask(rt, &principal, Ask::Retitle { object, title })
 }
 
-fn set_group<J: ServiceNames, R: Wait + time::Clock>(
-    rt: &R,
-    session: &mut Session<J>,
-    group: u64,
-) -> Result<Answer, Refusal> {
-    let principal = Principal::read("amy@users")?;
-    let object = item_of("picture/0")?;
-    let owner = Name::of("amy")?;
-    let ask = Ask::SetOwner {
-        object,
-        owner,
-        group,
-    };
-    session.ask(rt, &principal, ask)
-}
-
 /// The stamp at which it is written.
 pub(crate) fn committed(answer: Answer) -> Result<u64, Refusal> {
     match answer {
@@ -107,131 +93,32 @@ pub(crate) fn committed(answer: Answer) -> Result<u64, Refusal> {
     }
 }
 
-/// What a session does.
-#[derive(Clone, Copy)]
-enum Step {
-    /// It reads picture/0, for whom this is.
-    Read(&'static str),
-    /// It gives picture/0 this title, for amy.
-    Retitle(&'static str),
-    /// It gives picture/0 this head group, for amy.
-    SetGroup(u64),
-    Pending(u16),
-    Sweep(u16, u64),
-    /// It lets versions of picture/0 go.
-    Trim(u16),
-}
-
-/// What it is told. Numbers are of partitions 0 and 2: how many messages they took for it.
-type Row = (Step, &'static str, (u64, u64));
-
-pub(crate) fn read_text(alloc: Global, answer: &Answer) -> Result<String, Refusal> {
-    match answer {
-        Answer::Served(
-            Served::Picture {
-                object: _,
-                stamp,
-                title,
-                content: _,
-            },
-        ) => { Ok(format!(in alloc; "{} at {}", title.as_str(), stamp.value())?) }
-        _ => Err(Refusal::Clash),
-    }
-}
-
-fn committed_text(alloc: Global, answer: Answer) -> Result<String, Refusal> {
-    let stamp = committed(answer)?;
-    Ok(format!(in alloc; "committed at {stamp}")?)
-}
-
-fn pending_text<J: ServiceNames, R: Wait + time::Clock>(
-    rt: &R,
-    alloc: Global,
-    session: &mut Session<J>,
-    part: u16,
-) -> Result<String, Refusal> {
-    let stamps = session.pending(rt, part)?;
-    Ok(format!(in alloc; "{} pending", stamps.as_slice().len())?)
-}
-
-fn text_of<J: ServiceNames, R: Wait + time::Clock>(
-    rt: &R,
-    alloc: Global,
-    session: &mut Session<J>,
-    step: Step,
-) -> Result<String, Refusal> {
-    match step {
-        Step::Read(who) => read_text(alloc, &read(rt, session, who)?),
-        Step::Retitle(title) => committed_text(alloc, retitle(rt, alloc, session, title)?),
-        Step::SetGroup(group) => committed_text(alloc, set_group(rt, session, group)?),
-        Step::Pending(part) => pending_text(rt, alloc, session, part),
-        Step::Sweep(part, stamp) => {
-            session.sweep(rt, part, stamp_of(stamp)?)?;
-            Ok(String::from_str(alloc, "swept")?)
-        }
-        Step::Trim(part) => {
-            session.trim(rt, part, item_of("picture/0")?)?;
-            Ok(String::from_str(alloc, "trimmed")?)
-        }
-    }
-}
-
-/// What the session is told, or the name of the refusal.
-fn told<J: ServiceNames, R: Wait + time::Clock>(
-    rt: &R,
-    alloc: Global,
-    session: &mut Session<J>,
-    step: Step,
-) -> Result<String, Refusal> {
-    match text_of(rt, alloc, session, step) {
-        Ok(text) => Ok(text),
-        Err(refusal) => Ok(String::from_str(alloc, refusal.name())?),
-    }
-}
-
-/// The session is told so, and the partitions take so many messages for it.
-fn told_so<J: ServiceNames, R: Wait + time::Clock + Abort>(
-    rt: &R,
-    alloc: Global,
-    session: &mut Session<J>,
-    counts: &Counts,
-    rows: &[Row],
-) -> Result<(), Fail> {
-    for (step, expected, messages) in rows {
-        let before = counts.so_far();
-        same(rt, told(rt, alloc, session, *step), expected)?;
-        assert_eq!(rt; counts.since(before), *messages, "messages at {expected}");
-    }
-    Ok(())
-}
-
 /// A first read reads picture/0, and then with it list/0 and group/0. Nothing is pending, so only the first rounds are
 /// sent.
-const BEFORE: &[Row] = &[(Step::Read("bo@users"), "Sea at 0", (3, 1))];
+const BEFORE: &[Row] = &[(Read("bo@users", "picture/0"), "Sea at 0", (3, 1))];
 
 /// A retitle by another session reads all three at once, and then prepares and commits picture/0.
 const MEANWHILE: &[Row] = &[
-    (Step::Retitle("Bay"), "committed at 65537", (4, 1)),
-    (Step::Read("amy@users"), "Bay at 65537", (2, 1)),
+    (Retitle("picture/0", "Bay"), "committed at 65537", (4, 1)),
+    (Read("amy@users", "picture/0"), "Bay at 65537", (2, 1)),
 ];
 
 /// The other reads what was written, although it has heard of nothing since it read last: it asks the partitions anew.
-const UNHEARD: &[Row] = &[(Step::Read("bo@users"), "Bay at 65537", (2, 1))];
+const AFTER: &[Row] = &[(Read("bo@users", "picture/0"), "Bay at 65537", (2, 1))];
+
+const ORDERS: &[(Order, &str)] = &[
+    (Pending(0), "0 pending"),
+    (Pending(3), "NoSuchPart"),
+    (Sweep(0, 65537), "NotPrepared"),
+    (Sweep(0, 131073), "NotPrepared"),
+    (Sweep(3, 65537), "NoSuchPart"),
+    (Trim(1), "Clash"),
+    (Trim(3), "NoSuchPart"),
+    (Trim(0), "trimmed"),
+];
 
 /// The other's write has a greater stamp than the one that it read.
-const AFTER: &[Row] = &[
-    (Step::Read("bo@users"), "Bay at 65537", (2, 1)),
-    (Step::Pending(0), "0 pending", (0, 0)),
-    (Step::Pending(3), "NoSuchPart", (0, 0)),
-    (Step::Sweep(0, 65537), "NotPrepared", (0, 0)),
-    (Step::Sweep(0, 131073), "NotPrepared", (0, 0)),
-    (Step::Sweep(3, 65537), "NoSuchPart", (0, 0)),
-    (Step::Trim(1), "Clash", (0, 0)),
-    (Step::Trim(3), "NoSuchPart", (0, 0)),
-    (Step::Trim(0), "trimmed", (0, 0)),
-    (Step::Read("bo@users"), "Bay at 65537", (2, 1)),
-    (Step::Retitle("Cove"), "committed at 131074", (4, 1)),
-];
+const WRITTEN: &[Row] = &[(Retitle("picture/0", "Cove"), "committed at 131074", (4, 1))];
 
 /// Two sessions are told so, before they meet and then.
 fn both_told_so<J: ServiceNames, R: Wait + time::Clock + Abort>(
@@ -243,9 +130,12 @@ fn both_told_so<J: ServiceNames, R: Wait + time::Clock + Abort>(
 ) -> Result<(), Fail> {
     told_so(rt, alloc, two, counts, BEFORE)?;
     told_so(rt, alloc, one, counts, MEANWHILE)?;
-    told_so(rt, alloc, two, counts, UNHEARD)?;
+    told_so(rt, alloc, two, counts, AFTER)?;
     one.meet(two);
-    told_so(rt, alloc, two, counts, AFTER)
+    told_so(rt, alloc, two, counts, AFTER)?;
+    ordered_so(rt, alloc, two, counts, ORDERS)?;
+    told_so(rt, alloc, two, counts, AFTER)?;
+    told_so(rt, alloc, two, counts, WRITTEN)
 }
 
 /// A visit of two sessions, while the gate counts. Their numbers are 1 and 2, there is no third, and they are told so.
@@ -290,13 +180,13 @@ fn two_sessions(rt: HostRuntime) -> Result<(), Fail> {
 /// hinted read it reads picture/0, and then with it list/0 and group/1. The next one reads all three at once. Group 0
 /// comes back: once more the hint lacks it.
 const REGROUPED: &[Row] = &[
-    (Step::Read("bo@users"), "Sea at 0", (3, 1)),
-    (Step::SetGroup(1), "committed at 65537", (4, 1)),
-    (Step::Read("bo@users"), "Sea at 65537", (4, 2)),
-    (Step::Read("bo@users"), "Sea at 65537", (1, 1)),
-    (Step::SetGroup(0), "committed at 131073", (3, 1)),
-    (Step::Read("bo@users"), "Sea at 131073", (4, 2)),
-    (Step::Read("cy@users"), "Sea at 131073", (2, 1)),
+    (Read("bo@users", "picture/0"), "Sea at 0", (3, 1)),
+    (SetGroup(1), "committed at 65537", (4, 1)),
+    (Read("bo@users", "picture/0"), "Sea at 65537", (4, 2)),
+    (Read("bo@users", "picture/0"), "Sea at 65537", (1, 1)),
+    (SetGroup(0), "committed at 131073", (3, 1)),
+    (Read("bo@users", "picture/0"), "Sea at 131073", (4, 2)),
+    (Read("cy@users", "picture/0"), "Sea at 131073", (2, 1)),
 ];
 
 /// A visit of one session, while the gate counts, which is told so.
@@ -412,58 +302,36 @@ fn a_closed_service(rt: HostRuntime) {
     assert_eq!(rt; refused, Ok(([21, 21, 3], [23, 21, 21, 21])));
 }
 
-fn new_list(alloc: Global, text: &str) -> Result<NewList, Refusal> {
-    let object = item_of(text)?;
-    let list = list_of(alloc, READABLE)?;
-    Ok(NewList { object, list })
-}
-
-/// Other lists for both pictures.
-fn new_lists(alloc: Global) -> Result<NewLists, Refusal> {
-    let mut lists = Vec::new(alloc);
-    lists.push(new_list(alloc, "picture/0")?)?;
-    lists.push(new_list(alloc, "picture/1")?)?;
-    Ok(NewLists::of(lists))
-}
-
-/// A visit of a session in which amy sets both lists; the stamp at which they are written.
+/// A visit of a session in which amy sets both lists; what she is told.
 #[derive(Drop)]
 struct SetBoth;
 
 impl<R: Wait + time::Clock + Abort + Copy> Visit<R> for SetBoth {
-    type Answer = Result<u64, Refusal>;
+    type Answer = Result<String, Refusal>;
 
     fn visit<J: ServiceNames + Send + Sync>(
         self,
         rt: &R,
         alloc: Global,
         service: &Service<J>,
-    ) -> Result<u64, Refusal> {
-        let principal = Principal::read("amy@users")?;
-        let lists = new_lists(alloc)?;
+    ) -> Result<String, Refusal> {
         let mut guest = OwnedSession::begin(rt, service)?;
-        committed(guest.session.ask(rt, &principal, Ask::SetLists { lists })?)
+        told(rt, alloc, &mut guest.session, SetLists)
     }
-}
-
-/// The stamp at which both lists are written, and whether partitions 0 and 1 were in their first messages at once.
-fn set_at_once<R: Threads + Wait + time::Clock + Abort + Copy + Send + Sync + 'static>(
-    rt: R,
-    alloc: Global,
-) -> Result<(u64, bool), Refusal> {
-    let opened = opened(alloc, OWNED, 1)?;
-    let entered = Arc::new(alloc, Entered::new())?;
-    let gate = Together {
-        entered: Arc::try_clone(&entered)?,
-    };
-    let stamp = with_opened(rt, alloc, opened, gate, SetBoth)?;
-    Ok((stamp?, entered.at_once()))
 }
 
 /// A session sends to both partitions before it waits for either, and each works on a thread of its own.
 #[test]
-fn two_partitions_at_once(rt: HostRuntime) {
-    assert_eq!(rt; set_at_once(rt, rt.alloc()), Ok((65_537, true)));
+fn two_partitions_at_once(rt: HostRuntime) -> Result<(), Fail> {
+    let opened = opened(rt.alloc(), OWNED, 1)?;
+    let entered = Arc::new(rt.alloc(), Entered::new())?;
+    let gate = Together {
+        entered: Arc::try_clone(&entered)?,
+    };
+    let given = with_opened(rt, rt.alloc(), opened, gate, SetBoth)?;
+    same(&rt, given, "committed at 65537")?;
+    assert!(rt; entered.at_once(), "in their first messages at once");
+    Ok(())
 }
 
 /// What writes attributes and is granted is audited.

@@ -66,6 +66,9 @@ pub fn text_of(alloc: Global, answer: &Answer) -> Result<String, Refusal> {
         Answer::Denied(denial) => denied_text(alloc, denial.as_slice()),
         Answer::Committed(stamp) => Ok(format!(in alloc; "committed at {}", stamp.value())?),
         Answer::Refused(refusal) => Ok(String::from_str(alloc, refusal.name())?),
+        Answer::Unsettled(stamp, refusal) => {
+            Ok(format!(in alloc; "{} at {}", refusal.name(), stamp.value())?)
+        }
         _ => whole_text(alloc, answer),
     }
 }

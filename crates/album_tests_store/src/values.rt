@@ -38,6 +38,19 @@ pub fn album(alloc: Global) -> Result<Value, Refusal> {
     }))
 }
 
+/// amy's album/0 with the pictures 0 and 1, under list/2.
+pub fn album_of_two(alloc: Global) -> Result<Value, Refusal> {
+    let mut children = Vec::new(alloc);
+    children.push(ItemId::new(Kind::Picture, 0))?;
+    children.push(ItemId::new(Kind::Picture, 1))?;
+    Ok(Value::Album(Album {
+        title: Title::of(alloc, "Trip")?,
+        head: head(2)?,
+        home: None,
+        children: Items::of(children),
+    }))
+}
+
 /// The type, the who, the mask and the flags of an entry.
 pub type Entry = (AceType, &'static str, u32, u32);
 

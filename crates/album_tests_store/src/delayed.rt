@@ -1,0 +1,296 @@
+//! Mails that are held on their way from a session to a partition, as in a network: a read that is under way while a
+//! list and its group change, and a write that is committed at one partition and not yet at another
+//! (docs/PROTOCOL.md, "Settling" and "Causality").
+ghost use Rattle.std.specs.Prelude.{◌≡◌};
+ghost use Rattle.album_threads.specs.Opened.{opened_as};
+
+use crate::asked::Wish::{List, Read, SetList, SetLists, SetMembers};
+use crate::asked::{Wish, member, told};
+use crate::gates::{Hold, Watching};
+use crate::messages::{item_of, same};
+use crate::sessions::{OWNED, READABLE, list};
+use crate::values::{Entry, album_of_two, head, picture};
+use album_access::AceType;
+use album_items::{Group, ItemValues, Opening, Value};
+use album_stamps::Refusal;
+use album_threads::{Opened, OwnedSession, PartitionMail, Service, ServiceNames};
+use crossbeam_channel::{Receiver, Sender, unbounded};
+use std::alloc::{AllocError, Global};
+use std::marker::Brand;
+use std::process::Abort;
+use std::sync::{Arc, Wait};
+use std::test::Fail;
+use std::thread::Threads;
+use std::{thread, time};
+
+/// The members of group/7 may read, and are shown the title.
+const SHARED: &[Entry] = &[
+    (AceType::Allowed, "OWNER@", 2_032_127, 0),
+    (AceType::Allowed, "7@groups", 129, 64),
+];
+
+/// amy's group/7, in which cy is.
+fn group(alloc: Global) -> Result<Value, Refusal> {
+    Ok(Value::Group(Group {
+        head: head(7)?,
+        members: member(alloc, "cy@users")?,
+    }))
+}
+
+/// Three partitions. picture/0 and the lists 1 and 7 stand at 0; picture/1, album/0, list/2 and group/7 at 1; list/0 at
+/// 2. Group 0, which heads all, is missing and would stand at 0.
+fn opening(alloc: Global) -> Result<Opening, Refusal> {
+    let mut items = Vec::new(alloc);
+    items.push((item_of("picture/0")?, picture(alloc, 0)?))?;
+    items.push((item_of("picture/1")?, picture(alloc, 1)?))?;
+    items.push((item_of("album/0")?, album_of_two(alloc)?))?;
+    items.push((item_of("list/0")?, list(alloc, SHARED)?))?;
+    items.push((item_of("list/1")?, list(alloc, OWNED)?))?;
+    items.push((item_of("list/2")?, list(alloc, READABLE)?))?;
+    items.push((item_of("list/7")?, list(alloc, OWNED)?))?;
+    items.push((item_of("group/7")?, group(alloc)?))?;
+    Ok(Opening {
+        parts: 3,
+        limit: 1000,
+        policy: 1,
+        items: ItemValues::of(items),
+    })
+}
+
+/// This for two sessions, with hints or as a plain service.
+fn opened(alloc: Global, plain: bool) -> Result<Opened, Refusal> {
+    let opened = Opened::new(alloc, &opening(alloc)?, 2)?;
+    if plain {
+        return Ok(opened.plain());
+    }
+    Ok(opened)
+}
+
+/// A session asks, and one of its mails is held on its way to a partition while another session is told something.
+/// Numbers of messages are of partitions 0 and 2.
+#[derive(Clone, Copy)]
+struct Delayed {
+    plain: bool,
+    wish: Wish,
+    part: u16,
+    /// Which of the session's mails to the partition is held, from 0.
+    held: u64,
+    /// How many messages were taken once the rest of what it sent by then is.
+    until: (u64, u64),
+    meanwhile: &'static [(Wish, &'static str)],
+    /// What it is told once the mail goes on, and how many messages that takes.
+    told: &'static str,
+    after: (u64, u64),
+}
+
+/// bo's read: of picture/0; with it list/0 and group/0; with them group/7, which waits. Of a plain service each read has
+/// two rounds, of another one. amy takes the group off the list, and puts bo into it. Then group/7 comes with bo, of a
+/// time when the list hasn't the group any more: by the second round, of which partitions 0 and 2 take 2 and 1, the read
+/// is overtaken. Anew bo reads the picture, and with it the list of now, which lets nobody in.
+const NEW_ENEMY: Delayed = Delayed {
+    plain: false,
+    wish: Read("bo@users", "picture/0"),
+    part: 1,
+    held: 0,
+    until: (5, 2),
+    meanwhile: &[
+        (SetList, "committed at 65538"),
+        (SetMembers, "committed at 131074"),
+    ],
+    told: "denied picture/0 at the end",
+    after: (5, 2),
+};
+
+/// The same of a plain service: so the mails are those of examples/new_enemy.jsonl, in their order.
+const PLAIN_NEW_ENEMY: Delayed = Delayed {
+    plain: true,
+    until: (8, 3),
+    after: (8, 3),
+    ..NEW_ENEMY
+};
+
+/// amy's two lists are committed at partition 0, and only prepared at 2. cy, who was let in to picture/0 and not to
+/// picture/1, lists both: the album's listing has both lists as they are written. So has each later read, also that of
+/// list/0 alone.
+const HALF_COMMITTED: Delayed = Delayed {
+    plain: false,
+    wish: SetLists,
+    part: 2,
+    held: 3,
+    until: (9, 3),
+    meanwhile: &[
+        (List("cy@users"), "listed picture/1"),
+        (Read("cy@users", "picture/0"), "denied picture/0 at the end"),
+        (Read("cy@users", "picture/1"), "Sea at 0"),
+    ],
+    told: "committed at 65537",
+    after: (0, 1),
+};
+
+/// The same of a plain service.
+const PLAIN_HALF_COMMITTED: Delayed = Delayed {
+    plain: true,
+    held: 5,
+    until: (16, 5),
+    ..HALF_COMMITTED
+};
+
+/// Where a session's mails to a partition come, and where they are passed on to.
+#[derive(Drop)]
+struct Relay<J: ServiceNames> {
+    mails: Receiver<PartitionMail<J>>,
+    to: Sender<PartitionMail<J>>,
+}
+
+/// Takes the place of the partition for the session.
+fn relay_for<J: ServiceNames, R: Wait + Copy>(
+    alloc: Global,
+    guest: &mut OwnedSession<J, R>,
+    part: u16,
+) -> Result<Relay<J>, Refusal> {
+    let (mailbox, mails) = unbounded(alloc)?;
+    let to = guest
+        .session
+        .relay(part, mailbox)
+        .ok_or(Refusal::NoSuchPart)?;
+    Ok(Relay { mails, to })
+}
+
+/// Passes each mail on, the one of this number once it is released, until the session has ended.
+fn pass_on<J: ServiceNames, R: Wait + Copy>(rt: R, relay: Relay<J>, held: u64, hold: &Hold) {
+    let mut number: u64 = 0;
+    for _ in rt.forever() {
+        let Ok(mail) = relay.mails.recv(&rt) else {
+            return;
+        };
+        if number == held {
+            hold.wait();
+        }
+        number = number.wrapping_add(1);
+        drop(relay.to.send(&rt, mail));
+    }
+    // `forever` has no end.
+    unreachable!()
+}
+
+/// What the session is told, which ends then.
+fn told_late<J: ServiceNames, R: Wait + time::Clock + Copy>(
+    alloc: Global,
+    mut guest: OwnedSession<J, R>,
+    wish: Wish,
+) -> Result<String, Refusal> {
+    let rt = guest.rt;
+    told(&rt, alloc, &mut guest.session, wish)
+}
+
+/// The other session is told so, and ends.
+fn told_meanwhile<J: ServiceNames, R: Wait + time::Clock + Abort + Copy>(
+    alloc: Global,
+    mut other: OwnedSession<J, R>,
+    rows: &[(Wish, &'static str)],
+) -> Result<(), Fail> {
+    let rt = other.rt;
+    for (wish, expected) in rows {
+        same(&rt, told(&rt, alloc, &mut other.session, *wish), expected)?;
+    }
+    Ok(())
+}
+
+/// What the session is told whose mail is held, after how many messages, and what the other one is told meanwhile.
+struct Both {
+    late: Result<String, Refusal>,
+    after: (u64, u64),
+    meanwhile: Result<(), Fail>,
+}
+
+fn both_told<J: ServiceNames + Send, R: Threads + Wait + time::Clock + Abort + Copy + Send + Sync>(
+    rt: &R,
+    alloc: Global,
+    hold: &Hold,
+    case: Delayed,
+    relay: Relay<J>,
+    guest: OwnedSession<J, R>,
+    other: OwnedSession<J, R>,
+) -> Result<Both, AllocError> {
+    thread::scope(
+        thread::scope_env(),
+        rt,
+        |scope| -> Result<Both, AllocError> {
+            let (own, held) = (*rt, case.held);
+            let relaying = scope.spawn(move || pass_on(own, relay, held, hold))?;
+            let late = scope.spawn(move || told_late(alloc, guest, case.wish))?;
+            hold.wait_for(case.until.0, case.until.1);
+            let meanwhile = told_meanwhile(alloc, other, case.meanwhile);
+            let before = hold.counts.so_far();
+            hold.release();
+            let late = late.join(rt);
+            relaying.join(rt);
+            Ok(Both {
+                late,
+                after: hold.counts.since(before),
+                meanwhile,
+            })
+        },
+    )
+}
+
+fn all_told<J: ServiceNames + Send, R: Threads + Wait + time::Clock + Abort + Copy + Send + Sync>(
+    rt: &R,
+    alloc: Global,
+    hold: &Hold,
+    case: Delayed,
+    service: &Service<J>,
+) -> Result<(), Fail> {
+    let mut guest = OwnedSession::begin(rt, service)?;
+    let other = OwnedSession::begin(rt, service)?;
+    let relay = relay_for(alloc, &mut guest, case.part)?;
+    let Both {
+        late,
+        after,
+        meanwhile,
+    } = both_told(rt, alloc, hold, case, relay, guest, other)?;
+    meanwhile?;
+    same(rt, late, case.told)?;
+    assert_eq!(rt; after, case.after);
+    Ok(())
+}
+
+fn told_by<
+    J: ServiceNames + Send + 'static,
+    R: Threads + Wait + time::Clock + Abort + Copy + Send + Sync + 'static,
+>(rt: R, alloc: Global, opened: Opened, case: Delayed) -> Result<(), Fail>
+    requires named { opened ≡ opened_as J.table J.terms J.policy J.list
+        J.audit_ok J.audit_failed J.alarm_ok J.alarm_failed }
+{
+    let hold = Arc::new(alloc, Hold::new())?;
+    let gate = Watching {
+        hold: Arc::try_clone(&hold)?,
+    };
+    let service = Service::<J>::open(rt, alloc, opened, gate)?;
+    let told = all_told(&rt, alloc, &hold, case, &service);
+    service.close(&rt);
+    told?;
+    assert!(rt; !hold.has_given_up(), "nobody waits in vain");
+    Ok(())
+}
+
+fn assert_told<R: Threads + Wait + time::Clock + Abort + Copy + Send + Sync + 'static>(
+    rt: R,
+    alloc: Global,
+    case: Delayed,
+) -> Result<(), Fail> {
+    let opened = opened(alloc, case.plain)?;
+    told_by::<Brand, R>(rt, alloc, opened, case)
+}
+
+#[test]
+fn no_new_enemy_is_served(rt: HostRuntime) -> Result<(), Fail> {
+    assert_told(rt, rt.alloc(), NEW_ENEMY)?;
+    assert_told(rt, rt.alloc(), PLAIN_NEW_ENEMY)
+}
+
+#[test]
+fn a_write_that_is_half_committed(rt: HostRuntime) -> Result<(), Fail> {
+    assert_told(rt, rt.alloc(), HALF_COMMITTED)?;
+    assert_told(rt, rt.alloc(), PLAIN_HALF_COMMITTED)
+}
