@@ -1,7 +1,7 @@
-//! Hints that don't fit: one that lacks an object of the ask, one that names more than the ask looks at, and one whose
-//! place another object's has taken. Each ask is told what a service without hints tells it (docs/PROTOCOL.md, "Hints"
+//! Hints that don't fit: one that lacks an object of the ask, or what the ask looks at now; one that names more than it
+//! looks at; and one whose place another object's has taken. Each ask is told what a service without hints tells it (docs/PROTOCOL.md, "Hints"
 //! in "A service").
-use crate::asked::Wish::{Delete, List, Read, SetLists};
+use crate::asked::Wish::{Delete, List, Read, SetGroup, SetLists};
 use crate::asked::{Row, Wish, told_so};
 use crate::gates::{Counting, Counts};
 use crate::messages::item_of;
@@ -91,6 +91,39 @@ const LISTED: &[Twice] = &[
     (Delete("picture/0"), "committed at 65537", (7, 4), (12, 6)),
     (List("amy@users"), "listed picture/1", (3, 1), (6, 0)),
     (List("amy@users"), "listed picture/1", (3, 1), (6, 0)),
+];
+
+/// The head group becomes group/1, of partition 1. So what the hint names lacks it, and a read begins anew: after the
+/// hinted read it reads picture/0, and then with it list/0 and group/1. The next one reads all three at once. Group 0
+/// comes back: once more the hint lacks it.
+const REGROUPED: &[Twice] = &[
+    (Read("bo@users", "picture/0"), "Sea at 0", (3, 1), (6, 2)),
+    (SetGroup(1), "committed at 65537", (4, 1), (8, 2)),
+    (
+        Read("bo@users", "picture/0"),
+        "Sea at 65537",
+        (4, 2),
+        (4, 2),
+    ),
+    (
+        Read("bo@users", "picture/0"),
+        "Sea at 65537",
+        (1, 1),
+        (4, 2),
+    ),
+    (SetGroup(0), "committed at 131073", (3, 1), (6, 2)),
+    (
+        Read("bo@users", "picture/0"),
+        "Sea at 131073",
+        (4, 2),
+        (6, 2),
+    ),
+    (
+        Read("cy@users", "picture/0"),
+        "Sea at 131073",
+        (2, 1),
+        (6, 2),
+    ),
 ];
 
 /// The hints of picture/0 and picture/31555 have one place of the 4,096, by the numbers of both: each takes that of the
@@ -184,6 +217,12 @@ fn a_hint_of_a_wider_ask(rt: HostRuntime) -> Result<(), Fail> {
 #[test]
 fn a_hint_that_names_what_is_deleted(rt: HostRuntime) -> Result<(), Fail> {
     assert_told(rt, rt.alloc(), LISTED)
+}
+
+/// A hint that no longer names all that is looked at is let go.
+#[test]
+fn a_stale_hint(rt: HostRuntime) -> Result<(), Fail> {
+    assert_told(rt, rt.alloc(), REGROUPED)
 }
 
 #[test]

@@ -4,7 +4,7 @@ ghost use Rattle.std.specs.Prelude.{◌≡◌, ◌<◌};
 ghost use Rattle.album_threads.specs.Opened.{opened_as};
 
 use crate::asked::Order::{Pending, Sweep, Trim};
-use crate::asked::Wish::{Read, Retitle, SetGroup, SetLists};
+use crate::asked::Wish::{Read, Retitle, SetLists};
 use crate::asked::{Order, Row, ordered_so, told, told_so};
 use crate::gates::{Counting, Counts, Entered, Together};
 use crate::messages::{item_of, same, stamp_of};
@@ -174,50 +174,6 @@ fn two_sessions(rt: HostRuntime) -> Result<(), Fail> {
         counts: Arc::try_clone(&counts)?,
     };
     with_opened(rt, rt.alloc(), opened, gate, Two { counts })?
-}
-
-/// The head group becomes group/1, of partition 1. So what the hint names lacks it, and a read begins anew: after the
-/// hinted read it reads picture/0, and then with it list/0 and group/1. The next one reads all three at once. Group 0
-/// comes back: once more the hint lacks it.
-const REGROUPED: &[Row] = &[
-    (Read("bo@users", "picture/0"), "Sea at 0", (3, 1)),
-    (SetGroup(1), "committed at 65537", (4, 1)),
-    (Read("bo@users", "picture/0"), "Sea at 65537", (4, 2)),
-    (Read("bo@users", "picture/0"), "Sea at 65537", (1, 1)),
-    (SetGroup(0), "committed at 131073", (3, 1)),
-    (Read("bo@users", "picture/0"), "Sea at 131073", (4, 2)),
-    (Read("cy@users", "picture/0"), "Sea at 131073", (2, 1)),
-];
-
-/// A visit of one session, while the gate counts, which is told so.
-#[derive(Drop)]
-struct Regroup {
-    counts: Arc<Counts, Global>,
-}
-
-impl<R: Wait + time::Clock + Abort + Copy> Visit<R> for Regroup {
-    type Answer = Result<(), Fail>;
-
-    fn visit<J: ServiceNames + Send + Sync>(
-        self,
-        rt: &R,
-        alloc: Global,
-        service: &Service<J>,
-    ) -> Result<(), Fail> {
-        let mut guest = OwnedSession::begin(rt, service)?;
-        told_so(rt, alloc, &mut guest.session, &self.counts, REGROUPED)
-    }
-}
-
-/// A hint that no longer names all that is looked at changes no answer, and is let go.
-#[test]
-fn a_stale_hint(rt: HostRuntime) -> Result<(), Fail> {
-    let opened = opened(rt.alloc(), READABLE, 1)?;
-    let counts = Arc::new(rt.alloc(), Counts::new())?;
-    let gate = Counting {
-        counts: Arc::try_clone(&counts)?,
-    };
-    with_opened(rt, rt.alloc(), opened, gate, Regroup { counts })?
 }
 
 /// The number of the refusal, or 0.
