@@ -113,11 +113,7 @@ fn effect_of(alloc: Global, permit: &Permit, stamp: Stamp) -> Result<ItemValues,
 /// What the ask of the permit writes at the stamp, in order; an item may stand twice. Merged, that is what one
 /// transaction may write.
 #[tactic(auto, using(crate::proofs::Transacting::effect_items))]
-fn written_by(
-    alloc: Global,
-    permit: &Permit,
-    stamp: Stamp,
-) -> Result<Vec<(ItemId, Value)>, Refusal>
+fn written_by(alloc: Global, permit: &Permit, stamp: Stamp) -> Result<Vec<(ItemId, Value)>, Refusal>
     requires change { IsTrue (is_write permit.now.view.ask) }
     ensures items { IfOk result (λ _. IsTrue (are_items (items_written (effect_of permit.now stamp)))) }
     ensures writes { IfOk result (λ writes.

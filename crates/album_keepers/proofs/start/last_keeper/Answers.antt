@@ -9,13 +9,13 @@ new-requires-clause-is g c =
     let partitions = first_partition g.J.DeskNames.terms.parts g.J.DeskNames.terms.limit g.J.DeskNames.terms.opening in
     let owners = first_owner (record { table = g.J.BoardNames.table; terms = g.J.DeskNames.terms }) in
     let p = last_of partitions (c.args.part + 1) c.args.partitions.now.items c.pop-2.new.self.items c.pop-2.result c.in_ok-partition.partition
-        c.requires.partitions.count_is c.requires.partitions.each c.pop-2.ensures.items (search rules) in
+    c.requires.partitions.count_is c.requires.partitions.each c.pop-2.ensures.items (search rules) in
     let o = last_of owners (c.args.part + 1) c.args.owners.now.items c.pop.new.self.items c.pop.result c.in_ok-owner.owner
-        c.requires.owners.count_is c.requires.owners.each c.pop.ensures.items (search rules) in
+    c.requires.owners.count_is c.requires.owners.each c.pop.ensures.items (search rules) in
     let at_p : length c.pop-2.new.self.items ≡ c.args.part = (let one = p.0 in omega arith) in
     let at_o : length c.pop.new.self.items ≡ c.args.part = (let one = o.0 in omega arith) in
     first_keeper g.J.BoardNames.table g.J.DeskNames.terms c.args.part c.in_ok-partition.partition c.in_ok-owner.owner
-        (p.1 ∙ ap partitions at_p) (o.1 ∙ ap owners at_o)
+    (p.1 ∙ ap partitions at_p) (o.1 ∙ ap owners at_o)
 
 pub returns-clause-owners : goal.returns-clause-owners
 returns-clause-owners g c =
