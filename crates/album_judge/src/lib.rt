@@ -4,10 +4,10 @@
 //! verdict or of its refusal; or a fault, before which a prefix of the answers was written. The crates of the store are
 //! not needed.
 //!
-//! Read `engines/judge` first: `judge` reads, `answer_line` answers one line, and `verdict` judges it. The programs call
-//! it by `buffered`. Then
-//! specs/Judge.antt, which says what an answer is, and specs/Writes.antt, which says how what was written goes with
-//! what was read. The other engines, in `album_server`, end by the same faults and write by the same `writing`.
+//! Read `engines/judge` first: `judge` reads, `answer_line` answers one line, and `verdict` judges it. The programs
+//! call it by `buffered`. Then specs/Judge.antt, which says what an answer is, and specs/Writes.antt, which says how
+//! what was written goes with what was read. The other engines, in `album_server`, end by the same faults and write by
+//! the same `writing`.
 #![tactic(auto)]
 
 // The engine, and the same with a buffer on both sides.

@@ -41,12 +41,8 @@ pub(crate) fn picture_added(
     ensures memory { IsOkUnless result Refusal.OutOfMemory }
 {
     let picture = new_picture(lookup, principal, stamp, into, title, content)?;
-    let mut writes = vec![in alloc; (picture_at(stamp), Value::Picture(picture))]?;
-    let list = heritage(alloc, lookup, Holder::Plain, into)?;
-    writes.push((list_at(stamp), Value::List(list)))?;
-    let album = with_child(alloc, lookup.value(into), picture_at(stamp))?;
-    writes.push((into, album))?;
-    Ok(writes)
+    let child = (picture_at(stamp), Value::Picture(picture));
+    added(alloc, lookup, stamp, into, Holder::Plain, child)
 }
 
 fn new_picture(
@@ -99,12 +95,8 @@ pub(crate) fn album_added(
     ensures memory { IsOkUnless result Refusal.OutOfMemory }
 {
     let inner = new_album(alloc, lookup, principal, stamp, into, title)?;
-    let mut writes = vec![in alloc; (album_at(stamp), Value::Album(inner))]?;
-    let list = heritage(alloc, lookup, Holder::Folder, into)?;
-    writes.push((list_at(stamp), Value::List(list)))?;
-    let outer = with_child(alloc, lookup.value(into), album_at(stamp))?;
-    writes.push((into, outer))?;
-    Ok(writes)
+    let child = (album_at(stamp), Value::Album(inner));
+    added(alloc, lookup, stamp, into, Holder::Folder, child)
 }
 
 fn new_album(
@@ -130,6 +122,30 @@ fn new_album(
         home: Some(into.number()),
         children: Items::of(Vec::new(alloc)),
     })
+}
+
+/// A new child with its list, and the album with it.
+fn added(
+    alloc: Global,
+    lookup: &ViewLookup,
+    stamp: Stamp,
+    into: ItemId,
+    holder: Holder,
+    child: (ItemId, Value),
+) -> Result<Vec<(ItemId, Value)>, Refusal>
+    ensures writes { IfOk result (λ writes. writes.items ≡ child
+        ∷ (list stamp, Value.List (heritage (seen lookup.now.view.now.rows) holder into))
+        ∷ (into, with_child child.0 (seen lookup.now.view.now.rows into))
+        ∷ []) }
+    ensures memory { IsOkUnless result Refusal.OutOfMemory }
+{
+    let item = child.0;
+    let mut writes = vec![in alloc; child]?;
+    let list = heritage(alloc, lookup, holder, into)?;
+    writes.push((list_at(stamp), Value::List(list)))?;
+    let album = with_child(alloc, lookup.value(into), item)?;
+    writes.push((into, album))?;
+    Ok(writes)
 }
 
 /// A new picture has the stamp's number.

@@ -83,9 +83,9 @@ struct Delayed {
     after: (u64, u64),
 }
 
-/// bo's read: of picture/0; with it list/0 and group/0; with them group/7, which waits. Of a plain service each read has
-/// two rounds, of another one. amy takes the group off the list, and puts bo into it. Then group/7 comes with bo, of a
-/// time when the list hasn't the group any more: by the second round, of which partitions 0 and 2 take 2 and 1, the read
+/// bo's read: of picture/0; with it list/0 and group/0; with them group/7, which waits. In a plain service each read
+/// has two rounds, in another one. amy takes the group off the list, and puts bo into it. Then group/7 comes with bo,
+/// of a time when the list has lost the group: by the second round, of which partitions 0 and 2 take 2 and 1, the read
 /// is overtaken. Anew bo reads the picture, and with it the list of now, which lets nobody in.
 const NEW_ENEMY: Delayed = Delayed {
     plain: false,
