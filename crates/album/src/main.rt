@@ -14,7 +14,7 @@ use crate::replaying::{replay_command, replay_lines};
 use crate::texts::{ABOUT, JUDGE_ABOUT, JUDGE_HELP, NO_TEXT, SERVE_ABOUT, SERVE_HELP};
 use album_server::{
     Admins, AuditFile, Fault, Refusal, Served, Serving, judge_buffered, serve_beside, serve_for,
-    serve_until,
+    serve_until, with_buffers,
 };
 use clap::error::ErrorKind;
 use clap::{Arg, ArgAction, ArgMatches, Command, Error, value_parser};
@@ -205,14 +205,20 @@ fn judge_lines<T: Files + Eprint, R: Read, W: Write>(
 ) -> Result<(), Fault> {
     let named = matches.subcommand_matches("judge");
     match named.and_then(|m| m.get_strs("FILE")) {
-        None => judge_buffered(alloc, reader, writer, TURNS),
+        None => judge_reader(alloc, reader, writer),
         Some(paths) => {
             for path in paths {
-                judge_buffered(alloc, open(rt, path)?, &mut *writer, TURNS)?;
+                judge_reader(alloc, open(rt, path)?, &mut *writer)?;
             }
             Ok(())
         }
     }
+}
+
+/// Answers the lines of the reader, to its end.
+fn judge_reader<R: Read + Drop, W: Write + Drop>(alloc: Global, reader: R, writer: W) -> Result<(), Fault> {
+    let (mut reader, mut writer) = with_buffers(alloc, reader, writer)?;
+    judge_buffered(alloc, &mut reader, &mut writer, TURNS)
 }
 
 /// The file at the path, to be read. Why it can't be is told on standard error.

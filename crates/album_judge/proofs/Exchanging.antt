@@ -1,7 +1,7 @@
 -- What a reader gave and a writer gained, step by step. For the engine's turns; `exchanges_more` is a turn.
 use Rattle.std.proofs.Common.{◌≡◌, ℕ, List, [], ◌++◌, Option, Some, None, IfSome, sym, ap, ◌∙◌, subst, append-nil}
 use Rattle.std.specs.Io.KnownBytes.{Consumes, IsAtEnd, Keeps}
-use Rattle.std.proofs.KnownBytes.{Consumes-trans, Consumes-whole, Consumes-kept}
+use Rattle.std.proofs.KnownBytes.{Appends-kept, Consumes-trans, Consumes-whole, Consumes-kept}
 use Rattle.album_judge.specs.Writes.{Writes, Exchanges}
 use Rattle.album_judge.proofs.Texts.{writes_weaker, writes_both}
 
@@ -13,6 +13,11 @@ exchanges_weaker S T so a b c d h = (h.0, h.1, writes_weaker (S h.0) (T h.0) (so
 pub exchanges_kept : (S : List ℕ → List ℕ → Type 0) (a b e c d : Option (List ℕ))
     → Exchanges S a b c d → Keeps b e → Exchanges S a e c d
 exchanges_kept S a b e c d h k = (h.0, Consumes-kept a b e h.0 h.1 k, h.2)
+
+-- what the writer holds is handed on
+pub exchanges_handed_on : (S : List ℕ → List ℕ → Type 0) (a b c d f : Option (List ℕ))
+    → Exchanges S a b c d → Keeps d f → Exchanges S a b c f
+exchanges_handed_on S a b c d f h k = (h.0, h.1, (h.2.0, h.2.1, Appends-kept c d f h.2.0 h.2.2 k))
 
 -- a piece more is read, and something is written for it
 pub exchanges_more : (S : List ℕ → List ℕ → Type 0) (Q : List ℕ → Type 0) (T : List ℕ → List ℕ → Type 0)

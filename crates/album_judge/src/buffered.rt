@@ -1,87 +1,87 @@
 //! Judging with a buffer on both sides, as the programs do over standard input and output. A call of the operating
 //! system takes the time of a line, and drives the program's own instructions out of the processor's cache.
 //!
-//! What is read ahead is gone through in pieces, as ever. Answers are held until nothing is left of it: then they are
-//! written before the next read, which may wait. So whoever sends a line and waits is answered.
-use crate::engines::judge::judge;
+//! `with_buffers` gives both, and `judge_buffered` goes between them. What is read ahead is gone through in pieces, as
+//! ever; answers are held until nothing is left of it.
+ghost use Rattle.std.specs.Prelude.{◌≡◌, ◌≢◌, [], OnOk, OnErr, IfOk, IfErr, IfSome};
+ghost use Rattle.std.specs.Io.Buffered.{reader_remaining, writer_contents, writer_buffer};
+ghost use Rattle.std.specs.Io.KnownBytes.{IsAtEnd};
+ghost use Rattle.album_lines.specs.Lines.{lines_of};
+ghost use Rattle.album_judge.specs.Judge.{Answers};
+ghost use Rattle.album_judge.specs.Writes.{HasRead, Writes, Exchanges, IsPrefixOf, IsEndedBy};
+
+use crate::engines::judge::judge_paced;
 use crate::fault::Fault;
+use crate::pace::Held;
 use std::alloc::Global;
-use std::cell::RefCell;
-use std::io;
-use std::io::{BufReader, BufWriter, ErrorKind, Read, Write};
+use std::io::{BufReader, BufWriter, Read, Write};
 
 /// How many bytes each buffer has.
 const BUFFER: usize = 65_536;
 
-/// Answers each line that is read, as `judge` does. No contract says what is written: the answers are in a cell that
-/// the reader has too.
+/// A buffer before the reader, and one before the writer.
 ///
 /// # Errors
 ///
-/// Those of `judge`, and `Memory` where there is none for the buffers.
-pub fn judge_buffered<R: Read + Drop, W: Write + Drop>(
+/// `Memory`, where there is none for the buffers.
+pub fn with_buffers<R: Read + Drop, W: Write + Drop>(
     alloc: Global,
     reader: R,
     writer: W,
-    turns: u64,
-) -> Result<(), Fault> {
+) -> Result<(BufReader<R>, BufWriter<W>), Fault>
+    ensures remaining { IfOk result (λ both. reader_remaining R.remaining both.0 ≡ R.remaining reader) }
+    ensures contents { IfOk result (λ both. writer_contents W.contents both.1 ≡ W.contents writer) }
+    ensures held { IfOk result (λ both. writer_buffer both.1 ≡ []) }
+    ensures memory { IfErr result (λ fault. fault ≡ Fault.Memory) }
+{
     let Ok(reader) = BufReader::with_capacity(alloc, BUFFER, reader) else {
         return Err(Fault::Memory);
     };
     let Ok(writer) = BufWriter::with_capacity(alloc, BUFFER, writer) else {
         return Err(Fault::Memory);
     };
-    let held = RefCell::new(writer);
-    let mut reader = Ahead {
-        reader,
-        held: &held,
-    };
-    let mut writer = Held { held: &held };
-    let judged = judge(alloc, &mut reader, &mut writer, turns);
-    // What can't be written is the fault, also where a read found it.
-    writer.flush().map_err(|_| Fault::Writing)?;
-    judged
+    Ok((reader, writer))
 }
 
-/// A reader that reads ahead. Before it waits for more, what is held is written.
-#[derive(Drop)]
-struct Ahead<'a, R: Read + Drop, W: Write + Drop> {
-    reader: BufReader<R>,
-    held: &'a RefCell<BufWriter<W>>,
-}
+/// Answers each line that is read, as `judge` does, and writes what it holds before it waits for more, and at the end.
+/// In the clauses a reader has what its buffer has, and then what is behind it; a writer what was written through its
+/// buffer, and then what the buffer holds.
+///
+/// # Errors
+///
+/// Those of `judge`, but `Writing` also where answers were held that can't be written.
+pub fn judge_buffered<R: Read, W: Write + Drop>(
+    alloc: Global,
+    reader: &mut BufReader<R>,
+    writer: &mut BufWriter<W>,
+    turns: u64,
+) -> Result<(), Fault>
+    // Without a fault all was read, just the answers to its lines are written, and none is held.
+    ensures ok { OnOk result (IfSome (reader_remaining R.remaining reader.old) (λ input.
+        Writes (Answers (lines_of input))
+            (writer_contents W.contents writer.old) (writer_contents W.contents writer.new))) }
+    ensures whole { OnOk result (IsAtEnd (reader_remaining R.remaining reader.new)) }
+    ensures heard { OnOk result (writer_buffer writer.new ≡ []) }
 
-impl<R: Read + Drop, W: Write + Drop> Read for Ahead<'_, R, W> {
-    fn read(&mut self, buf: &mut [u8]) -> io::Result<usize> {
-        if self.reader.buffer().is_empty() {
-            flush(self.held)?;
-        }
-        self.reader.read(buf)
-    }
-}
+    // On a fault, a prefix of them is. None of it is held, unless writing failed.
+    ensures err { OnErr result (IfSome (reader_remaining R.remaining reader.old) (λ input.
+        Writes (IsPrefixOf (Answers (lines_of input)))
+            (writer_contents W.contents writer.old) (writer_contents W.contents writer.new))) }
+    ensures held { IfErr result (λ fault. fault ≢ Fault.Writing → writer_buffer writer.new ≡ []) }
 
-/// A writer that holds what is written.
-#[derive(Drop)]
-struct Held<'a, W: Write + Drop> {
-    held: &'a RefCell<BufWriter<W>>,
-}
+    // What is written then answers what was read, as at `judge`, unless writing failed.
+    ensures fault { IfErr result (λ fault. fault ≢ Fault.Writing → Exchanges (IsEndedBy fault Answers)
+        (reader_remaining R.remaining reader.old) (reader_remaining R.remaining reader.new)
+        (writer_contents W.contents writer.old) (writer_contents W.contents writer.new)) }
 
-impl<W: Write + Drop> Write for Held<'_, W> {
-    fn write(&mut self, buf: &[u8]) -> io::Result<usize> {
-        match self.held.try_borrow_mut() {
-            Ok(mut writer) => writer.write(buf),
-            Err(_) => Err(ErrorKind::Other.into()),
-        }
-    }
-
-    fn flush(&mut self) -> io::Result<()> {
-        flush(self.held)
-    }
-}
-
-/// Writes what is held. (Nobody else has borrowed it: each borrow ends with the call that makes it.)
-fn flush<W: Write + Drop>(held: &RefCell<BufWriter<W>>) -> io::Result<()> {
-    match held.try_borrow_mut() {
-        Ok(mut writer) => writer.flush(),
-        Err(_) => Err(ErrorKind::Other.into()),
+    // A turn reads one piece at most.
+    ensures few { HasRead turns
+        (reader_remaining R.remaining reader.old) (reader_remaining R.remaining reader.new) }
+{
+    let judged = judge_paced(alloc, &Held, reader, writer, turns);
+    match writer.flush() {
+        Ok(()) => judged,
+        // What can't be written is the fault, also where it ended the reading.
+        Err(_) => Err(Fault::Writing),
     }
 }

@@ -10,15 +10,16 @@
 //! the same `writing`.
 #![tactic(auto)]
 
-// The engine, and the same with a buffer on both sides.
+// The engine, the same with a buffer on both sides, and what either does before it reads.
 mod buffered;
 mod engines;
+mod pace;
 
 // What engines share: why one ended early, and how a text is written.
 mod fault;
 mod writing;
 
-pub use buffered::judge_buffered;
+pub use buffered::{judge_buffered, with_buffers};
 pub use engines::judge::{PIECE, group_map, judge, one_judgement};
 pub use fault::Fault;
 pub use writing::{write_refused, write_text};

@@ -20,7 +20,7 @@ mod journal;
 mod engines;
 
 pub use admins::{Admins, only_admins_are_heard};
-pub use album_judge::{Fault, judge, judge_buffered, one_judgement};
+pub use album_judge::{Fault, judge, judge_buffered, one_judgement, with_buffers};
 pub use album_replay::{
     a_replay_runs_what_its_lines_spell, replay, replays_are_computed, replays_go_on,
     what_replay_prints, worked_replays,

@@ -11,6 +11,7 @@ ghost use Rattle.album_judge.specs.Judge.{Answers, IsAnswer, IsReply, IsJudged, 
 ghost use Rattle.album_judge.specs.Writes.{HasRead, Writes, Gains, Exchanges, IsPrefixOf, IsLeftBy, IsEndedBy};
 
 use crate::fault::Fault;
+use crate::pace::{Pace, Straight};
 use crate::writing::write_text;
 use album_eval::{Facts, Verdict, evaluate, members};
 use album_lines::{Group, JudgeLine, LineIn, Lines, read_judge, write_refusal, write_verdict};
@@ -58,10 +59,35 @@ pub fn judge<R: Read, W: Write>(
     ensures none { turns ≡ 0 → result ≡ Err Fault.Reading }
     ensures unread { turns ≡ 0 → R.remaining reader.new ≡ R.remaining reader.old }
 {
+    judge_paced(alloc, &Straight, reader, writer, turns)
+}
+
+/// The same, whatever is done before a read: `judge` itself, and with buffers `judge_buffered`.
+pub(crate) fn judge_paced<P: Pace<R, W>, R: Read, W: Write>(
+    alloc: Global,
+    pace: &P,
+    reader: &mut R,
+    writer: &mut W,
+    turns: u64,
+) -> Result<(), Fault>
+    ensures ok { OnOk result (IfSome (R.remaining reader.old) (λ input.
+        Writes (Answers (lines_of input)) (W.contents writer.old) (W.contents writer.new))) }
+    ensures whole { OnOk result (IsAtEnd (R.remaining reader.new)) }
+    ensures err { OnErr result (IfSome (R.remaining reader.old) (λ input.
+        Writes (IsPrefixOf (Answers (lines_of input))) (W.contents writer.old) (W.contents writer.new))) }
+    ensures fault { IfErr result (λ fault. Exchanges (IsEndedBy fault Answers)
+        (R.remaining reader.old) (R.remaining reader.new) (W.contents writer.old) (W.contents writer.new)) }
+    ensures few { HasRead turns (R.remaining reader.old) (R.remaining reader.new) }
+    ensures none { turns ≡ 0 → result ≡ Err Fault.Reading }
+    ensures unread { turns ≡ 0 → R.remaining reader.new ≡ R.remaining reader.old }
+{
     let mut lines = Lines::new(alloc);
     let mut scratch = Scratch::new(alloc);
     let mut piece = [0u8; PIECE];
     for _turn in 0..turns {
+        if !pace.before_read(reader, writer) {
+            return Err(Fault::Reading);
+        }
         let Ok(len) = reader.read(&mut piece) else {
             return Err(Fault::Reading);
         };

@@ -1,7 +1,7 @@
 use Rattle.std.proofs.Common.{◌≡◌}
 use Rattle.album_judge.specs.Judge.{Answers}
 use Rattle.album_judge.proofs.Turns.{HasAnswered}
-use Rattle.album_judge.proofs.engines.judge.judge.Given as goal
+use Rattle.album_judge.proofs.engines.judge.judge_paced.Given as goal
 
 abbrev pub invariant-loop-turn : goal.invariant-loop-turn
 invariant-loop-turn g l = record {
