@@ -1,4 +1,5 @@
 """What the scripts know of the tree: its crates, what each stands on, a checksum of each, and copies of them."""
+import fcntl
 import hashlib
 import os
 import pathlib
@@ -76,19 +77,27 @@ def copy_tree(top, rows):
 
 
 class Kept:
-    """What a try of doubt/ came to once, by a checksum of all that it rests on: it is not tried again until something
-    of that changes, so a run that was ended goes on. The files are in doubt/out/."""
+    """What tries of one kind of doubt/ came to: of each that was refused its name, and a checksum of all that it rests
+    on. It is not tried again until something of that changes. The lines of `doubt/refused` are committed, so a run that
+    was ended goes on, also in another clone."""
+    FILE = ROOT / "doubt" / "refused"
 
     def __init__(self, kind):
-        self.folder = ROOT / "doubt" / "out" / kind
+        self.kind = kind
 
-    def place(self, *parts):
+    def line(self, name, parts):
         key = hashlib.sha256(b"\0".join(part if isinstance(part, bytes) else part.encode() for part in parts))
-        return self.folder / key.hexdigest()
+        return f"{self.kind} {name} {key.hexdigest()[:32]}"
 
-    def has(self, *parts):
-        return self.place(*parts).exists()
+    def lines(self):
+        return self.FILE.read_text().splitlines() if self.FILE.exists() else []
+
+    def has(self, name, *parts):
+        return self.line(name, parts) in self.lines()
 
     def keep(self, name, *parts):
-        self.folder.mkdir(parents=True, exist_ok=True)
-        self.place(*parts).write_text(f"{name}\n")
+        """Takes the place of what was kept under the name before."""
+        with open(ROOT / "doubt" / ".lock", "w") as lock:
+            fcntl.flock(lock, fcntl.LOCK_EX)
+            others = [line for line in self.lines() if not line.startswith(f"{self.kind} {name} ")]
+            self.FILE.write_text("".join(f"{line}\n" for line in sorted([*others, self.line(name, parts)])))
