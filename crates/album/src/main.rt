@@ -3,18 +3,15 @@
 //! and `album ask` is a client of it.
 #![tactic(auto)]
 
-mod asking;
-mod explaining;
-mod replaying;
 mod texts;
 
-use crate::asking::{ask_command, ask_service};
-use crate::explaining::{explain_command, explain_lines, flags_command, mask_command, tell_bits};
-use crate::replaying::{replay_command, replay_lines};
-use crate::texts::{ABOUT, JUDGE_ABOUT, JUDGE_HELP, NO_TEXT, SERVE_ABOUT, SERVE_HELP};
+use crate::texts::{ABOUT, NO_TEXT, SERVE_ABOUT, SERVE_HELP};
+use album_commands::{
+    TURNS, ask_command, ask_service, explain_command, explain_lines, flags_command, judge_command,
+    judge_lines, mask_command, open, port_arg, replay_command, replay_lines, status, tell_bits,
+};
 use album_server::{
-    Admins, AuditFile, Fault, Refusal, Served, Serving, judge_buffered, serve_beside, serve_for,
-    serve_until, with_buffers,
+    Admins, AuditFile, Fault, Refusal, Served, Serving, serve_beside, serve_for, serve_until,
 };
 use clap::error::ErrorKind;
 use clap::{Arg, ArgAction, ArgMatches, Command, Error, value_parser};
@@ -26,10 +23,7 @@ use std::process::ExitCode;
 use std::rt::Files;
 use std::sync::Wait;
 use std::thread::Threads;
-use std::{env, fs, io, time};
-
-/// How many reads a run may make.
-pub(crate) const TURNS: u64 = 4_294_967_296;
+use std::{env, io, time};
 
 /// The program's version. Which commit it was built of it doesn't know.
 const VERSION: &str = "0.1.0";
@@ -95,27 +89,17 @@ fn parse<'a>(alloc: Global, words: &'a [String]) -> Result<ArgMatches<'a>, Error
 }
 
 fn command<'a>(alloc: Global) -> Result<Command<'a>, AllocError> {
-    let judge = Command::new(alloc, "judge")
-        .about(JUDGE_ABOUT)
-        .after_help(JUDGE_HELP)
-        .arg(questions_arg(alloc))?;
     Command::new(alloc, "album")
         .about(ABOUT)
         .version(VERSION)
         .subcommand_required(true)
-        .subcommand(judge)?
+        .subcommand(judge_command(alloc)?)?
         .subcommand(replay_command(alloc)?)?
         .subcommand(serve_command(alloc)?)?
         .subcommand(ask_command(alloc)?)?
         .subcommand(explain_command(alloc)?)?
         .subcommand(mask_command(alloc)?)?
         .subcommand(flags_command(alloc)?)
-}
-
-fn questions_arg<'a>(alloc: Global) -> Arg<'a> {
-    Arg::new(alloc, "FILE")
-        .help("Files of questions, in the place of standard input")
-        .num_args(0..)
 }
 
 fn serve_command<'a>(alloc: Global) -> Result<Command<'a>, AllocError> {
@@ -130,13 +114,6 @@ fn serve_command<'a>(alloc: Global) -> Result<Command<'a>, AllocError> {
         .arg(admin_arg(alloc))?
         .arg(stats_arg(alloc))?
         .arg(audit_arg(alloc))
-}
-
-pub(crate) fn port_arg<'a>(alloc: Global) -> Arg<'a> {
-    Arg::new(alloc, "PORT")
-        .help("The port of 127.0.0.1")
-        .required(true)
-        .value_parser(value_parser!(u16).range(1..))
 }
 
 fn conns_arg<'a>(alloc: Global) -> Arg<'a> {
@@ -195,40 +172,6 @@ fn audit_arg<'a>(alloc: Global) -> Arg<'a> {
         .help("A file to which each note is appended, before its request is answered")
 }
 
-/// Answers the lines of each file that is named, to its end, or else those of the reader.
-fn judge_lines<T: Files + Eprint, R: Read, W: Write>(
-    rt: &T,
-    alloc: Global,
-    reader: &mut R,
-    writer: &mut W,
-    matches: &ArgMatches<'_>,
-) -> Result<(), Fault> {
-    let named = matches.subcommand_matches("judge");
-    match named.and_then(|m| m.get_strs("FILE")) {
-        None => judge_reader(alloc, reader, writer),
-        Some(paths) => {
-            for path in paths {
-                judge_reader(alloc, open(rt, path)?, &mut *writer)?;
-            }
-            Ok(())
-        }
-    }
-}
-
-/// Answers the lines of the reader, to its end.
-fn judge_reader<R: Read + Drop, W: Write + Drop>(alloc: Global, reader: R, writer: W) -> Result<(), Fault> {
-    let (mut reader, mut writer) = with_buffers(alloc, reader, writer)?;
-    judge_buffered(alloc, &mut reader, &mut writer, TURNS)
-}
-
-/// The file at the path, to be read. Why it can't be is told on standard error.
-pub(crate) fn open<T: Files + Eprint>(rt: &T, path: &str) -> Result<T::File, Fault> {
-    fs::open(rt, path).map_err(|error| {
-        let _ = eprintln!(rt; "album: {path}: {error}");
-        Fault::Reading
-    })
-}
-
 /// Serves the port that the command line names. The bound has that of `Host`, written out: the borrow checker wants the
 /// types that it names where `main` calls this.
 fn serve_port<T, R: Read + Send + Drop, W: Write>(
@@ -252,32 +195,43 @@ where
         + 'static,
 {
     let matches = matches.subcommand_matches("serve");
-    let port = matches.and_then(|m| m.get_one::<u16>("PORT")).unwrap_or(0);
-    let conns = matches
-        .and_then(|m| m.get_one::<u16>("conns"))
-        .unwrap_or(u16::MAX);
-    let idle = matches.and_then(|m| m.get_one::<u32>("idle")).unwrap_or(0);
-    let stats = matches.and_then(|m| m.get_one::<u32>("stats")).unwrap_or(0);
-    let serving = Serving {
-        port,
-        conns,
-        turns: TURNS,
-        idle,
-        stats,
-        admins,
-    };
-    let until_eof = matches.is_some_and(|m| m.get_flag("until-eof"));
     let audit = audit_file(&rt, alloc, matches)?;
-    match matches.and_then(|m| m.get_str("opening")) {
+    let opening = opening_file(&rt, matches)?;
+    let serving = serving_of(matches, admins);
+    let until_eof = matches.is_some_and(|m| m.get_flag("until-eof"));
+    match opening {
         None if until_eof => serve_until(rt, alloc, reader, writer, serving, audit),
         None => serve_for(rt, alloc, &mut reader, writer, serving, audit),
-        Some(path) => {
-            let mut opening = open(&rt, path)?;
+        Some(mut opening) => {
             if until_eof {
                 return serve_beside(rt, alloc, &mut opening, reader, writer, serving, audit);
             }
             serve_for(rt, alloc, &mut opening, writer, serving, audit)
         }
+    }
+}
+
+/// What the command line says of the service.
+fn serving_of(matches: Option<&ArgMatches<'_>>, admins: Admins) -> Serving {
+    let conns = matches.and_then(|m| m.get_one::<u16>("conns"));
+    Serving {
+        port: matches.and_then(|m| m.get_one::<u16>("PORT")).unwrap_or(0),
+        conns: conns.unwrap_or(u16::MAX),
+        turns: TURNS,
+        idle: matches.and_then(|m| m.get_one::<u32>("idle")).unwrap_or(0),
+        stats: matches.and_then(|m| m.get_one::<u32>("stats")).unwrap_or(0),
+        admins,
+    }
+}
+
+/// The file with the opening, where the command line names one.
+fn opening_file<T: Files<File = File> + Eprint>(
+    rt: &T,
+    matches: Option<&ArgMatches<'_>>,
+) -> Result<Option<File>, Fault> {
+    match matches.and_then(|m| m.get_str("opening")) {
+        None => Ok(None),
+        Some(path) => Ok(Some(open(rt, path)?)),
     }
 }
 
@@ -330,17 +284,6 @@ fn served(rt: &impl Eprint, outcome: Result<Served, Fault>) -> ExitCode {
             ExitCode::from(1)
         }
         Err(fault) => status(rt, Err(fault)),
-    }
-}
-
-/// The status of a run, with its fault on standard error. Nothing can be done where that fails too.
-pub(crate) fn status(rt: &impl Eprint, outcome: Result<(), Fault>) -> ExitCode {
-    match outcome {
-        Ok(()) => ExitCode::SUCCESS,
-        Err(fault) => {
-            let _ = eprintln!(rt; "album: {fault}");
-            ExitCode::from(1)
-        }
     }
 }
 

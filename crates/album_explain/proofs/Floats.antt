@@ -1,4 +1,5 @@
--- No line that explains has a float. For `write_refused`: `no_float_in_refused`; for `write_told`: `no_float_in_told`.
+-- No line that explains has a float. For `write_refused`: `no_float_in_refused`; for `write_explanation`:
+-- `no_float_in_explanation`.
 use Rattle.std.proofs.Common.{◌≡◌, ℕ, List, [], ◌∷◌, map, false, Some, None, Option, refl}
 use Rattle.serde_json.specs.Data.{string}
 use Rattle.serde_json.specs.Written.{has_float, items_have_float}
@@ -9,7 +10,7 @@ use Rattle.album_eval.specs.declared.verdicts.Verdict.TheVariants as verdict
 use Rattle.album_lines.specs.Spelling.{list_data}
 use Rattle.album_explain.specs.declared.decisions.Decision.{Decision}
 use Rattle.album_explain.specs.declared.decisions.Decision.TheVariants as decision
-use Rattle.album_explain.specs.Telling.{Place, Row, refused_at, refused_json, decision_word, decision_at_json, bit_json, told_json}
+use Rattle.album_explain.specs.Explanations.{Place, Row, refused_at, refused_json, decision_word, decision_at_json, bit_json, explanation_json}
 
 at_place : (number : ℕ) (refusal : Refusal) (at : List ℕ) (value : Option ℕ) → has_float (refused_at number refusal at value) ≡ false
 at_place number refusal at None = refl
@@ -29,7 +30,7 @@ in_rows : (rows : List Row) → items_have_float (items_of (map bit_json rows)) 
 in_rows [] = refl
 in_rows (row ∷ rows) = rw (decided row.0 row.1, in_rows rows) refl
 
-pub no_float_in_told : (number : ℕ) (v : Verdict) (rows : List Row) → has_float (told_json number v rows) ≡ false
-no_float_in_told number verdict.Granted rows = rw (in_rows rows) refl
-no_float_in_told number (verdict.DeniedBy i) rows = rw (in_rows rows) refl
-no_float_in_told number verdict.DeniedAtEnd rows = rw (in_rows rows) refl
+pub no_float_in_explanation : (number : ℕ) (v : Verdict) (rows : List Row) → has_float (explanation_json number v rows) ≡ false
+no_float_in_explanation number verdict.Granted rows = rw (in_rows rows) refl
+no_float_in_explanation number (verdict.DeniedBy i) rows = rw (in_rows rows) refl
+no_float_in_explanation number verdict.DeniedAtEnd rows = rw (in_rows rows) refl

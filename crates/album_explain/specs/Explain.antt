@@ -1,22 +1,22 @@
--- The explanations of lines, whatever is told of each.
+-- The explanations of lines, whatever each of them is.
 use Rattle.std.specs.Prelude.{◌≡◌, ◌||◌, ◌+◌, ℕ, List, [], ◌∷◌, ◌++◌, min, Bool, false, MatchBool}
 use Rattle.album_lines.specs.Lines.{Line, is_blank}
 use Rattle.album_explain.specs.declared.explaining.Progress.{Progress}
 
--- what may be told of a line that isn't blank, by explainers of one kind (`Explainer`)
-abbrev pub Telling : Type 0 → Type 1
-Telling E = E → ℕ → Line → Bool → List ℕ → E → Type 0
+-- what an explanation of a line that isn't blank is, by explainers of one kind (`Explainer`)
+abbrev pub Explanation : Type 0 → Type 1
+Explanation E = E → ℕ → Line → Bool → List ℕ → E → Type 0
 
--- something may be told of every line
-abbrev pub IsAlwaysTold : {E : Type 0} → Telling E → Type 0
-IsAlwaysTold {E} Tells = (old : E) (number : ℕ) (line : Line)
-    → (is_refused : Bool) × (text : List ℕ) × (new : E) × Tells old number line is_refused text new
+-- every line has an explanation
+abbrev pub AlwaysExplains : {E : Type 0} → Explanation E → Type 0
+AlwaysExplains {E} IsExplanation = (old : E) (number : ℕ) (line : Line)
+    → (is_refused : Bool) × (text : List ℕ) × (new : E) × IsExplanation old number line is_refused text new
 
--- Nothing for a blank line, which changes nothing; for another what may be told of it.
-abbrev pub IsExplanation : {E : Type 0} → Telling E → E → ℕ → Line → Bool → List ℕ → E → Type 0
-IsExplanation Tells old number line is_refused text new =
+-- Nothing for a blank line, which changes nothing; for another an explanation of it.
+abbrev pub ExplainsLine : {E : Type 0} → Explanation E → E → ℕ → Line → Bool → List ℕ → E → Type 0
+ExplainsLine IsExplanation old number line is_refused text new =
     MatchBool (is_blank line) ((is_refused ≡ false) × (text ≡ []) × (new ≡ old))
-    (Tells old number line is_refused text new)
+    (IsExplanation old number line is_refused text new)
 
 -- the first line has the number 1
 abbrev pub at_start : {E : Type 0} → E → Progress E
@@ -36,14 +36,14 @@ after p is_refused new =
     counted (record { next = p.next; has_refused = p.has_refused; explainer = new }) is_refused
 
 -- the explanations of these lines, in their order, and nothing else: how far they come from here
-abbrev pub Explains : {E : Type 0} → Telling E → Progress E → List Line → Progress E → List ℕ → Type 0
-Explains Tells p [] q text = (q ≡ p) × (text ≡ [])
-Explains {E} Tells p (line ∷ lines) q text =
+abbrev pub Explains : {E : Type 0} → Explanation E → Progress E → List Line → Progress E → List ℕ → Type 0
+Explains IsExplanation p [] q text = (q ≡ p) × (text ≡ [])
+Explains {E} IsExplanation p (line ∷ lines) q text =
     (is_refused : Bool) × (first : List ℕ) × (new : E) × (others : List ℕ)
-    × IsExplanation Tells p.explainer p.next line is_refused first new
-    × Explains Tells (after p is_refused new) lines q others
+    × ExplainsLine IsExplanation p.explainer p.next line is_refused first new
+    × Explains IsExplanation (after p is_refused new) lines q others
     × (text ≡ first ++ others)
 
 -- the same, however far they come
-abbrev pub ExplainsOn : {E : Type 0} → Telling E → Progress E → List Line → List ℕ → Type 0
-ExplainsOn {E} Tells p lines text = (q : Progress E) × Explains Tells p lines q text
+abbrev pub ExplainsOn : {E : Type 0} → Explanation E → Progress E → List Line → List ℕ → Type 0
+ExplainsOn {E} IsExplanation p lines text = (q : Progress E) × Explains IsExplanation p lines q text

@@ -1,6 +1,6 @@
 pub mod Names
 pub mod Decisions
 pub mod Bytes
-pub mod Telling
+pub mod Explanations
 pub mod Explain
 pub mod Judging

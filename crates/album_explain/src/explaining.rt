@@ -1,5 +1,5 @@
-//! The engine that explains lines: read a piece, tell the lines that end in it, and at the end the last line. What is
-//! told of a line its `Explainer` says.
+//! The engine that explains lines: read a piece, explain the lines that end in it, and at the end the last line. A
+//! line's explanation is its `Explainer`'s.
 ghost use Rattle.std.specs.Prelude.{◌≡◌, ◌∷◌, [], Err, OnOk, OnErr, IfOk, IfErr, IfSome, map};
 ghost use Rattle.std.specs.Io.KnownBytes.{IsAtEnd};
 ghost use Rattle.album_lines.specs.Lines.{said, lines_of, last};
@@ -35,7 +35,7 @@ impl<E> Progress<E> {
     }
 }
 
-/// Explains each line that is read by one line, in order, and tells how far that came. A line of spaces, tabs and
+/// Explains each line that is read by one line, in order, and says how far that came. A line of spaces, tabs and
 /// carriage returns alone is counted, and has no line.
 ///
 /// # Errors
@@ -51,18 +51,18 @@ pub fn explain<E: Explainer, R: Read, W: Write>(
 ) -> Result<Progress<E>, Fault>
     // Without a fault all was read, and just the explanations of its lines are written.
     ensures ok { IfOk result (λ end. IfSome (R.remaining reader.old) (λ input.
-        Writes (Explains E.Tells (at_start explainer) (lines_of input) end)
+        Writes (Explains E.IsExplanation (at_start explainer) (lines_of input) end)
         (W.contents writer.old) (W.contents writer.new))) }
     ensures whole { OnOk result (IsAtEnd (R.remaining reader.new)) }
 
     // On a fault, a prefix of them is.
     ensures err { OnErr result (IfSome (R.remaining reader.old) (λ input.
-        Writes (IsPrefixOf (ExplainsOn E.Tells (at_start explainer) (lines_of input)))
+        Writes (IsPrefixOf (ExplainsOn E.IsExplanation (at_start explainer) (lines_of input)))
         (W.contents writer.old) (W.contents writer.new))) }
 
     // What is written then explains what was read. Reading: each line that has ended, and nothing else.
     // Writing: a line is cut short. Memory: each line is whole, and one is not there.
-    ensures fault { IfErr result (λ fault. Exchanges (IsEndedBy fault (ExplainsOn E.Tells (at_start explainer)))
+    ensures fault { IfErr result (λ fault. Exchanges (IsEndedBy fault (ExplainsOn E.IsExplanation (at_start explainer)))
         (R.remaining reader.old) (R.remaining reader.new) (W.contents writer.old) (W.contents writer.new)) }
 
     // A turn reads one piece at most.
@@ -102,8 +102,8 @@ fn finish<E: Explainer, W: Write>(
     writer: &mut W,
 ) -> Result<Progress<E>, Fault>
     ensures ok { IfOk result (λ end.
-        Writes (Explains E.Tells progress (last lines) end) (W.contents writer.old) (W.contents writer.new)) }
-    ensures fault { IfErr result (λ fault. Writes (IsLeftBy fault (ExplainsOn E.Tells progress) (last lines))
+        Writes (Explains E.IsExplanation progress (last lines) end) (W.contents writer.old) (W.contents writer.new)) }
+    ensures fault { IfErr result (λ fault. Writes (IsLeftBy fault (ExplainsOn E.IsExplanation progress) (last lines))
         (W.contents writer.old) (W.contents writer.new)) }
 {
     match lines.end() {
@@ -123,10 +123,10 @@ fn explain_lines<E: Explainer, W: Write>(
     writer: &mut W,
     lines: &[LineIn],
 ) -> Result<(), Fault>
-    ensures ok { OnOk result (Writes (Explains E.Tells progress.old (map said lines.now) progress.new)
+    ensures ok { OnOk result (Writes (Explains E.IsExplanation progress.old (map said lines.now) progress.new)
         (W.contents writer.old) (W.contents writer.new)) }
     ensures fault { IfErr result (λ fault.
-        Writes (IsLeftBy fault (ExplainsOn E.Tells progress.old) (map said lines.now))
+        Writes (IsLeftBy fault (ExplainsOn E.IsExplanation progress.old) (map said lines.now))
         (W.contents writer.old) (W.contents writer.new)) }
 {
     let mut text = Vec::new(alloc);
@@ -148,7 +148,7 @@ fn explain_line<E: Explainer>(
     text: &mut Vec<u8>,
     line: &LineIn,
 ) -> Result<(), Refusal>
-    ensures ok { OnOk result (Gains (Explains E.Tells progress.old (said line.now ∷ []) progress.new)
+    ensures ok { OnOk result (Gains (Explains E.IsExplanation progress.old (said line.now ∷ []) progress.new)
         text.old.items text.new.items) }
     ensures err { OnErr result (text.new.items ≡ text.old.items) }
 {
@@ -158,7 +158,7 @@ fn explain_line<E: Explainer>(
     }
     let (explanation, is_refused) = progress
         .explainer
-        .tell(alloc, scratch, line, progress.next)?;
+        .explain(alloc, scratch, line, progress.next)?;
     text.extend_from_slice(&explanation)?;
     progress.go_on(is_refused);
     Ok(())

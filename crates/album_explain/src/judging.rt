@@ -1,14 +1,14 @@
-//! What is told of judge lines: the verdict, with how each bit is decided, or the refusal.
+//! The explanations of judge lines: the verdict, with how each bit is decided, or the refusal.
 ghost use Rattle.std.specs.Prelude.{◌≡◌, ◌≢◌, Err, IfOk, IfErr, IsOkAnd, IsOkUnless};
 ghost use Rattle.album_stamps.specs.declared.refusals.Refusal.TheVariants.{OutOfMemory};
 ghost use Rattle.album_lines.specs.JudgeLine.{question};
 ghost use Rattle.album_lines.specs.Lines.{said};
 ghost use Rattle.album_judge.specs.Judge.{read_of};
-ghost use Rattle.album_explain.specs.Judging.{IsTold, IsTelling};
+ghost use Rattle.album_explain.specs.Judging.{ExplainsQuestion, ExplainsJudgeLine};
 
 use crate::explainer::Explainer;
+use crate::explanations::{bit_rows, write_explanation, write_refused};
 use crate::places::find;
-use crate::telling::{bit_rows, write_refused, write_told};
 use album_eval::{Facts, evaluate, members};
 use album_judge::group_map;
 use album_lines::{JudgeLine, LineIn, read_judge};
@@ -16,16 +16,16 @@ use album_stamps::Refusal;
 use json::Scratch;
 use std::alloc::Global;
 
-/// Tells of judge lines.
+/// Explains judge lines.
 #[derive(Clone, Copy, Debug)]
 pub struct JudgeLines;
 
 impl Explainer for JudgeLines {
-    ghost use Rattle.album_explain.specs.Judging.{IsTelling, out_of_memory_told};
+    ghost use Rattle.album_explain.specs.Judging.{ExplainsJudgeLine, out_of_memory_explanation};
 
-    ghost Tells = { λ old number line is_refused text new. IsTelling number line is_refused text };
+    ghost IsExplanation = { λ old number line is_refused text new. ExplainsJudgeLine number line is_refused text };
 
-    fn tell(
+    fn explain(
         &mut self,
         alloc: Global,
         scratch: &mut Scratch,
@@ -36,7 +36,7 @@ impl Explainer for JudgeLines {
     }
 
     ghost goes_on = { λ old number line.
-        let out = out_of_memory_told number line in (out.0, out.1, old, out.2) };
+        let out = out_of_memory_explanation number line in (out.0, out.1, old, out.2) };
 }
 
 /// The explanation of a line that isn't blank, and whether it is refused.
@@ -46,9 +46,9 @@ fn explanation(
     line: &LineIn,
     number: u64,
 ) -> Result<(Vec<u8>, bool), Refusal>
-    ensures { IfOk result (λ reply. IsTelling number (said line.now) reply.1 reply.0.items) }
+    ensures { IfOk result (λ reply. ExplainsJudgeLine number (said line.now) reply.1 reply.0.items) }
 {
-    match told(alloc, scratch, line, number) {
+    match explain_judge_line(alloc, scratch, line, number) {
         Ok(text) => Ok((text, false)),
         Err(Refusal::OutOfMemory) => {
             let text = write_refused(alloc, number, Refusal::OutOfMemory, None)?;
@@ -63,24 +63,24 @@ fn explanation(
 }
 
 /// The line of the verdict, or the refusal.
-fn told(
+fn explain_judge_line(
     alloc: Global,
     scratch: &mut Scratch,
     line: &LineIn,
     number: u64,
 ) -> Result<Vec<u8>, Refusal>
-    ensures told { IfOk result (λ text.
-        IsOkAnd (read_of (said line.now)) (λ q. IsTold number q text.items)) }
+    ensures explained { IfOk result (λ text.
+        IsOkAnd (read_of (said line.now)) (λ q. ExplainsQuestion number q text.items)) }
     ensures refused { IfErr result (λ e. e ≢ OutOfMemory → read_of (said line.now) ≡ Err e) }
 {
     let question = read_judge(alloc, scratch, line.bytes()?)?;
-    tell(alloc, question, number)
+    explain_question(alloc, question, number)
 }
 
 /// The line of the verdict that a judge line asks for: judged with exactly the groups of the line that its principal is
 /// in.
-fn tell(alloc: Global, line: JudgeLine, number: u64) -> Result<Vec<u8>, Refusal>
-    ensures told { IfOk result (λ text. IsTold number (question line) text.items) }
+fn explain_question(alloc: Global, line: JudgeLine, number: u64) -> Result<Vec<u8>, Refusal>
+    ensures explained { IfOk result (λ text. ExplainsQuestion number (question line) text.items) }
     ensures memory { IsOkUnless result Refusal.OutOfMemory }
 {
     let JudgeLine {
@@ -104,6 +104,6 @@ fn tell(alloc: Global, line: JudgeLine, number: u64) -> Result<Vec<u8>, Refusal>
     };
     let verdict = evaluate(&list, &facts, mask);
     let rows = bit_rows(alloc, &list, &facts, holder, mask)?;
-    let text = write_told(alloc, number, verdict, &rows)?;
+    let text = write_explanation(alloc, number, verdict, &rows)?;
     Ok(text)
 }

@@ -1,14 +1,14 @@
-//! The engine that explains lines, and what it tells of judge lines: where each refusal is, and by which entry each bit
-//! was decided.
+//! The engine that explains lines, and the explanations of judge lines: where each refusal is, and by which entry each
+//! bit was decided.
 //!
-//! What comes in: a reader and a writer, as for `album_judge`, and an `Explainer`, which tells of one line. What goes
+//! What comes in: a reader and a writer, as for `album_judge`, and an `Explainer`, which explains a line. What goes
 //! out: of each line that is read, a line with its number; or a fault, before which a prefix of these was written.
 //! The refusals and the verdicts of judge lines are those of `album_judge`. What the bits of masks and flags are called
 //! comes out too, and what is called so goes in. Other lines are explained by crates above, by the same engine.
 //!
-//! Read `explaining` first: `explain` reads, and an `explainer` tells one line. Then `judging`, what is told of judge
-//! lines; `decisions`, how each bit is decided, with the law `verdict_by_bits`; `places`, where a refused line fails;
-//! `telling`, the lines that are written; `names`. specs/Explain.antt says what an explanation is, and
+//! Read `explaining` first: `explain` reads, and an `explainer` explains one line. Then `judging`, the explanations of
+//! judge lines; `decisions`, how each bit is decided, with the law `verdict_by_bits`; `places`, where a refused line
+//! fails; `explanations`, the lines that are written; `names`. specs/Explain.antt says what an explanation is, and
 //! specs/Judging.antt what that of a judge line is.
 #![tactic(auto)]
 
@@ -22,9 +22,9 @@ mod decisions;
 mod places;
 
 // The lines that are written.
-mod telling;
+mod explanations;
 
-// The engine, and what it tells of judge lines.
+// The engine, and the explanations of judge lines.
 mod explainer;
 mod explaining;
 mod judging;
@@ -32,7 +32,7 @@ mod judging;
 pub use decisions::{Decision, decide, verdict_by_bits};
 pub use explainer::Explainer;
 pub use explaining::{Progress, explain};
+pub use explanations::{BitRow, line, write_refused};
 pub use judging::JudgeLines;
 pub use names::{bit_name, write_flags, write_mask};
 pub use places::{Found, find_byte, find_entries_form, find_entries_value};
-pub use telling::{BitRow, line, write_refused};

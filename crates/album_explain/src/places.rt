@@ -50,7 +50,7 @@ impl<'a> Finding<'a> {
     }
 }
 
-/// Where a line is refused, as it is told: the place, and the number there, if it is one.
+/// Where a line is refused, as its explanation says it: the place, and the number there, if it is one.
 #[derive(Debug, Drop)]
 pub struct Found {
     pub at: String,
@@ -92,7 +92,7 @@ fn in_object(alloc: Global, line: &Value<'_>) -> Result<Option<Found>, AllocErro
         Some(finding) => Some(finding),
         None => bad_value(line),
     };
-    told(alloc, found)
+    found_of(alloc, found)
 }
 
 /// Where a list of entries, a value's member of this name, hasn't its form, if it hasn't.
@@ -101,7 +101,7 @@ fn in_object(alloc: Global, line: &Value<'_>) -> Result<Option<Found>, AllocErro
 ///
 /// `AllocError`.
 pub fn find_entries_form(alloc: Global, value: &Value<'_>) -> Result<Option<Found>, AllocError> {
-    told(alloc, bad_entries_form(value))
+    found_of(alloc, bad_entries_form(value))
 }
 
 /// Where one that has its form is none that such an object may carry, if it is none.
@@ -114,13 +114,13 @@ pub fn find_entries_value(
     value: &Value<'_>,
     holder: Holder,
 ) -> Result<Option<Found>, AllocError> {
-    told(
+    found_of(
         alloc,
         bad_entries_value(value, matches!(holder, Holder::Folder)),
     )
 }
 
-fn told(alloc: Global, found: Option<Finding<'_>>) -> Result<Option<Found>, AllocError> {
+fn found_of(alloc: Global, found: Option<Finding<'_>>) -> Result<Option<Found>, AllocError> {
     match found {
         None => Ok(None),
         Some(finding) => {
@@ -133,7 +133,7 @@ fn told(alloc: Global, found: Option<Finding<'_>>) -> Result<Option<Found>, Allo
     }
 }
 
-/// How a part is told.
+/// A part, as an explanation says it.
 fn path(alloc: Global, place: Place<'_>) -> Result<String, AllocError> {
     match place {
         Place::Line => String::from_str(alloc, "line"),

@@ -1,4 +1,5 @@
--- The end of a script, behind the explanations of its lines. For `explain_script`, and for `tell_end`: `end_not_whole`.
+-- The end of a script, behind the explanations of its lines. For `explain_script`, and for `explain_end`:
+-- `end_not_whole`.
 use Rattle.std.proofs.Common.{◌≡◌, ℕ, List, [], ◌++◌, Bool, false, cond, Option, Some, None, IfSome, refl, sym, ap, ◌∙◌, subst, append_assoc}
 use Rattle.std.specs.Io.KnownBytes.{Appends}
 use Rattle.std.proofs.KnownBytes.{Appends-trans}
@@ -8,17 +9,17 @@ use Rattle.album_explain.specs.declared.explaining.Progress.{Progress}
 use Rattle.album_explain.specs.Explain.{at_start, Explains, ExplainsOn}
 use Rattle.album_explain_store.specs.declared.openings.OpeningLines.{OpeningLines}
 use Rattle.album_explain_store.specs.declared.openings.OpeningLines.TheVariants.{Unopened}
-use Rattle.album_explain_store.specs.Openings.{stage_of, has_begun, OpeningTells}
+use Rattle.album_explain_store.specs.Openings.{stage_of, has_begun, ExplainsScriptLine}
 use Rattle.album_explain_store.specs.Scripts.{missing_line, end_text, has_missed, ExplainsScript, ExplainsSomeScript}
 
 -- the lines are explained, and then the end
-pub end_told : (end : Progress OpeningLines) (refused : Bool) (o a b c : Option (List ℕ))
-    → IfSome o (λ input. Writes (Explains OpeningTells (at_start Unopened) (lines_of input) end) a b)
+pub end_explained : (end : Progress OpeningLines) (refused : Bool) (o a b c : Option (List ℕ))
+    → IfSome o (λ input. Writes (Explains ExplainsScriptLine (at_start Unopened) (lines_of input) end) a b)
     → Appends b c (end_text end)
     → refused ≡ has_missed end
     → IfSome o (λ input. Writes (ExplainsScript refused (lines_of input)) a c)
-end_told end refused None a b c h w is = h
-end_told end refused (Some input) a b c h w is = (
+end_explained end refused None a b c h w is = h
+end_explained end refused (Some input) a b c h w is = (
   h.0 ++ end_text end,
   record { end = end; front = h.0; explained = h.1; whole = refl; refused = is },
   Appends-trans a b c h.0 (end_text end) h.2 w,
@@ -26,7 +27,7 @@ end_told end refused (Some input) a b c h w is = (
 
 -- the end is cut short
 pub end_cut : (end : Progress OpeningLines) (o a b c : Option (List ℕ))
-    → IfSome o (λ input. Writes (Explains OpeningTells (at_start Unopened) (lines_of input) end) a b)
+    → IfSome o (λ input. Writes (Explains ExplainsScriptLine (at_start Unopened) (lines_of input) end) a b)
     → Writes (IsPrefixOf (λ whole. whole ≡ end_text end)) b c
     → IfSome o (λ input. Writes (IsPrefixOf (ExplainsSomeScript (lines_of input))) a c)
 end_cut end None a b c h w = h
@@ -50,7 +51,7 @@ end_cut end (Some input) a b c h w = (
 
 -- the lines are cut short
 pub lines_cut : (o a b : Option (List ℕ))
-    → IfSome o (λ input. Writes (IsPrefixOf (ExplainsOn OpeningTells (at_start Unopened) (lines_of input))) a b)
+    → IfSome o (λ input. Writes (IsPrefixOf (ExplainsOn ExplainsScriptLine (at_start Unopened) (lines_of input))) a b)
     → IfSome o (λ input. Writes (IsPrefixOf (ExplainsSomeScript (lines_of input))) a b)
 lines_cut None a b h = h
 lines_cut (Some input) a b h = (

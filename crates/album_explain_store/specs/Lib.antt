@@ -1,4 +1,4 @@
-pub mod Telling
+pub mod Explanations
 pub mod Tables
 pub mod Readings
 pub mod Steps

@@ -11,15 +11,15 @@ use Rattle.album_wire.specs.declared.opening_line.OpeningLine.{OpeningLine}
 use Rattle.album_wire.specs.declared.opening_line.OpeningLine.TheVariants as line
 use Rattle.album_wire.specs.declared.opening_shape.Header.{Header}
 use Rattle.album_wire.specs.declared.opening_shape.TheConstants.{DEFAULT_LIMIT, DEFAULT_POLICY}
-use Rattle.album_explain.specs.Telling.{refused_json}
+use Rattle.album_explain.specs.Explanations.{refused_json}
 use Rattle.album_explain_store.specs.declared.openings.OpeningLines.{OpeningLines}
 use Rattle.album_explain_store.specs.declared.openings.OpeningLines.TheVariants as kept
-use Rattle.album_explain_store.specs.declared.telling.Kind.{Kind}
-use Rattle.album_explain_store.specs.declared.telling.Kind.TheVariants as kind
-use Rattle.album_explain_store.specs.declared.telling.Lines.TheVariants as lines
-use Rattle.album_explain_store.specs.declared.telling.Taken.{Taken}
+use Rattle.album_explain_store.specs.declared.explanations.Kind.{Kind}
+use Rattle.album_explain_store.specs.declared.explanations.Kind.TheVariants as kind
+use Rattle.album_explain_store.specs.declared.explanations.Lines.TheVariants as lines
+use Rattle.album_explain_store.specs.declared.explanations.Taken.{Taken}
 use Rattle.album_explain_store.specs.Readings.{read_by, event_reading}
-use Rattle.album_explain_store.specs.Telling.{Step, TellsBy}
+use Rattle.album_explain_store.specs.Explanations.{Step, ExplainsBy}
 
 -- where it stands between two lines: no line was read; it is being opened, with these items so far; or all are there
 pub data Stage : Type 0 where
@@ -44,13 +44,26 @@ taken_opening kind = record { lines = lines.Opening; kind = kind }
 abbrev pub any_header : Header
 any_header = record { parts = 1; limit = DEFAULT_LIMIT; policy = DEFAULT_POLICY; trace = false }
 
+-- the header that the first line says
+abbrev pub header_said : Result OpeningLine Refusal → Result Header Refusal
+header_said (Ok (line.Open header)) = Ok header
+header_said (Ok (line.Item item value)) = Err BadRequest
+header_said (Ok line.Begin) = Err BadRequest
+header_said (Err refusal) = Err refusal
+
+-- what the first line is read as, by the header that it says
+abbrev pub header_reading : Result Header Refusal → Result Taken Refusal
+header_reading (Ok header) = Ok (taken_opening kind.Open)
+header_reading (Err refusal) = Err refusal
+
+-- where the explainer stands behind the first line
+abbrev pub opened_by : Result Header Refusal → Stage
+opened_by (Ok header) = BeingOpened header []
+opened_by (Err refusal) = BeingOpened any_header []
+
 -- the header comes first
 abbrev pub first_step : Result OpeningLine Refusal → Step Stage
-first_step (Ok (line.Open header)) =
-    record { reading = Ok (taken_opening kind.Open); next = BeingOpened header [] }
-first_step (Ok (line.Item item value)) = record { reading = Err BadRequest; next = BeingOpened any_header [] }
-first_step (Ok line.Begin) = record { reading = Err BadRequest; next = BeingOpened any_header [] }
-first_step (Err refusal) = record { reading = Err refusal; next = BeingOpened any_header [] }
+first_step said = record { reading = header_reading (header_said said); next = opened_by (header_said said) }
 
 -- the items that were taken are an opening
 abbrev pub begin_reading : Header → List Row → Result Taken Refusal
@@ -73,12 +86,14 @@ opening_step Unopened line = first_step (read_by opening_line_of line)
 opening_step (BeingOpened header rows) line = later_step header rows (read_by opening_line_of line)
 opening_step Begun line = record { reading = event_reading line; next = Begun }
 
-abbrev pub OpeningTells : OpeningLines → ℕ → Line → Bool → List ℕ → OpeningLines → Type 0
-OpeningTells old number line is_refused text new =
-    TellsBy (opening_step (stage_of old) line) (stage_of old) number is_refused text (stage_of new)
+-- the explanation of a line of a script
+abbrev pub ExplainsScriptLine : OpeningLines → ℕ → Line → Bool → List ℕ → OpeningLines → Type 0
+ExplainsScriptLine old number line is_refused text new =
+    ExplainsBy (opening_step (stage_of old) line) (stage_of old) number is_refused text (stage_of new)
 
--- that memory ran out may be told of every line
-pub opening_told : (old : OpeningLines) (number : ℕ) (line : Line)
-    → (is_refused : Bool) × (text : List ℕ) × (new : OpeningLines) × OpeningTells old number line is_refused text new
-opening_told old number line =
+-- that memory ran out is an explanation of every line
+pub script_line_explanation : (old : OpeningLines) (number : ℕ) (line : Line)
+    → (is_refused : Bool) × (text : List ℕ) × (new : OpeningLines)
+    × ExplainsScriptLine old number line is_refused text new
+script_line_explanation old number line =
     (true, line_text (refused_json number OutOfMemory None), old, inr ((refl, (None, refl)), refl))

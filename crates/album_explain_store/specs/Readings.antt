@@ -12,11 +12,11 @@ use Rattle.album_wire.specs.declared.event_shape.Spelled.{Spelled}
 use Rattle.album_wire.specs.declared.event_shape.Spelled.TheVariants as spelled
 use Rattle.album_wire.specs.declared.talk_line.TalkLine.{TalkLine}
 use Rattle.album_wire.specs.declared.talk_line.TalkLine.TheVariants as line
-use Rattle.album_explain_store.specs.declared.telling.Lines.{Lines}
-use Rattle.album_explain_store.specs.declared.telling.Lines.TheVariants.{Events, Talk}
-use Rattle.album_explain_store.specs.declared.telling.Kind.{Kind}
-use Rattle.album_explain_store.specs.declared.telling.Kind.TheVariants as kind
-use Rattle.album_explain_store.specs.declared.telling.Taken.{Taken}
+use Rattle.album_explain_store.specs.declared.explanations.Lines.{Lines}
+use Rattle.album_explain_store.specs.declared.explanations.Lines.TheVariants.{Events, Talk}
+use Rattle.album_explain_store.specs.declared.explanations.Kind.{Kind}
+use Rattle.album_explain_store.specs.declared.explanations.Kind.TheVariants as kind
+use Rattle.album_explain_store.specs.declared.explanations.Taken.{Taken}
 
 -- nothing is read of a line that is too long
 abbrev pub read_by : {A : Type 0} → (List ℕ → Result A Refusal) → Line → Result A Refusal

@@ -4,17 +4,17 @@ use Rattle.album_stamps.specs.declared.refusals.Refusal.TheVariants.{BadOpening}
 use Rattle.album_lines.specs.Lines.{Line}
 use Rattle.album_lines.specs.Output.{line_text}
 use Rattle.album_explain.specs.Explain.{at_start, Explains}
-use Rattle.album_explain.specs.Telling.{refused_json}
+use Rattle.album_explain.specs.Explanations.{refused_json}
 use Rattle.album_explain.specs.declared.explaining.Progress.{Progress}
 use Rattle.album_explain_store.specs.declared.openings.OpeningLines.{OpeningLines}
 use Rattle.album_explain_store.specs.declared.openings.OpeningLines.TheVariants.{Unopened}
-use Rattle.album_explain_store.specs.Openings.{stage_of, has_begun, OpeningTells}
+use Rattle.album_explain_store.specs.Openings.{stage_of, has_begun, ExplainsScriptLine}
 
 -- the line of this number is missing: it would have to be `begin`
 abbrev pub missing_line : ℕ → List ℕ
 missing_line number = line_text (refused_json number BadOpening (Some (codes "begin", None)))
 
--- what is told of the end: where the opening isn't whole, that
+-- the explanation of the end: that the opening isn't whole, where it isn't
 abbrev pub end_text : Progress OpeningLines → List ℕ
 end_text end = if has_begun (stage_of end.explainer) then [] else missing_line end.next
 
@@ -25,7 +25,7 @@ has_missed end = end.has_refused || not (has_begun (stage_of end.explainer))
 pub record ExplainsScript (is_refused : Bool) (lines : List Line) (text : List ℕ) : Type 0 where
   pub end : Progress OpeningLines
   pub front : List ℕ
-  pub explained : Explains OpeningTells (at_start Unopened) lines end front
+  pub explained : Explains ExplainsScriptLine (at_start Unopened) lines end front
   pub whole : text ≡ front ++ end_text end
   pub refused : is_refused ≡ has_missed end
 

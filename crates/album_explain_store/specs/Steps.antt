@@ -5,9 +5,9 @@ use Rattle.album_lines.specs.Lines.{Line}
 use Rattle.album_explain_store.specs.declared.events.EventLines.{EventLines}
 use Rattle.album_explain_store.specs.declared.talks.TalkLines.{TalkLines}
 use Rattle.album_explain_store.specs.declared.talks.TalkLines.TheVariants.{Stranger, Known}
-use Rattle.album_explain_store.specs.declared.telling.Taken.{Taken}
+use Rattle.album_explain_store.specs.declared.explanations.Taken.{Taken}
 use Rattle.album_explain_store.specs.Readings.{event_reading, hello_reading, talk_reading}
-use Rattle.album_explain_store.specs.Telling.{Step}
+use Rattle.album_explain_store.specs.Explanations.{Step}
 
 -- each by itself
 abbrev pub event_step : EventLines → Line → Step EventLines

@@ -1,11 +1,11 @@
-//! What is told of the lines of events.
+//! The explanations of the lines of events.
 ghost use Rattle.std.specs.Prelude.{◌≡◌};
 ghost use Rattle.album_stamps.specs.Outcome.{Gives};
 ghost use Rattle.album_lines.specs.Lines.{said};
 ghost use Rattle.album_explain_store.specs.Readings.{event_reading, kind_of_event, kind_of_events};
 
+use crate::explanations::{Kind, Lines, Taken, explain_reading};
 use crate::places::tables::Table;
-use crate::telling::{Kind, Lines, Taken, tell_reading};
 use album_explain::Explainer;
 use album_lines::LineIn;
 use album_permits::Event;
@@ -14,18 +14,18 @@ use album_wire::{Spelled, read_event};
 use json::Scratch;
 use std::alloc::Global;
 
-/// Tells of lines of events, each by itself.
+/// Explains lines of events, each by itself.
 #[derive(Clone, Copy, Debug)]
 pub struct EventLines;
 
 impl Explainer for EventLines {
-    ghost use Rattle.album_explain_store.specs.Telling.{TellsBy, out_of_memory_told};
+    ghost use Rattle.album_explain_store.specs.Explanations.{ExplainsBy, out_of_memory_explanation};
     ghost use Rattle.album_explain_store.specs.Steps.{event_step};
 
-    ghost Tells = { λ old number line is_refused text new.
-        TellsBy (event_step old line) old number is_refused text new };
+    ghost IsExplanation = { λ old number line is_refused text new.
+        ExplainsBy (event_step old line) old number is_refused text new };
 
-    fn tell(
+    fn explain(
         &mut self,
         alloc: Global,
         scratch: &mut Scratch,
@@ -33,10 +33,10 @@ impl Explainer for EventLines {
         number: u64,
     ) -> Result<(Vec<u8>, bool), Refusal> {
         let reading = event_reading(alloc, scratch, line);
-        tell_reading(alloc, scratch, line, number, Table::Event, reading)
+        explain_reading(alloc, scratch, line, number, Table::Event, reading)
     }
 
-    ghost goes_on = { λ old number line. out_of_memory_told (event_step old line) old number };
+    ghost goes_on = { λ old number line. out_of_memory_explanation (event_step old line) old number };
 }
 
 /// What the line of an event is.

@@ -1,27 +1,28 @@
-//! What is told of the lines of a store, by the engine of `album_explain`: what each is, or where it is refused.
+//! The explanations of a store's lines, by the engine of `album_explain`: what each is, or where it is refused.
 //!
 //! What comes in: lines of openings with the events behind them, of events alone, or of a connection. What goes out: of
 //! each line that is read, a line with its number. It is refused, or taken, as the readers of `album_wire` do it.
 //!
 //! Read `events` first, then `talks`, where the first line says who talks; then `openings`, where lines have an order
-//! and make an opening together, and `scripts`, which tells of its end too. `telling` has the lines that are written.
-//! `places` finds where a refused line fails, by `places/tables`, which has the names of each line in their order.
+//! and make an opening together, and `scripts`, which explains its end too. `explanations` has the lines that are
+//! written. `places` finds where a refused line fails, by `places/tables`, which has the names of each line in their
+//! order.
 #![tactic(auto)]
 
-// What a line is, and the line that tells so.
-mod telling;
+// What a line is, and the line that says so.
+mod explanations;
 
 // Where a line is refused.
 mod places;
 
-// What is told of each kind of lines.
+// The explainers of each kind of lines.
 mod events;
 mod openings;
 mod scripts;
 mod talks;
 
 pub use events::EventLines;
+pub use explanations::{Kind, Lines, Taken};
 pub use openings::{OpeningLines, SoFar};
 pub use scripts::explain_script;
 pub use talks::TalkLines;
-pub use telling::{Kind, Lines, Taken};

@@ -1,16 +1,16 @@
-//! What is told of the lines of a script: first those of its opening, then the events behind it.
-ghost use Rattle.std.specs.Prelude.{◌≡◌, ◌++◌, ◌∷◌, [], Ok, Err, IfOk};
+//! The explanations of the lines of a script: first those of its opening, then the events behind it.
+ghost use Rattle.std.specs.Prelude.{◌≡◌, ◌≢◌, ◌++◌, ◌∷◌, [], Ok, Err, IfOk};
 ghost use Rattle.album_stamps.specs.Outcome.{Gives};
 ghost use Rattle.album_lines.specs.Lines.{said};
 ghost use Rattle.album_wire.specs.OpeningLine.{opening_line_of};
 ghost use Rattle.album_explain_store.specs.Readings.{read_by};
-ghost use Rattle.album_explain_store.specs.Telling.{IsReply, TellsBy};
-ghost use Rattle.album_explain_store.specs.Openings.{Unopened, BeingOpened, stage_of, has_begun, taken_opening, first_step, later_step, begin_reading, OpeningTells};
+ghost use Rattle.album_explain_store.specs.Explanations.{IsReply, ExplainsBy};
+ghost use Rattle.album_explain_store.specs.Openings.{Unopened, BeingOpened, stage_of, has_begun, taken_opening, header_said, header_reading, opened_by, first_step, later_step, begin_reading, ExplainsScriptLine};
 
 use crate::events::event_reading;
+use crate::explanations::{Kind, Lines, Taken, explain_reading, explain_refused, explain_taken};
 use crate::places::opened::bad_opening;
 use crate::places::tables::Table;
-use crate::telling::{Kind, Lines, Taken, tell_reading, tell_refused, tell_taken};
 use album_explain::Explainer;
 use album_items::{ItemId, ItemValues, Opening, Value};
 use album_lines::LineIn;
@@ -20,7 +20,7 @@ use json::Scratch;
 use std::alloc::Global;
 use std::mem;
 
-/// Tells of the lines of an opening, and of the events behind it.
+/// Explains the lines of an opening, and the events behind it.
 #[derive(Drop)]
 pub enum OpeningLines {
     /// No line was read.
@@ -51,11 +51,11 @@ const ANY_HEADER: Header = Header {
 };
 
 impl Explainer for OpeningLines {
-    ghost use Rattle.album_explain_store.specs.Openings.{OpeningTells, opening_told};
+    ghost use Rattle.album_explain_store.specs.Openings.{ExplainsScriptLine, script_line_explanation};
 
-    ghost Tells = { OpeningTells };
+    ghost IsExplanation = { ExplainsScriptLine };
 
-    fn tell(
+    fn explain(
         &mut self,
         alloc: Global,
         scratch: &mut Scratch,
@@ -63,12 +63,12 @@ impl Explainer for OpeningLines {
         number: u64,
     ) -> Result<(Vec<u8>, bool), Refusal> {
         let old = mem::replace(self, OpeningLines::Begun);
-        let (told, next) = tell_line(alloc, scratch, line, number, old)?;
+        let (explanation, next) = explain_script_line(alloc, scratch, line, number, old)?;
         drop(mem::replace(self, next));
-        Ok(told)
+        Ok(explanation)
     }
 
-    ghost goes_on = { opening_told };
+    ghost goes_on = { script_line_explanation };
 }
 
 impl OpeningLines {
@@ -80,96 +80,113 @@ impl OpeningLines {
     }
 }
 
-/// What is told of a line, and where the explanation stands then.
-type Told = ((Vec<u8>, bool), OpeningLines);
+/// A line's explanation, whether the line is refused, and where its explainer stands then.
+type Explained = ((Vec<u8>, bool), OpeningLines);
 
-fn tell_line(
+fn explain_script_line(
     alloc: Global,
     scratch: &mut Scratch,
     line: &LineIn,
     number: u64,
     old: OpeningLines,
-) -> Result<Told, Refusal>
-    ensures { IfOk result (λ t. OpeningTells old number (said line.now) t.0.1 t.0.0.items t.1) }
+) -> Result<Explained, Refusal>
+    ensures { IfOk result (λ t. ExplainsScriptLine old number (said line.now) t.0.1 t.0.0.items t.1) }
 {
     match old {
-        OpeningLines::Unopened => tell_first(alloc, scratch, line, number),
-        OpeningLines::BeingOpened(so_far) => tell_later(alloc, scratch, line, number, so_far),
+        OpeningLines::Unopened => explain_first(alloc, scratch, line, number),
+        OpeningLines::BeingOpened(so_far) => explain_later(alloc, scratch, line, number, so_far),
         OpeningLines::Begun => {
             let reading = event_reading(alloc, scratch, line);
-            let told = tell_reading(alloc, scratch, line, number, Table::Event, reading)?;
-            Ok((told, OpeningLines::Begun))
+            let explanation = explain_reading(alloc, scratch, line, number, Table::Event, reading)?;
+            Ok((explanation, OpeningLines::Begun))
         }
     }
 }
 
 /// The first line is the header's. Where it is refused, any header is gone on with.
-fn tell_first(
+fn explain_first(
     alloc: Global,
     scratch: &mut Scratch,
     line: &LineIn,
     number: u64,
-) -> Result<Told, Refusal>
-    ensures { IfOk result (λ t. TellsBy (first_step (read_by opening_line_of (said line.now)))
+) -> Result<Explained, Refusal>
+    ensures { IfOk result (λ t. ExplainsBy (first_step (read_by opening_line_of (said line.now)))
         Unopened number t.0.1 t.0.0.items (stage_of t.1)) }
 {
-    match opening_line(alloc, scratch, line) {
-        Ok(OpeningLine::Open(header)) => {
-            let told = tell_taken(alloc, number, taken_opening(Kind::Open))?;
-            Ok((told, opened_with(alloc, header, number)))
-        }
-        Ok(OpeningLine::Item(..) | OpeningLine::Begin) => {
-            let told = tell_bad(alloc, scratch, line, number, Refusal::BadRequest)?;
-            Ok((told, opened_with(alloc, ANY_HEADER, number)))
-        }
-        Err(Refusal::OutOfMemory) => {
-            let told = tell_refused(alloc, number, Refusal::OutOfMemory, None)?;
-            Ok((told, OpeningLines::Unopened))
-        }
-        Err(refusal) => {
-            let told = tell_bad(alloc, scratch, line, number, refusal)?;
-            Ok((told, opened_with(alloc, ANY_HEADER, number)))
-        }
+    let header = first_header(alloc, scratch, line);
+    let reading = header_reading(header);
+    let explanation = explain_reading(alloc, scratch, line, number, Table::Opening, reading)?;
+    Ok((explanation, opened_by(alloc, header, number)))
+}
+
+/// The header that the first line says.
+fn first_header(alloc: Global, scratch: &mut Scratch, line: &LineIn) -> Result<Header, Refusal>
+    ensures { Gives (λ header. header) result (header_said (read_by opening_line_of (said line.now))) }
+{
+    match opening_line(alloc, scratch, line)? {
+        OpeningLine::Open(header) => Ok(header),
+        OpeningLine::Item(..) | OpeningLine::Begin => Err(Refusal::BadRequest),
+    }
+}
+
+fn header_reading(header: Result<Header, Refusal>) -> Result<Taken, Refusal>
+    ensures { result ≡ header_reading header }
+{
+    match header {
+        Ok(_) => Ok(taken_opening(Kind::Open)),
+        Err(refusal) => Err(refusal),
+    }
+}
+
+/// Where the explainer stands behind the first line. Where memory ran out on it, the next line is the first.
+fn opened_by(alloc: Global, header: Result<Header, Refusal>, header_line: u64) -> OpeningLines
+    ensures read { header ≢ Err Refusal.OutOfMemory → stage_of result ≡ opened_by header }
+    ensures memory { header ≡ Err Refusal.OutOfMemory → stage_of result ≡ Unopened }
+{
+    match header {
+        Ok(header) => opened_with(alloc, header, header_line),
+        Err(Refusal::OutOfMemory) => OpeningLines::Unopened,
+        Err(_) => opened_with(alloc, ANY_HEADER, header_line),
     }
 }
 
 /// Then come the items, and then that these are all. A line that is refused is left out.
-fn tell_later(
+fn explain_later(
     alloc: Global,
     scratch: &mut Scratch,
     line: &LineIn,
     number: u64,
     so_far: SoFar,
-) -> Result<Told, Refusal>
+) -> Result<Explained, Refusal>
     ensures { IfOk result (λ t.
-        TellsBy (later_step so_far.header so_far.rows.items (read_by opening_line_of (said line.now)))
+        ExplainsBy (later_step so_far.header so_far.rows.items (read_by opening_line_of (said line.now)))
         (BeingOpened so_far.header so_far.rows.items) number t.0.1 t.0.0.items (stage_of t.1)) }
 {
     match opening_line(alloc, scratch, line) {
-        Ok(said) => tell_said(alloc, scratch, line, number, so_far, said),
+        Ok(said) => explain_said(alloc, scratch, line, number, so_far, said),
         Err(refusal) => {
-            let told = tell_bad(alloc, scratch, line, number, refusal)?;
-            Ok((told, OpeningLines::BeingOpened(so_far)))
+            let explanation = explain_bad(alloc, scratch, line, number, refusal)?;
+            Ok((explanation, OpeningLines::BeingOpened(so_far)))
         }
     }
 }
 
 /// The same of a line that can be read.
-fn tell_said(
+fn explain_said(
     alloc: Global,
     scratch: &mut Scratch,
     line: &LineIn,
     number: u64,
     so_far: SoFar,
     said: OpeningLine,
-) -> Result<Told, Refusal>
-    ensures { IfOk result (λ t. TellsBy (later_step so_far.header so_far.rows.items (Ok said))
+) -> Result<Explained, Refusal>
+    ensures { IfOk result (λ t. ExplainsBy (later_step so_far.header so_far.rows.items (Ok said))
         (BeingOpened so_far.header so_far.rows.items) number t.0.1 t.0.0.items (stage_of t.1)) }
 {
     match said {
         OpeningLine::Open(_) => {
-            let told = tell_bad(alloc, scratch, line, number, Refusal::BadRequest)?;
-            Ok((told, OpeningLines::BeingOpened(so_far)))
+            let explanation = explain_bad(alloc, scratch, line, number, Refusal::BadRequest)?;
+            Ok((explanation, OpeningLines::BeingOpened(so_far)))
         }
         OpeningLine::Item(item, value) => {
             let SoFar {
@@ -180,9 +197,9 @@ fn tell_said(
             } = so_far;
             rows.push((item, value))?;
             lines.push(number)?;
-            let told = tell_taken(alloc, number, taken_opening(Kind::Item))?;
+            let explanation = explain_taken(alloc, number, taken_opening(Kind::Item))?;
             Ok((
-                told,
+                explanation,
                 OpeningLines::BeingOpened(SoFar {
                     header,
                     header_line,
@@ -192,23 +209,23 @@ fn tell_said(
             ))
         }
         OpeningLine::Begin => {
-            let told = tell_begin(alloc, number, so_far)?;
-            Ok((told, OpeningLines::Begun))
+            let explanation = explain_begin(alloc, number, so_far)?;
+            Ok((explanation, OpeningLines::Begun))
         }
     }
 }
 
 /// The line of a refusal of one line.
-fn tell_bad(
+fn explain_bad(
     alloc: Global,
     scratch: &mut Scratch,
     line: &LineIn,
     number: u64,
     refusal: Refusal,
 ) -> Result<(Vec<u8>, bool), Refusal>
-    ensures { IfOk result (λ told. IsReply number (Err refusal) told.1 told.0.items) }
+    ensures { IfOk result (λ explanation. IsReply number (Err refusal) explanation.1 explanation.0.items) }
 {
-    tell_reading(alloc, scratch, line, number, Table::Opening, Err(refusal))
+    explain_reading(alloc, scratch, line, number, Table::Opening, Err(refusal))
 }
 
 fn opened_with(alloc: Global, header: Header, header_line: u64) -> OpeningLines
@@ -222,10 +239,10 @@ fn opened_with(alloc: Global, header: Header, header_line: u64) -> OpeningLines
     })
 }
 
-/// What is told where all items are there: whether they make an opening.
-fn tell_begin(alloc: Global, number: u64, so_far: SoFar) -> Result<(Vec<u8>, bool), Refusal>
-    ensures { IfOk result (λ told.
-        IsReply number (begin_reading so_far.header so_far.rows.items) told.1 told.0.items) }
+/// The explanation of `begin`, where all items are there: whether they make an opening.
+fn explain_begin(alloc: Global, number: u64, so_far: SoFar) -> Result<(Vec<u8>, bool), Refusal>
+    ensures { IfOk result (λ explanation.
+        IsReply number (begin_reading so_far.header so_far.rows.items) explanation.1 explanation.0.items) }
 {
     let SoFar {
         header,
@@ -240,10 +257,10 @@ fn tell_begin(alloc: Global, number: u64, so_far: SoFar) -> Result<(Vec<u8>, boo
         items: ItemValues::of(rows),
     };
     match opened.check() {
-        Ok(()) => tell_taken(alloc, number, taken_opening(Kind::Begin)),
+        Ok(()) => explain_taken(alloc, number, taken_opening(Kind::Begin)),
         Err(refusal) => {
             let found = bad_opening(alloc, &opened, header_line, &lines)?;
-            tell_refused(alloc, number, refusal, found.as_ref())
+            explain_refused(alloc, number, refusal, found.as_ref())
         }
     }
 }

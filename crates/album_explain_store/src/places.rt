@@ -34,16 +34,24 @@ pub(crate) fn find(
 
 fn in_line(alloc: Global, line: &Value<'_>, table: Table) -> Result<Found, AllocError> {
     if says_nothing(line) {
-        return found_at(alloc, "line", line);
+        return whole_line(alloc, line);
     }
-    let found = match bad_line_form(alloc, line, table)? {
-        Some(found) => Some(found),
-        None => bad_line_value(alloc, line, table)?,
-    };
-    match found {
+    match bad_line_part(alloc, line, table)? {
         Some(found) => Ok(found),
-        None => found_at(alloc, "line", line),
+        None => whole_line(alloc, line),
     }
+}
+
+fn bad_line_part(
+    alloc: Global,
+    line: &Value<'_>,
+    table: Table,
+) -> Result<Option<Found>, AllocError> {
+    let found = bad_line_form(alloc, line, table)?;
+    if found.is_some() {
+        return Ok(found);
+    }
+    bad_line_value(alloc, line, table)
 }
 
 /// Whether the line is no object, or has no member, and so says nothing.
@@ -54,20 +62,27 @@ fn says_nothing(line: &Value<'_>) -> bool {
     }
 }
 
-/// The part of this name, whose JSON value this is.
-fn found_at(alloc: Global, at: &str, value: &Value<'_>) -> Result<Found, AllocError> {
+fn whole_line(alloc: Global, line: &Value<'_>) -> Result<Found, AllocError> {
     Ok(Found {
-        at: String::from_str(alloc, at)?,
-        value: whole(value).ok(),
+        at: String::from_str(alloc, "line")?,
+        value: whole(line).ok(),
     })
 }
 
+/// The part of this name, whose JSON value this is.
+fn found_at(alloc: Global, at: &str, value: &Value<'_>) -> Result<Option<Found>, AllocError> {
+    Ok(Some(Found {
+        at: String::from_str(alloc, at)?,
+        value: whole(value).ok(),
+    }))
+}
+
 /// The member of this name, which isn't there.
-fn missing(alloc: Global, name: &str) -> Result<Found, AllocError> {
-    Ok(Found {
+fn missing(alloc: Global, name: &str) -> Result<Option<Found>, AllocError> {
+    Ok(Some(Found {
         at: String::from_str(alloc, name)?,
         value: None,
-    })
+    }))
 }
 
 /// A part of a member, as a part of the object that has the member. A part without a name is the member itself.
@@ -90,17 +105,13 @@ fn bad_line_form(
     table: Table,
 ) -> Result<Option<Found>, AllocError> {
     let parts = parts_of(table, line);
-    let mut names = Vec::with_capacity(alloc, parts.len())?;
-    for (name, _) in parts {
-        names.push(*name)?;
-    }
-    let found = bad_names(alloc, line, &names)?;
+    let found = bad_names(alloc, line, parts)?;
     if found.is_some() {
         return Ok(found);
     }
     for (name, part) in parts {
         let found = match member(line, name) {
-            None => Some(missing(alloc, name)?),
+            None => missing(alloc, name)?,
             Some(value) => bad_part_form(alloc, line, name, *part, value)?,
         };
         if found.is_some() {
@@ -127,11 +138,11 @@ fn bad_part_form(
 /// An ask whose word is none.
 fn bad_word(alloc: Global, ask: &Value<'_>) -> Result<Option<Found>, AllocError> {
     let Value::Object(_) = ask else {
-        return Ok(Some(found_at(alloc, "", ask)?));
+        return found_at(alloc, "", ask);
     };
     match member(ask, "do") {
-        None => Ok(Some(missing(alloc, "do")?)),
-        Some(word) => Ok(Some(found_at(alloc, "do", word)?)),
+        None => missing(alloc, "do"),
+        Some(word) => found_at(alloc, "do", word),
     }
 }
 
@@ -141,18 +152,14 @@ fn bad_object_form(
     object: &Value<'_>,
     rows: Rows,
 ) -> Result<Option<Found>, AllocError> {
-    let mut names = Vec::with_capacity(alloc, rows.len())?;
-    for (name, _) in rows {
-        names.push(*name)?;
-    }
-    let found = bad_names(alloc, object, &names)?;
+    let found = bad_names(alloc, object, rows)?;
     if found.is_some() {
         return Ok(found);
     }
     for (name, form) in rows {
         let found = match member(object, name) {
             None if form.may_be_left_out() => None,
-            None => Some(missing(alloc, name)?),
+            None => missing(alloc, name)?,
             Some(value) => bad_form(alloc, name, *form, value)?,
         };
         if found.is_some() {

@@ -12,8 +12,8 @@ use album_stamps::Refusal;
 use std::alloc::Global;
 use std::io::{Read, Write};
 
-/// Explains each line of an opening, and of the events behind it, by one line, in order, and tells whether one was
-/// refused. Where the input ends before `begin`, that is told last, by the number of the line that is missing.
+/// Explains each line of an opening, and of the events behind it, by one line, in order, and says whether one was
+/// refused. Where the input ends before `begin`, the last line says so, with the number of the line that is missing.
 ///
 /// # Errors
 ///
@@ -35,7 +35,7 @@ pub fn explain_script<R: Read, W: Write>(
         (W.contents writer.old) (W.contents writer.new))) }
 {
     let end = explain(alloc, reader, writer, OpeningLines::Unopened, turns)?;
-    tell_end(alloc, writer, &end)?;
+    explain_end(alloc, writer, &end)?;
     Ok(has_missed(&end))
 }
 
@@ -46,8 +46,8 @@ fn has_missed(end: &Progress<OpeningLines>) -> bool
     end.has_refused || !end.explainer.has_begun()
 }
 
-/// Tells that `begin` is missing, where it is.
-fn tell_end<W: Write>(
+/// Explains that `begin` is missing, where it is.
+fn explain_end<W: Write>(
     alloc: Global,
     writer: &mut W,
     end: &Progress<OpeningLines>,
@@ -63,7 +63,7 @@ fn tell_end<W: Write>(
     write_text(writer, &text)
 }
 
-/// The line that tells that `begin` is missing.
+/// The line that says that `begin` is missing.
 fn missing_line(alloc: Global, number: u64) -> Result<Vec<u8>, Refusal>
     ensures { IfOk result (λ text. text.items ≡ missing_line number) }
 {

@@ -1,12 +1,12 @@
-//! What is told of the lines of a connection: the first says who talks.
+//! The explanations of the lines of a connection: the first says who talks.
 ghost use Rattle.std.specs.Prelude.{◌≡◌};
 ghost use Rattle.album_stamps.specs.Outcome.{Gives};
 ghost use Rattle.album_lines.specs.Lines.{said};
 ghost use Rattle.album_explain_store.specs.Readings.{hello_reading, talk_reading, kind_of_talk};
 ghost use Rattle.album_explain_store.specs.Steps.{known_by};
 
+use crate::explanations::{Kind, Lines, Taken, explain_reading};
 use crate::places::tables::Table;
-use crate::telling::{Kind, Lines, Taken, tell_reading};
 use album_explain::Explainer;
 use album_lines::LineIn;
 use album_stamps::Refusal;
@@ -14,7 +14,7 @@ use album_wire::{TalkLine, read_hello, read_talk};
 use json::Scratch;
 use std::alloc::Global;
 
-/// Tells of the lines of a connection.
+/// Explains the lines of a connection.
 #[derive(Clone, Copy, Debug)]
 pub enum TalkLines {
     /// It isn't said yet who talks.
@@ -23,13 +23,13 @@ pub enum TalkLines {
 }
 
 impl Explainer for TalkLines {
-    ghost use Rattle.album_explain_store.specs.Telling.{TellsBy, out_of_memory_told};
+    ghost use Rattle.album_explain_store.specs.Explanations.{ExplainsBy, out_of_memory_explanation};
     ghost use Rattle.album_explain_store.specs.Steps.{talk_step};
 
-    ghost Tells = { λ old number line is_refused text new.
-        TellsBy (talk_step old line) old number is_refused text new };
+    ghost IsExplanation = { λ old number line is_refused text new.
+        ExplainsBy (talk_step old line) old number is_refused text new };
 
-    fn tell(
+    fn explain(
         &mut self,
         alloc: Global,
         scratch: &mut Scratch,
@@ -40,16 +40,16 @@ impl Explainer for TalkLines {
             TalkLines::Stranger => {
                 let reading = hello_reading(alloc, scratch, line);
                 *self = known_by(&reading);
-                tell_reading(alloc, scratch, line, number, Table::Hello, reading)
+                explain_reading(alloc, scratch, line, number, Table::Hello, reading)
             }
             TalkLines::Known => {
                 let reading = talk_reading(alloc, scratch, line);
-                tell_reading(alloc, scratch, line, number, Table::Talk, reading)
+                explain_reading(alloc, scratch, line, number, Table::Talk, reading)
             }
         }
     }
 
-    ghost goes_on = { λ old number line. out_of_memory_told (talk_step old line) old number };
+    ghost goes_on = { λ old number line. out_of_memory_explanation (talk_step old line) old number };
 }
 
 /// Who talks is known by a line that says so, once it is taken.

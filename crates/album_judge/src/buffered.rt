@@ -59,14 +59,14 @@ pub fn judge_buffered<R: Read, W: Write + Drop>(
     // Without a fault all was read, just the answers to its lines are written, and none is held.
     ensures ok { OnOk result (IfSome (reader_remaining R.remaining reader.old) (λ input.
         Writes (Answers (lines_of input))
-            (writer_contents W.contents writer.old) (writer_contents W.contents writer.new))) }
+        (writer_contents W.contents writer.old) (writer_contents W.contents writer.new))) }
     ensures whole { OnOk result (IsAtEnd (reader_remaining R.remaining reader.new)) }
     ensures heard { OnOk result (writer_buffer writer.new ≡ []) }
 
     // On a fault, a prefix of them is. None of it is held, unless writing failed.
     ensures err { OnErr result (IfSome (reader_remaining R.remaining reader.old) (λ input.
         Writes (IsPrefixOf (Answers (lines_of input)))
-            (writer_contents W.contents writer.old) (writer_contents W.contents writer.new))) }
+        (writer_contents W.contents writer.old) (writer_contents W.contents writer.new))) }
     ensures held { IfErr result (λ fault. fault ≢ Fault.Writing → writer_buffer writer.new ≡ []) }
 
     // What is written then answers what was read, as at `judge`, unless writing failed.

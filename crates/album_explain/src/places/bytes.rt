@@ -54,7 +54,7 @@ fn bad_token(alloc: Global, text: &str) -> Result<usize, AllocError> {
     };
     let mut at = reader.offset();
     while let Some(token) = reader.next() {
-        if !is_in_range(alloc, &mut numerals, &token)? || !place.take(&token)? {
+        if !may_stand(alloc, &mut numerals, &mut place, &token)? {
             return Ok(at);
         }
         at = reader.offset();
@@ -66,6 +66,16 @@ fn bad_token(alloc: Global, text: &str) -> Result<usize, AllocError> {
         }
     }
     Ok(text.len())
+}
+
+/// Whether the token may stand at this place, which goes on behind it.
+fn may_stand(
+    alloc: Global,
+    numerals: &mut Scratch,
+    place: &mut Place,
+    token: &Token<'_>,
+) -> Result<bool, AllocError> {
+    Ok(is_in_range(alloc, numerals, token)? && place.take(token)?)
 }
 
 /// Where the comma stands that has nothing but blanks between itself and this byte, if one does.

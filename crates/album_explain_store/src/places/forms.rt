@@ -16,17 +16,17 @@ impl Form {
 }
 
 /// What has a name that none of these is, the first; or the value itself, without a name, where it is no object.
-pub(crate) fn bad_names(
+pub(crate) fn bad_names<T>(
     alloc: Global,
     value: &Value<'_>,
-    names: &[&str],
+    rows: &[(&str, T)],
 ) -> Result<Option<Found>, AllocError> {
     let Value::Object(members) = value else {
-        return Ok(Some(found_at(alloc, "", value)?));
+        return found_at(alloc, "", value);
     };
     for known in members.as_slice() {
-        if !names.contains(&known.0) {
-            return Ok(Some(found_at(alloc, known.0, &known.1)?));
+        if !rows.iter().any(|row| row.0 == known.0) {
+            return found_at(alloc, known.0, &known.1);
         }
     }
     Ok(None)
@@ -45,7 +45,7 @@ pub(crate) fn bad_form(
         Form::Lists | Form::Memberships => bad_pairs(alloc, name, form, value),
         Form::Deliver => bad_deliver(alloc, name, value),
         _ if has_form(form, value) => Ok(None),
-        _ => Ok(Some(found_at(alloc, name, value)?)),
+        _ => found_at(alloc, name, value),
     }
 }
 
@@ -127,7 +127,7 @@ fn bad_items(
     value: &Value<'_>,
 ) -> Result<Option<Found>, AllocError> {
     let Ok(items) = list(value) else {
-        return Ok(Some(found_at(alloc, name, value)?));
+        return found_at(alloc, name, value);
     };
     for (index, item) in items.as_slice().iter().enumerate() {
         let passes = match form {
@@ -149,7 +149,7 @@ fn bad_pairs(
     value: &Value<'_>,
 ) -> Result<Option<Found>, AllocError> {
     let Ok(pairs) = list(value) else {
-        return Ok(Some(found_at(alloc, name, value)?));
+        return found_at(alloc, name, value);
     };
     for (index, pair) in pairs.as_slice().iter().enumerate() {
         let found = bad_pair(alloc, name, form, index, pair)?;
@@ -217,5 +217,5 @@ fn bad_deliver(alloc: Global, name: &str, value: &Value<'_>) -> Result<Option<Fo
             }
         }
     }
-    Ok(Some(found_at(alloc, name, value)?))
+    found_at(alloc, name, value)
 }

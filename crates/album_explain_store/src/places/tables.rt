@@ -2,7 +2,7 @@
 //! their forms are tested.
 ghost use Rattle.std.specs.Prelude.{◌≡◌};
 ghost use Rattle.album_lines.specs.Trees.{value_data};
-ghost use Rattle.album_explain_store.specs.Tables.{kind_told};
+ghost use Rattle.album_explain_store.specs.Tables.{kind_explained};
 
 use crate::places::forms::item_in;
 use album_items::Kind;
@@ -53,9 +53,9 @@ pub(crate) enum Part {
     Open,
     Sweep,
     Trim,
-    /// An ask, whose word tells which members it has.
+    /// An ask, whose word says which members it has.
     Ask,
-    /// The value of an item. Its names tell which members it has, or else its item does.
+    /// The value of an item. Its names say which members it has, or else its item does.
     Value,
 }
 
@@ -112,7 +112,7 @@ const GROUP: Rows = &[
     ("members", Form::Members),
 ];
 
-/// The members of a line, in the order in which their forms are tested. Which line it is, its names tell.
+/// The members of a line, in the order in which their forms are tested. Which line it is, its names say.
 pub(crate) fn parts_of(table: Table, line: &Value<'_>) -> Parts {
     match table {
         Table::Opening if has(line, "open") => &[("open", Part::Open)],
@@ -214,7 +214,7 @@ fn ask_rows(ask: &Value<'_>) -> Option<Rows> {
 
 /// The members of an item's value. The item is one, since its form is tested before that of the value.
 fn value_rows(line: &Value<'_>, value: &Value<'_>) -> Rows {
-    match kind_told(kind_of_item(line).unwrap_or(Kind::Picture), value) {
+    match kind_explained(kind_of_item(line).unwrap_or(Kind::Picture), value) {
         Kind::Picture => PICTURE,
         Kind::Album => ALBUM,
         Kind::List => LIST,
@@ -222,10 +222,10 @@ fn value_rows(line: &Value<'_>, value: &Value<'_>) -> Rows {
     }
 }
 
-/// Of which kind an item's value is told. With entries it is a list, with members a group, with children an album, and
-/// with a content a picture. With none of these it is told as one of its item's kind.
-fn kind_told(item: Kind, value: &Value<'_>) -> Kind
-    ensures { result ≡ kind_told item (value_data value.now) }
+/// As which kind an item's value is explained. With entries it is a list, with members a group, with children an album,
+/// and with a content a picture. With none of these it is explained as one of its item's kind.
+fn kind_explained(item: Kind, value: &Value<'_>) -> Kind
+    ensures { result ≡ kind_explained item (value_data value.now) }
 {
     if has(value, "entries") {
         Kind::List

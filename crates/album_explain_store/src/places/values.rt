@@ -25,7 +25,7 @@ pub(crate) fn bad_value(
         Form::Members => bad_members(alloc, name, value),
         Form::Lists | Form::Memberships => bad_pairs(alloc, name, form, value),
         _ => match text(value) {
-            Ok(text) if !is_right(alloc, form, text)? => Ok(Some(found_at(alloc, name, value)?)),
+            Ok(text) if !is_right(alloc, form, text)? => found_at(alloc, name, value),
             _ => Ok(None),
         },
     }
@@ -65,7 +65,7 @@ fn bad_members(alloc: Global, name: &str, value: &Value<'_>) -> Result<Option<Fo
         return Ok(None);
     };
     if members.len() > MAX_MEMBERS {
-        return Ok(Some(found_at(alloc, name, value)?));
+        return found_at(alloc, name, value);
     }
     for (index, member) in members.as_slice().iter().enumerate() {
         let passes = match text(member) {

@@ -5,7 +5,7 @@ use Rattle.album_explain.proofs.explaining.explain.Given as goal
 
 abbrev pub invariant-loop-turn : goal.invariant-loop-turn
 invariant-loop-turn g l = record {
-  answered : HasAnswered (So g.E.Explainer.Tells l.fn.explainer l.progress) l._turn l.lines (g.R.Read.remaining l.initial.reader) (g.R.Read.remaining l.reader)
+  answered : HasAnswered (So g.E.Explainer.IsExplanation l.fn.explainer l.progress) l._turn l.lines (g.R.Read.remaining l.initial.reader) (g.R.Read.remaining l.reader)
       (g.W.Write.contents l.initial.writer) (g.W.Write.contents l.writer);
   unread : l.turns ≡ 0 → g.R.Read.remaining l.reader ≡ g.R.Read.remaining l.initial.reader;
 }

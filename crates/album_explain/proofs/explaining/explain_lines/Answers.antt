@@ -12,7 +12,7 @@ use Rattle.album_explain.proofs.explaining.explain_lines.Goals as goal
 pub loop-line-preserved : goal.loop-line-preserved
 loop-line-preserved g c = record {
   explained =
-      next_explained g.E.Explainer.Tells said c.args.lines.now c.loop-line.line-index c.line-item.result c.args.progress.now c.loop-line.progress c.explain_line.new.progress _ _
+      next_explained g.E.Explainer.IsExplanation said c.args.lines.now c.loop-line.line-index c.line-item.result c.args.progress.now c.loop-line.progress c.explain_line.new.progress _ _
       c.loop-line-test.true c.line-item.is c.loop-line.invariant.explained c.in-Ok.ensures.ok;
   unwritten = c.loop-line.invariant.unwritten;
 }
@@ -21,7 +21,7 @@ loop-line-preserved g c = record {
 pub returns-in_default-clause-fault : goal.returns-in_default-clause-fault
 returns-in_default-clause-fault g c =
     let left =
-    unexplained_at g.E.Explainer.Tells said c.args.lines.now c.loop-line.line-index c.args.progress.now c.loop-line.progress c.loop-line.text.items c.loop-line-test.true c.loop-line.invariant.explained in
+    unexplained_at g.E.Explainer.IsExplanation said c.args.lines.now c.loop-line.line-index c.args.progress.now c.loop-line.progress c.loop-line.text.items c.loop-line-test.true c.loop-line.invariant.explained in
     let written = rw c.in_default.ensures.err at c.deref.ensures.value in
     writes_this _ _ _ _ _ _ c.loop-line.invariant.unwritten written left c.in_ok-write_text.ensures.ok
 
@@ -29,26 +29,26 @@ pub returns-in_err-write_text-clause-fault : goal.returns-in_err-write_text-clau
 returns-in_err-write_text-clause-fault g c =
     let p = err_from_is_err_and c.from_residual.result c.from_residual.ensures.1 in
     let left =
-    unexplained_at g.E.Explainer.Tells said c.args.lines.now c.loop-line.line-index c.args.progress.now c.loop-line.progress c.loop-line.text.items c.loop-line-test.true c.loop-line.invariant.explained in
+    unexplained_at g.E.Explainer.IsExplanation said c.args.lines.now c.loop-line.line-index c.args.progress.now c.loop-line.progress c.loop-line.text.items c.loop-line-test.true c.loop-line.invariant.explained in
     let written = rw c.in_default.ensures.err at c.deref.ensures.value in
-    let begin = left_is_prefix (ExplainsOn g.E.Explainer.Tells c.args.progress.now) (explanations_go_on g.E.Explainer.Tells g.met.E.Explainer.goes_on c.args.progress.now) Memory _ _ left in
+    let begin = left_is_prefix (ExplainsOn g.E.Explainer.IsExplanation c.args.progress.now) (explanations_go_on g.E.Explainer.IsExplanation g.met.E.Explainer.goes_on c.args.progress.now) Memory _ _ left in
     rw (p.1, p.2, c.in_err-write_text.ensures.fault)
-    (not_all_written (ExplainsOn g.E.Explainer.Tells c.args.progress.now) _ _ _ _ _ _ c.loop-line.invariant.unwritten written begin c.in_err-write_text.ensures.err)
+    (not_all_written (ExplainsOn g.E.Explainer.IsExplanation c.args.progress.now) _ _ _ _ _ _ c.loop-line.invariant.unwritten written begin c.in_err-write_text.ensures.err)
 
 -- all are explained
 pub returns-clause-ok : goal.returns-clause-ok
 returns-clause-ok g c =
-    let all = subst (λ ls. Explains g.E.Explainer.Tells c.args.progress.now (map said ls) c.loop-line.progress c.loop-line.text.items) (take_all c.loop-line.line-index c.args.lines.now c.loop-line-test.false) c.loop-line.invariant.explained in
+    let all = subst (λ ls. Explains g.E.Explainer.IsExplanation c.args.progress.now (map said ls) c.loop-line.progress c.loop-line.text.items) (take_all c.loop-line.line-index c.args.lines.now c.loop-line-test.false) c.loop-line.invariant.explained in
     on_ok_weaker c.write_text-2.result
     (λ w. writes_this _ _ _ _ _ _ c.loop-line.invariant.unwritten c.deref-2.ensures.value all w)
     c.write_text-2.ensures.ok
 
 pub returns-clause-fault : goal.returns-clause-fault
 returns-clause-fault g c =
-    let all = subst (λ ls. Explains g.E.Explainer.Tells c.args.progress.now (map said ls) c.loop-line.progress c.loop-line.text.items) (take_all c.loop-line.line-index c.args.lines.now c.loop-line-test.false) c.loop-line.invariant.explained in
-    let begin = all_are_prefix (ExplainsOn g.E.Explainer.Tells c.args.progress.now) _ _ (c.loop-line.progress, all) in
+    let all = subst (λ ls. Explains g.E.Explainer.IsExplanation c.args.progress.now (map said ls) c.loop-line.progress c.loop-line.text.items) (take_all c.loop-line.line-index c.args.lines.now c.loop-line-test.false) c.loop-line.invariant.explained in
+    let begin = all_are_prefix (ExplainsOn g.E.Explainer.IsExplanation c.args.progress.now) _ _ (c.loop-line.progress, all) in
     let left =
     on_err_weaker c.write_text-2.result
-    (λ w. not_all_written (ExplainsOn g.E.Explainer.Tells c.args.progress.now) _ _ _ _ _ _ c.loop-line.invariant.unwritten c.deref-2.ensures.value begin w)
+    (λ w. not_all_written (ExplainsOn g.E.Explainer.IsExplanation c.args.progress.now) _ _ _ _ _ _ c.loop-line.invariant.unwritten c.deref-2.ensures.value begin w)
     c.write_text-2.ensures.err in
-    left_by_writing (ExplainsOn g.E.Explainer.Tells c.args.progress.now) c.write_text-2.result _ _ _ left c.write_text-2.ensures.fault
+    left_by_writing (ExplainsOn g.E.Explainer.IsExplanation c.args.progress.now) c.write_text-2.result _ _ _ left c.write_text-2.ensures.fault

@@ -1,16 +1,21 @@
 //! The subcommand `ask`: a client of a service.
 
+use crate::running::{TURNS, port_arg, status};
 use crate::texts::{ASK_ABOUT, ASK_HELP};
-use crate::{TURNS, port_arg, status};
 use album_ask::{Asking, ask};
-use album_server::Fault;
+use album_judge::Fault;
 use clap::{Arg, ArgAction, ArgMatches, Command};
 use std::alloc::{AllocError, Global};
 use std::io::{Read, Write};
 use std::net::{IpAddr, Ipv4Addr, Net, SocketAddr, TcpListener, TcpStream};
 use std::process::ExitCode;
 
-pub(crate) fn ask_command<'a>(alloc: Global) -> Result<Command<'a>, AllocError> {
+/// The subcommand `ask`, with its arguments.
+///
+/// # Errors
+///
+/// `AllocError`, where there is no memory for it.
+pub fn ask_command<'a>(alloc: Global) -> Result<Command<'a>, AllocError> {
     let who = Arg::new(alloc, "as")
         .long("as")
         .value_name("WHO")
@@ -32,7 +37,7 @@ pub(crate) fn ask_command<'a>(alloc: Global) -> Result<Command<'a>, AllocError> 
 
 /// Asks the service at the port what the reader has, line by line. The status is 1 where it isn't there, refuses who
 /// asks, or goes away before the end.
-pub(crate) fn ask_service<T, R: Read, W: Write>(
+pub fn ask_service<T, R: Read, W: Write>(
     rt: &T,
     alloc: Global,
     requests: &mut R,

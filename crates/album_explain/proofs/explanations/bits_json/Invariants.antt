@@ -1,7 +1,7 @@
 use Rattle.std.proofs.Common.{◌≡◌, ◌++◌, drop, map}
 use Rattle.serde_json.specs.View.{view}
-use Rattle.album_explain.specs.Telling.{bit_json, bit_row}
-use Rattle.album_explain.proofs.telling.bits_json.Given as goal
+use Rattle.album_explain.specs.Explanations.{bit_json, bit_row}
+use Rattle.album_explain.proofs.explanations.bits_json.Given as goal
 
 abbrev pub invariant-loop-row : goal.invariant-loop-row
 invariant-loop-row l =

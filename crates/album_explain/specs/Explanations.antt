@@ -15,13 +15,13 @@ use Rattle.album_lines.specs.Spelling.{whole_data, list_data}
 use Rattle.album_explain.specs.declared.decisions.Decision.{Decision}
 use Rattle.album_explain.specs.declared.decisions.Decision.TheVariants as decision
 use Rattle.album_explain.specs.declared.places.Found.{Found}
-use Rattle.album_explain.specs.declared.telling.BitRow.{BitRow}
+use Rattle.album_explain.specs.declared.explanations.BitRow.{BitRow}
 use Rattle.album_explain.specs.Names.{bit_name}
 use Rattle.album_explain.specs.Decisions.{decision}
 
 -- ---- a refusal
 
--- a text that tells where, and the number that stands there, if one does
+-- a text that says where, and the number that stands there, if one does
 abbrev pub Place : Type 0
 Place = List ℕ × Option ℕ
 
@@ -42,7 +42,7 @@ refused_at number refusal at (Some value) = object (
     member (codes "refused") (whole_data (number_of refusal)) (
     member (codes "value") (whole_data value) no_members)))))
 
--- the same, where the place is told if it is known
+-- the same, with the place if it is known
 abbrev pub refused_json : ℕ → Refusal → Option Place → Data
 refused_json number refusal None = object (
     member (codes "line") (whole_data number) (
@@ -103,10 +103,10 @@ denied_json number at rows = object (
     member (codes "line") (whole_data number) no_members))))
 
 -- the verdict on a line of this number, and how its bits are decided
-abbrev pub told_json : ℕ → Verdict → List Row → Data
-told_json number verdict.Granted rows = object (
+abbrev pub explanation_json : ℕ → Verdict → List Row → Data
+explanation_json number verdict.Granted rows = object (
     member (codes "answer") (string (codes "granted")) (
     member (codes "bits") (bits_json rows) (
     member (codes "line") (whole_data number) no_members)))
-told_json number (verdict.DeniedBy index) rows = denied_json number (whole_data index) rows
-told_json number verdict.DeniedAtEnd rows = denied_json number (string (codes "end")) rows
+explanation_json number (verdict.DeniedBy index) rows = denied_json number (whole_data index) rows
+explanation_json number verdict.DeniedAtEnd rows = denied_json number (string (codes "end")) rows

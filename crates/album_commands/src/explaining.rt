@@ -1,21 +1,27 @@
 //! The subcommands that explain: `explain` with the lines that are, and `mask` and `flags`, which give names for
 //! numbers and back.
 
+use crate::running::{TURNS, open, status};
 use crate::texts::{
     EVENT_ABOUT, EXPLAIN_ABOUT, EXPLAIN_HELP, FLAGS_ABOUT, JUDGE_ABOUT, LINES_HELP, MASK_ABOUT,
     NAMES_HELP, OPENING_ABOUT, TALK_ABOUT,
 };
-use crate::{TURNS, open, status};
 use album_explain::{JudgeLines, explain, write_flags, write_mask};
 use album_explain_store::{EventLines, TalkLines, explain_script};
-use album_server::{Fault, Refusal};
+use album_judge::Fault;
+use album_stamps::Refusal;
 use clap::{Arg, ArgMatches, Command};
 use std::alloc::{AllocError, Global};
 use std::io::{Read, Write};
 use std::process::ExitCode;
 use std::rt::Files;
 
-pub(crate) fn explain_command<'a>(alloc: Global) -> Result<Command<'a>, AllocError> {
+/// The subcommand `explain`, with its arguments.
+///
+/// # Errors
+///
+/// `AllocError`, where there is no memory for it.
+pub fn explain_command<'a>(alloc: Global) -> Result<Command<'a>, AllocError> {
     Command::new(alloc, "explain")
         .about(EXPLAIN_ABOUT)
         .subcommand_required(true)
@@ -40,11 +46,21 @@ fn lines_command<'a>(
         .arg(files)
 }
 
-pub(crate) fn mask_command<'a>(alloc: Global) -> Result<Command<'a>, AllocError> {
+/// The subcommand `mask`, with its arguments.
+///
+/// # Errors
+///
+/// `AllocError`, where there is no memory for it.
+pub fn mask_command<'a>(alloc: Global) -> Result<Command<'a>, AllocError> {
     bits_command(alloc, "mask", MASK_ABOUT)
 }
 
-pub(crate) fn flags_command<'a>(alloc: Global) -> Result<Command<'a>, AllocError> {
+/// The subcommand `flags`, with its arguments.
+///
+/// # Errors
+///
+/// `AllocError`, where there is no memory for it.
+pub fn flags_command<'a>(alloc: Global) -> Result<Command<'a>, AllocError> {
     bits_command(alloc, "flags", FLAGS_ABOUT)
 }
 
@@ -63,7 +79,7 @@ fn bits_command<'a>(
 }
 
 /// Explains the lines of each file that is named, or else those of the reader. The status is 1 where one is refused.
-pub(crate) fn explain_lines<T: Files + Eprint, R: Read, W: Write>(
+pub fn explain_lines<T: Files + Eprint, R: Read, W: Write>(
     rt: &T,
     alloc: Global,
     reader: &mut R,
@@ -120,7 +136,7 @@ fn explain_each<R: Read, W: Write>(
 }
 
 /// Prints what the names, or the number, of `mask` or `flags` are.
-pub(crate) fn tell_bits<T: Eprint, W: Write>(
+pub fn tell_bits<T: Eprint, W: Write>(
     rt: &T,
     alloc: Global,
     writer: &mut W,

@@ -1,16 +1,22 @@
 //! The subcommand `replay`, and its options.
 
+use crate::running::{TURNS, open, status};
 use crate::texts::{REPLAY_ABOUT, REPLAY_HELP};
-use crate::{TURNS, open, status};
+use album_judge::Fault;
+use album_replay::replay;
 use album_scripts::{Asked, Told, Traced, Watch};
-use album_server::{Fault, replay};
 use clap::{Arg, ArgAction, ArgMatches, Command};
 use std::alloc::{AllocError, Global};
 use std::io::{Read, Write};
 use std::process::ExitCode;
 use std::rt::Files;
 
-pub(crate) fn replay_command<'a>(alloc: Global) -> Result<Command<'a>, AllocError> {
+/// The subcommand `replay`, with its arguments.
+///
+/// # Errors
+///
+/// `AllocError`, where there is no memory for it.
+pub fn replay_command<'a>(alloc: Global) -> Result<Command<'a>, AllocError> {
     let trace = Arg::new(alloc, "trace")
         .long("trace")
         .help("Prints each message that is sent, as if the opening said so")
@@ -32,7 +38,7 @@ pub(crate) fn replay_command<'a>(alloc: Global) -> Result<Command<'a>, AllocErro
 
 /// Replays the lines of the file that is named, or else those of the reader, to their end or to the refusal of their
 /// opening.
-pub(crate) fn replay_lines<T: Files + Eprint, R: Read, W: Write>(
+pub fn replay_lines<T: Files + Eprint, R: Read, W: Write>(
     rt: &T,
     alloc: Global,
     reader: &mut R,

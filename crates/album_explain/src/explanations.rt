@@ -4,8 +4,9 @@ ghost use Rattle.serde_json.specs.View.{view};
 ghost use Rattle.serde_json.specs.Written.{has_float};
 ghost use Rattle.album_lines.specs.Output.{line_text};
 ghost use Rattle.album_eval.specs.Matching.{case_of};
+ghost use Rattle.album_eval.specs.declared.verdicts.Verdict.TheVariants.{Granted};
 ghost use Rattle.album_explain.specs.Names.{bit_name};
-ghost use Rattle.album_explain.specs.Telling.{place_of, refused_at, refused_json, decision_word, decision_at_json, bit_json, bits_json, told_json, bit_row, bit_rows, bit_of};
+ghost use Rattle.album_explain.specs.Explanations.{place_of, refused_at, refused_json, decision_word, decision_at_json, bit_json, bits_json, denied_json, explanation_json, bit_row, bit_rows, bit_of};
 ghost use Rattle.album_access.specs.Bits.{mask_bits};
 
 use crate::decisions::{Decision, decide, has_bit};
@@ -118,37 +119,56 @@ fn bit_of(mask: Mask) -> u32
 }
 
 /// The line of a verdict: how each bit was decided, and the line's number.
-#[tactic(auto, using(crate::proofs::Floats::no_float_in_told))]
-pub(crate) fn write_told(
+#[tactic(auto, using(crate::proofs::Floats::no_float_in_explanation))]
+pub(crate) fn write_explanation(
     alloc: Global,
     number: u64,
     verdict: Verdict,
     rows: &[BitRow],
 ) -> Result<Vec<u8>, AllocError>
-    ensures { IfOk result (λ text. text.items ≡ line_text (told_json number verdict (map bit_row rows.now))) }
+    ensures { IfOk result (λ text. text.items ≡ line_text (explanation_json number verdict (map bit_row rows.now))) }
 {
-    let value = told_json(alloc, number, verdict, rows)?;
+    let value = explanation_json(alloc, number, verdict, rows)?;
     line(alloc, &value)
 }
 
-fn told_json(
+fn explanation_json(
     alloc: Global,
     number: u64,
     verdict: Verdict,
     rows: &[BitRow],
 ) -> Result<Value, AllocError>
-    ensures { IfOk result (λ v. view v ≡ told_json number verdict (map bit_row rows.now)) }
+    ensures { IfOk result (λ v. view v ≡ explanation_json number verdict (map bit_row rows.now)) }
 {
-    let bits = bits_json(alloc, rows)?;
     match verdict {
-        Verdict::Granted => json!(in alloc; {"answer": "granted", "bits": bits, "line": number}),
-        Verdict::DeniedBy(index) => {
-            json!(in alloc; {"answer": "denied", "at": index, "bits": bits, "line": number})
-        }
-        Verdict::DeniedAtEnd => {
-            json!(in alloc; {"answer": "denied", "at": "end", "bits": bits, "line": number})
-        }
+        Verdict::Granted => granted_json(alloc, number, rows),
+        Verdict::DeniedBy(index) => denied_json(alloc, number, Decision::DeniedBy(index), rows),
+        Verdict::DeniedAtEnd => denied_json(alloc, number, Decision::DeniedAtEnd, rows),
     }
+}
+
+fn granted_json(alloc: Global, number: u64, rows: &[BitRow]) -> Result<Value, AllocError>
+    ensures { IfOk result (λ v. view v ≡ explanation_json number Granted (map bit_row rows.now)) }
+{
+    json!(in alloc; {"answer": "granted", "bits": bits_json(alloc, rows)?, "line": number})
+}
+
+/// The line of a denial, which is decided so.
+fn denied_json(
+    alloc: Global,
+    number: u64,
+    decision: Decision,
+    rows: &[BitRow],
+) -> Result<Value, AllocError>
+    ensures { IfOk result (λ v.
+        view v ≡ denied_json number (decision_at_json decision) (map bit_row rows.now)) }
+{
+    json!(in alloc; {
+        "answer": "denied",
+        "at": decision_at(alloc, decision)?,
+        "bits": bits_json(alloc, rows)?,
+        "line": number,
+    })
 }
 
 fn bits_json(alloc: Global, rows: &[BitRow]) -> Result<Value, AllocError>
@@ -165,10 +185,7 @@ fn bits_json(alloc: Global, rows: &[BitRow]) -> Result<Value, AllocError>
 fn bit_json(alloc: Global, row: BitRow) -> Result<Value, AllocError>
     ensures { IfOk result (λ v. view v ≡ bit_json (bit_row row)) }
 {
-    let name = row.name;
-    let word = decision_word(row.decision);
-    let at = decision_at(alloc, row.decision)?;
-    json!(in alloc; [name, word, at])
+    json!(in alloc; [row.name, decision_word(row.decision), decision_at(alloc, row.decision)?])
 }
 
 fn decision_word(decision: Decision) -> &'static str

@@ -1,4 +1,4 @@
--- The lines that tell of a store's lines.
+-- The lines that explain a store's lines.
 use Rattle.std.specs.Prelude.{◌≡◌, ◌⊎◌, ℕ, List, codes, Bool, true, false, None, Result, Ok, Err, refl}
 use Rattle.std.proofs.Common.{inr}
 use Rattle.serde_json.specs.Data.{Data, string, object, no_members, member}
@@ -6,15 +6,15 @@ use Rattle.album_stamps.specs.declared.refusals.Refusal.{Refusal}
 use Rattle.album_stamps.specs.declared.refusals.Refusal.TheVariants.{OutOfMemory}
 use Rattle.album_lines.specs.Output.{line_text}
 use Rattle.album_lines.specs.Spelling.{whole_data}
-use Rattle.album_explain.specs.Telling.{refused_json}
+use Rattle.album_explain.specs.Explanations.{refused_json}
 use Rattle.album_explain.specs.Judging.{IsRefused}
-use Rattle.album_explain_store.specs.declared.telling.Lines.{Lines}
-use Rattle.album_explain_store.specs.declared.telling.Lines.TheVariants as lines
-use Rattle.album_explain_store.specs.declared.telling.Kind.{Kind}
-use Rattle.album_explain_store.specs.declared.telling.Kind.TheVariants as kind
-use Rattle.album_explain_store.specs.declared.telling.Taken.{Taken}
+use Rattle.album_explain_store.specs.declared.explanations.Lines.{Lines}
+use Rattle.album_explain_store.specs.declared.explanations.Lines.TheVariants as lines
+use Rattle.album_explain_store.specs.declared.explanations.Kind.{Kind}
+use Rattle.album_explain_store.specs.declared.explanations.Kind.TheVariants as kind
+use Rattle.album_explain_store.specs.declared.explanations.Taken.{Taken}
 
--- the name in a line that tells what it says
+-- the name in a line that says what it is
 abbrev pub kind_word : Kind → List ℕ
 kind_word kind.Open = codes "open"
 kind_word kind.Item = codes "item"
@@ -51,14 +51,14 @@ pub record Step (S : Type 0) : Type 0 where
   pub reading : Result Taken Refusal
   pub next : S
 
--- What is told of a line is what comes of it; or that memory ran out on it, which changes nothing.
-abbrev pub TellsBy : {S : Type 0} → Step S → S → ℕ → Bool → List ℕ → S → Type 0
-TellsBy step old number is_refused text new =
+-- A line's explanation is what comes of it; or that memory ran out on it, which changes nothing.
+abbrev pub ExplainsBy : {S : Type 0} → Step S → S → ℕ → Bool → List ℕ → S → Type 0
+ExplainsBy step old number is_refused text new =
     (IsReply number step.reading is_refused text × (new ≡ step.next))
     ⊎ (IsReply number (Err OutOfMemory) is_refused text × (new ≡ old))
 
--- that memory ran out may be told of every line
-pub out_of_memory_told : {S : Type 0} (step : Step S) (old : S) (number : ℕ)
-    → (is_refused : Bool) × (text : List ℕ) × (new : S) × TellsBy step old number is_refused text new
-out_of_memory_told step old number =
+-- that memory ran out is an explanation of every line
+pub out_of_memory_explanation : {S : Type 0} (step : Step S) (old : S) (number : ℕ)
+    → (is_refused : Bool) × (text : List ℕ) × (new : S) × ExplainsBy step old number is_refused text new
+out_of_memory_explanation step old number =
     (true, line_text (refused_json number OutOfMemory None), old, inr ((refl, (None, refl)), refl))

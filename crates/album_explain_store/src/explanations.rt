@@ -1,8 +1,8 @@
-//! What a line is, and the line that tells so: {"kind", "line", "reads"}. That of a refusal is `album_explain`'s.
+//! What a line is, and the line that says so: {"kind", "line", "reads"}. That of a refusal is `album_explain`'s.
 ghost use Rattle.std.specs.Prelude.{◌≡◌, Err, IfOk};
 ghost use Rattle.serde_json.specs.View.{view};
 ghost use Rattle.album_lines.specs.Output.{line_text};
-ghost use Rattle.album_explain_store.specs.Telling.{kind_word, lines_word, taken_json, IsReply};
+ghost use Rattle.album_explain_store.specs.Explanations.{kind_word, lines_word, taken_json, IsReply};
 
 use crate::places::find;
 use crate::places::tables::Table;
@@ -21,7 +21,7 @@ pub enum Lines {
     Talk,
 }
 
-/// What a line says: which of its names tells so.
+/// What a line says: which of its names says so.
 #[derive(Clone, Copy, Debug, PartialEq, Eq)]
 pub enum Kind {
     Open,
@@ -43,8 +43,8 @@ pub struct Taken {
     pub kind: Kind,
 }
 
-/// The line that tells of what was read, and whether that is a refusal. Where it is refused, `table` finds.
-pub(crate) fn tell_reading(
+/// The explanation of what was read, and whether that is a refusal. Where it is refused, `table` finds.
+pub(crate) fn explain_reading(
     alloc: Global,
     scratch: &mut Scratch,
     line: &LineIn,
@@ -52,26 +52,26 @@ pub(crate) fn tell_reading(
     table: Table,
     reading: Result<Taken, Refusal>,
 ) -> Result<(Vec<u8>, bool), Refusal>
-    ensures { IfOk result (λ told. IsReply number reading told.1 told.0.items) }
+    ensures { IfOk result (λ explanation. IsReply number reading explanation.1 explanation.0.items) }
 {
     match reading {
-        Ok(taken) => tell_taken(alloc, number, taken),
-        Err(Refusal::OutOfMemory) => tell_refused(alloc, number, Refusal::OutOfMemory, None),
+        Ok(taken) => explain_taken(alloc, number, taken),
+        Err(Refusal::OutOfMemory) => explain_refused(alloc, number, Refusal::OutOfMemory, None),
         Err(refusal) => {
             let found = find(alloc, scratch, line, table)?;
-            tell_refused(alloc, number, refusal, Some(&found))
+            explain_refused(alloc, number, refusal, Some(&found))
         }
     }
 }
 
-/// The line of a refusal, told where it is found.
-pub(crate) fn tell_refused(
+/// The line of a refusal, with the place where it is found.
+pub(crate) fn explain_refused(
     alloc: Global,
     number: u64,
     refusal: Refusal,
     found: Option<&Found>,
 ) -> Result<(Vec<u8>, bool), Refusal>
-    ensures { IfOk result (λ told. IsReply number (Err refusal) told.1 told.0.items) }
+    ensures { IfOk result (λ explanation. IsReply number (Err refusal) explanation.1 explanation.0.items) }
 {
     let text = write_refused(alloc, number, refusal, found)?;
     Ok((text, true))
@@ -79,12 +79,12 @@ pub(crate) fn tell_refused(
 
 /// The line of a line that is taken.
 #[tactic(auto, using(crate::proofs::Floats::no_float_in_taken))]
-pub(crate) fn tell_taken(
+pub(crate) fn explain_taken(
     alloc: Global,
     number: u64,
     taken: Taken,
 ) -> Result<(Vec<u8>, bool), Refusal>
-    ensures { IfOk result (λ told. IsReply number (Ok taken) told.1 told.0.items) }
+    ensures { IfOk result (λ explanation. IsReply number (Ok taken) explanation.1 explanation.0.items) }
 {
     let value = taken_json(alloc, number, taken)?;
     let text = line(alloc, &value)?;

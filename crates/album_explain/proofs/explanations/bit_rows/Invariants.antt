@@ -1,9 +1,9 @@
 use Rattle.std.proofs.Common.{◌≡◌, ◌++◌, drop, map}
 use Rattle.album_access.specs.Bits.{mask_bits}
 use Rattle.album_eval.specs.Matching.{case_of}
-use Rattle.album_explain.specs.Telling.{bit_row, row_of, is_row}
+use Rattle.album_explain.specs.Explanations.{bit_row, row_of, is_row}
 use Rattle.album_explain.proofs.Rows.{made}
-use Rattle.album_explain.proofs.telling.bit_rows.Given as goal
+use Rattle.album_explain.proofs.explanations.bit_rows.Given as goal
 
 abbrev pub invariant-loop-flag : goal.invariant-loop-flag
 invariant-loop-flag l =

@@ -1,6 +1,6 @@
 use Rattle.std.proofs.lemmas.Result.{on_err_weaker}
 use Rattle.album_explain_store.proofs.Ending.{end_not_whole}
-use Rattle.album_explain_store.proofs.scripts.tell_end.Goals as goal
+use Rattle.album_explain_store.proofs.scripts.explain_end.Goals as goal
 
 pub returns-clause-err : goal.returns-clause-err
 returns-clause-err g c =

@@ -1,0 +1,38 @@
+//! What the subcommands share: how many reads they make, the files that they read, and the status that they end with.
+
+use album_judge::Fault;
+use clap::{Arg, value_parser};
+use std::alloc::Global;
+use std::fs;
+use std::process::ExitCode;
+use std::rt::Files;
+
+/// How many reads a run may make.
+pub const TURNS: u64 = 4_294_967_296;
+
+/// The file at the path, to be read. Why it can't be is told on standard error.
+pub fn open<T: Files + Eprint>(rt: &T, path: &str) -> Result<T::File, Fault> {
+    fs::open(rt, path).map_err(|error| {
+        let _ = eprintln!(rt; "album: {path}: {error}");
+        Fault::Reading
+    })
+}
+
+/// The status of a run, with its fault on standard error. Nothing can be done where that fails too.
+pub fn status(rt: &impl Eprint, outcome: Result<(), Fault>) -> ExitCode {
+    match outcome {
+        Ok(()) => ExitCode::SUCCESS,
+        Err(fault) => {
+            let _ = eprintln!(rt; "album: {fault}");
+            ExitCode::from(1)
+        }
+    }
+}
+
+/// The argument that names a port.
+pub fn port_arg<'a>(alloc: Global) -> Arg<'a> {
+    Arg::new(alloc, "PORT")
+        .help("The port of 127.0.0.1")
+        .required(true)
+        .value_parser(value_parser!(u16).range(1..))
+}

@@ -1,0 +1,147 @@
+//! What the subcommands say of themselves, and of their lines.
+
+pub(crate) const JUDGE_ABOUT: &str =
+    "Answers each line of standard input, a question about an access list, by one line";
+
+pub(crate) const JUDGE_HELP: &str =
+    r#"A line is a JSON object. This one asks whether amy may read (mask 1) an object of bo's that carries a
+list of one entry:
+
+  {"entries":[["allow","amy@users",1,0]],"group":0,"mask":1,"owner":"bo@users","who":"amy@users"}
+
+  entries  the list: [type, who, mask, flags] each, in order. A type is allow, deny, audit or alarm.
+           A who is name@users, number@groups (with flag 64), OWNER@, GROUP@, EVERYONE@, ANONYMOUS@
+           or AUTHENTICATED@
+  group    the number of the group that GROUP@ means
+  mask     the bits that are asked, added up: 1 read, 2 write, 4 append, .. (docs/FORMATS.md has all)
+  owner    who owns the object: name@users
+  who      who asks: name@users or ANONYMOUS@
+  kind     may be left out: picture, album or group, the object that carries the list
+  groups   may be left out: [number, members] each, a member being name@users or number@groups
+  policy   may be left out: 1, or 2, by which an owner may always read and change the list of what he owns
+
+It is answered by one of these lines, `at` being the index of the entry that denies, from 0:
+
+  {"answer":"granted"}
+  {"answer":"denied","at":0}
+  {"answer":"denied","at":"end"}
+  {"name":"BadMask","refused":5}
+
+The lines of each FILE are answered in turn, in the place of standard input."#;
+
+pub(crate) const REPLAY_ABOUT: &str =
+    "Opens a store by the first lines of standard input, and tells what the events of the others bring about";
+
+pub(crate) const REPLAY_HELP: &str =
+    r#"Lines are JSON objects. The opening comes first: how the store is opened, each item with its value, and
+that these are all. Two partitions, and a picture of amy's with a list by which everyone may read it:
+
+  {"open":{"parts":2}}
+  {"item":"picture/0","value":{"content":"736561","group":0,"home":0,"list":0,"owner":"amy@users","title":"Sea"}}
+  {"item":"list/0","value":{"entries":[["allow","EVERYONE@",1,0]]}}
+  {"begin":true}
+
+  open     parts, how many partitions there are, from 1 to 16. These may be left out: limit, the marks for
+           which a partition has room (100000), and a write makes two at each that it concerns; policy,
+           1 or 2 (1); trace, whether each message that is sent is told (false)
+  value    of a picture: content, group, home, list, owner and title; of an album: children, group, home,
+           list, owner and title; of a list: entries; of a group: group, list, members and owner
+
+Every line behind it is an event, or a range of deliveries. Here bo asks to read the picture, and the
+messages are given to whom they are sent:
+
+  {"ask":{"do":"read","object":"picture/0"},"client":1,"who":"bo@users"}
+  {"deliver":[1,4]}
+
+  ask      who is name@users or ANONYMOUS@, client a number from 1 to 65535, and do one of read, list,
+           get_list, add_picture, add_album, retitle, replace, delete, move, set_lists, set_owner,
+           set_members and share, each with fields of its own (docs/FORMATS.md has all)
+  deliver  the number of a message, the first that is sent being 1; or [first, last], at most 10000 of them
+  sweep    part and stamp: the partition asks the others how a write stands that is pending there
+  stop     the number of a client, which stops for good
+  trim     item and part: the partition lets old versions of the item go
+
+Each thing that an event brings about is told by one line: notes, messages in a trace, answers. So is
+each refusal:
+
+  {"answer":"served","client":1,"content":"736561","object":"picture/0","stamp":0,"title":"Sea"}
+  {"name":"NoSuchMessage","refused":14}
+
+A refused event changes nothing, and a refused opening ends the run. With FILE the script is read from it."#;
+
+pub(crate) const ASK_ABOUT: &str =
+    "Sends each line of standard input to a service, and prints what it is answered";
+
+pub(crate) const ASK_HELP: &str =
+    r#"A line is a request; any other line of a connection is sent as it is:
+
+  {"do":"read","object":"picture/0"}
+  {"do":"set_lists","lists":[["picture/0",[["allow","EVERYONE@",1,0]]]]}
+  {"pending":0}
+
+On a terminal each is asked for by a prompt. With --text an answer is spelled out:
+
+  {"answer":"served","client":1,"object":"picture/0","stamp":0,"text":"sea","title":"Sea"}
+  {"answer":"denied","client":1,"reasons":[["picture/0","DELETE","end"]]}
+  {"answer":"committed","client":1,"object":"picture/65537","stamp":65537}
+
+The status is 1 where there is no service at the port, where it refuses WHO, or where it ends before the
+last line is answered."#;
+
+pub(crate) const EXPLAIN_ABOUT: &str =
+    "Tells of each line where it is refused, or by which entry each bit is decided";
+
+pub(crate) const EXPLAIN_HELP: &str =
+    r#"The lines are those of `album judge`. Each that isn't blank is explained by one line, with its number:
+
+  {"at":"entries[1].mask","line":3,"name":"BadMask","refused":5,"value":512}
+  {"answer":"denied","at":1,"bits":[["READ_DATA","allowed",0],["WRITE_DATA","denied",1]],"line":4}
+
+  at       of a refusal the part of the line that fails its test, or the byte from which on it is no JSON;
+           of a verdict the index of the entry that denies, from 0, or "end"
+  bits     what is asked, each with how and by which entry it is decided: an index, "end", or "owner",
+           whom policy 2 gives it
+  value    the number that stands at the place, if one does
+
+The status is 1 where a line is refused. The lines of each FILE are explained in turn, in the place of
+standard input, and counted from 1 in each."#;
+
+pub(crate) const OPENING_ABOUT: &str =
+    "Tells of each line of an opening, and of the events behind it, what it is or where it is refused";
+
+pub(crate) const EVENT_ABOUT: &str = "Tells of each line what event it is, or where it is refused";
+
+pub(crate) const TALK_ABOUT: &str =
+    "Tells of each line of a connection what it says, or where it is refused";
+
+pub(crate) const LINES_HELP: &str =
+    r#"The lines are those of `album replay`, and of a connection to `album serve`. Each that isn't blank is
+explained by one line, with its number:
+
+  {"kind":"ask","line":3,"reads":"event"}
+  {"at":"ask.lists[0].entries[1].mask","line":4,"name":"BadMask","refused":5,"value":512}
+  {"at":"line 3: value.list","line":6,"name":"BadOpening","refused":22,"value":0}
+
+  kind     of a line that is taken the name in it that tells what it says
+  reads    as what it is read: opening, event or talk
+  at       of a refusal the part of the line that fails its test; the byte from which on it is no JSON; or, of
+           an opening that is refused as a whole, the line with the part that fails
+  value    the number that stands at the place, if one does
+
+The status is 1 where a line is refused. The lines of each FILE are explained in turn, in the place of
+standard input, and counted from 1 in each."#;
+
+pub(crate) const MASK_ABOUT: &str =
+    "Tells the number of a mask's names, or the names of its number";
+
+pub(crate) const FLAGS_ABOUT: &str =
+    "Tells the number of the names of an entry's flags, or the names of their number";
+
+pub(crate) const NAMES_HELP: &str = r#"As in
+
+  $ album mask READ_DATA,WRITE_ACL
+  {"mask":262145}
+  $ album flags 3
+  {"flags":3,"names":["FILE_INHERIT","DIRECTORY_INHERIT"]}
+
+docs/FORMATS.md has all names."#;
