@@ -1,5 +1,5 @@
 -- What a replay prints is as it is promised: for the law, and for `replay`.
-use Rattle.std.proofs.Common.{◌≡◌, ◌⊎◌, ℕ, List, [], ◌∷◌, ◌++◌, map, filter, Bool, true, false, not, Option, Some, None, Result, Ok, Err, inl, inr, ⊎_elim, refl, sym, ap, ◌∙◌, subst, append_assoc, append-nil, Contains, if◌then◌else◌}
+use Rattle.std.proofs.Common.{◌≡◌, ℕ, List, [], ◌∷◌, ◌++◌, map, filter, Bool, true, false, not, Option, Some, None, Result, Ok, Err, inl, inr, ⊎_elim, refl, sym, ap, ◌∙◌, subst, append_assoc, append-nil, Contains, if◌then◌else◌}
 use Rattle.std.specs.Bool.{MatchBool}
 use Rattle.std.specs.List.{flat_map}
 use Rattle.std.specs.Option.{IfSome}
@@ -15,7 +15,7 @@ use Rattle.album_client.specs.Terms.{Terms, terms_of}
 use Rattle.album_world.specs.State.{Now}
 use Rattle.album_world.specs.Past.{World}
 use Rattle.album_world.specs.Changes.{Change, change_of}
-use Rattle.album_world.specs.Runs.{now_after, outs_of, run_of, start, event_outputs, outs_by}
+use Rattle.album_world.specs.Runs.{now_after, outs_of, run_of, start, outs_by}
 use Rattle.album_world.specs.Seen.{IsInPast}
 use Rattle.album_permits.specs.declared.events.Event.{Event}
 use Rattle.album_permits.specs.declared.outs.Out.{Out}

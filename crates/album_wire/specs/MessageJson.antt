@@ -43,6 +43,16 @@ writes_json rows = list_data (map write_json rows)
 abbrev pub envelope_of : ℕ → Message → Envelope
 envelope_of number message = record { from = message.from; number = number; tag = message.tag; to = message.to }
 
+-- what every line of a message has, and the word for what it says
+abbrev pub envelope_fields : Envelope → List ℕ → List (List ℕ × Data)
+envelope_fields e word =
+    (codes "from", string (node_text e.from))
+    ∷ (codes "k", whole_data e.number)
+    ∷ (codes "say", string word)
+    ∷ (codes "tag", whole_data e.tag)
+    ∷ (codes "to", string (node_text e.to))
+    ∷ []
+
 -- ---- the kinds of lines
 
 -- a Get

@@ -28,17 +28,33 @@ use Rattle.album_wire.specs.MessageJson.{message_json}
 -- ---- notes
 
 -- the index is that of the entry that takes note
-abbrev pub note_json : ℕ → Note → Data
-note_json client note = object_data (
+abbrev pub note_fields : ℕ → Note → List (List ℕ × Data)
+note_fields client note =
     (codes "alarm", boolean note.alarm)
     ∷ (codes "audit", whole_data note.index)
     ∷ (codes "client", whole_data client)
     ∷ (codes "mask", whole_data (mask_bits note.mask))
     ∷ (codes "object", item_json note.object)
     ∷ (codes "success", boolean note.success)
-    ∷ [])
+    ∷ []
+
+abbrev pub note_json : ℕ → Note → Data
+note_json client note = object_data (note_fields client note)
 
 -- ---- answers
+
+-- the word that says which answer it is, and to which client
+abbrev pub answer_fields : List ℕ → ℕ → List (List ℕ × Data)
+answer_fields word client = (codes "answer", string word) ∷ (codes "client", whole_data client) ∷ []
+
+-- the same, of this object, as of this stamp
+abbrev pub answer_about : List ℕ → ℕ → ℕ → ℕ → List (List ℕ × Data)
+answer_about word client item stamp =
+    (codes "answer", string word)
+    ∷ (codes "client", whole_data client)
+    ∷ (codes "object", item_json item)
+    ∷ (codes "stamp", whole_data stamp)
+    ∷ []
 
 -- [item, title]
 abbrev pub row_json : Row → Data

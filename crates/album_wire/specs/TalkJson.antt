@@ -39,11 +39,14 @@ abbrev pub counted_json : Counted → Data
 counted_json counted = list_data (whole_data counted.succeeded ∷ whole_data counted.failed ∷ [])
 
 -- how many records the audit book has of each sort
-abbrev pub totals_json : Counted → Counted → Data
-totals_json audits alarms = object_data (
+abbrev pub totals_fields : Counted → Counted → List (List ℕ × Data)
+totals_fields audits alarms =
     (codes "alarms", counted_json alarms)
     ∷ (codes "audits", counted_json audits)
-    ∷ [])
+    ∷ []
+
+abbrev pub totals_json : Counted → Counted → Data
+totals_json audits alarms = object_data (totals_fields audits alarms)
 
 abbrev pub talk_json : TalkOut → Data
 talk_json (out.Hello client) = hello_json client

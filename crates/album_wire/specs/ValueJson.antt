@@ -11,6 +11,7 @@ use Rattle.album_lists.specs.declared.whos.Who.TheVariants as who
 use Rattle.album_items.specs.ItemIds.{text_of}
 use Rattle.album_items.specs.declared.values.Album.{Album}
 use Rattle.album_items.specs.declared.values.Group.{Group}
+use Rattle.album_items.specs.declared.values.Head.{Head}
 use Rattle.album_items.specs.declared.values.Picture.{Picture}
 use Rattle.album_items.specs.declared.values.Value.{Value}
 use Rattle.album_items.specs.declared.values.Value.TheVariants as value
@@ -85,6 +86,14 @@ home_json None = null
 home_json (Some number) = whole_data number
 
 -- ---- values
+
+-- the head of an object
+abbrev pub head_fields : Head → List (List ℕ × Data)
+head_fields head =
+    (codes "group", whole_data head.group)
+    ∷ (codes "list", whole_data head.list)
+    ∷ (codes "owner", string (owner_text head.owner))
+    ∷ []
 
 abbrev pub picture_json : Picture → Data
 picture_json picture = object_data (

@@ -5,11 +5,10 @@ ghost use Rattle.album_lines.specs.Fields.{each};
 ghost use Rattle.album_wire.specs.AskShape.{spelled_new_list, spelled_new_membership, spelled_ask, read_shape_of, list_shape_of, get_list_shape_of, add_picture_shape_of, add_album_shape_of, retitle_shape_of, replace_shape_of, delete_shape_of, move_shape_of, new_list_shape_of, set_lists_shape_of, set_owner_shape_of, set_members_shape_of, new_membership_shape_of, share_shape_of, shape_by_word, ask_shape_of};
 ghost use Rattle.album_lines.specs.Trees.{value_data, items_data};
 
-use crate::item_shapes::item_named;
+use crate::fields::{list_under, text_under, whole_under};
+use crate::item_shapes::{item_named, item_under};
 use album_items::ItemId;
-use album_lines::{
-    EntryShape, entry_shapes, field, item, list, only, sized_list, text, texts, whole,
-};
+use album_lines::{EntryShape, entry_shapes, field, item, only, sized_list, texts};
 use album_stamps::Refusal;
 use json::Value;
 use std::alloc::Global;
@@ -86,7 +85,7 @@ pub(crate) enum AskShape<'a> {
 pub(crate) fn ask_shape<'a>(alloc: Global, value: &Value<'a>) -> Result<AskShape<'a>, Refusal>
     ensures { Gives spelled_ask result (ask_shape_of (value_data value.now)) }
 {
-    let word = text(field(value, "do")?)?;
+    let word = text_under(value, "do")?;
     shape_by_word(alloc, word, value)
 }
 
@@ -116,7 +115,7 @@ fn read_shape<'a>(value: &Value<'a>) -> Result<AskShape<'a>, Refusal>
     ensures { Gives spelled_ask result (read_shape_of (value_data value.now)) }
 {
     only(value, &["do", "object"])?;
-    let object = item_named(field(value, "object")?)?;
+    let object = item_under(value, "object")?;
     Ok(AskShape::Read { object })
 }
 
@@ -125,7 +124,7 @@ fn list_shape<'a>(value: &Value<'a>) -> Result<AskShape<'a>, Refusal>
     ensures { Gives spelled_ask result (list_shape_of (value_data value.now)) }
 {
     only(value, &["do", "album"])?;
-    let album = item_named(field(value, "album")?)?;
+    let album = item_under(value, "album")?;
     Ok(AskShape::List { album })
 }
 
@@ -134,7 +133,7 @@ fn get_list_shape<'a>(value: &Value<'a>) -> Result<AskShape<'a>, Refusal>
     ensures { Gives spelled_ask result (get_list_shape_of (value_data value.now)) }
 {
     only(value, &["do", "object"])?;
-    let object = item_named(field(value, "object")?)?;
+    let object = item_under(value, "object")?;
     Ok(AskShape::GetList { object })
 }
 
@@ -143,9 +142,9 @@ fn add_picture_shape<'a>(value: &Value<'a>) -> Result<AskShape<'a>, Refusal>
     ensures { Gives spelled_ask result (add_picture_shape_of (value_data value.now)) }
 {
     only(value, &["do", "album", "title", "content"])?;
-    let album = item_named(field(value, "album")?)?;
-    let title = text(field(value, "title")?)?;
-    let content = text(field(value, "content")?)?;
+    let album = item_under(value, "album")?;
+    let title = text_under(value, "title")?;
+    let content = text_under(value, "content")?;
     Ok(AskShape::AddPicture {
         album,
         title,
@@ -158,8 +157,8 @@ fn add_album_shape<'a>(value: &Value<'a>) -> Result<AskShape<'a>, Refusal>
     ensures { Gives spelled_ask result (add_album_shape_of (value_data value.now)) }
 {
     only(value, &["do", "album", "title"])?;
-    let album = item_named(field(value, "album")?)?;
-    let title = text(field(value, "title")?)?;
+    let album = item_under(value, "album")?;
+    let title = text_under(value, "title")?;
     Ok(AskShape::AddAlbum { album, title })
 }
 
@@ -168,8 +167,8 @@ fn retitle_shape<'a>(value: &Value<'a>) -> Result<AskShape<'a>, Refusal>
     ensures { Gives spelled_ask result (retitle_shape_of (value_data value.now)) }
 {
     only(value, &["do", "object", "title"])?;
-    let object = item_named(field(value, "object")?)?;
-    let title = text(field(value, "title")?)?;
+    let object = item_under(value, "object")?;
+    let title = text_under(value, "title")?;
     Ok(AskShape::Retitle { object, title })
 }
 
@@ -178,8 +177,8 @@ fn replace_shape<'a>(value: &Value<'a>) -> Result<AskShape<'a>, Refusal>
     ensures { Gives spelled_ask result (replace_shape_of (value_data value.now)) }
 {
     only(value, &["do", "object", "content"])?;
-    let object = item_named(field(value, "object")?)?;
-    let content = text(field(value, "content")?)?;
+    let object = item_under(value, "object")?;
+    let content = text_under(value, "content")?;
     Ok(AskShape::Replace { object, content })
 }
 
@@ -188,7 +187,7 @@ fn delete_shape<'a>(value: &Value<'a>) -> Result<AskShape<'a>, Refusal>
     ensures { Gives spelled_ask result (delete_shape_of (value_data value.now)) }
 {
     only(value, &["do", "object"])?;
-    let object = item_named(field(value, "object")?)?;
+    let object = item_under(value, "object")?;
     Ok(AskShape::Delete { object })
 }
 
@@ -197,8 +196,8 @@ fn move_shape<'a>(value: &Value<'a>) -> Result<AskShape<'a>, Refusal>
     ensures { Gives spelled_ask result (move_shape_of (value_data value.now)) }
 {
     only(value, &["do", "object", "to"])?;
-    let object = item_named(field(value, "object")?)?;
-    let to = item_named(field(value, "to")?)?;
+    let object = item_under(value, "object")?;
+    let to = item_under(value, "to")?;
     Ok(AskShape::Move { object, to })
 }
 
@@ -207,7 +206,7 @@ fn set_lists_shape<'a>(alloc: Global, value: &Value<'a>) -> Result<AskShape<'a>,
     ensures { Gives spelled_ask result (set_lists_shape_of (value_data value.now)) }
 {
     only(value, &["do", "lists"])?;
-    let lists = each_new_list_shape(alloc, list(field(value, "lists")?)?)?;
+    let lists = each_new_list_shape(alloc, list_under(value, "lists")?)?;
     Ok(AskShape::SetLists { lists })
 }
 
@@ -241,9 +240,9 @@ fn set_owner_shape<'a>(value: &Value<'a>) -> Result<AskShape<'a>, Refusal>
     ensures { Gives spelled_ask result (set_owner_shape_of (value_data value.now)) }
 {
     only(value, &["do", "object", "owner", "group"])?;
-    let object = item_named(field(value, "object")?)?;
-    let owner = text(field(value, "owner")?)?;
-    let group = whole(field(value, "group")?)?;
+    let object = item_under(value, "object")?;
+    let owner = text_under(value, "owner")?;
+    let group = whole_under(value, "group")?;
     Ok(AskShape::SetOwner {
         object,
         owner,
@@ -256,7 +255,7 @@ fn set_members_shape<'a>(alloc: Global, value: &Value<'a>) -> Result<AskShape<'a
     ensures { Gives spelled_ask result (set_members_shape_of (value_data value.now)) }
 {
     only(value, &["do", "object", "members"])?;
-    let object = item_named(field(value, "object")?)?;
+    let object = item_under(value, "object")?;
     let members = texts(alloc, field(value, "members")?)?;
     Ok(AskShape::SetMembers { object, members })
 }
@@ -266,8 +265,8 @@ fn share_shape<'a>(alloc: Global, value: &Value<'a>) -> Result<AskShape<'a>, Ref
     ensures { Gives spelled_ask result (share_shape_of (value_data value.now)) }
 {
     only(value, &["do", "lists", "members"])?;
-    let lists = each_new_list_shape(alloc, list(field(value, "lists")?)?)?;
-    let members = each_new_membership_shape(alloc, list(field(value, "members")?)?)?;
+    let lists = each_new_list_shape(alloc, list_under(value, "lists")?)?;
+    let members = each_new_membership_shape(alloc, list_under(value, "members")?)?;
     Ok(AskShape::Share { lists, members })
 }
 

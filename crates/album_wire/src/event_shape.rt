@@ -4,13 +4,15 @@ ghost use Rattle.std.specs.Prelude.{◌≡◌, ◌-◌, suc, nat_le};
 ghost use Rattle.std.specs.Option.{ok_or};
 ghost use Rattle.album_stamps.specs.Outcome.{Gives};
 ghost use Rattle.album_stamps.specs.Stamps.{client_of_number};
+ghost use Rattle.album_wire.specs.Fields.{under};
 ghost use Rattle.album_wire.specs.EventShape.{spelled_event, client_named, stamp_named, part_named, asked_shape_of, range_of, delivered_of, deliver_shape_of, sweep_of, sweep_shape_of, stop_shape_of, trim_of, trim_shape_of, event_shape_of};
 ghost use Rattle.album_lines.specs.Trees.{value_data};
 
 use crate::ask_shape::{AskShape, ask_shape};
-use crate::item_shapes::item_named;
+use crate::fields::{text_under, whole_under};
+use crate::item_shapes::item_under;
 use album_items::ItemId;
-use album_lines::{field, has, is_list, item, only, sized_list, text, whole};
+use album_lines::{field, has, is_list, item, only, sized_list, whole};
 use album_permits::Event;
 use album_stamps::{ClientNo, Refusal, Stamp};
 use json::Value;
@@ -65,8 +67,8 @@ fn asked_shape<'a>(alloc: Global, value: &Value<'a>) -> Result<EventShape<'a>, R
 {
     only(value, &["ask", "client", "who"])?;
     let ask = ask_shape(alloc, field(value, "ask")?)?;
-    let client = client_named(field(value, "client")?)?;
-    let who = text(field(value, "who")?)?;
+    let client = client_under(value, "client")?;
+    let who = text_under(value, "who")?;
     Ok(EventShape::Asked { client, who, ask })
 }
 
@@ -125,7 +127,7 @@ pub(crate) fn sweep(value: &Value<'_>) -> Result<(u16, Stamp), Refusal>
     ensures { Gives (λ sweep. sweep) result (sweep_of (value_data value.now)) }
 {
     only(value, &["part", "stamp"])?;
-    let part = part_named(field(value, "part")?)?;
+    let part = part_under(value, "part")?;
     let stamp = stamp_named(field(value, "stamp")?)?;
     Ok((part, stamp))
 }
@@ -135,7 +137,7 @@ fn stop_shape<'a>(value: &Value<'a>) -> Result<EventShape<'a>, Refusal>
     ensures { Gives spelled_event result (stop_shape_of (value_data value.now)) }
 {
     only(value, &["stop"])?;
-    let client = client_named(field(value, "stop")?)?;
+    let client = client_under(value, "stop")?;
     Ok(EventShape::Whole(Spelled::One(Event::Stop(client))))
 }
 
@@ -154,16 +156,16 @@ pub(crate) fn trim(value: &Value<'_>) -> Result<(u16, ItemId), Refusal>
     ensures { Gives (λ trim. trim) result (trim_of (value_data value.now)) }
 {
     only(value, &["item", "part"])?;
-    let item = item_named(field(value, "item")?)?;
-    let part = part_named(field(value, "part")?)?;
+    let item = item_under(value, "item")?;
+    let part = part_under(value, "part")?;
     Ok((part, item))
 }
 
 /// The number of a client, from 1.
-fn client_named(value: &Value<'_>) -> Result<ClientNo, Refusal>
-    ensures { Gives (λ client. client) result (client_named (value_data value.now)) }
+fn client_under(value: &Value<'_>, name: &str) -> Result<ClientNo, Refusal>
+    ensures { Gives (λ client. client) result (under client_named name.now (value_data value.now)) }
 {
-    client_of(whole(value)?).ok_or(Refusal::BadRequest)
+    client_of(whole_under(value, name)?).ok_or(Refusal::BadRequest)
 }
 
 fn client_of(number: u64) -> Option<ClientNo>
@@ -184,10 +186,10 @@ fn stamp_named(value: &Value<'_>) -> Result<Stamp, Refusal>
 
 /// The number of a partition, also of one that is not there.
 #[tactic(auto, unfolding(crate::specs::EventShape::part_named))]
-pub(crate) fn part_named(value: &Value<'_>) -> Result<u16, Refusal>
-    ensures { Gives (λ part. part) result (part_named (value_data value.now)) }
+pub(crate) fn part_under(value: &Value<'_>, name: &str) -> Result<u16, Refusal>
+    ensures { Gives (λ part. part) result (under part_named name.now (value_data value.now)) }
 {
-    let part = whole(value)?;
+    let part = whole_under(value, name)?;
     if part > MAX_PART {
         return Err(Refusal::BadRequest);
     }

@@ -6,10 +6,10 @@ ghost use Rattle.album_lines.specs.Output.{line_text};
 ghost use Rattle.album_wire.specs.FiguresJson.{connections_json, marks_json, figures_of, figures_json, figures_text};
 
 use crate::out_json::line;
-use crate::talk_json::{Counted, counted_json};
+use crate::talk_json::{Counted, totals_fields};
 use album_partition::Figures;
 use album_stamps::Refusal;
-use serde_json::{Value, json};
+use serde_json::{Value, json, put};
 use std::alloc::{AllocError, Global};
 
 /// How much a service has at some time.
@@ -56,20 +56,16 @@ pub fn worked_figures()
 fn figures_json(alloc: Global, figures: &ServiceFigures) -> Result<Value, AllocError>
     ensures { IfOk result (λ v. view v ≡ figures_json figures.now) }
 {
-    let alarms = counted_json(alloc, figures.alarms)?;
-    let audits = counted_json(alloc, figures.audits)?;
+    let mut fields = totals_fields(alloc, figures.audits, figures.alarms)?;
     let connections = connections_json(alloc, figures)?;
+    put(&mut fields, alloc, "connections", connections)?;
     let marks = all_marks_json(alloc, &figures.parts)?;
+    put(&mut fields, alloc, "marks", marks)?;
     let pending = pending_json(alloc, &figures.parts)?;
+    put(&mut fields, alloc, "pending", pending)?;
     let versions = versions_json(alloc, &figures.parts)?;
-    json!(in alloc; {
-        "alarms": alarms,
-        "audits": audits,
-        "connections": connections,
-        "marks": marks,
-        "pending": pending,
-        "versions": versions,
-    })
+    put(&mut fields, alloc, "versions", versions)?;
+    Ok(Value::Object(fields))
 }
 
 /// [those that are there, those that were, those that may be]

@@ -3,13 +3,13 @@
 ghost use Rattle.std.specs.Prelude.{◌≡◌, map};
 ghost use Rattle.album_stamps.specs.Outcome.{Gives};
 ghost use Rattle.album_lines.specs.Fields.{each};
+ghost use Rattle.album_wire.specs.Fields.{under};
 ghost use Rattle.album_wire.specs.ItemShapes.{item_named, may_be_child, child_of, spelled_head, spelled_value, head_shape_of, home_shape_of, picture_shape_of, album_shape_of, list_shape_of, group_shape_of, value_shape_of};
 ghost use Rattle.album_lines.specs.Trees.{value_data, items_data};
 
+use crate::fields::{list_under, text_under, whole_under};
 use album_items::{ItemId, Kind, read_item};
-use album_lines::{
-    EntryShape, entry_shapes, field, has, is_nothing, list, only, text, texts, whole,
-};
+use album_lines::{EntryShape, entry_shapes, field, has, is_nothing, only, text, texts, whole};
 use album_stamps::Refusal;
 use json::Value;
 use std::alloc::Global;
@@ -53,6 +53,13 @@ pub(crate) fn item_named(value: &Value<'_>) -> Result<ItemId, Refusal>
     read_item(text(value)?).ok_or(Refusal::BadRequest)
 }
 
+/// The item under a name.
+pub(crate) fn item_under(value: &Value<'_>, name: &str) -> Result<ItemId, Refusal>
+    ensures { Gives (λ item. item) result (under item_named name.now (value_data value.now)) }
+{
+    item_named(field(value, name)?)
+}
+
 /// A value. Whose it is, its names tell: only a list has entries, only a group members, only an album children.
 pub(crate) fn value_shape<'a>(alloc: Global, value: &Value<'a>) -> Result<ValueShape<'a>, Refusal>
     ensures { Gives spelled_value result (value_shape_of (value_data value.now)) }
@@ -76,10 +83,10 @@ fn picture_shape<'a>(value: &Value<'a>) -> Result<ValueShape<'a>, Refusal>
         value,
         &["title", "content", "owner", "group", "home", "list"],
     )?;
-    let title = text(field(value, "title")?)?;
-    let content = text(field(value, "content")?)?;
+    let title = text_under(value, "title")?;
+    let content = text_under(value, "content")?;
     let head = head_shape(value)?;
-    let home = whole(field(value, "home")?)?;
+    let home = whole_under(value, "home")?;
     Ok(ValueShape::Picture {
         title,
         content,
@@ -96,10 +103,10 @@ fn album_shape<'a>(alloc: Global, value: &Value<'a>) -> Result<ValueShape<'a>, R
         value,
         &["title", "owner", "group", "home", "list", "children"],
     )?;
-    let title = text(field(value, "title")?)?;
+    let title = text_under(value, "title")?;
     let head = head_shape(value)?;
-    let home = home_shape(field(value, "home")?)?;
-    let children = each_child(alloc, list(field(value, "children")?)?)?;
+    let home = home_under(value, "home")?;
+    let children = each_child(alloc, list_under(value, "children")?)?;
     Ok(ValueShape::Album {
         title,
         head,
@@ -132,20 +139,21 @@ fn group_shape<'a>(alloc: Global, value: &Value<'a>) -> Result<ValueShape<'a>, R
 fn head_shape<'a>(value: &Value<'a>) -> Result<HeadShape<'a>, Refusal>
     ensures { Gives spelled_head result (head_shape_of (value_data value.now)) }
 {
-    let owner = text(field(value, "owner")?)?;
-    let group = whole(field(value, "group")?)?;
-    let list = whole(field(value, "list")?)?;
+    let owner = text_under(value, "owner")?;
+    let group = whole_under(value, "group")?;
+    let list = whole_under(value, "list")?;
     Ok(HeadShape { owner, group, list })
 }
 
 /// An album's home, or nothing.
-fn home_shape(value: &Value<'_>) -> Result<Option<u64>, Refusal>
-    ensures { Gives (λ home. home) result (home_shape_of (value_data value.now)) }
+fn home_under(value: &Value<'_>, name: &str) -> Result<Option<u64>, Refusal>
+    ensures { Gives (λ home. home) result (under home_shape_of name.now (value_data value.now)) }
 {
-    if is_nothing(value) {
+    let home = field(value, name)?;
+    if is_nothing(home) {
         return Ok(None);
     }
-    let number = whole(value)?;
+    let number = whole(home)?;
     Ok(Some(number))
 }
 

@@ -1,16 +1,18 @@
 //! The line of a message in a trace: {from, k = its number, say = a word, tag, to, and what it says}.
 ghost use Rattle.std.specs.Prelude.{◌≡◌, ◌++◌, [], ◌∷◌, codes, string_bytes, map, IfOk};
-ghost use Rattle.serde_json.specs.View.{view};
+ghost use Rattle.serde_json.specs.Data.{string};
+ghost use Rattle.serde_json.specs.View.{view, members_view};
 ghost use Rattle.album_items.specs.ItemIds.{picture, album};
 ghost use Rattle.album_items.specs.declared.values.Value.TheVariants as ItemValue;
 ghost use Rattle.album_lines.specs.Output.{line_text};
-ghost use Rattle.album_wire.specs.MessageJson.{node_text, vote_word, stamps_json, write_json, writes_json, envelope_of, get_json, prepare_json, version_json, status_json, gone_json, clash_json, stamped_json, request_json, reply_json, said_json, message_json};
+ghost use Rattle.album_wire.specs.ValueJson.{members_named};
+ghost use Rattle.album_wire.specs.MessageJson.{node_text, vote_word, stamps_json, write_json, writes_json, envelope_of, envelope_fields, get_json, prepare_json, version_json, status_json, gone_json, clash_json, stamped_json, request_json, reply_json, said_json, message_json};
 
 use crate::value_json::{item_json, item_list_json, value_json};
 use album_calls::{Body, Message, Node, Reply, Request, Vote};
 use album_items::ItemId;
 use album_stamps::Stamp;
-use serde_json::{Value, json};
+use serde_json::{Map, Value, json, put};
 use std::alloc::{AllocError, Global};
 
 /// What every line of a message has beside what the message says.
@@ -123,19 +125,10 @@ fn reply_json(alloc: Global, e: Envelope, reply: &Reply) -> Result<Value, AllocE
 fn get_json(alloc: Global, e: Envelope, item: ItemId, stamps: &[Stamp]) -> Result<Value, AllocError>
     ensures { IfOk result (λ v. view v ≡ get_json e item stamps.now) }
 {
-    let from = node_text(alloc, e.from)?;
-    let item = item_json(alloc, item)?;
-    let stamps = stamps_json(alloc, stamps)?;
-    let to = node_text(alloc, e.to)?;
-    json!(in alloc; {
-        "from": from,
-        "item": item,
-        "k": e.number,
-        "say": "get",
-        "stamps": stamps,
-        "tag": e.tag,
-        "to": to,
-    })
+    let mut fields = envelope_fields(alloc, e, "get")?;
+    put(&mut fields, alloc, "item", item_json(alloc, item)?)?;
+    put(&mut fields, alloc, "stamps", stamps_json(alloc, stamps)?)?;
+    Ok(Value::Object(fields))
 }
 
 fn prepare_json(
@@ -147,20 +140,11 @@ fn prepare_json(
 ) -> Result<Value, AllocError>
     ensures { IfOk result (λ v. view v ≡ prepare_json e stamp writes.now items.now) }
 {
-    let from = node_text(alloc, e.from)?;
-    let items = item_list_json(alloc, items)?;
-    let to = node_text(alloc, e.to)?;
-    let writes = writes_json(alloc, writes)?;
-    json!(in alloc; {
-        "from": from,
-        "items": items,
-        "k": e.number,
-        "say": "prepare",
-        "stamp": stamp.value(),
-        "tag": e.tag,
-        "to": to,
-        "writes": writes,
-    })
+    let mut fields = envelope_fields(alloc, e, "prepare")?;
+    put(&mut fields, alloc, "items", item_list_json(alloc, items)?)?;
+    put(&mut fields, alloc, "stamp", Value::from(stamp.value()))?;
+    put(&mut fields, alloc, "writes", writes_json(alloc, writes)?)?;
+    Ok(Value::Object(fields))
 }
 
 fn version_json(
@@ -172,82 +156,65 @@ fn version_json(
 ) -> Result<Value, AllocError>
     ensures { IfOk result (λ v. view v ≡ version_json e item stamp value.now) }
 {
-    let from = node_text(alloc, e.from)?;
-    let item = item_json(alloc, item)?;
-    let to = node_text(alloc, e.to)?;
-    let value = value_json(alloc, value)?;
-    json!(in alloc; {
-        "from": from,
-        "item": item,
-        "k": e.number,
-        "say": "version",
-        "stamp": stamp.value(),
-        "tag": e.tag,
-        "to": to,
-        "value": value,
-    })
+    let mut fields = envelope_fields(alloc, e, "version")?;
+    put(&mut fields, alloc, "item", item_json(alloc, item)?)?;
+    put(&mut fields, alloc, "stamp", Value::from(stamp.value()))?;
+    put(&mut fields, alloc, "value", value_json(alloc, value)?)?;
+    Ok(Value::Object(fields))
 }
 
 fn status_json(alloc: Global, e: Envelope, stamp: Stamp, vote: Vote) -> Result<Value, AllocError>
     ensures { IfOk result (λ v. view v ≡ status_json e stamp vote) }
 {
-    let from = node_text(alloc, e.from)?;
-    let to = node_text(alloc, e.to)?;
-    json!(in alloc; {
-        "from": from,
-        "k": e.number,
-        "say": "status",
-        "stamp": stamp.value(),
-        "tag": e.tag,
-        "to": to,
-        "vote": vote_word(vote),
-    })
+    let mut fields = envelope_fields(alloc, e, "status")?;
+    put(&mut fields, alloc, "stamp", Value::from(stamp.value()))?;
+    let vote = Value::try_from_str(alloc, vote_word(vote))?;
+    put(&mut fields, alloc, "vote", vote)?;
+    Ok(Value::Object(fields))
 }
 
 fn gone_json(alloc: Global, e: Envelope, item: ItemId) -> Result<Value, AllocError>
     ensures { IfOk result (λ v. view v ≡ gone_json e item) }
 {
-    let from = node_text(alloc, e.from)?;
-    let item = item_json(alloc, item)?;
-    let to = node_text(alloc, e.to)?;
-    json!(in alloc; {
-        "from": from,
-        "item": item,
-        "k": e.number,
-        "say": "gone",
-        "tag": e.tag,
-        "to": to,
-    })
+    let mut fields = envelope_fields(alloc, e, "gone")?;
+    put(&mut fields, alloc, "item", item_json(alloc, item)?)?;
+    Ok(Value::Object(fields))
 }
 
 fn clash_json(alloc: Global, e: Envelope) -> Result<Value, AllocError>
     ensures { IfOk result (λ v. view v ≡ clash_json e) }
 {
-    let from = node_text(alloc, e.from)?;
-    let to = node_text(alloc, e.to)?;
-    json!(in alloc; {
-        "from": from,
-        "k": e.number,
-        "say": "clash",
-        "tag": e.tag,
-        "to": to,
-    })
+    let fields = envelope_fields(alloc, e, "clash")?;
+    Ok(Value::Object(fields))
 }
 
 /// What is said by a word and a stamp alone.
 fn stamped_json(alloc: Global, e: Envelope, word: &str, stamp: Stamp) -> Result<Value, AllocError>
     ensures { IfOk result (λ v. view v ≡ stamped_json e word.now stamp) }
 {
-    let from = node_text(alloc, e.from)?;
-    let to = node_text(alloc, e.to)?;
-    json!(in alloc; {
-        "from": from,
-        "k": e.number,
-        "say": word,
-        "stamp": stamp.value(),
-        "tag": e.tag,
-        "to": to,
-    })
+    let mut fields = envelope_fields(alloc, e, word)?;
+    put(&mut fields, alloc, "stamp", Value::from(stamp.value()))?;
+    Ok(Value::Object(fields))
+}
+
+/// What every line of a message has, and the word for what it says.
+fn envelope_fields(alloc: Global, e: Envelope, word: &str) -> Result<Map<String, Value>, AllocError>
+    ensures { IfOk result (λ fields. members_view fields.entries ≡ members_named (envelope_fields e word.now)) }
+{
+    let mut fields = Map::new(alloc);
+    put(&mut fields, alloc, "from", node_json(alloc, e.from)?)?;
+    put(&mut fields, alloc, "k", Value::from(e.number))?;
+    put(&mut fields, alloc, "say", Value::try_from_str(alloc, word)?)?;
+    put(&mut fields, alloc, "tag", Value::from(e.tag))?;
+    put(&mut fields, alloc, "to", node_json(alloc, e.to)?)?;
+    Ok(fields)
+}
+
+fn node_json(alloc: Global, node: Node) -> Result<Value, AllocError>
+    ensures { IfOk result (λ v. view v ≡ string (node_text node)) }
+{
+    let text = node_text(alloc, node)?;
+    Ok(Value::String(text))
 }
 
 /// `p` and the number of a partition, `c` and that of a client.
@@ -297,7 +264,5 @@ fn writes_json(alloc: Global, writes: &[(ItemId, album_items::Value)]) -> Result
 fn write_json(alloc: Global, write: &(ItemId, album_items::Value)) -> Result<Value, AllocError>
     ensures { IfOk result (λ v. view v ≡ write_json write.now) }
 {
-    let item = item_json(alloc, write.0)?;
-    let value = value_json(alloc, &write.1)?;
-    json!(in alloc; [item, value])
+    json!(in alloc; [item_json(alloc, write.0)?, value_json(alloc, &write.1)?])
 }

@@ -5,7 +5,8 @@ ghost use Rattle.album_lines.specs.Fields.{member_or, whole_of, truth_of};
 ghost use Rattle.album_wire.specs.OpeningShape.{spelled_opening, header_of, open_shape_of, item_shape_of, begin_shape_of, opening_shape_of};
 ghost use Rattle.album_lines.specs.Trees.{value_data};
 
-use crate::item_shapes::{ValueShape, item_named, value_shape};
+use crate::fields::whole_under;
+use crate::item_shapes::{ValueShape, item_under, value_shape};
 use album_items::ItemId;
 use album_lines::{field, has, member, only, truth, whole};
 use album_stamps::Refusal;
@@ -66,7 +67,7 @@ fn header_named(value: &Value<'_>) -> Result<Header, Refusal>
     ensures { Gives (λ header. header) result (header_of (value_data value.now)) }
 {
     only(value, &["parts", "limit", "policy", "trace"])?;
-    let parts = whole(field(value, "parts")?)?;
+    let parts = whole_under(value, "parts")?;
     let limit = whole_or(DEFAULT_LIMIT, member(value, "limit"))?;
     let policy = whole_or(DEFAULT_POLICY, member(value, "policy"))?;
     let trace = truth_or(false, member(value, "trace"))?;
@@ -102,7 +103,7 @@ fn item_shape<'a>(alloc: Global, value: &Value<'a>) -> Result<OpeningShape<'a>, 
     ensures { Gives spelled_opening result (item_shape_of (value_data value.now)) }
 {
     only(value, &["item", "value"])?;
-    let item = item_named(field(value, "item")?)?;
+    let item = item_under(value, "item")?;
     let shape = value_shape(alloc, field(value, "value")?)?;
     Ok(OpeningShape::Item(item, shape))
 }

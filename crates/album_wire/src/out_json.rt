@@ -1,10 +1,11 @@
 //! The lines of an event's outputs: its notes, its answers, and in a trace its messages.
 ghost use Rattle.std.specs.Prelude.{◌≡◌, ◌++◌, [], ◌∷◌, true, Some, None, codes, option_map, false, map, IfOk, IsOkUnless};
-ghost use Rattle.serde_json.specs.View.{view};
+ghost use Rattle.serde_json.specs.View.{view, members_view};
 ghost use Rattle.serde_json.specs.Written.{has_float};
 ghost use Rattle.album_items.specs.ItemIds.{picture, album};
 ghost use Rattle.album_wire.specs.MessageJson.{message_json};
-ghost use Rattle.album_wire.specs.OutJson.{note_json, row_json, rows_json, picture_served, group_served, entries_served, listed_json, served_json, at_json, reason_json, reasons_json, denied_json, missing_json, why_word, busy_json, ended_json, unsettled_json, refused_json, answer_json, out_line};
+ghost use Rattle.album_wire.specs.ValueJson.{members_named};
+ghost use Rattle.album_wire.specs.OutJson.{note_fields, note_json, answer_fields, answer_about, row_json, rows_json, picture_served, group_served, entries_served, listed_json, served_json, at_json, reason_json, reasons_json, denied_json, missing_json, why_word, busy_json, ended_json, unsettled_json, refused_json, answer_json, out_line};
 ghost use Rattle.album_lines.specs.Output.{line_text};
 
 use crate::message_json::message_json;
@@ -19,7 +20,7 @@ use album_permits::{Answer, Note, Out, Served};
 use album_stamps::{ClientNo, Refusal, Stamp};
 use album_views::Why;
 use bitflags::Flags;
-use serde_json::{Value, json};
+use serde_json::{Map, Value, json, put};
 use std::alloc::{AllocError, Global};
 
 /// The line of an output. That a message is sent has a line where the message is given, and no byte where
@@ -194,15 +195,26 @@ pub(crate) fn line(alloc: Global, value: &Value) -> Result<Vec<u8>, AllocError>
 fn note_json(alloc: Global, client: ClientNo, note: Note) -> Result<Value, AllocError>
     ensures { IfOk result (λ v. view v ≡ note_json client note) }
 {
-    let object = item_json(alloc, note.object)?;
-    json!(in alloc; {
-        "alarm": note.alarm,
-        "audit": note.index,
-        "client": client.number(),
-        "mask": note.mask.bits(),
-        "object": object,
-        "success": note.success,
-    })
+    let fields = note_fields(alloc, client, note)?;
+    Ok(Value::Object(fields))
+}
+
+/// What a note says, which a record says too.
+pub(crate) fn note_fields(
+    alloc: Global,
+    client: ClientNo,
+    note: Note,
+) -> Result<Map<String, Value>, AllocError>
+    ensures { IfOk result (λ fields. members_view fields.entries ≡ members_named (note_fields client note)) }
+{
+    let mut fields = Map::new(alloc);
+    put(&mut fields, alloc, "alarm", Value::from(note.alarm))?;
+    put(&mut fields, alloc, "audit", Value::from(note.index))?;
+    put(&mut fields, alloc, "client", Value::from(client.number()))?;
+    put(&mut fields, alloc, "mask", Value::from(note.mask.bits()))?;
+    put(&mut fields, alloc, "object", item_json(alloc, note.object)?)?;
+    put(&mut fields, alloc, "success", Value::from(note.success))?;
+    Ok(fields)
 }
 
 fn group_served(
@@ -214,15 +226,9 @@ fn group_served(
 ) -> Result<Value, AllocError>
     ensures { IfOk result (λ v. view v ≡ group_served client object stamp members.now) }
 {
-    let members = members_json(alloc, members)?;
-    let object = item_json(alloc, object)?;
-    json!(in alloc; {
-        "answer": "served",
-        "client": client.number(),
-        "members": members,
-        "object": object,
-        "stamp": stamp.value(),
-    })
+    let mut fields = answer_about(alloc, "served", client, object, stamp)?;
+    put(&mut fields, alloc, "members", members_json(alloc, members)?)?;
+    Ok(Value::Object(fields))
 }
 
 /// The stamp is that of the list.
@@ -235,15 +241,9 @@ fn entries_served(
 ) -> Result<Value, AllocError>
     ensures { IfOk result (λ v. view v ≡ entries_served client object stamp entries.now) }
 {
-    let entries = entries_json(alloc, entries)?;
-    let object = item_json(alloc, object)?;
-    json!(in alloc; {
-        "answer": "served",
-        "client": client.number(),
-        "entries": entries,
-        "object": object,
-        "stamp": stamp.value(),
-    })
+    let mut fields = answer_about(alloc, "served", client, object, stamp)?;
+    put(&mut fields, alloc, "entries", entries_json(alloc, entries)?)?;
+    Ok(Value::Object(fields))
 }
 
 fn listed_json(
@@ -255,15 +255,41 @@ fn listed_json(
 ) -> Result<Value, AllocError>
     ensures { IfOk result (λ v. view v ≡ listed_json client album stamp rows.now) }
 {
-    let object = item_json(alloc, album)?;
-    let rows = rows_json(alloc, rows)?;
-    json!(in alloc; {
-        "answer": "listed",
-        "client": client.number(),
-        "object": object,
-        "rows": rows,
-        "stamp": stamp.value(),
-    })
+    let mut fields = answer_about(alloc, "listed", client, album, stamp)?;
+    put(&mut fields, alloc, "rows", rows_json(alloc, rows)?)?;
+    Ok(Value::Object(fields))
+}
+
+/// What an answer begins with, and of which object it is, as of which stamp.
+fn answer_about(
+    alloc: Global,
+    word: &str,
+    client: ClientNo,
+    object: ItemId,
+    stamp: Stamp,
+) -> Result<Map<String, Value>, AllocError>
+    ensures { IfOk result
+        (λ fields. members_view fields.entries ≡ members_named (answer_about word.now client object stamp)) }
+{
+    let mut fields = answer_fields(alloc, word, client)?;
+    put(&mut fields, alloc, "object", item_json(alloc, object)?)?;
+    put(&mut fields, alloc, "stamp", Value::from(stamp.value()))?;
+    Ok(fields)
+}
+
+/// What an answer begins with: the word that says which, and the client.
+fn answer_fields(
+    alloc: Global,
+    word: &str,
+    client: ClientNo,
+) -> Result<Map<String, Value>, AllocError>
+    ensures { IfOk result (λ fields. members_view fields.entries ≡ members_named (answer_fields word.now client)) }
+{
+    let mut fields = Map::new(alloc);
+    let answer = Value::try_from_str(alloc, word)?;
+    put(&mut fields, alloc, "answer", answer)?;
+    put(&mut fields, alloc, "client", Value::from(client.number()))?;
+    Ok(fields)
 }
 
 fn rows_json(alloc: Global, rows: &[Row]) -> Result<Value, AllocError>
@@ -280,16 +306,15 @@ fn rows_json(alloc: Global, rows: &[Row]) -> Result<Value, AllocError>
 fn row_json(alloc: Global, row: &Row) -> Result<Value, AllocError>
     ensures { IfOk result (λ v. view v ≡ row_json row.now) }
 {
-    let item = item_json(alloc, row.item)?;
-    let title = row.title.as_str();
-    json!(in alloc; [item, title])
+    json!(in alloc; [item_json(alloc, row.item)?, row.title.as_str()])
 }
 
 fn denied_json(alloc: Global, client: ClientNo, reasons: &[Reason]) -> Result<Value, AllocError>
     ensures { IfOk result (λ v. view v ≡ denied_json client reasons.now) }
 {
-    let reasons = reasons_json(alloc, reasons)?;
-    json!(in alloc; {"answer": "denied", "client": client.number(), "reasons": reasons})
+    let mut fields = answer_fields(alloc, "denied", client)?;
+    put(&mut fields, alloc, "reasons", reasons_json(alloc, reasons)?)?;
+    Ok(Value::Object(fields))
 }
 
 fn reasons_json(alloc: Global, reasons: &[Reason]) -> Result<Value, AllocError>
@@ -306,10 +331,8 @@ fn reasons_json(alloc: Global, reasons: &[Reason]) -> Result<Value, AllocError>
 fn reason_json(alloc: Global, reason: Reason) -> Result<Value, AllocError>
     ensures { IfOk result (λ v. view v ≡ reason_json reason) }
 {
-    let object = item_json(alloc, reason.object)?;
     let mask = reason.mask.bits();
-    let at = at_json(alloc, reason.verdict)?;
-    json!(in alloc; [object, mask, at])
+    json!(in alloc; [item_json(alloc, reason.object)?, mask, at_json(alloc, reason.verdict)?])
 }
 
 /// The index of the entry that denies, or the end; of what is granted, nothing.
@@ -326,14 +349,18 @@ fn at_json(alloc: Global, verdict: Verdict) -> Result<Value, AllocError>
 fn missing_json(alloc: Global, client: ClientNo, object: ItemId) -> Result<Value, AllocError>
     ensures { IfOk result (λ v. view v ≡ missing_json client object) }
 {
-    let object = item_json(alloc, object)?;
-    json!(in alloc; {"answer": "missing", "client": client.number(), "object": object})
+    let mut fields = answer_fields(alloc, "missing", client)?;
+    put(&mut fields, alloc, "object", item_json(alloc, object)?)?;
+    Ok(Value::Object(fields))
 }
 
 fn busy_json(alloc: Global, client: ClientNo, why: Why) -> Result<Value, AllocError>
     ensures { IfOk result (λ v. view v ≡ busy_json client why) }
 {
-    json!(in alloc; {"answer": "busy", "client": client.number(), "why": why_word(why)})
+    let mut fields = answer_fields(alloc, "busy", client)?;
+    let why = Value::try_from_str(alloc, why_word(why))?;
+    put(&mut fields, alloc, "why", why)?;
+    Ok(Value::Object(fields))
 }
 
 fn why_word(why: Why) -> &'static str
@@ -353,13 +380,12 @@ fn unsettled_json(
 ) -> Result<Value, AllocError>
     ensures { IfOk result (λ v. view v ≡ unsettled_json client stamp refusal) }
 {
-    json!(in alloc; {
-        "answer": "unsettled",
-        "client": client.number(),
-        "name": refusal.name(),
-        "refused": refusal.number(),
-        "stamp": stamp.value(),
-    })
+    let mut fields = answer_fields(alloc, "unsettled", client)?;
+    let name = Value::try_from_str(alloc, refusal.name())?;
+    put(&mut fields, alloc, "name", name)?;
+    put(&mut fields, alloc, "refused", Value::from(refusal.number()))?;
+    put(&mut fields, alloc, "stamp", Value::from(stamp.value()))?;
+    Ok(Value::Object(fields))
 }
 
 fn refused_json(alloc: Global, client: ClientNo, refusal: Refusal) -> Result<Value, AllocError>

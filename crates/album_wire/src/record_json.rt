@@ -4,13 +4,12 @@ ghost use Rattle.serde_json.specs.View.{view};
 ghost use Rattle.album_items.specs.ItemIds.{picture};
 ghost use Rattle.album_wire.specs.RecordJson.{principal_text, record_json, record_text};
 
-use crate::out_json::line;
-use crate::value_json::{item_json, owner_text};
+use crate::out_json::{line, note_fields};
+use crate::value_json::owner_text;
 use album_eval::Principal;
 use album_permits::Note;
 use album_stamps::{ClientNo, Refusal};
-use bitflags::Flags;
-use serde_json::{Value, json};
+use serde_json::{Value, put};
 use std::alloc::{AllocError, Global};
 
 /// The line of a note that was taken of what this client asked for this principal.
@@ -52,17 +51,10 @@ fn record_json(
 ) -> Result<Value, AllocError>
     ensures { IfOk result (λ v. view v ≡ record_json client who.now note) }
 {
-    let object = item_json(alloc, note.object)?;
-    let who = principal_text(alloc, who)?;
-    json!(in alloc; {
-        "alarm": note.alarm,
-        "audit": note.index,
-        "client": client.number(),
-        "mask": note.mask.bits(),
-        "object": object,
-        "success": note.success,
-        "who": who,
-    })
+    let mut fields = note_fields(alloc, client, note)?;
+    let who = Value::String(principal_text(alloc, who)?);
+    put(&mut fields, alloc, "who", who)?;
+    Ok(Value::Object(fields))
 }
 
 fn principal_text(alloc: Global, who: &Principal) -> Result<String, AllocError>

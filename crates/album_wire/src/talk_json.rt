@@ -1,13 +1,14 @@
 //! The lines that a service writes beside the answers to asks.
 ghost use Rattle.std.specs.Prelude.{◌≡◌, ◌++◌, ◌∷◌, [], codes, IfOk, IsOkUnless};
-ghost use Rattle.serde_json.specs.View.{view};
+ghost use Rattle.serde_json.specs.View.{view, members_view};
 ghost use Rattle.album_lines.specs.Output.{line_text};
-ghost use Rattle.album_wire.specs.TalkJson.{hello_json, pending_json, done_json, serving_json, counted_json, totals_json, talk_json, talk_text};
+ghost use Rattle.album_wire.specs.ValueJson.{members_named};
+ghost use Rattle.album_wire.specs.TalkJson.{hello_json, pending_json, done_json, serving_json, counted_json, totals_fields, totals_json, talk_json, talk_text};
 
 use crate::message_json::stamps_json;
 use crate::out_json::line;
 use album_stamps::{ClientNo, Refusal, Stamp};
-use serde_json::{Value, json};
+use serde_json::{Map, Value, json, put};
 use std::alloc::{AllocError, Global};
 
 /// How many records of a sort there are: of asks that succeeded, and of asks that failed.
@@ -82,10 +83,9 @@ fn hello_json(alloc: Global, client: ClientNo) -> Result<Value, AllocError>
 fn pending_json(alloc: Global, stamps: &[Stamp]) -> Result<Value, AllocError>
     ensures { IfOk result (λ v. view v ≡ pending_json stamps.now) }
 {
-    let stamps = stamps_json(alloc, stamps)?;
     json!(in alloc; {
         "answer": "pending",
-        "stamps": stamps,
+        "stamps": stamps_json(alloc, stamps)?,
     })
 }
 
@@ -109,16 +109,26 @@ fn serving_json(alloc: Global, port: u16) -> Result<Value, AllocError>
 fn totals_json(alloc: Global, audits: Counted, alarms: Counted) -> Result<Value, AllocError>
     ensures { IfOk result (λ v. view v ≡ totals_json audits alarms) }
 {
-    let alarms = counted_json(alloc, alarms)?;
-    let audits = counted_json(alloc, audits)?;
-    json!(in alloc; {
-        "alarms": alarms,
-        "audits": audits,
-    })
+    let fields = totals_fields(alloc, audits, alarms)?;
+    Ok(Value::Object(fields))
+}
+
+/// How many records there are of each sort.
+pub(crate) fn totals_fields(
+    alloc: Global,
+    audits: Counted,
+    alarms: Counted,
+) -> Result<Map<String, Value>, AllocError>
+    ensures { IfOk result (λ fields. members_view fields.entries ≡ members_named (totals_fields audits alarms)) }
+{
+    let mut fields = Map::new(alloc);
+    put(&mut fields, alloc, "alarms", counted_json(alloc, alarms)?)?;
+    put(&mut fields, alloc, "audits", counted_json(alloc, audits)?)?;
+    Ok(fields)
 }
 
 /// [those that succeeded, those that failed]
-pub(crate) fn counted_json(alloc: Global, counted: Counted) -> Result<Value, AllocError>
+fn counted_json(alloc: Global, counted: Counted) -> Result<Value, AllocError>
     ensures { IfOk result (λ v. view v ≡ counted_json counted) }
 {
     json!(in alloc; [counted.succeeded, counted.failed])

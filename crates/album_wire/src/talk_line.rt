@@ -55,7 +55,7 @@ pub fn read_talk(alloc: Global, scratch: &mut Scratch, bytes: &[u8]) -> Result<T
 {
     let value = data(alloc, scratch, bytes)?;
     let shape = talk_shape(alloc, &value)?;
-    said(alloc, shape)
+    said(alloc, &shape)
 }
 
 /// A law: lines of connections that were worked out by hand.
@@ -90,16 +90,16 @@ pub fn worked_talks()
 
 /// The values of its fields.
 #[tactic(auto, unfolding(crate::specs::TalkLine::talk_read))]
-fn said(alloc: Global, shape: TalkShape) -> Result<TalkLine, Refusal>
-    ensures { Gives (λ line. line) result (talk_read (spelled_talk shape.entry)) }
+fn said(alloc: Global, shape: &TalkShape) -> Result<TalkLine, Refusal>
+    ensures { Gives (λ line. line) result (talk_read (spelled_talk shape.now)) }
 {
     match shape {
         TalkShape::Ask { ask: shape } => {
             let ask = ask_of(alloc, shape)?;
             Ok(TalkLine::Ask(ask))
         }
-        TalkShape::Pending { part } => Ok(TalkLine::Pending(part)),
-        TalkShape::Sweep { part, stamp } => Ok(TalkLine::Sweep(part, stamp)),
-        TalkShape::Trim { part, item } => Ok(TalkLine::Trim(part, item)),
+        TalkShape::Pending { part } => Ok(TalkLine::Pending(*part)),
+        TalkShape::Sweep { part, stamp } => Ok(TalkLine::Sweep(*part, *stamp)),
+        TalkShape::Trim { part, item } => Ok(TalkLine::Trim(*part, *item)),
     }
 }

@@ -5,9 +5,10 @@ ghost use Rattle.album_wire.specs.TalkShape.{spelled_talk, hello_shape_of, talk_
 ghost use Rattle.album_lines.specs.Trees.{value_data};
 
 use crate::ask_shape::{AskShape, ask_shape};
-use crate::event_shape::{part_named, sweep, trim};
+use crate::event_shape::{part_under, sweep, trim};
+use crate::fields::text_under;
 use album_items::ItemId;
-use album_lines::{field, has, only, text};
+use album_lines::{field, has, only};
 use album_stamps::{Refusal, Stamp};
 use json::Value;
 use std::alloc::Global;
@@ -27,7 +28,7 @@ pub(crate) fn hello_shape<'a>(value: &Value<'a>) -> Result<&'a str, Refusal>
     ensures { Gives (λ who. who.now) result (hello_shape_of (value_data value.now)) }
 {
     only(value, &["who"])?;
-    text(field(value, "who")?)
+    text_under(value, "who")
 }
 
 /// The fields of a later line, each of its shape, or `BadRequest`. Which line it is, its names tell.
@@ -59,7 +60,7 @@ fn pending_shape<'a>(value: &Value<'a>) -> Result<TalkShape<'a>, Refusal>
     ensures { Gives spelled_talk result (pending_shape_of (value_data value.now)) }
 {
     only(value, &["pending"])?;
-    let part = part_named(field(value, "pending")?)?;
+    let part = part_under(value, "pending")?;
     Ok(TalkShape::Pending { part })
 }
 

@@ -2,15 +2,15 @@
 ghost use Rattle.std.specs.Prelude.{◌≡◌, string_bytes, IfOk};
 ghost use Rattle.hex.specs.Hex.{encode_lower};
 ghost use Rattle.album_items.specs.ItemIds.{text_of};
-ghost use Rattle.serde_json.specs.View.{view};
+ghost use Rattle.serde_json.specs.View.{view, members_view};
 ghost use Rattle.album_lines.specs.Spelling.{type_word};
-ghost use Rattle.album_wire.specs.ValueJson.{owner_text, group_text, who_text, member_text, item_json, item_list_json, entry_json, entries_json, member_json, members_json, picture_json, album_json, list_json, group_json, value_json};
+ghost use Rattle.album_wire.specs.ValueJson.{members_named, owner_text, group_text, who_text, member_text, item_json, item_list_json, content_json, entry_json, entries_json, member_json, members_json, head_fields, picture_json, album_json, list_json, group_json, value_json};
 
 use album_access::AceType;
-use album_items::{Album, Group, ItemId, Picture};
+use album_items::{Album, Content, Group, Head, ItemId, Picture};
 use album_lists::{AccessList, Ace, Member, Name, Who};
 use bitflags::Flags;
-use serde_json::{Value, json};
+use serde_json::{Map, Value, json, put};
 use std::alloc::{AllocError, Global};
 
 /// The value of an item: nothing, where it is missing.
@@ -29,51 +29,60 @@ pub(crate) fn value_json(alloc: Global, value: &album_items::Value) -> Result<Va
 fn picture_json(alloc: Global, picture: &Picture) -> Result<Value, AllocError>
     ensures { IfOk result (λ v. view v ≡ picture_json picture.now) }
 {
-    let content = hex::encode(alloc, picture.content.as_slice())?;
-    let owner = owner_text(alloc, &picture.head.owner)?;
-    json!(in alloc; {
-        "content": content,
-        "group": picture.head.group,
-        "home": picture.home,
-        "list": picture.head.list,
-        "owner": owner,
-        "title": picture.title.as_str(),
-    })
+    let mut fields = head_fields(alloc, &picture.head)?;
+    let content = content_json(alloc, &picture.content)?;
+    put(&mut fields, alloc, "content", content)?;
+    put(&mut fields, alloc, "home", Value::from(picture.home))?;
+    let title = Value::try_from_str(alloc, picture.title.as_str())?;
+    put(&mut fields, alloc, "title", title)?;
+    Ok(Value::Object(fields))
 }
 
 fn album_json(alloc: Global, album: &Album) -> Result<Value, AllocError>
     ensures { IfOk result (λ v. view v ≡ album_json album.now) }
 {
+    let mut fields = head_fields(alloc, &album.head)?;
     let children = item_list_json(alloc, album.children.as_slice())?;
-    let owner = owner_text(alloc, &album.head.owner)?;
-    json!(in alloc; {
-        "children": children,
-        "group": album.head.group,
-        "home": album.home,
-        "list": album.head.list,
-        "owner": owner,
-        "title": album.title.as_str(),
-    })
+    put(&mut fields, alloc, "children", children)?;
+    put(&mut fields, alloc, "home", Value::from(album.home))?;
+    let title = Value::try_from_str(alloc, album.title.as_str())?;
+    put(&mut fields, alloc, "title", title)?;
+    Ok(Value::Object(fields))
 }
 
 fn list_json(alloc: Global, list: &AccessList) -> Result<Value, AllocError>
     ensures { IfOk result (λ v. view v ≡ list_json list.now) }
 {
-    let entries = entries_json(alloc, list.entries())?;
-    json!(in alloc; {"entries": entries})
+    json!(in alloc; {"entries": entries_json(alloc, list.entries())?})
 }
 
 fn group_json(alloc: Global, group: &Group) -> Result<Value, AllocError>
     ensures { IfOk result (λ v. view v ≡ group_json group.now) }
 {
+    let mut fields = head_fields(alloc, &group.head)?;
     let members = members_json(alloc, group.members.as_slice())?;
-    let owner = owner_text(alloc, &group.head.owner)?;
-    json!(in alloc; {
-        "group": group.head.group,
-        "list": group.head.list,
-        "members": members,
-        "owner": owner,
-    })
+    put(&mut fields, alloc, "members", members)?;
+    Ok(Value::Object(fields))
+}
+
+/// What every object has of its head.
+fn head_fields(alloc: Global, head: &Head) -> Result<Map<String, Value>, AllocError>
+    ensures { IfOk result (λ fields. members_view fields.entries ≡ members_named (head_fields head.now)) }
+{
+    let mut fields = Map::new(alloc);
+    put(&mut fields, alloc, "group", Value::from(head.group))?;
+    put(&mut fields, alloc, "list", Value::from(head.list))?;
+    let owner = Value::String(owner_text(alloc, &head.owner)?);
+    put(&mut fields, alloc, "owner", owner)?;
+    Ok(fields)
+}
+
+/// A content, in hexadecimal.
+fn content_json(alloc: Global, content: &Content) -> Result<Value, AllocError>
+    ensures { IfOk result (λ v. view v ≡ content_json content.now) }
+{
+    let digits = hex::encode(alloc, content.as_slice())?;
+    Ok(Value::String(digits))
 }
 
 /// An item, by its text.
@@ -122,10 +131,9 @@ fn entry_json(alloc: Global, entry: &Ace) -> Result<Value, AllocError>
     ensures { IfOk result (λ v. view v ≡ entry_json entry.now) }
 {
     let sort = type_word(entry.sort);
-    let who = who_text(alloc, &entry.who)?;
     let mask = entry.mask.bits();
     let flags = entry.flags.bits();
-    json!(in alloc; [sort, who, mask, flags])
+    json!(in alloc; [sort, who_text(alloc, &entry.who)?, mask, flags])
 }
 
 fn type_word(sort: AceType) -> &'static str
