@@ -14,7 +14,8 @@ use Rattle.album_passes.specs.Cuts.{prefix_at}
 use Rattle.album_threads.specs.Asks.{IsOn}
 use Rattle.album_keepers.specs.Controls.{IsUntrimmed}
 use Rattle.album_threads.specs.Resting.{RestsOn}
-use Rattle.album_threads.specs.Sessions.{SessionState, IsClosedOrOutOfMemory, AddsNothing}
+use Rattle.album_channels.specs.Channels.{IsClosedOrOutOfMemory}
+use Rattle.album_threads.specs.Sessions.{SessionState, AddsNothing}
 use Rattle.album_permits.specs.declared.outs.Out.TheVariants as out
 use Rattle.album_lines.specs.Lines.{Line, is_blank}
 use Rattle.album_lines.specs.Output.{line_text, refusal_line}

@@ -19,7 +19,8 @@ use Rattle.album_stamps.specs.declared.refusals.Refusal.TheVariants.{Full}
 use Rattle.album_threads.specs.Grounds.{IsKept}
 use Rattle.album_threads.specs.Phases.{Outset, IsUnderWay}
 use Rattle.album_threads.specs.Resting.{IsAnnounced, IsFoundOnView, IsBegun, IsUnsettledBy, RestsOn}
-use Rattle.album_threads.specs.Sessions.{SessionState, IsClosedOrOutOfMemory, AnnouncesNothing}
+use Rattle.album_channels.specs.Channels.{IsClosedOrOutOfMemory}
+use Rattle.album_threads.specs.Sessions.{SessionState, AnnouncesNothing}
 use Rattle.album_threads.specs.Writes.{IsBegunOn, IsEndOf}
 use Rattle.album_threads.proofs.GroundLemmas.{seen_more}
 use Rattle.album_writer.specs.Writing.{WritingState, prepare_round}

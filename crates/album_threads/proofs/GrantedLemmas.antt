@@ -9,8 +9,10 @@ use Rattle.album_passes.proofs.CutLemmas.{extends_trans}
 use Rattle.album_stamps.specs.Clocks.{ClockState}
 use Rattle.album_stamps.specs.Stamps.{client_number, counter_of}
 use Rattle.album_threads.specs.Granted.{IsGrantedWrite, IsGrantedFor, AreGranted}
-use Rattle.album_threads.specs.Sending.{announced_with, IsReached}
-use Rattle.album_threads.specs.Sessions.{ChannelState, IsLater, IsAhead, IsSession}
+use Rattle.album_channels.specs.Sending.{announced_with}
+use Rattle.album_threads.specs.Sending.{IsReached}
+use Rattle.album_channels.specs.Channels.{ChannelState, IsLater}
+use Rattle.album_threads.specs.Sessions.{IsAhead, IsSession}
 use Rattle.album_threads.proofs.SendLemmas.{announced_else}
 use Rattle.album_threads.proofs.SessionLemmas.{ahead_later}
 

@@ -17,10 +17,11 @@ use Rattle.album_stamps.specs.declared.refusals.Refusal.{Refusal}
 use Rattle.album_threads.specs.Asks.{IsHeard}
 use Rattle.album_threads.specs.Hints.{is_without_view, items_asked}
 use Rattle.album_threads.specs.Phases.{Outset, IsUnderWay}
-use Rattle.album_threads.specs.Sessions.{SessionState, IsNoReply}
+use Rattle.album_channels.specs.Channels.{IsNoReply}
+use Rattle.album_threads.specs.Sessions.{SessionState}
 use Rattle.album_threads.specs.Steps.{IsLed, IsTried}
-use Rattle.album_threads.specs.declared.session.asked.NoReply.{NoReply}
-use Rattle.album_threads.specs.declared.session.asked.NoReply.TheVariants.{Refused, Overtaken}
+use Rattle.album_channels.specs.declared.asked.NoReply.{NoReply}
+use Rattle.album_channels.specs.declared.asked.NoReply.TheVariants.{Refused, Overtaken}
 use Rattle.album_threads.specs.declared.session.ask.Way.{Way}
 use Rattle.album_threads.specs.declared.session.ask.Way.TheVariants.{Answered, InVain}
 use Rattle.album_threads.proofs.StepLemmas.{cut_led}

@@ -19,7 +19,8 @@ use Rattle.album_threads.specs.Asks.{counter_after}
 use Rattle.album_threads.specs.Grounds.{IsSeen, IsWide, AreInVain, IsOutOfReads}
 use Rattle.album_threads.specs.Grounds.AreInVain.{NoRead, OneMore}
 use Rattle.album_threads.specs.Resting.{IsShared, IsFoundOnView, HasSeen, IsDrawn, IsAnnounced, IsBegun, IsRefusedBy, RestsOn}
-use Rattle.album_threads.specs.Sessions.{ChannelState, SessionState, IsLater, AnnouncesNothing, AddsNothing}
+use Rattle.album_channels.specs.Channels.{ChannelState, IsLater}
+use Rattle.album_threads.specs.Sessions.{SessionState, AnnouncesNothing, AddsNothing}
 use Rattle.album_threads.specs.Steps.{IsStill}
 use Rattle.album_threads.proofs.LookLemmas.{seen_from}
 use Rattle.album_threads.proofs.TrimLemmas.{trims_stay}

@@ -4,8 +4,6 @@ pub mod GoingOnLemmas
 pub mod SessionLemmas
 pub mod GrantedLemmas
 pub mod RoundLemmas
-pub mod RepeatLemmas
-pub mod SightingLemmas
 pub mod TrimLemmas
 pub mod EndLemmas
 pub mod LookLemmas

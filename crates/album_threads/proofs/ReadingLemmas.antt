@@ -30,16 +30,18 @@ use Rattle.album_stamps.specs.declared.limits.TheConstants.{MAX_READ_ITEMS, MAX_
 use Rattle.album_threads.specs.Asks.{IsOn, IsViewOf, IsBusy, IsReadFor, LooksOnce}
 use Rattle.album_keepers.specs.Envelopes.{Shows}
 use Rattle.album_threads.specs.Grounds.{AreSettled}
-use Rattle.album_threads.specs.Hints.{are_among, begins_read, is_busy, is_without_view}
+use Rattle.album_channels.specs.Reads.{begins_read}
+use Rattle.album_threads.specs.Hints.{are_among, is_busy, is_without_view}
 use Rattle.album_threads.specs.Phases.{Outset, IsRound, IsReading, IsUnderWay}
 use Rattle.album_threads.specs.Phases.IsRound.{First, Second}
-use Rattle.album_threads.specs.Replies.{IsReplied, IsFirstOver, IsReadOf, IsOvertaken, Leads}
+use Rattle.album_channels.specs.Replies.{IsReplied}
+use Rattle.album_threads.specs.Replies.{IsFirstOver, IsReadOf, IsOvertaken, Leads}
 use Rattle.album_threads.specs.Resting.{RestsOn}
-use Rattle.album_threads.specs.Sending.{prepared_first}
+use Rattle.album_channels.specs.Sending.{prepared_first}
 use Rattle.album_threads.specs.Sessions.{SessionState, AddsNothing}
 use Rattle.album_keepers.specs.Settling.{AreCommitted}
 use Rattle.album_threads.specs.Steps.{client_step_in, terms_in, IsBegunFor, IsStarted, IsStill}
-use Rattle.album_threads.specs.declared.session.asked.Asked.{Asked}
+use Rattle.album_channels.specs.declared.asked.Asked.{Asked}
 use Rattle.album_threads.proofs.EndLemmas.{mapped_from, read_so, overtaken}
 use Rattle.album_threads.proofs.LookLemmas.{done_so, gone_so, for_flawless, for_readable, for_sound, looking_first, looking_next, looks_seen, looks_busy, on_self}
 use Rattle.album_threads.proofs.TransitionLemmas.{IsNoted, IsMovedOn, on_heard, adds_heard, heard_same, goes_plain, goes_sent}

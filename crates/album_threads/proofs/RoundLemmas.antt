@@ -1,15 +1,14 @@
 -- What a reply brings to a round of a read. ReadingLemmas cites the lemmas that are `pub`;
 -- the main one is `leads`.
-use Rattle.std.proofs.Common.{◌≡◌, ◌≢◌, ℕ, zero, suc, ◌≤◌, Bool, true, false, cond, ◌==◌, List, [], ◌∷◌, ◌++◌, length, append-nil, map, All, Contains, Option, Some, None, is_some, option_map, option_and_then, option_to_list, refl, sym, ap, ◌∙◌, subst, arith, get_or, if◌then◌else◌}
+use Rattle.std.proofs.Common.{◌≡◌, ◌≢◌, ℕ, zero, suc, ◌≤◌, Bool, true, false, cond, ◌==◌, List, [], ◌∷◌, ◌++◌, length, append-nil, map, All, Contains, Option, Some, None, is_some, option_and_then, option_to_list, refl, sym, ap, ◌∙◌, subst, arith, get_or, if◌then◌else◌}
 use Rattle.std.specs.Option.{option_map_or, unwrap_or}
 use Rattle.std.proofs.lemmas.List.Elements.{All-nil, All-cons, All-head, All-tail, All-map}
 use Rattle.std.proofs.lemmas.Bool.{and_parts, eqb-true, eq-eqb}
 use Rattle.album_items.specs.ItemIds.{place_of}
 use Rattle.album_items.specs.Openings.{Row}
-use Rattle.album_items.specs.Places.{is_placed, rows_placed_at}
+use Rattle.album_items.specs.Places.{rows_placed_at}
 use Rattle.album_items.specs.declared.values.Value.{Value}
 use Rattle.album_items.specs.declared.values.Value.TheVariants.{Missing}
-use Rattle.album_calls.specs.Nodes.{is_part}
 use Rattle.album_calls.specs.declared.messages.Body.{Body}
 use Rattle.album_calls.specs.declared.messages.Body.TheVariants as body
 use Rattle.album_calls.specs.declared.messages.Message.{Message}
@@ -17,10 +16,9 @@ use Rattle.album_calls.specs.declared.nodes.Node.TheVariants.{Part}
 use Rattle.album_calls.specs.declared.replies.Reply.{Reply}
 use Rattle.album_calls.specs.declared.replies.Reply.TheVariants as reply
 use Rattle.album_calls.specs.declared.requests.Request.TheVariants.{Get}
-use Rattle.album_partition.specs.Answers.{says, nothing, get_by, on_body, action_of, answer, reply_to}
 use Rattle.album_partition.specs.Laws.{IsReadAt}
 use Rattle.album_partition.specs.Marks.{commits, value_in, kept_version, latest, is_legal}
-use Rattle.album_partition.specs.Partition.{PartitionState, read_at}
+use Rattle.album_partition.specs.Partition.{PartitionState}
 use Rattle.album_partition.specs.declared.marks.Mark.{Mark}
 use Rattle.album_partition.proofs.GrowthLemmas.{latest_rises}
 use Rattle.album_partition.proofs.LawLemmas.{to_the_sender, version_is_read, gone_is_trimmed}
@@ -36,8 +34,10 @@ use Rattle.album_reader.specs.Others.{IsGone}
 use Rattle.album_reader.proofs.Others.{is_part-own, IsGone-is_gone}
 use Rattle.album_reader.proofs.Rounds.{items_read-in_order, stepped-open, with_answer-in_order}
 use Rattle.album_keepers.specs.Envelopes.{Shows}
+use Rattle.album_channels.proofs.ReplyLemmas.{get_marks_nothing, replied_so}
 use Rattle.album_threads.specs.Grounds.{AreSettled, AreUpToDate}
-use Rattle.album_threads.specs.Replies.{IsReplied, IsUnder, AreOf, IsGoneBetween, Leads}
+use Rattle.album_channels.specs.Replies.{IsReplied}
+use Rattle.album_threads.specs.Replies.{IsUnder, AreOf, IsGoneBetween, Leads}
 use Rattle.album_keepers.specs.Settling.{stamps_in, AreCommitted, AreSettledIn}
 use Rattle.album_threads.proofs.GroundLemmas.{settled_more}
 use Rattle.album_keepers.proofs.SettleLemmas.{read_committed}
@@ -91,44 +91,11 @@ value_placed (row ∷ rows) p n i e = go (place_of n row.0 == p) (row.0 == i) re
     go false true f g h = absurd (let same : row.0 ≡ i = eqb-true row.0 i g in let here = eq-eqb (place_of n row.0) p (ap (place_of n) same ∙ e) in cc)
     go false false f g h = h ∙ sym (ap (λ (z : Bool). cond z (Some row.1) (value_in rows i)) g)
 
--- a Get makes no mark
-pub get_marks_nothing : (p : PartitionState) (m : Message) (i : ℕ) (ts : List ℕ) → m.body ≡ body.Request (Get i ts) → (action_of p m).mark ≡ None
-get_marks_nothing p m i ts e = by (is_part m.to p.number)
-  where
-    read : (o : Option ℕ) → (get_by p i o).mark ≡ None
-    read None = refl
-    read (Some t) = refl
-
-    placed : (b : Bool) → (if b then get_by p i (read_at p.marks i ts) else says reply.Clash).mark ≡ None
-    placed true = read (read_at p.marks i ts)
-    placed false = refl
-
-    by : (b : Bool) → (if b then on_body p m.from m.body else nothing).mark ≡ None
-    by true = subst (λ (x : Body). (on_body p m.from x).mark ≡ None) (sym e) (placed (is_placed p.number p.parts i))
-    by false = refl
-
 -- what was sent for a round asks with its stamps
 asks_with : (a : Asker) (ts : List ℕ) (items : List ℕ) (m : Message) → Contains (gets_of a ts items) m → (i : ℕ) × (m ≡ get_of a ts i)
 asks_with a ts [] m (k, l, e) = absurd (omega arith)
 asks_with a ts (i ∷ items) m (zero, l, e) = (i, sym e)
 asks_with a ts (i ∷ items) m (suc k, l, e) = asks_with a ts items m (k, omega arith, e)
-
--- what a partition has answered is its reply
-answered_so : (p : PartitionState) (q m : Message) → answer p q ≡ Some m → (o : Reply) × ((action_of p q).reply ≡ Some o) × (m ≡ reply_to p q o)
-answered_so p q m f = go (action_of p q).reply refl f
-  where
-    go : (o : Option Reply) → (action_of p q).reply ≡ o → option_map (reply_to p q) o ≡ Some m → (o : Reply) × ((action_of p q).reply ≡ Some o) × (m ≡ reply_to p q o)
-    go None g h = absurd (cc)
-    go (Some o) g h = (o, g, cc)
-
--- and that is the reply that was told
-pub replied_so : (p : PartitionState) (q m : Message) (o : Reply) → answer p q ≡ Some m → m.body ≡ body.Reply o → (action_of p q).reply ≡ Some o
-replied_so p q m o f told =
-    let said = answered_so p q m f in
-    said.1 ∙ ap Some (same_reply said.0 o (sym (ap (λ (n : Message). n.body) said.2) ∙ told))
-  where
-    same_reply : (o r : Reply) → body.Reply o ≡ body.Reply r → o ≡ r
-    same_reply o r e = cc
 
 same_stamps : (i j : ℕ) (us vs : List ℕ) → body.Request (Get i us) ≡ body.Request (Get j vs) → us ≡ vs
 same_stamps i j us vs f = cc

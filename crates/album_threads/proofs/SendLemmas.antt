@@ -7,7 +7,7 @@ use Rattle.album_passes.specs.Changes.{lengths_in, announced_cut}
 use Rattle.album_passes.specs.Cuts.{Cut, announced_for, dependencies_of}
 use Rattle.album_reader.specs.Answers.{Asker}
 use Rattle.album_reader.specs.Rounds.{gets_of}
-use Rattle.album_threads.specs.Sending.{prepared_first, sent_last, sent_at}
+use Rattle.album_channels.specs.Sending.{prepared_first, sent_last, sent_at}
 use Rattle.album_writer.specs.Writing.{WritingState, items_in, places_in, prepare_to, prepares_of, commit_to, commits_of}
 
 -- ---- what messages prepare

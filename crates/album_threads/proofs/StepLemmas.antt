@@ -21,13 +21,15 @@ use Rattle.album_stamps.specs.declared.refusals.Refusal.TheVariants.{StampsSpent
 use Rattle.album_threads.specs.Asks.{IsOn, IsHeard, AreShared}
 use Rattle.album_threads.specs.Hints.{is_without_view}
 use Rattle.album_threads.specs.Phases.{Outset, IsPhase, IsUnderWay}
-use Rattle.album_threads.specs.Replies.{IsReplied}
+use Rattle.album_channels.specs.Replies.{IsReplied}
 use Rattle.album_threads.specs.Resting.{RestsOn}
-use Rattle.album_threads.specs.Sending.{IsAnnouncedBy, sent_at, sent_last}
-use Rattle.album_threads.specs.Sessions.{SessionState, IsClosedOrOutOfMemory, AddsNothing}
+use Rattle.album_channels.specs.Sending.{sent_at, sent_last}
+use Rattle.album_threads.specs.Sending.{IsAnnouncedBy}
+use Rattle.album_channels.specs.Channels.{IsClosedOrOutOfMemory}
+use Rattle.album_threads.specs.Sessions.{SessionState, AddsNothing}
 use Rattle.album_threads.specs.Steps.{client_step_in, terms_in, IsTaken, IsSent, IsLed}
-use Rattle.album_threads.specs.declared.session.asked.Asked.{Asked}
-use Rattle.album_threads.specs.declared.session.asked.NoReply.{NoReply}
+use Rattle.album_channels.specs.declared.asked.Asked.{Asked}
+use Rattle.album_channels.specs.declared.asked.NoReply.{NoReply}
 use Rattle.album_threads.specs.declared.session.ask.Way.{Way}
 use Rattle.album_threads.specs.declared.session.ask.Way.TheVariants.{Answered, Awaits, InVain}
 use Rattle.album_threads.proofs.BegunLemmas.{cut_rests}

@@ -15,7 +15,8 @@ use Rattle.album_threads.specs.Asks.{IsOn, IsHeard, AreShared}
 use Rattle.album_keepers.specs.Envelopes.{Shows}
 use Rattle.album_threads.specs.Phases.{Outset, IsUnderWay}
 use Rattle.album_threads.specs.Resting.{RestsOn}
-use Rattle.album_threads.specs.Sending.{prepared_first, announced_with, announced_by, IsFreeFor, IsFree, IsAnnouncedBy, sent_last, sent_at}
+use Rattle.album_channels.specs.Sending.{prepared_first, announced_with, sent_last, sent_at}
+use Rattle.album_threads.specs.Sending.{announced_by, IsFreeFor, IsFree, IsAnnouncedBy}
 use Rattle.album_threads.specs.Sessions.{SessionState, AddsNothing}
 use Rattle.album_threads.proofs.SendLemmas.{last_sent, last_at}
 use Rattle.album_views.specs.Checks.{refusal_of}

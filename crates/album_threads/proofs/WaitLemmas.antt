@@ -15,9 +15,10 @@ use Rattle.album_passes.proofs.CutLemmas.{extends_trans}
 use Rattle.album_reader.specs.Rounds.{RoundState, Step, is_end, stepped}
 use Rattle.album_reader.specs.Rounds.Step.{Same, Next, Done, Gone}
 use Rattle.album_threads.specs.Asks.{IsHeard}
-use Rattle.album_threads.specs.declared.session.asked.NoReply.{NoReply}
+use Rattle.album_channels.specs.declared.asked.NoReply.{NoReply}
 use Rattle.album_threads.specs.Phases.{Outset, IsReading, IsUnderWay}
-use Rattle.album_threads.specs.Replies.{IsReplied, Leads}
+use Rattle.album_channels.specs.Replies.{IsReplied}
+use Rattle.album_threads.specs.Replies.{Leads}
 use Rattle.album_threads.specs.Sessions.{SessionState}
 use Rattle.album_threads.specs.Steps.{client_step_in, terms_in}
 use Rattle.album_threads.proofs.TransitionLemmas.{on_heard, adds_heard}

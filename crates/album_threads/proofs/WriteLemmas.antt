@@ -40,7 +40,7 @@ use Rattle.album_permits.specs.Permits.{PermitState}
 use Rattle.album_reader.proofs.Others.{is_part-own}
 use Rattle.album_threads.specs.Grounds.{items_of, IsKept, IsWithoutRoom}
 use Rattle.album_keepers.specs.Envelopes.{Shows}
-use Rattle.album_threads.specs.Replies.{IsReplied}
+use Rattle.album_channels.specs.Replies.{IsReplied}
 use Rattle.album_threads.specs.Writes.{IsPreparedAt, IsCommittedAt, IsFurther, IsEndOf, AreCommits, AreAllCommitted, PrepareShows, CommitShows}
 use Rattle.album_threads.proofs.GroundLemmas.{has_more}
 use Rattle.album_keepers.proofs.EnvelopeLemmas.{discarded_tells}

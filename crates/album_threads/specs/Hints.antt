@@ -1,11 +1,12 @@
 -- What a hinted read asks for, and what comes of it.
-use Rattle.std.specs.Prelude.{◌==◌, ◌||◌, ℕ, Bool, true, false, List, [], ◌∷◌, map, Option, Some, None}
+use Rattle.std.specs.Prelude.{◌==◌, ◌||◌, ℕ, Bool, true, false, List, map, Option, Some, None}
 use Rattle.std.specs.List.{list_all, list_any}
 use Rattle.album_calls.specs.declared.messages.Body.{Body}
 use Rattle.album_calls.specs.declared.messages.Body.TheVariants as body
 use Rattle.album_calls.specs.declared.messages.Message.{Message}
 use Rattle.album_calls.specs.declared.requests.Request.{Request}
 use Rattle.album_calls.specs.declared.requests.Request.TheVariants.{Prepare, Commit, Get, Check}
+use Rattle.album_channels.specs.Reads.{begins_read}
 use Rattle.album_permits.specs.declared.answers.Answer.{Answer}
 use Rattle.album_permits.specs.declared.answers.Answer.TheVariants as answer
 
@@ -29,23 +30,6 @@ item_asked (body.Reply reply) = 0
 -- the items that the messages of a read ask for
 abbrev pub items_asked : List Message → List ℕ
 items_asked messages = map (λ message. item_asked message.body) messages
-
--- a Get without stamps, which asks for the latest version
-abbrev pub gets_latest : Request → Bool
-gets_latest (Prepare stamp writes items) = false
-gets_latest (Commit stamp) = false
-gets_latest (Get item []) = true
-gets_latest (Get item (stamp ∷ stamps)) = false
-gets_latest (Check stamp) = false
-
-abbrev pub asks_latest : Body → Bool
-asks_latest (body.Request request) = gets_latest request
-asks_latest (body.Reply reply) = false
-
--- a read begins with these messages
-abbrev pub begins_read : List Message → Bool
-begins_read [] = false
-begins_read (message ∷ messages) = asks_latest message.body
 
 -- ---- what comes of a read
 

@@ -3,7 +3,6 @@ pub mod Grounds
 pub mod Granted
 pub mod Sessions
 pub mod Replies
-pub mod Sightings
 pub mod Resting
 pub mod Writes
 pub mod Hints

@@ -1,52 +1,12 @@
--- What a session keeps, and what it is for it to have seen more.
-use Rattle.std.specs.Prelude.{◌≡◌, ℕ, ◌<◌, ◌≤◌, ◌⊎◌, Bool, true, Some, None}
-use Rattle.atomic_table.specs.Seated.{TableId}
+-- What a session keeps, and what it is for it to add nothing to that.
+use Rattle.std.specs.Prelude.{◌≡◌, ℕ, ◌<◌, None}
 use Rattle.album_stamps.specs.Clocks.{ClockState}
 use Rattle.album_stamps.specs.Stamps.{client_number, counter_of}
-use Rattle.album_stamps.specs.declared.limits.TheConstants.{MAX_PARTS}
-use Rattle.album_stamps.specs.declared.refusals.Refusal.{Refusal}
-use Rattle.album_stamps.specs.declared.refusals.Refusal.TheVariants.{OutOfMemory, Closed}
 use Rattle.album_audit.specs.Books.{ShareState}
 use Rattle.album_eval.specs.declared.policies.Policy.{Policy}
-use Rattle.album_passes.specs.Changes.{KeepsOwn}
-use Rattle.album_passes.specs.Cuts.{Cut, announced_for, Extends}
-use Rattle.album_passes.specs.Pass.{PassState}
+use Rattle.album_passes.specs.Cuts.{Cut, announced_for}
+use Rattle.album_channels.specs.Channels.{ChannelState}
 use Rattle.album_threads.specs.Granted.{AreGranted}
-use Rattle.album_threads.specs.declared.session.asked.NoReply.{NoReply}
-use Rattle.album_threads.specs.declared.session.asked.NoReply.TheVariants.{Refused, Overtaken}
-
--- ---- a session's channel to the partitions
-
--- the client, and what was seen
-pub record ChannelState : Type 0 where
-  pub client : ℕ
-  pub cut : Cut
-
--- the pass is of this table and has the client's number, and there are so many partitions
-pub record IsChannel (table : TableId) (client parts : ℕ) (pass : PassState) : Type 0 where
-  pub of : pass.table ≡ table
-  pub number : pass.number ≡ Some client
-  pub parts_are : pass.cut.parts ≡ parts
-  pub some : 1 ≤ parts
-  pub few : parts ≤ MAX_PARTS
-
--- the same client has seen more, and its announced stamps are exactly those of before
-pub record IsLater (old new : ChannelState) : Type 0 where
-  pub client : new.client ≡ old.client
-  pub grown : Extends old.cut new.cut
-  pub own : KeepsOwn (Some old.client) old.cut new.cut
-
--- no reply can come: memory ran out, or the service is closed
-abbrev pub IsClosedOrOutOfMemory : Refusal → Type 0
-IsClosedOrOutOfMemory why = (why ≡ OutOfMemory) ⊎ (why ≡ Closed)
-
--- why there is no reply to take: none can come; or, in a read, it comes from a partition that has committed a newer
--- version
-abbrev pub IsNoReply : Bool → NoReply → Type 0
-IsNoReply reads (Refused why) = IsClosedOrOutOfMemory why
-IsNoReply reads Overtaken = reads ≡ true
-
--- ---- a session
 
 -- the client, the greatest counter that its clock drew or saw, what was seen, and the session's share of the audit book
 pub record SessionState : Type 0 where

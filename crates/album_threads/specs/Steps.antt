@@ -15,11 +15,12 @@ use Rattle.album_stamps.specs.declared.refusals.Refusal.{Refusal}
 use Rattle.album_threads.specs.Asks.{IsHeard, IsOn}
 use Rattle.album_threads.specs.Hints.{are_among}
 use Rattle.album_threads.specs.Phases.{Outset, IsUnderWay}
-use Rattle.album_threads.specs.Replies.{IsReplied}
+use Rattle.album_channels.specs.Replies.{IsReplied}
 use Rattle.album_threads.specs.Resting.{RestsOn}
-use Rattle.album_threads.specs.Sending.{sent_at, sent_last}
-use Rattle.album_threads.specs.Sessions.{SessionState, AddsNothing, IsClosedOrOutOfMemory}
-use Rattle.album_threads.specs.declared.session.asked.Asked.{Asked}
+use Rattle.album_channels.specs.Sending.{sent_at, sent_last}
+use Rattle.album_channels.specs.Channels.{IsClosedOrOutOfMemory}
+use Rattle.album_threads.specs.Sessions.{SessionState, AddsNothing}
+use Rattle.album_channels.specs.declared.asked.Asked.{Asked}
 use Rattle.album_threads.specs.declared.session.step.Reaction.{Reaction}
 use Rattle.album_threads.specs.declared.session.step.Reaction.TheVariants.{Answers, Sends}
 use Rattle.album_threads.specs.declared.session.ask.Way.{Way}

@@ -2,12 +2,12 @@
 //!
 //! What comes in: an opening, and then requests of sessions. What goes out: answers, and at the end the audit totals.
 //!
-//! A session sends envelopes to the mailboxes of partitions (`session/channel`, `session/round`). A partition's thread,
-//! which is `album_keepers`', gives the message to the partition, and sends the reply back with a pass that shows the
-//! reply's history. The session joins that pass, and gives the reply to its client, which is `album_client`'s
-//! (`session/step`), until the client answers (`session/ask`). The first read asks for the items of an earlier view,
-//! where `hints` has them (`session/hinted`). Asked in order (`session/in_order`), a session listens to the service's
-//! board before it asks, and publishes there what it has seen before it answers.
+//! A session sends envelopes to the mailboxes of partitions by its channel, which is `album_channels`'. A partition's
+//! thread, which is `album_keepers`', gives the message to the partition, and sends the reply back with a pass that
+//! shows the reply's history. The channel joins that pass, and the session gives the reply to its client, which is
+//! `album_client`'s (`session/step`), until the client answers (`session/ask`). The first read asks for the items of an
+//! earlier view, where `hints` has them (`session/hinted`). Asked in order (`session/in_order`), a session listens to
+//! the service's board before it asks, and publishes there what it has seen before it answers.
 //!
 //! Read `service`, `session` and `session/ask` first, and specs/ in the order of specs/Lib.antt.
 #![tactic(auto)]

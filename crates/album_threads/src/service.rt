@@ -1,5 +1,5 @@
 //! A running service: a thread for each partition.
-ghost use Rattle.std.specs.Prelude.{◌≡◌, ◌≤◌, ◌⊎◌, IfOk, IfErr, IsOkUnless, None};
+ghost use Rattle.std.specs.Prelude.{◌≡◌, ◌≤◌, ◌⊎◌, IfOk, IfErr, IsOkUnless, None, length, vec_len};
 ghost use Rattle.std.specs.Arc.{arc_value};
 ghost use Rattle.album_stamps.specs.declared.limits.TheConstants.{MAX_PARTS};
 ghost use Rattle.album_audit.specs.Books.{new_share};
@@ -11,9 +11,9 @@ use crate::hints::Hints;
 use crate::opened::Opened;
 use crate::service_names::ServiceNames;
 use crate::session::Session;
-use crate::session::channel::PartitionChannel;
 use album_audit::{AuditBook, Totals};
 use album_board::Board;
+use album_channels::PartitionChannel;
 use album_eval::Policy;
 use album_keepers::{Breakage, Gate, PartitionMail, start_all};
 use album_passes::{Desk, Pass};
@@ -73,6 +73,7 @@ pub struct Service<J: ServiceNames> {
     ghost parts_are: { J.terms.parts ≡ parts },
     ghost some: { 1 ≤ parts },
     ghost few: { parts ≤ MAX_PARTS },
+    ghost mailboxes_are: { vec_len mailboxes ≡ parts },
 }
 
 impl<J: ServiceNames + Send + 'static> Service<J> {
@@ -103,12 +104,9 @@ impl<J: ServiceNames + Send + 'static> Service<J> {
             repeats,
         } = opened;
         let board = Board::open(list, pass.split(&desk));
-        let board = Arc::new(alloc, Mutex::new(board))?;
+        let shared = shared_of(alloc, board, AuditBook::new(blanks), hints)?;
         let desk = Arc::new(alloc, desk)?;
         let gate = Arc::new(alloc, gate)?;
-        let breakage = Arc::new(alloc, Breakage::new())?;
-        let book = Arc::new(alloc, Mutex::new(AuditBook::new(blanks)))?;
-        let hints = Arc::new(alloc, Hints::new(alloc, hints))?;
         let seed = Mutex::new(Seed {
             pass,
             of: PhantomData,
@@ -120,7 +118,7 @@ impl<J: ServiceNames + Send + 'static> Service<J> {
             alloc,
             &desk,
             &gate,
-            &breakage,
+            &shared.breakage,
             owners,
             partitions,
             &mailboxes,
@@ -131,6 +129,12 @@ impl<J: ServiceNames + Send + 'static> Service<J> {
             leave_all(&rt, &mailboxes, threads);
             return Err(Refusal::OutOfMemory);
         }
+        let Shared {
+            board,
+            book,
+            hints,
+            breakage,
+        } = shared;
         Ok(Service {
             desk,
             policy,
@@ -272,11 +276,41 @@ impl<J: ServiceNames> Service<J> {
     }
 }
 
+/// What a service shares with its sessions, and with the partitions' threads.
+#[derive(Drop)]
+struct Shared<J: ServiceNames> {
+    board: Arc<Mutex<Board<J>>, Global>,
+    book: Arc<Mutex<AuditBook<J>>, Global>,
+    hints: Arc<Hints, Global>,
+    breakage: Arc<Breakage, Global>,
+}
+
+/// They are made together, since there may be no memory for each.
+fn shared_of<J: ServiceNames>(
+    alloc: Global,
+    board: Board<J>,
+    book: AuditBook<J>,
+    hints: usize,
+) -> Result<Shared<J>, AllocError> {
+    let board = Arc::new(alloc, Mutex::new(board))?;
+    let book = Arc::new(alloc, Mutex::new(book))?;
+    let hints = Arc::new(alloc, Hints::new(alloc, hints))?;
+    let breakage = Arc::new(alloc, Breakage::new())?;
+    Ok(Shared {
+        board,
+        book,
+        hints,
+        breakage,
+    })
+}
+
 /// The same mailboxes once more.
 fn copies_of<J: ServiceNames>(
     alloc: Global,
     mailboxes: &[Sender<PartitionMail<J>>],
-) -> Result<Vec<Sender<PartitionMail<J>>>, AllocError> {
+) -> Result<Vec<Sender<PartitionMail<J>>>, AllocError>
+    ensures { IfOk result (λ copies. vec_len copies ≡ length mailboxes.now) }
+{
     let mut copies = Vec::new(alloc);
     for mailbox in mailboxes {
         copies.push(mailbox.clone()?)?;
@@ -294,10 +328,12 @@ fn mailboxes_for<J: ServiceNames>(
         Vec<Receiver<PartitionMail<J>>>,
     ),
     AllocError,
-> {
+>
+    ensures { IfOk result (λ both. vec_len both.0 ≡ count) }
+{
     let mut mailboxes = Vec::new(alloc);
     let mut mails = Vec::new(alloc);
-    for _ in 0..count {
+    for _made in 0..count {
         let (to, from) = unbounded(alloc)?;
         mailboxes.push(to)?;
         mails.push(from)?;

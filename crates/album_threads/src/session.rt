@@ -1,5 +1,5 @@
 //! A session: a client that asks the partitions.
-ghost use Rattle.std.specs.Prelude.{◌≡◌, ◌≢◌, ◌<◌, ◌≤◌, Err, IfOk, IfErr, OnOk};
+ghost use Rattle.std.specs.Prelude.{◌≡◌, ◌≢◌, ◌<◌, ◌≤◌, Err, IfOk, IfErr, OnOk, IsSome, None};
 ghost use Rattle.album_stamps.specs.declared.refusals.Refusal.TheVariants.{OutOfMemory, Closed, NoSuchPart, NotPrepared, Clash, Full};
 ghost use Rattle.album_partition.specs.Marks.{ArePending, state_of, latest, floor};
 ghost use Rattle.album_passes.specs.Changes.{IsUnheard};
@@ -7,25 +7,21 @@ ghost use Rattle.album_passes.specs.Cuts.{Extends, IsSound, prefix_at};
 ghost use Rattle.album_terminate.specs.declared.deciding.StampState.TheVariants as StampState;
 ghost use Rattle.album_keepers.specs.Controls.{Answers, IsUntrimmed};
 ghost use Rattle.album_threads.specs.Granted.{AreGranted};
-ghost use Rattle.album_threads.specs.Sessions.{IsClosedOrOutOfMemory, AddsNothing};
+ghost use Rattle.album_channels.specs.Channels.{IsClosedOrOutOfMemory};
+ghost use Rattle.album_threads.specs.Sessions.{AddsNothing};
 
 mod ask;
-mod asked;
-pub(crate) mod channel;
 mod hinted;
 pub(crate) mod in_order;
 mod note;
-mod repeating;
-mod round;
-mod sightings;
 mod step;
 
 use crate::hints::Hints;
 use crate::service_names::ServiceNames;
-use crate::session::channel::PartitionChannel;
 use album_audit::{AuditBook, Share};
 use album_board::Board;
 use album_calls::Stamps;
+use album_channels::PartitionChannel;
 use album_eval::Policy;
 use album_items::ItemId;
 use album_keepers::{Control, ControlAnswer, PartitionMail};
@@ -245,6 +241,8 @@ impl<J: ServiceNames> Session<J> {
         part: u16,
         mailbox: Sender<PartitionMail<J>>,
     ) -> Option<Sender<PartitionMail<J>>>
+        ensures there { part < self.old.cut.parts → IsSome result }
+        ensures nowhere { self.old.cut.parts ≤ part → result ≡ None }
         ensures same { self.new ≡ self.old }
     {
         self.channel.relay(part, mailbox)

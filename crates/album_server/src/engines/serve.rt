@@ -23,6 +23,7 @@ use crate::engines::serve::waker::{Waker, local};
 use crate::engines::serve::watch::watch;
 use album_audit::Totals;
 use album_judge::{Fault, PIECE, write_refused, write_text};
+use album_stamps::Refusal;
 use album_threads::{Gauge, Opened, Service, ServiceNames};
 use album_wire::{Counted, TalkOut, write_talk};
 use crossbeam_channel::{Receiver, Sender, unbounded};
@@ -288,6 +289,47 @@ where
         J.audit_ok J.audit_failed J.alarm_ok J.alarm_failed }
 {
     let (printer, notices) = Printer::open(rt, alloc)?;
+    let ended = serve_all::<J, T, R, W>(
+        rt, alloc, opened, listener, input, writer, serving, audit, notices,
+    );
+    printer.close(&rt);
+    let totals = ended?;
+    print(alloc, &totals_out(totals), writer)
+}
+
+/// Opens the service, says so, and closes it once its connections have ended. What is printed meanwhile is sent as a
+/// notice.
+///
+/// # Errors
+///
+/// Those of `attend_all`; `Memory`, also where a partition has ended for want of it; `Writing`.
+fn serve_all<J, T, R, W>(
+    rt: T,
+    alloc: Global,
+    opened: Opened,
+    listener: &TcpListener,
+    input: Option<R>,
+    writer: &mut W,
+    serving: Serving,
+    audit: Option<AuditFile>,
+    notices: Sender<Notice>,
+) -> Result<Totals, Fault>
+where
+    J: ServiceNames + Send + Sync + 'static,
+    T: Net<Listener = TcpListener, Stream = TcpStream>
+        + Threads
+        + Wait
+        + time::Clock
+        + Eprint
+        + Copy
+        + Send
+        + Sync
+        + 'static,
+    R: Read + Send + Drop,
+    W: Write,
+    requires named { opened ≡ opened_as J.table J.terms J.policy J.list
+        J.audit_ok J.audit_failed J.alarm_ok J.alarm_failed }
+{
     let waker = Waker::new(rt, serving.port);
     let service = Service::<J>::open(rt, alloc, opened, waker)?;
     let done = match print(alloc, &TalkOut::Serving(serving.port), writer) {
@@ -298,12 +340,11 @@ where
     };
     let is_broken = service.is_broken();
     let totals = service.close(&rt);
-    printer.close(&rt);
     done?;
     if is_broken {
         return Err(Fault::Memory);
     }
-    print(alloc, &totals_out(totals), writer)
+    Ok(totals)
 }
 
 /// Serves the connections. Meanwhile it watches the figures, and reads the input to its end, if there is one.
@@ -336,14 +377,12 @@ where
 {
     let limits = limits_of(&serving, input.is_some());
     let (port, stats) = (serving.port, serving.stats);
-    let gauge = service.gauge()?;
-    let unwritten = notices.clone().map_err(|_| Fault::Memory)?;
+    let (gauge, unwritten, watched) = ends_of(alloc, service, &notices)?;
     if audit.is_some() {
         service.keep_records(&rt);
     }
     let journal = AuditJournal::new(alloc, unwritten, audit);
     let connections = Connections::new(alloc, notices, port, limits.conns, serving.admins);
-    let watched = unbounded(alloc).map_err(|_| Fault::Memory)?;
     attend_within(
         rt,
         alloc,
@@ -361,6 +400,19 @@ where
         return Err(Fault::Writing);
     }
     Ok(())
+}
+
+/// What the threads of a service look at and send by: its gauge, where the journal sends its notices, and a channel for
+/// who watches. They stand together, since there may be no memory for each.
+fn ends_of<J: ServiceNames>(
+    alloc: Global,
+    service: &Service<J>,
+    notices: &Sender<Notice>,
+) -> Result<(Gauge<J>, Sender<Notice>, (Sender<()>, Receiver<()>)), Refusal> {
+    let gauge = service.gauge()?;
+    let unwritten = notices.clone()?;
+    let watched = unbounded(alloc)?;
+    Ok((gauge, unwritten, watched))
 }
 
 /// The threads of that.

@@ -6,17 +6,18 @@ ghost use Rattle.album_stamps.specs.declared.refusals.Refusal.{Refusal};
 ghost use Rattle.album_views.specs.Checks.{refusal_of};
 ghost use Rattle.album_views.specs.Steps.{AreReadable};
 ghost use Rattle.album_threads.specs.Asks.{IsOn};
-ghost use Rattle.album_threads.specs.Hints.{are_among, asks_latest, begins_read, is_busy, is_without_view, item_asked, items_asked};
-ghost use Rattle.album_threads.specs.Sessions.{IsClosedOrOutOfMemory, AddsNothing};
+ghost use Rattle.album_threads.specs.Hints.{are_among, is_busy, is_without_view, item_asked, items_asked};
+ghost use Rattle.album_channels.specs.Channels.{IsClosedOrOutOfMemory};
+ghost use Rattle.album_threads.specs.Sessions.{AddsNothing};
 ghost use Rattle.album_threads.specs.Steps.{IsBegunFor, IsBegunWith, IsDone};
 
 use crate::hints::{Hint, Topic};
 use crate::service_names::ServiceNames;
 use crate::session::Session;
 use crate::session::ask::Way;
-use crate::session::asked::{Asked, NoReply};
 use crate::session::step::cut_off;
 use album_calls::{Body, Message, Request};
+use album_channels::{Asked, NoReply, begins_read};
 use album_client::{Phase, Transition};
 use album_eval::Principal;
 use album_items::{ItemId, Items, Kind};
@@ -191,26 +192,6 @@ fn is_without_view(transition: &Transition) -> bool
     ensures { result ≡ is_without_view transition.now.sent.items transition.now.answer }
 {
     begins_read(transition.sent.as_slice()) || is_busy(&transition.answer)
-}
-
-/// Whether a read begins with these messages: the first of them asks for the latest version.
-pub(crate) fn begins_read(sent: &[Message]) -> bool
-    ensures { result ≡ begins_read sent.now }
-{
-    match sent.first() {
-        Some(message) => asks_latest(message.body()),
-        None => false,
-    }
-}
-
-/// Whether it is a Get without stamps.
-pub(crate) fn asks_latest(body: &Body) -> bool
-    ensures { result ≡ asks_latest body.now }
-{
-    match body {
-        Body::Request(Request::Get(_, stamps)) => stamps.as_slice().is_empty(),
-        Body::Request(_) | Body::Reply(_) => false,
-    }
 }
 
 /// Whether the ask is answered that it is busy.

@@ -4,7 +4,8 @@ ghost use Rattle.std.specs.Prelude.{◌≡◌, ◌≤◌, ◌⊎◌, Some, Err, 
 ghost use Rattle.album_passes.specs.Cuts.{Extends, IsSound};
 ghost use Rattle.album_threads.specs.InOrder.{IsInOrder};
 ghost use Rattle.album_threads.specs.Resting.{RestsOn};
-ghost use Rattle.album_threads.specs.Sessions.{IsClosedOrOutOfMemory, AddsNothing};
+ghost use Rattle.album_channels.specs.Channels.{IsClosedOrOutOfMemory};
+ghost use Rattle.album_threads.specs.Sessions.{AddsNothing};
 ghost use Rattle.album_threads.specs.Steps.{IsStill};
 ghost use Rattle.album_views.specs.Checks.{refusal_of};
 

@@ -1,6 +1,7 @@
 use Rattle.std.proofs.Common.{sym, subst}
 use Rattle.album_threads.specs.Granted.{IsGrantedFor}
-use Rattle.album_threads.specs.Sending.{prepared_first, IsReached}
+use Rattle.album_channels.specs.Sending.{prepared_first}
+use Rattle.album_threads.specs.Sending.{IsReached}
 use Rattle.album_threads.specs.Sessions.{SessionState}
 use Rattle.album_threads.proofs.GrantedLemmas.{session_announced}
 use Rattle.album_threads.proofs.session.Session.announces.Goals as goal

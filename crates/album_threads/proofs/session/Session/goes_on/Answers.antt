@@ -4,7 +4,8 @@ use Rattle.album_calls.specs.declared.messages.Message.{Message}
 use Rattle.album_client.specs.declared.clients.Phase.{Phase}
 use Rattle.album_keepers.specs.Envelopes.{Shows}
 use Rattle.album_threads.specs.Phases.{IsUnderWay}
-use Rattle.album_threads.specs.Sending.{announced_by, sent_at, sent_last, IsFree, IsAnnouncedBy}
+use Rattle.album_channels.specs.Sending.{sent_at, sent_last}
+use Rattle.album_threads.specs.Sending.{announced_by, IsFree, IsAnnouncedBy}
 use Rattle.album_passes.specs.Cuts.{IsSound}
 use Rattle.album_threads.specs.Sessions.{SessionState, AddsNothing}
 use Rattle.album_threads.specs.Steps.{client_step_in, terms_in, IsReaction}

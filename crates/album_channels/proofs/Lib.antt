@@ -1,0 +1,4 @@
+pub mod ChannelLemmas
+pub mod ReplyLemmas
+pub mod RepeatLemmas
+pub mod SightingLemmas

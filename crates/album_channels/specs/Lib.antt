@@ -1,0 +1,5 @@
+pub mod Channels
+pub mod Reads
+pub mod Replies
+pub mod Sightings
+pub mod Sending

@@ -1,0 +1,126 @@
+//! What was asked in one round.
+ghost use Rattle.std.specs.Prelude.{◌≡◌, ◌≤◌, ◌<◌, IsTrue, IfSome, Contains, length};
+ghost use Rattle.album_passes.specs.Cuts.{IsSound};
+ghost use Rattle.album_channels.specs.Replies.{IsLate};
+
+use album_calls::{Body, Message, Node, Request, same_items, same_values};
+use album_passes::Pass;
+use album_stamps::{MAX_PARTS, Refusal, Stamp};
+
+/// Why there is no reply to take.
+#[derive(Drop)]
+pub enum NoReply {
+    /// None can come.
+    Refused(Refusal),
+    /// The read is overtaken: the partition that replies a version of an item has committed a newer one, and the cut
+    /// with which the round began may have that. What the newer one's author had seen may be newer than what else is
+    /// read, so nothing is shown of this read.
+    Overtaken,
+}
+
+/// The messages of a round, and a pass with the cut with which it began.
+#[derive(Drop)]
+pub struct Asked {
+    pub sent: Vec<Message>,
+    pub begun: Pass,
+    /// Whether the session knows all replies by itself, so that nothing was sent.
+    pub known: bool,
+}
+
+impl Asked {
+    /// The tag of the round: that of each of its messages.
+    pub(crate) fn tag(&self) -> u64 {
+        self.sent.first().map_or(0, |message| message.tag())
+    }
+
+    /// Where the request stands among the messages. Looked for from `first` on, and then before it: replies come mostly
+    /// in the order of the messages, so each is found next to the one before it.
+    pub(crate) fn find(&self, request: &Message, first: usize) -> Option<usize>
+        ensures { IfSome result (λ _. Contains self.now.sent.items request.now) }
+    {
+        match self.find_among(request, first, self.sent.len()) {
+            Some(index) => Some(index),
+            None => self.find_among(request, 0, first.min(self.sent.len())),
+        }
+    }
+
+    /// Where it stands from `first` on and before `end`.
+    fn find_among(&self, request: &Message, first: usize, end: usize) -> Option<usize>
+        requires { end ≤ length self.now.sent.items }
+        ensures { IfSome result (λ _. Contains self.now.sent.items request.now) }
+    {
+        for index in first..end {
+            if is_same(&self.sent[index], request) {
+                return Some(index);
+            }
+        }
+        None
+    }
+
+    /// Whether the reply's partition had by then, as the pass shows it, all marks with which the round began.
+    pub(crate) fn is_before(&self, reply: &Message, pass: &Pass) -> bool
+        ensures late { IsTrue result → IsLate self.now.begun.cut pass.now.cut reply.now }
+        ensures sound { IsTrue result → IsSound pass.now.cut }
+    {
+        match reply.from() {
+            Node::Part(part) => { part < MAX_PARTS && self.begun.length(part) <= pass.length(part) }
+            Node::Client(_) => false,
+        }
+    }
+}
+
+/// Whether these are one message, which requests something.
+fn is_same(one: &Message, other: &Message) -> bool
+    ensures { IsTrue result → one.now ≡ other.now }
+{
+    one.tag() == other.tag()
+        && is_same_node(one.from(), other.from())
+        && is_same_node(one.to(), other.to())
+        && is_same_body(one.body(), other.body())
+}
+
+fn is_same_node(one: Node, other: Node) -> bool
+    ensures { IsTrue result → one ≡ other }
+{
+    match one {
+        Node::Part(part) => other.is_part(part),
+        Node::Client(client) => other.is_client(client),
+    }
+}
+
+fn is_same_body(one: &Body, other: &Body) -> bool
+    ensures { IsTrue result → one.now ≡ other.now }
+{
+    match one {
+        Body::Request(one) => matches!(other, Body::Request(other) if is_same_request(one, other)),
+        Body::Reply(_) => false,
+    }
+}
+
+fn is_same_request(one: &Request, other: &Request) -> bool
+    ensures { IsTrue result → one.now ≡ other.now }
+{
+    match one {
+        Request::Prepare(stamp, writes, items) => {
+            matches!(other, Request::Prepare(of, other_writes, other_items) if of.value() == stamp.value()
+                && same_items(items.as_slice(), other_items.as_slice())
+                && same_values(writes.as_slice(), other_writes.as_slice()))
+        }
+        Request::Commit(stamp) => {
+            matches!(other, Request::Commit(of) if of.value() == stamp.value())
+        }
+        Request::Get(item, stamps) => {
+            matches!(other, Request::Get(of, with) if of.is(*item)
+                && are_same_stamps(with.as_slice(), stamps.as_slice()))
+        }
+        Request::Check(stamp) => {
+            matches!(other, Request::Check(of) if of.value() == stamp.value())
+        }
+    }
+}
+
+fn are_same_stamps(one: &[Stamp], other: &[Stamp]) -> bool
+    ensures { IsTrue result → one.now ≡ other.now }
+{
+    one == other
+}

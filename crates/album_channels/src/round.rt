@@ -1,0 +1,254 @@
+//! Rounds: messages that a session sends, and the replies to them.
+ghost use Rattle.std.specs.Prelude.{◌≡◌, All, None, IfOk, IfErr, OnOk, IfSome, IfNone, IsOkUnless};
+ghost use Rattle.album_passes.specs.Cuts.{Extends, IsSound};
+ghost use Rattle.album_keepers.specs.Envelopes.{Shows};
+ghost use Rattle.album_channels.specs.Replies.{IsReplied};
+ghost use Rattle.album_channels.specs.Sending.{announced_with, prepared_first, prepared_in, sent_at, sent_last, IsUnused};
+ghost use Rattle.album_channels.specs.Channels.{IsLater, IsClosedOrOutOfMemory, IsNoReply};
+
+use crate::asked::{Asked, NoReply};
+use crate::channel::PartitionChannel;
+use crate::reads::begins_read;
+use crate::sightings::sighting_of;
+use album_calls::{Body, Message, Request};
+use album_keepers::{DeskNames, PartitionMail, ReplyEnvelope, RequestEnvelope};
+use album_stamps::Refusal;
+use std::sync::Wait;
+use std::time;
+
+impl<J: DeskNames> PartitionChannel<J> {
+    /// Sends the messages of a round, all of them before the first reply is taken; or none, where the session knows
+    /// what would be replied.
+    ///
+    /// # Errors
+    ///
+    /// `Closed` or `OutOfMemory`.
+    pub fn send_round<R: Wait>(&mut self, rt: &R, messages: Vec<Message>) -> Result<Asked, Refusal>
+        requires shown { All (Shows self.old.cut) messages.items }
+        ensures sent { IfOk result (λ asked. asked.sent.items ≡ messages.items) }
+        ensures begun { IfOk result (λ asked. asked.begun.cut ≡ self.old.cut) }
+        ensures sound { IsSound self.old.cut }
+        ensures refused { IfErr result IsClosedOrOutOfMemory }
+        ensures same { self.new ≡ self.old }
+    {
+        let begun = self.split();
+        let known = self.knows_all(&begun, &messages);
+        if !known {
+            self.post_all(rt, &messages)?;
+        }
+        if begins_read(&messages) {
+            self.sights(messages.len());
+        }
+        self.found = 0;
+        Ok(Asked {
+            sent: messages,
+            begun,
+            known,
+        })
+    }
+
+    /// Sends the messages, if there are any. Then the replies to these are outstanding, and no longer those to the
+    /// round before.
+    ///
+    /// # Errors
+    ///
+    /// `Closed` or `OutOfMemory`.
+    pub fn send_next_round<R: Wait>(
+        &mut self,
+        rt: &R,
+        asked: Asked,
+        sent: Vec<Message>,
+    ) -> Result<Asked, Refusal>
+        requires shown { All (Shows self.old.cut) sent.items }
+        ensures sent { IfOk result (λ more. more.sent.items ≡ sent_last asked.sent.items sent.items) }
+        ensures begun { IfOk result (λ more. more.begun.cut ≡ sent_at asked.begun.cut self.old.cut sent.items) }
+        ensures refused { IfErr result IsClosedOrOutOfMemory }
+        ensures same { self.new ≡ self.old }
+    {
+        if sent.is_empty() {
+            return Ok(asked);
+        }
+        self.send_round(rt, sent)
+    }
+
+    /// Announces what the first of the messages prepares, if it prepares anything.
+    pub fn announce_first(&mut self, messages: &[Message])
+        requires unused { IsUnused self.old (prepared_first messages.now) }
+        ensures cut { self.new.cut ≡ announced_with self.old.cut (prepared_first messages.now) }
+        ensures grown { Extends self.old.cut self.new.cut }
+        ensures client { self.new.client ≡ self.old.client }
+    {
+        if let Some(first) = messages.first() {
+            self.announce(first);
+        }
+    }
+
+    /// Announces what the message prepares, if it prepares anything.
+    fn announce(&mut self, message: &Message)
+        requires unused { IsUnused self.old (prepared_in message.now.body) }
+        ensures cut { self.new.cut ≡ announced_with self.old.cut (prepared_in message.now.body) }
+        ensures grown { Extends self.old.cut self.new.cut }
+        ensures client { self.new.client ≡ self.old.client }
+    {
+        match message.body() {
+            Body::Request(Request::Prepare(stamp, _, items)) => {
+                self.announce_items(*stamp, items.as_slice());
+            }
+            Body::Request(_) | Body::Reply(_) => {}
+        }
+    }
+
+    /// Sends the messages: to each partition one mail, with those that go there.
+    fn post_all<R: Wait>(&mut self, rt: &R, messages: &[Message]) -> Result<(), Refusal>
+        requires shown { All (Shows self.old.cut) messages.now }
+        ensures refused { IfErr result IsClosedOrOutOfMemory }
+        ensures same { self.new ≡ self.old }
+    {
+        for part in 0..self.parts() {
+            self.post(rt, part, messages)?;
+        }
+        Ok(())
+    }
+
+    /// Sends those of the messages that go to the partition, as one mail.
+    fn post<R: Wait>(&mut self, rt: &R, part: u16, messages: &[Message]) -> Result<(), Refusal>
+        requires shown { All (Shows self.old.cut) messages.now }
+        ensures refused { IfErr result IsClosedOrOutOfMemory }
+        ensures same { self.new ≡ self.old }
+    {
+        let envelopes = self.envelopes_to(part, messages)?;
+        if envelopes.is_empty() {
+            return Ok(());
+        }
+        self.send(rt, part, PartitionMail::Envelopes(envelopes))
+    }
+
+    /// Those of the messages that go to the partition, each with a pass.
+    fn envelopes_to(
+        &mut self,
+        part: u16,
+        messages: &[Message],
+    ) -> Result<Vec<RequestEnvelope<J>>, Refusal>
+        requires shown { All (Shows self.old.cut) messages.now }
+        ensures memory { IsOkUnless result Refusal.OutOfMemory }
+        ensures same { self.new ≡ self.old }
+    {
+        let mut envelopes = Vec::with_capacity(self.alloc, count_to(part, messages))?;
+        for message in messages {
+            if message.to().is_part(part) {
+                envelopes.push(RequestEnvelope::new(message.copy()?, self.split()))?;
+            }
+        }
+        Ok(envelopes)
+    }
+
+    /// Waits for a reply to one of the messages that were asked, of a read or not.
+    ///
+    /// # Errors
+    ///
+    /// `Closed`, or `OutOfMemory` where a partition had none for one of them; or the read is overtaken.
+    #[tactic(auto, using(crate::proofs::ChannelLemmas::later_same))]
+    pub fn hear<R: Wait + time::Clock>(
+        &mut self,
+        rt: &R,
+        asked: &Asked,
+        reads: bool,
+    ) -> Result<Message, NoReply>
+        ensures replied { IfOk result (IsReplied J.terms.limit asked.now.begun.cut self.new.cut asked.now.sent.items) }
+        ensures sound { OnOk result (IsSound self.new.cut) }
+        ensures refused { IfErr result (IsNoReply reads) }
+        ensures later { IsLater self.old self.new }
+    {
+        for _ in rt.forever() {
+            if let Some(reply) = self.hear_next(rt, asked, reads)? {
+                return Ok(reply);
+            }
+        }
+        // `forever` has no end.
+        unreachable!()
+    }
+
+    /// Takes the next envelope, or what is known, and gives the reply, where it is one to one of these messages.
+    #[tactic(auto, using(crate::proofs::ChannelLemmas::later_same))]
+    fn hear_next<R: Wait + time::Clock>(
+        &mut self,
+        rt: &R,
+        asked: &Asked,
+        reads: bool,
+    ) -> Result<Option<Message>, NoReply>
+        ensures replied { IfOk result (λ reply. IfSome reply
+            (IsReplied J.terms.limit asked.now.begun.cut self.new.cut asked.now.sent.items)) }
+        ensures sound { IfOk result (λ reply. IfSome reply (λ _. IsSound self.new.cut)) }
+        ensures other { IfOk result (λ reply. IfNone reply (self.new ≡ self.old)) }
+        ensures refused { IfErr result (IsNoReply reads) }
+        ensures later { IsLater self.old self.new }
+    {
+        if asked.known {
+            return self.hear_known(asked, reads);
+        }
+        match self.next_envelope(rt, asked.tag()) {
+            Err(why) => Err(NoReply::Refused(why)),
+            Ok(None) => Ok(None),
+            Ok(Some(envelope)) => self.take(asked, reads, envelope),
+        }
+    }
+
+    /// Takes in what is replied, where it answers one of these messages, at a point of the partition's history that is
+    /// no earlier than what was seen of it when they were sent. A version ends the read, where by then a newer one of
+    /// the item may have been committed.
+    #[tactic(auto, using(crate::proofs::ChannelLemmas::later_same))]
+    fn take(
+        &mut self,
+        asked: &Asked,
+        reads: bool,
+        envelope: ReplyEnvelope<J>,
+    ) -> Result<Option<Message>, NoReply>
+        ensures replied { IfOk result (λ reply. IfSome reply
+            (IsReplied J.terms.limit asked.now.begun.cut self.new.cut asked.now.sent.items)) }
+        ensures sound { IfOk result (λ reply. IfSome reply (λ _. IsSound self.new.cut)) }
+        ensures other { IfOk result (λ reply. IfNone reply (self.new ≡ self.old)) }
+        ensures refused { IfErr result (IsNoReply reads) }
+        ensures later { IsLater self.old self.new }
+    {
+        let (overtaken, below) = (envelope.is_overtaken(), envelope.settled_below());
+        let (request, reply, pass) = envelope.open();
+        let Some(found) = asked.find(&request, self.found) else {
+            return Ok(None);
+        };
+        if !asked.is_before(&reply, &pass) {
+            return Ok(None);
+        }
+        self.found = found;
+        if overtaken {
+            if !self.is_new_enough(asked, found, &reply) {
+                return ends_read(reads);
+            }
+            self.join(pass);
+            return Ok(Some(reply));
+        }
+        let sighting = sighting_of::<J>(&request, &reply, below, &pass);
+        self.join(pass);
+        self.keep(found, sighting);
+        Ok(Some(reply))
+    }
+}
+
+/// What a reply leads to that is overtaken: only a read asks for versions.
+pub(crate) fn ends_read(reads: bool) -> Result<Option<Message>, NoReply>
+    ensures none { IfOk result (λ reply. reply ≡ None) }
+    ensures refused { IfErr result (IsNoReply reads) }
+{
+    if reads {
+        Err(NoReply::Overtaken)
+    } else {
+        Ok(None)
+    }
+}
+
+/// How many of the messages go to the partition.
+fn count_to(part: u16, messages: &[Message]) -> usize {
+    messages
+        .iter()
+        .filter(|message| message.to().is_part(part))
+        .count()
+}

@@ -1,5 +1,0 @@
-use Rattle.std.proofs.Common.{◌≡◌}
-use Rattle.album_threads.proofs.session.channel.PartitionChannel.hear.Given as goal
-
-abbrev pub invariant-loop : goal.invariant-loop
-invariant-loop g l = record { same : l.self ≡ l.initial.self }

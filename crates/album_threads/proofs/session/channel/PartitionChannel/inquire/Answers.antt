@@ -1,6 +1,0 @@
-use Rattle.std.proofs.Common.{rules}
-use Rattle.album_threads.proofs.SessionLemmas.{later_same}
-use Rattle.album_threads.proofs.session.channel.PartitionChannel.inquire.Goals as goal
-
-pub returns-in_err-answer-clause-later : goal.returns-in_err-answer-clause-later
-returns-in_err-answer-clause-later g c = later_same _ _ (search rules)

@@ -1,5 +1,0 @@
-use Rattle.std.proofs.Common.{◌≡◌, All, None}
-use Rattle.album_threads.proofs.session.sightings.clear.Given as goal
-
-abbrev pub invariant-loop : goal.invariant-loop
-invariant-loop l = record { none : All (λ s. s ≡ None) l.sightings.items }
