@@ -1,4 +1,4 @@
-//! A store in a program of one's own: it is opened, and two users ask to read one picture.
+//! A store in a program of one's own. It is opened with a picture that amy alone may read, and two users ask to read it.
 #![tactic(auto)]
 
 use album_server::{
@@ -6,10 +6,7 @@ use album_server::{
     read_item, with_service, write_out,
 };
 use std::alloc::Global;
-use std::sync::Wait;
-use std::time::Clock;
 
-/// amy's picture, which she alone may read.
 const OPENING: &str = r#"{"open":{"parts":2}}
 {"item":"picture/0","value":{"content":"736561","group":0,"home":0,"list":0,"owner":"amy@users","title":"Sea"}}
 {"item":"list/0","value":{"entries":[["allow","amy@users",1,0]]}}
@@ -18,7 +15,7 @@ const OPENING: &str = r#"{"open":{"parts":2}}
 #[derive(Drop)]
 struct TwoReads;
 
-impl<R: Wait + Clock + Print + Copy> Visit<R> for TwoReads {
+impl<R: std::sync::Wait + std::time::Clock + Print + Copy> Visit<R> for TwoReads {
     type Answer = Result<(), Refusal>;
 
     fn visit<J>(self, rt: &R, alloc: Global, service: &Service<J>) -> Result<(), Refusal>
@@ -26,12 +23,11 @@ impl<R: Wait + Clock + Print + Copy> Visit<R> for TwoReads {
         J: ServiceNames + Send + Sync,
     {
         let mut owned = OwnedSession::begin(rt, service)?;
+        let session = &mut owned.session;
         for who in ["amy@users", "bo@users"] {
             let object = read_item("picture/0").ok_or(Refusal::BadRequest)?;
-            let principal = Principal::read(who)?;
-            let answer = owned.session.ask(rt, &principal, Ask::Read { object })?;
-            let out = Out::Answered(owned.session.client(), answer);
-            let line = write_out(alloc, &out, None)?;
+            let answer = session.ask(rt, &Principal::read(who)?, Ask::Read { object })?;
+            let line = write_out(alloc, &Out::Answered(session.client(), answer), None)?;
             let _ = print!(rt; "{who}: {}", str::from_utf8(&line).unwrap_or(""));
         }
         Ok(())
@@ -39,6 +35,6 @@ impl<R: Wait + Clock + Print + Copy> Visit<R> for TwoReads {
 }
 
 fn main(rt: HostRuntime) -> Result<(), Refusal> {
-    let opening = opening_of_text(rt.alloc(), OPENING)?;
-    with_service(rt, rt.alloc(), &opening, 1, TwoReads)?
+    let alloc = rt.alloc();
+    with_service(rt, alloc, &opening_of_text(alloc, OPENING)?, 1, TwoReads)?
 }
