@@ -38,35 +38,10 @@ pub fn ask<R: Read, W: Write, S: Read + Write>(
     asking: Asking<'_>,
 ) -> Result<bool, Fault> {
     let mut client = Client::new(alloc, service, asking);
-    let hello = hello_line(alloc, asking.who)?;
-    match client.answer(&hello)? {
-        None => return Ok(false),
-        Some(answer) if is_refusal(&answer) => {
-            write_text(writer, &answer)?;
-            return Ok(false);
-        }
-        Some(_) => {}
+    if !client.say_hello(writer)? {
+        return Ok(false);
     }
-    let mut lines = Lines::new(alloc);
-    let mut piece = [0u8; PIECE];
-    for _turn in 0..asking.turns {
-        client.prompt(writer)?;
-        let Ok(len) = requests.read(&mut piece) else {
-            return Err(Fault::Reading);
-        };
-        if len == 0 {
-            return match lines.end() {
-                None => Ok(true),
-                Some(line) => client.pass_on(writer, &line),
-            };
-        }
-        for line in lines.feed(&piece[..len])? {
-            if !client.pass_on(writer, &line)? {
-                return Ok(false);
-            }
-        }
-    }
-    Err(Fault::Reading)
+    client.pass_all_on(requests, writer)
 }
 
 /// Whether the line is a refusal. (A hello has a key `answer`.)
@@ -96,6 +71,56 @@ impl<'a, S: Read + Write> Client<'a, S> {
         }
     }
 
+    /// Says who asks. Returns whether the service takes that; a refusal is written.
+    fn say_hello<W: Write>(&mut self, writer: &mut W) -> Result<bool, Fault> {
+        let hello = hello_line(self.alloc, self.asking.who)?;
+        let Some(answer) = self.answer(&hello)? else {
+            return Ok(false);
+        };
+        if is_refusal(&answer) {
+            write_text(writer, &answer)?;
+            return Ok(false);
+        }
+        Ok(true)
+    }
+
+    /// Passes on each line of the requests, to their end. Returns whether all were answered.
+    fn pass_all_on<R: Read, W: Write>(
+        &mut self,
+        requests: &mut R,
+        writer: &mut W,
+    ) -> Result<bool, Fault> {
+        let mut lines = Lines::new(self.alloc);
+        if !self.pass_ended_on(requests, writer, &mut lines)? {
+            return Ok(false);
+        }
+        self.pass_last_on(writer, lines.end().as_ref())
+    }
+
+    /// Passes on each line that has its end, and leaves in `lines` what stands behind the last. Returns whether all
+    /// were answered.
+    fn pass_ended_on<R: Read, W: Write>(
+        &mut self,
+        requests: &mut R,
+        writer: &mut W,
+        lines: &mut Lines,
+    ) -> Result<bool, Fault> {
+        let mut piece = [0u8; PIECE];
+        for _turn in 0..self.asking.turns {
+            self.prompt(writer)?;
+            let Ok(len) = requests.read(&mut piece) else {
+                return Err(Fault::Reading);
+            };
+            if len == 0 {
+                return Ok(true);
+            }
+            if !self.pass_each_on(writer, &lines.feed(&piece[..len])?)? {
+                return Ok(false);
+            }
+        }
+        Err(Fault::Reading)
+    }
+
     /// Prints a prompt, where one is wanted.
     fn prompt<W: Write>(&self, writer: &mut W) -> Result<(), Fault> {
         if !self.asking.has_prompt {
@@ -104,6 +129,28 @@ impl<'a, S: Read + Write> Client<'a, S> {
         write_text(writer, self.asking.who.as_bytes())?;
         write_text(writer, b"> ")?;
         writer.flush().map_err(|_| Fault::Writing)
+    }
+
+    /// Passes on what stands behind the last line's end, if anything does. Returns whether it was answered.
+    fn pass_last_on<W: Write>(
+        &mut self,
+        writer: &mut W,
+        line: Option<&LineIn>,
+    ) -> Result<bool, Fault> {
+        match line {
+            None => Ok(true),
+            Some(line) => self.pass_on(writer, line),
+        }
+    }
+
+    /// Passes the lines on, up to one that isn't answered. Returns whether all were.
+    fn pass_each_on<W: Write>(&mut self, writer: &mut W, lines: &[LineIn]) -> Result<bool, Fault> {
+        for line in lines {
+            if !self.pass_on(writer, line)? {
+                return Ok(false);
+            }
+        }
+        Ok(true)
     }
 
     /// Sends the request, and writes what it is answered. Returns whether it was answered.
@@ -117,13 +164,23 @@ impl<'a, S: Read + Write> Client<'a, S> {
         let Some(answer) = self.answer(&sent)? else {
             return Ok(false);
         };
-        if self.asking.is_spelled {
-            write_text(writer, &spelled(self.alloc, request, &answer)?)?;
-        } else {
-            write_text(writer, &answer)?;
-        }
-        writer.flush().map_err(|_| Fault::Writing)?;
+        self.write_answer(writer, request, &answer)?;
         Ok(true)
+    }
+
+    /// Writes the answer, spelled out where that is wanted.
+    fn write_answer<W: Write>(
+        &self,
+        writer: &mut W,
+        request: &[u8],
+        answer: &[u8],
+    ) -> Result<(), Fault> {
+        if self.asking.is_spelled {
+            write_text(writer, &spelled(self.alloc, request, answer)?)?;
+        } else {
+            write_text(writer, answer)?;
+        }
+        writer.flush().map_err(|_| Fault::Writing)
     }
 
     /// Sends the line, and gives the line that it is answered. None, where the connection ends before.
@@ -133,19 +190,27 @@ impl<'a, S: Read + Write> Client<'a, S> {
         let mut piece = [0u8; PIECE];
         for _turn in 0..self.asking.turns {
             if let Some(line) = self.come.pop_front() {
-                return Ok(Some(self.with_end(&line)?));
+                return self.with_end(&line).map(Some);
             }
-            let Ok(len) = self.service.read(&mut piece) else {
-                return Err(Fault::Reading);
-            };
-            if len == 0 {
+            if !self.read_more(&mut piece)? {
                 return Ok(None);
-            }
-            for line in self.lines.feed(&piece[..len])? {
-                self.come.push_back(line).map_err(|_| Fault::Memory)?;
             }
         }
         Err(Fault::Reading)
+    }
+
+    /// Reads a piece, and keeps the lines that end in it. Returns whether there was one.
+    fn read_more(&mut self, piece: &mut [u8; PIECE]) -> Result<bool, Fault> {
+        let Ok(len) = self.service.read(piece) else {
+            return Err(Fault::Reading);
+        };
+        if len == 0 {
+            return Ok(false);
+        }
+        for line in self.lines.feed(&piece[..len])? {
+            self.come.push_back(line).map_err(|_| Fault::Memory)?;
+        }
+        Ok(true)
     }
 
     /// The line with its end.

@@ -13,6 +13,11 @@ pub(crate) fn hello_line(alloc: Global, who: &str) -> Result<Vec<u8>, Fault> {
 
 fn hello_text(alloc: Global, who: &str) -> Result<Vec<u8>, AllocError> {
     let value: Value = json!(in alloc; {"who": who})?;
+    json_line(alloc, &value)
+}
+
+/// The JSON text of the value, as a line.
+pub(crate) fn json_line(alloc: Global, value: &Value) -> Result<Vec<u8>, AllocError> {
     let mut text = value.to_vec(alloc)?;
     text.push(b'\n')?;
     Ok(text)

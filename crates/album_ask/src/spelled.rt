@@ -1,10 +1,11 @@
 //! Answers, spelled out for people: contents as text where they are UTF-8, masks and flags by their bits' names, and a
 //! new object by its name.
 
+use crate::requests::json_line;
 use album_access::{AceFlags, Mask};
 use album_judge::Fault;
 use bitflags::Flags;
-use serde_json::{Map, Value};
+use serde_json::{Map, Value, put};
 use std::alloc::{AllocError, Global};
 
 /// A reason of a denial: object, mask, and where it is decided.
@@ -32,14 +33,21 @@ fn spelled_text(alloc: Global, request: &[u8], answer: &[u8]) -> Result<Vec<u8>,
         return copied(alloc, answer);
     };
     if let Some(fields) = value.as_object_mut() {
-        spell_content(alloc, fields)?;
-        spell_rows(alloc, fields, "reasons", REASON)?;
-        spell_rows(alloc, fields, "entries", ENTRY)?;
-        name_new_object(alloc, fields, request)?;
+        spell_fields(alloc, fields, request)?;
     }
-    let mut text = value.to_vec(alloc)?;
-    text.push(b'\n')?;
-    Ok(text)
+    json_line(alloc, &value)
+}
+
+/// Spells out the fields of an answer that is an object.
+fn spell_fields(
+    alloc: Global,
+    fields: &mut Map<String, Value>,
+    request: &[u8],
+) -> Result<(), AllocError> {
+    spell_content(alloc, fields)?;
+    spell_rows(alloc, fields, "reasons", REASON)?;
+    spell_rows(alloc, fields, "entries", ENTRY)?;
+    name_new_object(alloc, fields, request)
 }
 
 fn parsed(alloc: Global, answer: &[u8]) -> Option<Value> {
@@ -65,8 +73,7 @@ fn spell_content(alloc: Global, fields: &mut Map<String, Value>) -> Result<(), A
         return Ok(());
     };
     let text = Value::try_from_str(alloc, text)?;
-    let key = String::from_str(alloc, "text")?;
-    let _ = fields.insert(key, text)?;
+    put(fields, alloc, "text", text)?;
     let _ = fields.remove("content");
     Ok(())
 }
@@ -88,13 +95,16 @@ fn spell_rows(
     let Some(Value::Array(rows)) = fields.remove(key) else {
         return Ok(());
     };
+    let spelled = spelled_rows(alloc, rows, places)?;
+    put(fields, alloc, key, spelled)
+}
+
+fn spelled_rows(alloc: Global, rows: Vec<Value>, places: Places) -> Result<Value, AllocError> {
     let mut spelled = Vec::new(alloc);
     for row in rows {
         spelled.push(spelled_row(alloc, row, places)?)?;
     }
-    let key = String::from_str(alloc, key)?;
-    let _ = fields.insert(key, Value::Array(spelled))?;
-    Ok(())
+    Ok(Value::Array(spelled))
 }
 
 fn spelled_row(alloc: Global, row: Value, places: Places) -> Result<Value, AllocError> {
@@ -171,9 +181,7 @@ fn name_new_object(
         return Ok(());
     };
     let name = format!(in alloc; "{kind}/{stamp}")?;
-    let key = String::from_str(alloc, "object")?;
-    let _ = fields.insert(key, Value::String(name))?;
-    Ok(())
+    put(fields, alloc, "object", Value::String(name))
 }
 
 /// The kind of what the request makes, if it makes something.

@@ -1,5 +1,5 @@
 -- What an audit book holds.
-use Rattle.std.specs.Prelude.{◌≡◌, ◌≤◌, ◌<◌, ◌+◌, ◌++◌, [], ◌∷◌, ◌^◌, ◌||◌, nat_le, Bool, ℕ, List, Option, Some, None, option_map}
+use Rattle.std.specs.Prelude.{◌≡◌, ◌≤◌, ◌<◌, ◌+◌, ◌++◌, [], ◌∷◌, ◌^◌, ◌||◌, nat_le, Bool, ℕ, List, Option, None, option_map}
 use Rattle.std.specs.Option.{unwrap_or}
 use Rattle.album_stamps.specs.declared.limits.TheConstants.{CLIENTS}
 use Rattle.album_audit.specs.Totals.{totals_of, none, plus}

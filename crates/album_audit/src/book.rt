@@ -1,5 +1,5 @@
 //! The audit book.
-ghost use Rattle.std.specs.Prelude.{◌≡◌, ◌≤◌, ◌⊎◌, ◌+◌, ◌∷◌, [], true, false, Some, IsSome, IfOk, IfErr, OnOk, OnErr, IsOkUnless};
+ghost use Rattle.std.specs.Prelude.{◌≡◌, ◌≤◌, ◌⊎◌, ◌+◌, ◌++◌, ◌∷◌, [], option_map, true, false, Some, IsSome, IfOk, IfErr, OnOk, OnErr, IsOkUnless};
 ghost use Rattle.album_stamps.specs.declared.limits.TheConstants.{CLIENTS};
 ghost use Rattle.album_audit.specs.Totals.{totals_of, records_of, plus};
 ghost use Rattle.album_audit.specs.Books.{is_past_end, new_book, book_with, kept_records, none_kept, new_share, share_with};
@@ -212,16 +212,37 @@ impl<J: Books> AuditBook<J> {
         if self.is_past_end_with(more) {
             return Err(Refusal::OutOfMemory);
         }
+        self.keep_records(client, notes)?;
+        self.add(share, more);
+        Ok(())
+    }
+
+    /// Keeps the records of the notes, after those before them, where records are kept.
+    fn keep_records(&mut self, client: ClientNo, notes: &[Note]) -> Result<(), AllocError>
+        ensures kept { OnOk result (self.new ≡ record self.old {
+          kept = option_map (λ before. before ++ records_of client notes.now) self.old.kept;
+        }) }
+        ensures are_kept { OnErr result (IsSome self.old.kept) }
+        ensures unchanged { OnErr result (self.new ≡ self.old) }
+    {
         if let Some(kept) = &mut self.kept {
             kept.extend_from_slice(&records_of(*kept.allocator(), client, notes)?)?;
         }
+        Ok(())
+    }
+
+    /// Counts so many more, in the book and in the share.
+    fn add(&mut self, share: &mut Share<J>, more: Totals)
+        requires fits { is_past_end (plus self.old.totals more) ≡ false }
+        ensures book { self.new ≡ record self.old { totals = plus self.old.totals more } }
+        ensures share { share.new ≡ record share.old { totals = plus share.old.totals more } }
+    {
         self.audit_ok.add(&mut share.audit_ok, more.audit_ok);
         self.audit_failed
             .add(&mut share.audit_failed, more.audit_failed);
         self.alarm_ok.add(&mut share.alarm_ok, more.alarm_ok);
         self.alarm_failed
             .add(&mut share.alarm_failed, more.alarm_failed);
-        Ok(())
     }
 
     /// Whether a total would come to the end of its numbers with so many more.

@@ -1,7 +1,7 @@
 -- The lines that explain.
 use Rattle.std.specs.Prelude.{ℕ, List, [], ◌∷◌, codes, map, filter, string_bytes, Bool, Option, Some, None}
 use Rattle.std.specs.Int.{w32, trailing_zeros}
-use Rattle.serde_json.specs.Data.{Data, string, object, no_members, member}
+use Rattle.serde_json.specs.Data.{Data, Members, string, object, no_members, member}
 use Rattle.album_stamps.specs.declared.refusals.Refusal.{Refusal}
 use Rattle.album_stamps.specs.Refusals.{name_of, number_of}
 use Rattle.album_access.specs.Bits.{mask_table, has_bit}
@@ -28,6 +28,13 @@ Place = List ℕ × Option ℕ
 abbrev pub place_of : Found → Place
 place_of found = (string_bytes found.at, found.value)
 
+-- what the line of a refusal tells beside its place
+abbrev pub refused_fields : ℕ → Refusal → Members
+refused_fields number refusal =
+    member (codes "line") (whole_data number) (
+    member (codes "name") (string (name_of refusal)) (
+    member (codes "refused") (whole_data (number_of refusal)) no_members))
+
 -- a line of this number is refused at this place
 abbrev pub refused_at : ℕ → Refusal → List ℕ → Option ℕ → Data
 refused_at number refusal at None = object (
@@ -44,10 +51,7 @@ refused_at number refusal at (Some value) = object (
 
 -- the same, with the place if it is known
 abbrev pub refused_json : ℕ → Refusal → Option Place → Data
-refused_json number refusal None = object (
-    member (codes "line") (whole_data number) (
-    member (codes "name") (string (name_of refusal)) (
-    member (codes "refused") (whole_data (number_of refusal)) no_members)))
+refused_json number refusal None = object (refused_fields number refusal)
 refused_json number refusal (Some place) = refused_at number refusal place.0 place.1
 
 -- ---- a verdict

@@ -1,12 +1,12 @@
 //! The lines that are written: {"answer", "at", "bits", "line"}, {"at", "line", "name", "refused", "value"}.
 ghost use Rattle.std.specs.Prelude.{◌≡◌, ◌++◌, ◌<◌, false, map, IfOk, Some, None, option_map, string_bytes};
-ghost use Rattle.serde_json.specs.View.{view};
+ghost use Rattle.serde_json.specs.View.{view, members_view};
 ghost use Rattle.serde_json.specs.Written.{has_float};
 ghost use Rattle.album_lines.specs.Output.{line_text};
 ghost use Rattle.album_eval.specs.Matching.{case_of};
 ghost use Rattle.album_eval.specs.declared.verdicts.Verdict.TheVariants.{Granted};
 ghost use Rattle.album_explain.specs.Names.{bit_name};
-ghost use Rattle.album_explain.specs.Explanations.{place_of, refused_at, refused_json, decision_word, decision_at_json, bit_json, bits_json, denied_json, explanation_json, bit_row, bit_rows, bit_of};
+ghost use Rattle.album_explain.specs.Explanations.{place_of, refused_at, refused_fields, refused_json, decision_word, decision_at_json, bit_json, bits_json, denied_json, explanation_json, bit_row, bit_rows, bit_of};
 ghost use Rattle.album_access.specs.Bits.{mask_bits};
 
 use crate::decisions::{Decision, decide, has_bit};
@@ -17,7 +17,7 @@ use album_eval::{Facts, Verdict};
 use album_lists::{AccessList, Holder};
 use album_stamps::Refusal;
 use bitflags::Flags;
-use serde_json::{Value, json};
+use serde_json::{Map, Value, json, put};
 use std::alloc::{AllocError, Global};
 
 /// A bit that is asked, and how it is decided.
@@ -56,17 +56,9 @@ fn refused_json(
         view v ≡ refused_json number refusal (option_map (λ f. place_of f.now) found.entry)) }
 {
     match found {
-        None => refused_somewhere(alloc, number, refusal),
+        None => Ok(Value::Object(refused_fields(alloc, number, refusal)?)),
         Some(found) => refused_at(alloc, number, refusal, found.at.as_str(), found.value),
     }
-}
-
-fn refused_somewhere(alloc: Global, number: u64, refusal: Refusal) -> Result<Value, AllocError>
-    ensures { IfOk result (λ v. view v ≡ refused_json number refusal None) }
-{
-    let name = refusal.name();
-    let refused = refusal.number();
-    json!(in alloc; {"line": number, "name": name, "refused": refused})
 }
 
 fn refused_at(
@@ -78,14 +70,30 @@ fn refused_at(
 ) -> Result<Value, AllocError>
     ensures { IfOk result (λ v. view v ≡ refused_at number refusal at.now value) }
 {
-    let name = refusal.name();
-    let refused = refusal.number();
-    match value {
-        None => json!(in alloc; {"at": at, "line": number, "name": name, "refused": refused}),
-        Some(value) => {
-            json!(in alloc; {"at": at, "line": number, "name": name, "refused": refused, "value": value})
-        }
-    }
+    let mut fields = refused_fields(alloc, number, refusal)?;
+    let place = Value::try_from_str(alloc, at)?;
+    put(&mut fields, alloc, "at", place)?;
+    let Some(value) = value else {
+        return Ok(Value::Object(fields));
+    };
+    put(&mut fields, alloc, "value", Value::from(value))?;
+    Ok(Value::Object(fields))
+}
+
+/// What the line of a refusal tells beside its place.
+fn refused_fields(
+    alloc: Global,
+    number: u64,
+    refusal: Refusal,
+) -> Result<Map<String, Value>, AllocError>
+    ensures { IfOk result (λ fields. members_view fields.entries ≡ refused_fields number refusal) }
+{
+    let mut fields = Map::new(alloc);
+    put(&mut fields, alloc, "line", Value::from(number))?;
+    let name = Value::try_from_str(alloc, refusal.name())?;
+    put(&mut fields, alloc, "name", name)?;
+    put(&mut fields, alloc, "refused", Value::from(refusal.number()))?;
+    Ok(fields)
 }
 
 /// The bits of the mask that have a name, rising, each with its decision.

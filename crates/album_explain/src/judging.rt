@@ -1,20 +1,30 @@
 //! The explanations of judge lines: the verdict, with how each bit is decided, or the refusal.
-ghost use Rattle.std.specs.Prelude.{◌≡◌, ◌≢◌, Err, IfOk, IfErr, IsOkAnd, IsOkUnless};
+ghost use Rattle.std.specs.Prelude.{◌≡◌, ◌≢◌, ◌↔◌, ℕ, Err, IfOk, IfErr, IsOkAnd, IsOkUnless, IsTrue, map};
+ghost use Rattle.std.specs.Ordering.{nat_cmp};
+ghost use Rattle.std.specs.BTreeSet as set;
 ghost use Rattle.album_stamps.specs.declared.refusals.Refusal.TheVariants.{OutOfMemory};
-ghost use Rattle.album_lines.specs.JudgeLine.{question};
+ghost use Rattle.album_eval.specs.Groups.{IsMember};
+ghost use Rattle.album_eval.specs.Matching.{case_of};
+ghost use Rattle.album_eval.specs.Verdict.{IsVerdict};
+ghost use Rattle.album_lines.specs.JudgeLine.{listing, question};
 ghost use Rattle.album_lines.specs.Lines.{said};
-ghost use Rattle.album_judge.specs.Judge.{read_of};
+ghost use Rattle.album_lines.specs.Output.{line_text};
+ghost use Rattle.album_judge.specs.Judge.{listed_by, read_of};
+ghost use Rattle.album_explain.specs.Explanations.{explanation_json, bit_rows};
 ghost use Rattle.album_explain.specs.Judging.{ExplainsQuestion, ExplainsJudgeLine};
 
 use crate::explainer::Explainer;
 use crate::explanations::{bit_rows, write_explanation, write_refused};
 use crate::places::find;
-use album_eval::{Facts, evaluate, members};
+use album_access::Mask;
+use album_eval::{Facts, Principal, Verdict, evaluate, members};
 use album_judge::group_map;
-use album_lines::{JudgeLine, LineIn, read_judge};
+use album_lines::{Group, JudgeLine, LineIn, read_judge};
+use album_lists::{AccessList, Holder};
 use album_stamps::Refusal;
 use json::Scratch;
-use std::alloc::Global;
+use std::alloc::{AllocError, Global};
+use std::collections::BTreeSet;
 
 /// Explains judge lines.
 #[derive(Clone, Copy, Debug)]
@@ -93,8 +103,7 @@ fn explain_question(alloc: Global, line: JudgeLine, number: u64) -> Result<Vec<u
         mask,
         policy,
     } = line;
-    let by_number = group_map(alloc, groups)?;
-    let found = members(alloc, &by_number, &who)?;
+    let found = groups_of(alloc, groups, &who)?;
     let facts = Facts {
         policy,
         principal: &who,
@@ -102,8 +111,34 @@ fn explain_question(alloc: Global, line: JudgeLine, number: u64) -> Result<Vec<u
         head_group,
         groups: &found,
     };
-    let verdict = evaluate(&list, &facts, mask);
-    let rows = bit_rows(alloc, &list, &facts, holder, mask)?;
-    let text = write_explanation(alloc, number, verdict, &rows)?;
+    let text = explain_verdict(alloc, number, &list, &facts, holder, mask)?;
     Ok(text)
+}
+
+/// The groups of a line that the principal is in.
+fn groups_of(alloc: Global, groups: Vec<Group>, who: &Principal) -> Result<BTreeSet<u64>, Refusal>
+    ensures exact { IfOk result (λ found. (group : ℕ)
+        → IsTrue (set.contains nat_cmp found group) ↔ IsMember (listed_by (map listing groups.items)) who.now group) }
+    ensures memory { IsOkUnless result Refusal.OutOfMemory }
+{
+    let by_number = group_map(alloc, groups)?;
+    members(alloc, &by_number, who)
+}
+
+/// The line of the verdict on these facts.
+fn explain_verdict(
+    alloc: Global,
+    number: u64,
+    list: &AccessList,
+    facts: &Facts,
+    holder: Holder,
+    mask: Mask,
+) -> Result<Vec<u8>, AllocError>
+    ensures { IfOk result (λ text. (verdict : Verdict) × IsVerdict (case_of facts.now) list.now mask verdict
+        × (text.items ≡ line_text
+        (explanation_json number verdict (bit_rows (case_of facts.now) list.now holder mask)))) }
+{
+    let verdict = evaluate(list, facts, mask);
+    let rows = bit_rows(alloc, list, facts, holder, mask)?;
+    write_explanation(alloc, number, verdict, &rows)
 }

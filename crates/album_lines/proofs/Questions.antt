@@ -268,14 +268,14 @@ shape_spelled : (s : SpelledJudge) (d : Data) → judge_shape_of d ≡ Ok s → 
 unfolding judge_shape_of
 shape_spelled s d h =
     let names = step_taken (only_of judge_keys d) _ s h in
-    let entries = step_taken (field_of (codes "entries") d >>= entry_shapes_of) _ s names.2 in
-    let kind = step_taken (kind_shape_of (get (codes "kind") d)) _ s entries.2 in
+    let kind = step_taken (kind_shape_of (get (codes "kind") d)) _ s names.2 in
     let group = step_taken (field_of (codes "group") d >>= whole_of) _ s kind.2 in
-    let groups = step_taken (groups_shape_of (get (codes "groups") d)) _ s group.2 in
-    let owner = step_taken (field_of (codes "owner") d >>= text_of) _ s groups.2 in
+    let owner = step_taken (field_of (codes "owner") d >>= text_of) _ s group.2 in
     let who = step_taken (field_of (codes "who") d >>= text_of) _ s owner.2 in
     let mask = step_taken (field_of (codes "mask") d >>= whole_of) _ s who.2 in
     let policy = step_taken (policy_shape_of (get (codes "policy") d)) _ s mask.2 in
+    let entries = step_taken (field_of (codes "entries") d >>= entry_shapes_of) _ s policy.2 in
+    let groups = step_taken (groups_shape_of (get (codes "groups") d)) _ s entries.2 in
     let parts : SpelledJudge = record {
       entries = entries.0;
       holder = kind.0;
@@ -286,7 +286,7 @@ shape_spelled s d h =
       mask = mask.0;
       policy = policy.0;
     } in
-    let same : parts ≡ s = same_value parts s policy.2 in
+    let same : parts ≡ s = same_value parts s groups.2 in
     let value = step_taken (field_of (codes "entries") d) entry_shapes_of entries.0 entries.1 in
     let is : IsShape parts d = record {
       names = names_spelled judge_keys d names.0 names.1;
@@ -306,7 +306,7 @@ shape_spelled s d h =
 shape_read : (s : SpelledJudge) (d : Data) → IsShape s d → judge_shape_of d ≡ Ok s
 unfolding judge_shape_of
 shape_read s d is =
-    rw (names_read judge_keys d is.names, is.entries_there, is.entries, is.kind, is.group, is.groups, is.owner, is.who, is.mask, is.policy) refl
+    rw (names_read judge_keys d is.names, is.kind, is.group, is.owner, is.who, is.mask, is.policy, is.entries_there, is.entries, is.groups) refl
 
 -- each value is one
 record IsValued (q : Question) (s : SpelledJudge) : Type 0 where

@@ -529,7 +529,7 @@ shape_made : (d : Data) (s : SpelledJudge)
     → judge_shape_of d ≡ Ok s
 unfolding judge_shape_of
 shape_made d s names entries holder head_group groups owner who mask policy =
-    rw (names, entries, holder, head_group, groups, owner, who, mask, policy) refl
+    rw (names, holder, head_group, owner, who, mask, policy, entries, groups) refl
 
 left_out_kind : kind_shape_of None ≡ Ok Plain
 unfolding kind_shape_of

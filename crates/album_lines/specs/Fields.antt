@@ -76,6 +76,13 @@ list_of d = ok_or (as_array d) BadRequest
 abbrev pub sized : ℕ → Data → Result Bool Refusal
 sized n d = list_of d >>= λ items. guard (items_len items == n)
 
+-- what stands under a name of an object, and at an index of a list, as `read` reads it
+abbrev pub under : {A : Type 0} → (Data → Result A Refusal) → List ℕ → Data → Result A Refusal
+under read name d = field_of name d >>= read
+
+abbrev pub standing_at : {A : Type 0} → (Data → Result A Refusal) → ℕ → Data → Result A Refusal
+standing_at read i d = item_of i d >>= read
+
 -- each item of a list read, or the first refusal
 abbrev pub each : {A : Type 0} → (Data → Result A Refusal) → Items → Result (List A) Refusal
 each read no_items = Ok []

@@ -95,14 +95,14 @@ policy_shape_of (Some d) = whole_of d >>= λ number. ok_or (policy_of number) Ba
 unfoldable pub judge_shape_of : Data → Result SpelledJudge Refusal
 judge_shape_of d = do
   _ ← only_of judge_keys d
-  entries ← field_of (codes "entries") d >>= entry_shapes_of
   holder ← kind_shape_of (get (codes "kind") d)
   head_group ← field_of (codes "group") d >>= whole_of
-  groups ← groups_shape_of (get (codes "groups") d)
   owner ← field_of (codes "owner") d >>= text_of
   who ← field_of (codes "who") d >>= text_of
   mask ← field_of (codes "mask") d >>= whole_of
   policy ← policy_shape_of (get (codes "policy") d)
+  entries ← field_of (codes "entries") d >>= entry_shapes_of
+  groups ← groups_shape_of (get (codes "groups") d)
   Ok (record {
     entries = entries;
     holder = holder;

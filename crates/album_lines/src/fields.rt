@@ -6,7 +6,7 @@ ghost use Rattle.json.specs.Value.{members_view};
 ghost use Rattle.serde_json.specs.Data.{no_members};
 ghost use Rattle.serde_json.specs.Find.{get, at};
 ghost use Rattle.album_stamps.specs.Outcome.{Gives};
-ghost use Rattle.album_lines.specs.Fields.{has_only, only_of, has, sized, field_of, item_of, text_of, whole_of, truth_of, is_nothing, is_list, list_of};
+ghost use Rattle.album_lines.specs.Fields.{has_only, only_of, has, sized, field_of, item_of, text_of, whole_of, truth_of, is_nothing, is_list, list_of, under, standing_at};
 ghost use Rattle.album_lines.specs.Trees.{members_in, value_data, items_data};
 
 use crate::numbers::number;
@@ -60,6 +60,20 @@ pub fn field<'v, 'a>(value: &'v Value<'a>, name: &str) -> Result<&'v Value<'a>, 
     member(value, name).ok_or(Refusal::BadRequest)
 }
 
+/// The text under a name of an object.
+pub(crate) fn text_under<'a>(value: &Value<'a>, name: &str) -> Result<&'a str, Refusal>
+    ensures { Gives (λ t. t.now) result (under text_of name.now (value_data value.now)) }
+{
+    text(field(value, name)?)
+}
+
+/// The whole number under a name of an object.
+pub(crate) fn whole_under(value: &Value<'_>, name: &str) -> Result<u64, Refusal>
+    ensures { Gives (λ n. n) result (under whole_of name.now (value_data value.now)) }
+{
+    whole(field(value, name)?)
+}
+
 /// The member of an object that may be left out. Of two with one name the last counts.
 pub fn member<'v, 'a>(value: &'v Value<'a>, name: &str) -> Option<&'v Value<'a>>
     ensures { option_map (λ v. value_data v.now) result ≡ get name.now (value_data value.now) }
@@ -83,6 +97,20 @@ pub fn item<'v, 'a>(value: &'v Value<'a>, i: usize) -> Result<&'v Value<'a>, Ref
     ensures { Gives (λ v. value_data v.now) result (item_of i (value_data value.now)) }
 {
     nth(value, i).ok_or(Refusal::BadRequest)
+}
+
+/// The text that an item of a list is.
+pub(crate) fn text_at<'a>(value: &Value<'a>, i: usize) -> Result<&'a str, Refusal>
+    ensures { Gives (λ t. t.now) result (standing_at text_of i (value_data value.now)) }
+{
+    text(item(value, i)?)
+}
+
+/// The whole number that an item of a list is.
+pub(crate) fn whole_at(value: &Value<'_>, i: usize) -> Result<u64, Refusal>
+    ensures { Gives (λ n. n) result (standing_at whole_of i (value_data value.now)) }
+{
+    whole(item(value, i)?)
 }
 
 fn nth<'v, 'a>(value: &'v Value<'a>, i: usize) -> Option<&'v Value<'a>>

@@ -7,7 +7,9 @@ ghost use Rattle.album_lines.specs.Fields.{each};
 ghost use Rattle.album_lines.specs.JudgeShape.{spelled_group, spelled_judge, group_shape_of, numbers, groups_shape_of, holder_of, kind_shape_of, policy_shape_of, judge_shape_of};
 ghost use Rattle.album_lines.specs.Trees.{value_data, items_data};
 
-use crate::fields::{field, item, list, member, only, sized_list, text, whole};
+use crate::fields::{
+    field, item, list, member, only, sized_list, text, text_under, whole, whole_at, whole_under,
+};
 use crate::shapes::{EntryShape, entry_shapes, texts};
 use album_eval::Policy;
 use album_lists::Holder;
@@ -47,14 +49,14 @@ pub(crate) fn judge_shape<'a>(alloc: Global, value: &Value<'a>) -> Result<JudgeS
             "entries", "kind", "group", "groups", "owner", "who", "mask", "policy",
         ],
     )?;
-    let entries = entry_shapes(alloc, field(value, "entries")?)?;
     let holder = kind_shape(member(value, "kind"))?;
-    let head_group = whole(field(value, "group")?)?;
-    let groups = groups_shape(alloc, member(value, "groups"))?;
-    let owner = text(field(value, "owner")?)?;
-    let who = text(field(value, "who")?)?;
-    let mask = whole(field(value, "mask")?)?;
+    let head_group = whole_under(value, "group")?;
+    let owner = text_under(value, "owner")?;
+    let who = text_under(value, "who")?;
+    let mask = whole_under(value, "mask")?;
     let policy = policy_shape(member(value, "policy"))?;
+    let entries = entry_shapes(alloc, field(value, "entries")?)?;
+    let groups = groups_shape(alloc, member(value, "groups"))?;
     Ok(JudgeShape {
         entries,
         holder,
@@ -132,7 +134,7 @@ fn group_shape<'a>(alloc: Global, value: &Value<'a>) -> Result<GroupShape<'a>, R
     ensures { Gives spelled_group result (group_shape_of (value_data value.now)) }
 {
     sized_list(value, 2)?;
-    let number = whole(item(value, 0)?)?;
+    let number = whole_at(value, 0)?;
     let members = texts(alloc, item(value, 1)?)?;
     Ok(GroupShape { number, members })
 }

@@ -5,7 +5,7 @@ ghost use Rattle.album_lines.specs.Fields.{each, text_of};
 ghost use Rattle.album_lines.specs.Shapes.{SpelledEntry, spelled_entry, sort_of, entry_shape_of, entry_shapes_of, texts_of};
 ghost use Rattle.album_lines.specs.Trees.{value_data, items_data};
 
-use crate::fields::{item, list, sized_list, text, whole};
+use crate::fields::{list, sized_list, text, text_at, whole_at};
 use album_access::AceType;
 use album_stamps::Refusal;
 use json::Value;
@@ -46,10 +46,10 @@ fn entry_shape<'a>(value: &Value<'a>) -> Result<EntryShape<'a>, Refusal>
     ensures { Gives spelled_entry result (entry_shape_of (value_data value.now)) }
 {
     sized_list(value, 4)?;
-    let sort = sort(text(item(value, 0)?)?).ok_or(Refusal::BadRequest)?;
-    let who = text(item(value, 1)?)?;
-    let mask = whole(item(value, 2)?)?;
-    let flags = whole(item(value, 3)?)?;
+    let sort = sort(text_at(value, 0)?).ok_or(Refusal::BadRequest)?;
+    let who = text_at(value, 1)?;
+    let mask = whole_at(value, 2)?;
+    let flags = whole_at(value, 3)?;
     Ok(EntryShape {
         sort,
         who,

@@ -9,11 +9,12 @@ ghost use Rattle.album_world.specs.Changes.{client_takes_by};
 ghost use Rattle.album_world.specs.Moves.{idle_tag, room_of, is_writing, IsChangedBy, IsInstalled};
 ghost use Rattle.album_world.specs.Registers.{asks_of};
 
-use crate::outputs::{outs_of, push_outputs};
+use crate::outputs::{noted, push_outputs};
 use album_calls::Message;
-use album_client::{Client, ClientStep, Phase, Terms, Transition};
+use album_client::{Client, ClientStep, PendingAsk, Phase, Terms, Transition};
 use album_eval::Principal;
 use album_permits::Out;
+use album_reader::Reading;
 use album_stamps::Refusal;
 use album_views::Ask;
 use std::alloc::Global;
@@ -102,8 +103,8 @@ pub(crate) fn take(
         Phase::Idle(_) => Ok((Vec::new(alloc), Vec::new(alloc))),
         Phase::Reads(pending_ask, reading) => {
             if reading.is_ended_by(message) {
-                let phase = Phase::Reads(pending_ask.copy()?, reading.copy()?);
-                let transition = client.client_step(alloc, terms).take(phase, message)?;
+                let client_step = client.client_step(alloc, terms);
+                let transition = read_transition(client_step, pending_ask, reading, message)?;
                 install(client, alloc, before, transition)
             } else {
                 continue_read(client, message)?;
@@ -116,6 +117,21 @@ pub(crate) fn take(
         }
         Phase::Commits(_) => continue_write(client, alloc, terms, message, before, 0),
     }
+}
+
+/// The transition of a read at a message.
+fn read_transition(
+    client_step: ClientStep,
+    pending_ask: &PendingAsk,
+    reading: &Reading,
+    message: &Message,
+) -> Result<Transition, Refusal>
+    ensures transition { IfOk result (IsMoved (transition_of client_step.terms (client_of client_step) message.now
+        (Phase.Reads pending_ask.now reading.now))) }
+    ensures memory { IsOkUnless result Refusal.OutOfMemory }
+{
+    let phase = Phase::Reads(pending_ask.copy()?, reading.copy()?);
+    client_step.take(phase, message)
 }
 
 /// The tag of the client's last round, if it is idle.
@@ -143,14 +159,17 @@ fn install(
     ensures memory { IsOkUnless result Refusal.OutOfMemory }
     ensures unchanged { OnErr result (client.new ≡ client.old) }
 {
+    let number = client.number;
+    let count = transition.sent.len();
+    let mut outs = noted(alloc, number, &transition.notes, count + 1)?;
     let Transition {
         client: next,
-        notes,
+        notes: _,
         sent,
         answer,
     } = transition;
-    let outs = outs_of(alloc, before, client.number, &notes, sent.len(), answer)?;
     replace_client(client, next);
+    push_outputs(&mut outs, before, number, count, answer);
     Ok((sent, outs))
 }
 

@@ -1,5 +1,6 @@
 //! The clients that have asked.
-ghost use Rattle.std.specs.Prelude.{◌≡◌, ◌≢◌, ◌<◌, ◌≤◌, ◌^◌, ◌++◌, ◌∷◌, false, [], length, Err, IsOk, IsOkAnd, IsOkUnless, IfOk, IfErr, IfSome, IfNone, OnOk, OnErr, MatchResult};
+ghost use Rattle.std.specs.Prelude.{◌≡◌, ◌≢◌, ◌<◌, ◌≤◌, ◌^◌, ◌++◌, ◌∷◌, ◌==◌, if◌then◌else◌, vec_len, vec_capacity, false, [], length, Err, IsOk, IsOkAnd, IsOkUnless, IfOk, IfErr, IfSome, IfNone, OnOk, OnErr, MatchResult};
+ghost use Rattle.std.specs.List.{list_any};
 ghost use Rattle.album_stamps.specs.declared.limits.TheConstants.{MAX_READ_ITEMS};
 ghost use Rattle.album_client.specs.Clients.{newcomer};
 ghost use Rattle.album_world.specs.Registers.{AreChangedBy, StandsAt, asks_of, has_number, takes_of};
@@ -148,8 +149,7 @@ impl Clients {
         ensures ok { OnOk result (self.new ≡ self.old ++ client ∷ []) }
         ensures unchanged { OnErr result (self.new ≡ self.old) }
     {
-        self.clients.reserve(1)?;
-        self.numbers.insert(client.number.number())?;
+        add_number(&mut self.numbers, &mut self.clients, client.number.number())?;
         self.clients.push_reserved(client);
         Ok(())
     }
@@ -186,4 +186,21 @@ impl Clients {
             None => Ok((Vec::new(alloc), Vec::new(alloc))),
         }
     }
+}
+
+/// Puts a number after the others, if it isn't there. There is room for its client then.
+fn add_number(
+    numbers: &mut IndexSet<u16>,
+    clients: &mut Vec<Client>,
+    number: u16,
+) -> Result<(), AllocError>
+    ensures keys { OnOk result (numbers.new.keys ≡ (if list_any (λ m. number == m) numbers.old.keys
+        then numbers.old.keys else numbers.old.keys ++ number ∷ [])) }
+    ensures room { OnOk result (vec_len clients.new < vec_capacity clients.new) }
+    ensures clients { clients.new.items ≡ clients.old.items }
+    ensures unchanged { OnErr result (numbers.new.keys ≡ numbers.old.keys) }
+{
+    clients.reserve(1)?;
+    numbers.insert(number)?;
+    Ok(())
 }

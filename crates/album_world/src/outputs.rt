@@ -8,26 +8,21 @@ use album_permits::{Answer, Note, Out};
 use album_stamps::ClientNo;
 use std::alloc::{AllocError, Global};
 
-/// The outputs of a transition: the notes, then the numbers of the messages that are sent, and then the answer.
-pub fn outs_of(
+/// The notes of a transition as outputs, with room for so many outputs more.
+pub fn noted(
     alloc: Global,
-    before: u64,
     number: ClientNo,
     notes: &[Note],
-    sent: usize,
-    answer: Option<Answer>,
+    room: usize,
 ) -> Result<Vec<Out>, AllocError>
-    requires many { before < 2 ^ 63 }
-    requires few { sent ≤ MAX_READ_ITEMS }
-    ensures { IfOk result (λ outs. outs.items ≡ map (Out.Noted number) notes.now
-        ++ (numbers_after before sent ++ option_to_list (option_map (Out.Answered number) answer))) }
+    ensures notes { IfOk result (λ outs. outs.items ≡ map (Out.Noted number) notes.now) }
+    ensures room { IfOk result (λ outs. vec_len outs + room ≤ vec_capacity outs) }
 {
     let mut outs = Vec::new(alloc);
     for note in notes {
         outs.push(Out::Noted(number, *note))?;
     }
-    outs.reserve(sent + 1)?;
-    push_outputs(&mut outs, before, number, sent, answer);
+    outs.reserve(room)?;
     Ok(outs)
 }
 

@@ -1,6 +1,5 @@
-use Rattle.std.proofs.Common.{ap, ◌≡◌, ◌++◌, ◌∷◌, [], refl, arith, rules}
-use Rattle.std.proofs.lemmas.List.{map-append}
-use Rattle.album_lines.specs.Shapes.{spelled_entry, entry_shape_of}
+use Rattle.std.proofs.Common.{ap, ◌≡◌, ◌∷◌, arith}
+use Rattle.album_lines.specs.Shapes.{entry_shape_of}
 use Rattle.album_lines.specs.Tokens.{Takes}
 use Rattle.json.specs.Token.{end_array}
 use Rattle.json.specs.Json.{after_end_array}

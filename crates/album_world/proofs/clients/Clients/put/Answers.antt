@@ -13,4 +13,4 @@ invariant_of-self-2 c =
     let keys = keys_push clients c.self.inside.numbers.keys c.number.result c.args.client c.self.invariant
     (subst (λ (n : ℕ). has_number clients n ≡ false) same new) same in
     let pushed : c.push_reserved.new.self.items ≡ clients ++ c.args.client ∷ [] = search rules in
-    c.in_ok-insert.ensures.keys ∙ keys ∙ ap numbers_of (sym pushed)
+    c.in_ok-add_number.ensures.keys ∙ keys ∙ ap numbers_of (sym pushed)
