@@ -61,14 +61,22 @@ pub fn field<'v, 'a>(value: &'v Value<'a>, name: &str) -> Result<&'v Value<'a>, 
 }
 
 /// The text under a name of an object.
-pub(crate) fn text_under<'a>(value: &Value<'a>, name: &str) -> Result<&'a str, Refusal>
+///
+/// # Errors
+///
+/// `BadRequest`, where nothing stands there, or no text.
+pub fn text_under<'a>(value: &Value<'a>, name: &str) -> Result<&'a str, Refusal>
     ensures { Gives (λ t. t.now) result (under text_of name.now (value_data value.now)) }
 {
     text(field(value, name)?)
 }
 
 /// The whole number under a name of an object.
-pub(crate) fn whole_under(value: &Value<'_>, name: &str) -> Result<u64, Refusal>
+///
+/// # Errors
+///
+/// `BadRequest`, where nothing stands there, or no whole number.
+pub fn whole_under(value: &Value<'_>, name: &str) -> Result<u64, Refusal>
     ensures { Gives (λ n. n) result (under whole_of name.now (value_data value.now)) }
 {
     whole(field(value, name)?)
@@ -97,6 +105,17 @@ pub fn item<'v, 'a>(value: &'v Value<'a>, i: usize) -> Result<&'v Value<'a>, Ref
     ensures { Gives (λ v. value_data v.now) result (item_of i (value_data value.now)) }
 {
     nth(value, i).ok_or(Refusal::BadRequest)
+}
+
+/// The list under a name of an object.
+///
+/// # Errors
+///
+/// `BadRequest`, where nothing stands there, or no list.
+pub fn list_under<'v, 'a>(value: &'v Value<'a>, name: &str) -> Result<&'v Vec<Value<'a>>, Refusal>
+    ensures { Gives (λ v. items_data v.now.items) result (under list_of name.now (value_data value.now)) }
+{
+    list(field(value, name)?)
 }
 
 /// The text that an item of a list is.

@@ -32,7 +32,8 @@ mod judge_tokens;
 mod output;
 
 pub use fields::{
-    field, has, is_list, is_nothing, item, list, member, only, sized_list, text, truth, whole,
+    field, has, is_list, is_nothing, item, list, list_under, member, only, sized_list, text,
+    text_under, truth, whole, whole_under,
 };
 pub use judge_line::{Group, JudgeLine, questions_by_line, read_judge};
 pub use lines::{LineIn, Lines, any_pieces, joined_lines};

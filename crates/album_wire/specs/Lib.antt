@@ -4,7 +4,6 @@ pub mod AskSpelling
 pub mod OpeningSpelling
 pub mod EventSpelling
 pub mod TalkSpelling
-pub mod Fields
 pub mod ItemShapes
 pub mod ItemTexts
 pub mod OpeningShape

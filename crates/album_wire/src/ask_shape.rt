@@ -5,10 +5,12 @@ ghost use Rattle.album_lines.specs.Fields.{each};
 ghost use Rattle.album_wire.specs.AskShape.{spelled_new_list, spelled_new_membership, spelled_ask, read_shape_of, list_shape_of, get_list_shape_of, add_picture_shape_of, add_album_shape_of, retitle_shape_of, replace_shape_of, delete_shape_of, move_shape_of, new_list_shape_of, set_lists_shape_of, set_owner_shape_of, set_members_shape_of, new_membership_shape_of, share_shape_of, shape_by_word, ask_shape_of};
 ghost use Rattle.album_lines.specs.Trees.{value_data, items_data};
 
-use crate::fields::{list_under, text_under, whole_under};
 use crate::item_shapes::{item_named, item_under};
 use album_items::ItemId;
-use album_lines::{EntryShape, entry_shapes, field, item, only, sized_list, texts};
+use album_lines::{
+    EntryShape, entry_shapes, field, item, list_under, only, sized_list, text_under, texts,
+    whole_under,
+};
 use album_stamps::Refusal;
 use json::Value;
 use std::alloc::Global;

@@ -4,15 +4,14 @@ ghost use Rattle.std.specs.Prelude.{◌≡◌, ◌-◌, suc, nat_le};
 ghost use Rattle.std.specs.Option.{ok_or};
 ghost use Rattle.album_stamps.specs.Outcome.{Gives};
 ghost use Rattle.album_stamps.specs.Stamps.{client_of_number};
-ghost use Rattle.album_wire.specs.Fields.{under};
+ghost use Rattle.album_lines.specs.Fields.{under};
 ghost use Rattle.album_wire.specs.EventShape.{spelled_event, client_named, stamp_named, part_named, asked_shape_of, range_of, delivered_of, deliver_shape_of, sweep_of, sweep_shape_of, stop_shape_of, trim_of, trim_shape_of, event_shape_of};
 ghost use Rattle.album_lines.specs.Trees.{value_data};
 
 use crate::ask_shape::{AskShape, ask_shape};
-use crate::fields::{text_under, whole_under};
 use crate::item_shapes::item_under;
 use album_items::ItemId;
-use album_lines::{field, has, is_list, item, only, sized_list, whole};
+use album_lines::{field, has, is_list, item, only, sized_list, text_under, whole, whole_under};
 use album_permits::Event;
 use album_stamps::{ClientNo, Refusal, Stamp};
 use json::Value;

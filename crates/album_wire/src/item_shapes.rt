@@ -2,14 +2,15 @@
 //! picture, {title, owner, group, home, list, children} of an album, {entries} or {owner, group, list, members}.
 ghost use Rattle.std.specs.Prelude.{◌≡◌, map};
 ghost use Rattle.album_stamps.specs.Outcome.{Gives};
-ghost use Rattle.album_lines.specs.Fields.{each};
-ghost use Rattle.album_wire.specs.Fields.{under};
+ghost use Rattle.album_lines.specs.Fields.{each, under};
 ghost use Rattle.album_wire.specs.ItemShapes.{item_named, may_be_child, child_of, spelled_head, spelled_value, head_shape_of, home_shape_of, picture_shape_of, album_shape_of, list_shape_of, group_shape_of, value_shape_of};
 ghost use Rattle.album_lines.specs.Trees.{value_data, items_data};
 
-use crate::fields::{list_under, text_under, whole_under};
 use album_items::{ItemId, Kind, read_item};
-use album_lines::{EntryShape, entry_shapes, field, has, is_nothing, only, text, texts, whole};
+use album_lines::{
+    EntryShape, entry_shapes, field, has, is_nothing, list_under, only, text, text_under, texts,
+    whole, whole_under,
+};
 use album_stamps::Refusal;
 use json::Value;
 use std::alloc::Global;

@@ -12,9 +12,6 @@
 //! names are passed on here.
 #![tactic(auto)]
 
-// What stands under a name of an object.
-mod fields;
-
 // An opening: its items, and its lines.
 mod item_shapes;
 mod item_texts;

@@ -5,10 +5,9 @@ ghost use Rattle.album_lines.specs.Fields.{member_or, whole_of, truth_of};
 ghost use Rattle.album_wire.specs.OpeningShape.{spelled_opening, header_of, open_shape_of, item_shape_of, begin_shape_of, opening_shape_of};
 ghost use Rattle.album_lines.specs.Trees.{value_data};
 
-use crate::fields::whole_under;
 use crate::item_shapes::{ValueShape, item_under, value_shape};
 use album_items::ItemId;
-use album_lines::{field, has, member, only, truth, whole};
+use album_lines::{field, has, member, only, truth, whole, whole_under};
 use album_stamps::Refusal;
 use json::Value;
 use std::alloc::Global;

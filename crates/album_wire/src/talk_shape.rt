@@ -6,9 +6,8 @@ ghost use Rattle.album_lines.specs.Trees.{value_data};
 
 use crate::ask_shape::{AskShape, ask_shape};
 use crate::event_shape::{part_under, sweep, trim};
-use crate::fields::text_under;
 use album_items::ItemId;
-use album_lines::{field, has, only};
+use album_lines::{field, has, only, text_under};
 use album_stamps::{Refusal, Stamp};
 use json::Value;
 use std::alloc::Global;

@@ -135,7 +135,12 @@ pub fn serve_for<T: Host, R: Read, W: Write>(
         Ok(begun) => begun,
         Err(served) => return Ok(served),
     };
-    serve_opened::<T, &[u8], W>(rt, alloc, opened, &listener, None, writer, serving, audit)
+    let setup = Setup::<&[u8]> {
+        input: None,
+        serving,
+        audit,
+    };
+    serve_opened(rt, alloc, opened, &listener, writer, setup)
 }
 
 /// The same, to the end of the input behind the opening: then no connection begins any more, and each line that has
@@ -156,16 +161,12 @@ pub fn serve_until<T: Host, R: Read + Send + Drop, W: Write>(
         Ok(begun) => begun,
         Err(served) => return Ok(served),
     };
-    serve_opened(
-        rt,
-        alloc,
-        opened,
-        &listener,
-        Some(reader),
-        writer,
+    let setup = Setup {
+        input: Some(reader),
         serving,
         audit,
-    )
+    };
+    serve_opened(rt, alloc, opened, &listener, writer, setup)
 }
 
 /// The same, where the opening is read by itself, and the input beside it has nothing but its end.
@@ -186,16 +187,20 @@ pub fn serve_beside<T: Host, O: Read, R: Read + Send + Drop, W: Write>(
         Ok(begun) => begun,
         Err(served) => return Ok(served),
     };
-    serve_opened(
-        rt,
-        alloc,
-        opened,
-        &listener,
-        Some(input),
-        writer,
+    let setup = Setup {
+        input: Some(input),
         serving,
         audit,
-    )
+    };
+    serve_opened(rt, alloc, opened, &listener, writer, setup)
+}
+
+/// What a service is run with, beside its opening: the input behind that, if it is read, and the audit file.
+#[derive(Drop)]
+struct Setup<R: Drop> {
+    input: Option<R>,
+    serving: Serving,
+    audit: Option<AuditFile>,
 }
 
 /// The opening is read and opened, and the port is had; or else it is answered why not.
@@ -240,10 +245,8 @@ fn serve_opened<T, R, W>(
     alloc: Global,
     opened: Opened,
     listener: &TcpListener,
-    input: Option<R>,
     writer: &mut W,
-    serving: Serving,
-    audit: Option<AuditFile>,
+    setup: Setup<R>,
 ) -> Result<Served, Fault>
 where
     T: Net<Listener = TcpListener, Stream = TcpStream>
@@ -258,7 +261,7 @@ where
     R: Read + Send + Drop,
     W: Write,
 {
-    serve_at::<Brand, T, R, W>(rt, alloc, opened, listener, input, writer, serving, audit)?;
+    serve_at::<Brand, T, R, W>(rt, alloc, opened, listener, writer, setup)?;
     Ok(Served::Done)
 }
 
@@ -267,10 +270,8 @@ fn serve_at<J, T, R, W>(
     alloc: Global,
     opened: Opened,
     listener: &TcpListener,
-    input: Option<R>,
     writer: &mut W,
-    serving: Serving,
-    audit: Option<AuditFile>,
+    setup: Setup<R>,
 ) -> Result<(), Fault>
 where
     J: ServiceNames + Send + Sync + 'static,
@@ -289,9 +290,7 @@ where
         J.audit_ok J.audit_failed J.alarm_ok J.alarm_failed }
 {
     let (printer, notices) = Printer::open(rt, alloc)?;
-    let ended = serve_all::<J, T, R, W>(
-        rt, alloc, opened, listener, input, writer, serving, audit, notices,
-    );
+    let ended = serve_all::<J, T, R, W>(rt, alloc, opened, listener, writer, setup, notices);
     printer.close(&rt);
     let totals = ended?;
     print(alloc, &totals_out(totals), writer)
@@ -308,10 +307,8 @@ fn serve_all<J, T, R, W>(
     alloc: Global,
     opened: Opened,
     listener: &TcpListener,
-    input: Option<R>,
     writer: &mut W,
-    serving: Serving,
-    audit: Option<AuditFile>,
+    setup: Setup<R>,
     notices: Sender<Notice>,
 ) -> Result<Totals, Fault>
 where
@@ -330,12 +327,11 @@ where
     requires named { opened ≡ opened_as J.table J.terms J.policy J.list
         J.audit_ok J.audit_failed J.alarm_ok J.alarm_failed }
 {
-    let waker = Waker::new(rt, serving.port);
+    let port = setup.serving.port;
+    let waker = Waker::new(rt, port);
     let service = Service::<J>::open(rt, alloc, opened, waker)?;
-    let done = match print(alloc, &TalkOut::Serving(serving.port), writer) {
-        Ok(()) => attend_all(
-            rt, alloc, &service, listener, input, serving, audit, notices,
-        ),
+    let done = match print(alloc, &TalkOut::Serving(port), writer) {
+        Ok(()) => attend_all(rt, alloc, &service, listener, setup, notices),
         Err(fault) => Err(fault),
     };
     let is_broken = service.is_broken();
@@ -357,9 +353,7 @@ fn attend_all<J, T, R>(
     alloc: Global,
     service: &Service<J>,
     listener: &TcpListener,
-    input: Option<R>,
-    serving: Serving,
-    audit: Option<AuditFile>,
+    setup: Setup<R>,
     notices: Sender<Notice>,
 ) -> Result<(), Fault>
 where
@@ -375,9 +369,14 @@ where
         + 'static,
     R: Read + Send + Drop,
 {
+    let (gauge, unwritten, watched) = ends_of(alloc, service, &notices)?;
+    let Setup {
+        input,
+        serving,
+        audit,
+    } = setup;
     let limits = limits_of(&serving, input.is_some());
     let (port, stats) = (serving.port, serving.stats);
-    let (gauge, unwritten, watched) = ends_of(alloc, service, &notices)?;
     if audit.is_some() {
         service.keep_records(&rt);
     }
@@ -397,9 +396,10 @@ where
         watched,
     );
     if journal.has_failed() {
-        return Err(Fault::Writing);
+        Err(Fault::Writing)
+    } else {
+        Ok(())
     }
-    Ok(())
 }
 
 /// What the threads of a service look at and send by: its gauge, where the journal sends its notices, and a channel for
