@@ -1,4 +1,4 @@
-//! A store in a program of one's own. It is opened with a picture that amy alone may read, and two users ask to read it.
+//! A store in a program of one's own, opened with a picture that amy alone may read. Two users ask to read it.
 #![tactic(auto)]
 
 use album_server::{
