@@ -15,7 +15,7 @@ use std::process::ExitCode;
 /// # Errors
 ///
 /// `AllocError`, where there is no memory for it.
-pub fn ask_command<'a>(alloc: Global) -> Result<Command<'a>, AllocError> {
+pub(crate) fn ask_command<'a>(alloc: Global) -> Result<Command<'a>, AllocError> {
     let who = Arg::new(alloc, "as")
         .long("as")
         .value_name("WHO")
@@ -37,7 +37,7 @@ pub fn ask_command<'a>(alloc: Global) -> Result<Command<'a>, AllocError> {
 
 /// Asks the service at the port what the reader has, line by line. The status is 1 where it isn't there, refuses who
 /// asks, or goes away before the end.
-pub fn ask_service<T, R: Read, W: Write>(
+pub(crate) fn ask_service<T, R: Read, W: Write>(
     rt: &T,
     alloc: Global,
     requests: &mut R,

@@ -21,7 +21,7 @@ use std::rt::Files;
 /// # Errors
 ///
 /// `AllocError`, where there is no memory for it.
-pub fn explain_command<'a>(alloc: Global) -> Result<Command<'a>, AllocError> {
+pub(crate) fn explain_command<'a>(alloc: Global) -> Result<Command<'a>, AllocError> {
     Command::new(alloc, "explain")
         .about(EXPLAIN_ABOUT)
         .subcommand_required(true)
@@ -51,7 +51,7 @@ fn lines_command<'a>(
 /// # Errors
 ///
 /// `AllocError`, where there is no memory for it.
-pub fn mask_command<'a>(alloc: Global) -> Result<Command<'a>, AllocError> {
+pub(crate) fn mask_command<'a>(alloc: Global) -> Result<Command<'a>, AllocError> {
     bits_command(alloc, "mask", MASK_ABOUT)
 }
 
@@ -60,7 +60,7 @@ pub fn mask_command<'a>(alloc: Global) -> Result<Command<'a>, AllocError> {
 /// # Errors
 ///
 /// `AllocError`, where there is no memory for it.
-pub fn flags_command<'a>(alloc: Global) -> Result<Command<'a>, AllocError> {
+pub(crate) fn flags_command<'a>(alloc: Global) -> Result<Command<'a>, AllocError> {
     bits_command(alloc, "flags", FLAGS_ABOUT)
 }
 
@@ -79,7 +79,7 @@ fn bits_command<'a>(
 }
 
 /// Explains the lines of each file that is named, or else those of the reader. The status is 1 where one is refused.
-pub fn explain_lines<T: Files + Eprint, R: Read, W: Write>(
+pub(crate) fn explain_lines<T: Files + Eprint, R: Read, W: Write>(
     rt: &T,
     alloc: Global,
     reader: &mut R,
@@ -136,7 +136,7 @@ fn explain_each<R: Read, W: Write>(
 }
 
 /// Prints what the names, or the number, of `mask` or `flags` are.
-pub fn tell_bits<T: Eprint, W: Write>(
+pub(crate) fn tell_bits<T: Eprint, W: Write>(
     rt: &T,
     alloc: Global,
     writer: &mut W,

@@ -13,7 +13,7 @@ use std::rt::Files;
 /// # Errors
 ///
 /// `AllocError`, where there is no memory for it.
-pub fn judge_command<'a>(alloc: Global) -> Result<Command<'a>, AllocError> {
+pub(crate) fn judge_command<'a>(alloc: Global) -> Result<Command<'a>, AllocError> {
     let questions = Arg::new(alloc, "FILE")
         .help("Files of questions, in the place of standard input")
         .num_args(0..);
@@ -24,7 +24,7 @@ pub fn judge_command<'a>(alloc: Global) -> Result<Command<'a>, AllocError> {
 }
 
 /// Answers the lines of each file that is named, to its end, or else those of the reader.
-pub fn judge_lines<T: Files + Eprint, R: Read, W: Write>(
+pub(crate) fn judge_lines<T: Files + Eprint, R: Read, W: Write>(
     rt: &T,
     alloc: Global,
     reader: &mut R,

@@ -1,23 +1,23 @@
-//! The subcommands of `album` that need no running service.
+//! The command line of `album`, and its subcommands that need no running service.
 //!
-//! What comes in: a command line that was read, a reader and a writer. What goes out: lines, and the status that the
-//! program ends with. Each file has a subcommand: its arguments, and what it does. `album` adds `serve`.
+//! What comes in: the words of a command line, a reader and a writer. What goes out: lines, and the status that the
+//! program ends with. Each file has a subcommand: its arguments, and what it does; `album` does what `serve` says.
 //!
-//! Read `judging` first; `running` has what all of them share.
+//! Read `command_line` first; `running` has what all of them share.
 #![tactic(auto)]
+
+mod command_line;
 
 // The subcommands.
 mod asking;
 mod explaining;
 mod judging;
 mod replaying;
+mod serving;
 
 // What they share.
 mod running;
 mod texts;
 
-pub use asking::{ask_command, ask_service};
-pub use explaining::{explain_command, explain_lines, flags_command, mask_command, tell_bits};
-pub use judging::{judge_command, judge_lines};
-pub use replaying::{replay_command, replay_lines};
-pub use running::{TURNS, open, port_arg, status};
+pub use command_line::{parse, refuse, refuse_words, run};
+pub use running::{TURNS, open, status};

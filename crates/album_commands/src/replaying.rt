@@ -16,7 +16,7 @@ use std::rt::Files;
 /// # Errors
 ///
 /// `AllocError`, where there is no memory for it.
-pub fn replay_command<'a>(alloc: Global) -> Result<Command<'a>, AllocError> {
+pub(crate) fn replay_command<'a>(alloc: Global) -> Result<Command<'a>, AllocError> {
     let trace = Arg::new(alloc, "trace")
         .long("trace")
         .help("Prints each message that is sent, as if the opening said so")
@@ -38,7 +38,7 @@ pub fn replay_command<'a>(alloc: Global) -> Result<Command<'a>, AllocError> {
 
 /// Replays the lines of the file that is named, or else those of the reader, to their end or to the refusal of their
 /// opening.
-pub fn replay_lines<T: Files + Eprint, R: Read, W: Write>(
+pub(crate) fn replay_lines<T: Files + Eprint, R: Read, W: Write>(
     rt: &T,
     alloc: Global,
     reader: &mut R,

@@ -30,7 +30,7 @@ pub fn status(rt: &impl Eprint, outcome: Result<(), Fault>) -> ExitCode {
 }
 
 /// The argument that names a port.
-pub fn port_arg<'a>(alloc: Global) -> Arg<'a> {
+pub(crate) fn port_arg<'a>(alloc: Global) -> Arg<'a> {
     Arg::new(alloc, "PORT")
         .help("The port of 127.0.0.1")
         .required(true)

@@ -1,0 +1,155 @@
+//! The subcommand `serve`: a service of the port that the command line names.
+
+use album_commands::{TURNS, open, status};
+use album_server::{
+    Admins, AuditFile, Fault, Host, Refusal, Served, Serving, serve_beside, serve_for, serve_until,
+};
+use clap::ArgMatches;
+use std::alloc::Global;
+use std::fs::{File, OpenOptions};
+use std::io::{Read, Write};
+use std::net::{Net, TcpListener, TcpStream};
+use std::process::ExitCode;
+use std::rt::Files;
+use std::sync::Wait;
+use std::thread::Threads;
+use std::time;
+
+/// Runs the service that the command line names, to its end. The bound has that of `Host`, written out: the borrow
+/// checker wants the types that it names where `main` calls this.
+pub(crate) fn serve<T, R: Read + Send + Drop, W: Write>(
+    rt: T,
+    alloc: Global,
+    reader: R,
+    writer: &mut W,
+    matches: &ArgMatches<'_>,
+) -> ExitCode
+where
+    T: Net<Listener = TcpListener, Stream = TcpStream>
+        + Threads
+        + Wait
+        + time::Clock
+        + Eprint
+        + Files<File = File>
+        + Copy
+        + Send
+        + Sync
+        + 'static,
+{
+    let matches = matches.subcommand_matches("serve");
+    let admins = match admins(alloc, matches) {
+        Ok(admins) => admins,
+        Err(why) => return refuse_admins(&rt, why),
+    };
+    match audit_file(&rt, alloc, matches) {
+        Ok(audit) => served(
+            &rt,
+            serve_port(rt, alloc, reader, writer, matches, admins, audit),
+        ),
+        Err(fault) => status(&rt, Err(fault)),
+    }
+}
+
+/// Serves the port.
+fn serve_port<T: Host + Files, R: Read + Send + Drop, W: Write>(
+    rt: T,
+    alloc: Global,
+    reader: R,
+    writer: &mut W,
+    matches: Option<&ArgMatches<'_>>,
+    admins: Admins,
+    audit: Option<AuditFile>,
+) -> Result<Served, Fault> {
+    let serving = serving_of(matches, admins);
+    let until_eof = matches.is_some_and(|m| m.get_flag("until-eof"));
+    match matches.and_then(|m| m.get_str("opening")) {
+        None => serve_input(rt, alloc, reader, writer, serving, audit, until_eof),
+        Some(path) => {
+            let mut opening = open(&rt, path)?;
+            if until_eof {
+                return serve_beside(rt, alloc, &mut opening, reader, writer, serving, audit);
+            }
+            serve_for(rt, alloc, &mut opening, writer, serving, audit)
+        }
+    }
+}
+
+/// The same, where the input has the opening.
+fn serve_input<T: Host, R: Read + Send + Drop, W: Write>(
+    rt: T,
+    alloc: Global,
+    mut reader: R,
+    writer: &mut W,
+    serving: Serving,
+    audit: Option<AuditFile>,
+    until_eof: bool,
+) -> Result<Served, Fault> {
+    if until_eof {
+        return serve_until(rt, alloc, reader, writer, serving, audit);
+    }
+    serve_for(rt, alloc, &mut reader, writer, serving, audit)
+}
+
+/// What the command line says of the service.
+fn serving_of(matches: Option<&ArgMatches<'_>>, admins: Admins) -> Serving {
+    let conns = matches.and_then(|m| m.get_one::<u16>("conns"));
+    Serving {
+        port: matches.and_then(|m| m.get_one::<u16>("PORT")).unwrap_or(0),
+        conns: conns.unwrap_or(u16::MAX),
+        turns: TURNS,
+        idle: matches.and_then(|m| m.get_one::<u32>("idle")).unwrap_or(0),
+        stats: matches.and_then(|m| m.get_one::<u32>("stats")).unwrap_or(0),
+        admins,
+    }
+}
+
+/// The audit file that the command line names.
+fn audit_file<T: Files<File = File> + Eprint>(
+    rt: &T,
+    alloc: Global,
+    matches: Option<&ArgMatches<'_>>,
+) -> Result<Option<AuditFile>, Fault> {
+    let Some(name) = matches.and_then(|m| m.get_str("audit")) else {
+        return Ok(None);
+    };
+    let path = String::from_str(alloc, name).map_err(|_| Fault::Memory)?;
+    let file = open_to_append(rt, name)?;
+    Ok(Some(AuditFile { path, file }))
+}
+
+/// The file at the path, made where there is none, to be appended to. Why it can't be is told on standard error.
+fn open_to_append<T: Files + Eprint>(rt: &T, path: &str) -> Result<T::File, Fault> {
+    let opened = OpenOptions::new().append(true).create(true).open(rt, path);
+    opened.map_err(|error| {
+        let _ = eprintln!(rt; "album: {path}: {error}");
+        Fault::Writing
+    })
+}
+
+/// Who may do more than ask, by the command line.
+fn admins(alloc: Global, matches: Option<&ArgMatches<'_>>) -> Result<Admins, Refusal> {
+    let words: &[&str] = matches.and_then(|m| m.get_strs("admin")).unwrap_or(&[]);
+    Admins::named(alloc, words)
+}
+
+/// One who is named isn't a user or `ANONYMOUS@`, or there is no memory for it.
+fn refuse_admins(rt: &impl Eprint, why: Refusal) -> ExitCode {
+    if matches!(why, Refusal::OutOfMemory) {
+        return status(rt, Err(Fault::Memory));
+    }
+    let _ = eprintln!(rt; "error: invalid value for '--admin <WHO>': {why}");
+    ExitCode::from(2)
+}
+
+/// The status of a service that has ended.
+fn served(rt: &impl Eprint, outcome: Result<Served, Fault>) -> ExitCode {
+    match outcome {
+        Ok(Served::Done) => ExitCode::SUCCESS,
+        Ok(Served::Refused) => ExitCode::from(1),
+        Ok(Served::NoPort) => {
+            let _ = eprintln!(rt; "album: port refused");
+            ExitCode::from(1)
+        }
+        Err(fault) => status(rt, Err(fault)),
+    }
+}

@@ -1,0 +1,91 @@
+//! The command line of `album`: its subcommands, how it is read, and what is done by those that need no running service.
+
+use crate::asking::{ask_command, ask_service};
+use crate::explaining::{explain_command, explain_lines, flags_command, mask_command, tell_bits};
+use crate::judging::{judge_command, judge_lines};
+use crate::replaying::{replay_command, replay_lines};
+use crate::running::status;
+use crate::serving::serve_command;
+use crate::texts::{ABOUT, NO_TEXT};
+use album_judge::Fault;
+use clap::error::ErrorKind;
+use clap::{ArgMatches, Command, Error};
+use std::alloc::{AllocError, Global};
+use std::io;
+use std::io::{Read, Write};
+use std::net::{Net, TcpListener, TcpStream};
+use std::process::ExitCode;
+use std::rt::Files;
+
+/// The program's version. Which commit it was built of it doesn't know.
+const VERSION: &str = "0.1.0";
+
+/// Reads the words of the command line.
+///
+/// # Errors
+///
+/// clap's: help that was asked for, why the words are refused, or that there was no memory.
+pub fn parse<'a>(alloc: Global, words: &'a [String]) -> Result<ArgMatches<'a>, Error> {
+    let command: Command<'a> = album_command(alloc)?;
+    command.try_get_matches_from(words)
+}
+
+fn album_command<'a>(alloc: Global) -> Result<Command<'a>, AllocError> {
+    Command::new(alloc, "album")
+        .about(ABOUT)
+        .version(VERSION)
+        .subcommand_required(true)
+        .subcommand(judge_command(alloc)?)?
+        .subcommand(replay_command(alloc)?)?
+        .subcommand(serve_command(alloc)?)?
+        .subcommand(ask_command(alloc)?)?
+        .subcommand(explain_command(alloc)?)?
+        .subcommand(mask_command(alloc)?)?
+        .subcommand(flags_command(alloc)?)
+}
+
+/// Does what the command line names, but for `serve`, and gives the status that the program ends with. On a terminal
+/// `ask` has a prompt.
+pub fn run<T, R: Read, W: Write>(
+    rt: &T,
+    alloc: Global,
+    reader: &mut R,
+    writer: &mut W,
+    matches: &ArgMatches<'_>,
+    has_prompt: bool,
+) -> ExitCode
+where
+    T: Net<Listener = TcpListener, Stream = TcpStream> + Files + Eprint,
+{
+    match matches.subcommand_name() {
+        Some("judge") => status(rt, judge_lines(rt, alloc, reader, writer, matches)),
+        Some("replay") => replay_lines(rt, alloc, reader, writer, matches),
+        Some("explain") => explain_lines(rt, alloc, reader, writer, matches),
+        Some("ask") => ask_service(rt, alloc, reader, writer, matches, has_prompt),
+        Some("mask") => tell_bits(rt, alloc, writer, matches, "mask"),
+        Some("flags") => tell_bits(rt, alloc, writer, matches, "flags"),
+        // No other command line has matched.
+        _ => ExitCode::from(2),
+    }
+}
+
+/// Prints the help that was asked for, or why the command line is refused.
+pub fn refuse<T: Print + Eprint>(rt: &T, error: &Error) -> ExitCode {
+    if error.kind() == ErrorKind::OutOfMemory {
+        return status(rt, Err(Fault::Memory));
+    }
+    let printed = error.print(rt);
+    if error.use_stderr() {
+        return ExitCode::from(2);
+    }
+    status(rt, printed.map_err(|_| Fault::Writing))
+}
+
+/// The words could not be read: there was no memory for them, or one is no text.
+pub fn refuse_words(rt: &impl Eprint, error: &io::Error) -> ExitCode {
+    if error.kind() == io::ErrorKind::OutOfMemory {
+        return status(rt, Err(Fault::Memory));
+    }
+    let _ = eprintln!(rt; "{NO_TEXT}");
+    ExitCode::from(2)
+}

@@ -1,0 +1,81 @@
+//! The subcommand `serve`: its arguments. `album` runs the service.
+
+use crate::running::port_arg;
+use crate::texts::{SERVE_ABOUT, SERVE_HELP};
+use clap::{Arg, ArgAction, Command, value_parser};
+use std::alloc::{AllocError, Global};
+
+/// The subcommand `serve`, with its arguments.
+///
+/// # Errors
+///
+/// `AllocError`, where there is no memory for it.
+pub(crate) fn serve_command<'a>(alloc: Global) -> Result<Command<'a>, AllocError> {
+    Command::new(alloc, "serve")
+        .about(SERVE_ABOUT)
+        .after_help(SERVE_HELP)
+        .arg(port_arg(alloc))?
+        .arg(conns_arg(alloc))?
+        .arg(idle_arg(alloc))?
+        .arg(until_eof_arg(alloc))?
+        .arg(opening_arg(alloc))?
+        .arg(admin_arg(alloc))?
+        .arg(stats_arg(alloc))?
+        .arg(audit_arg(alloc))
+}
+
+fn conns_arg<'a>(alloc: Global) -> Arg<'a> {
+    Arg::new(alloc, "conns")
+        .long("conns")
+        .value_name("N")
+        .help("How many connections are served")
+        .value_parser(value_parser!(u16).range(1..))
+        .default_value("65535")
+}
+
+fn idle_arg<'a>(alloc: Global) -> Arg<'a> {
+    Arg::new(alloc, "idle")
+        .long("idle")
+        .value_name("SECONDS")
+        .help("A connection that says nothing for so long ends")
+        .value_parser(value_parser!(u32).range(1..))
+}
+
+fn until_eof_arg<'a>(alloc: Global) -> Arg<'a> {
+    Arg::new(alloc, "until-eof")
+        .long("until-eof")
+        .help("Serves until standard input ends, and then lets what has begun be answered")
+        .action(ArgAction::SetTrue)
+}
+
+fn opening_arg<'a>(alloc: Global) -> Arg<'a> {
+    Arg::new(alloc, "opening")
+        .long("opening")
+        .value_name("FILE")
+        .help("A file with the opening, in the place of standard input")
+}
+
+fn admin_arg<'a>(alloc: Global) -> Arg<'a> {
+    Arg::new(alloc, "admin")
+        .long("admin")
+        .value_name("WHO")
+        .help(
+            "Who may sweep, trim and ask what is pending, in the place of everyone; may be given again",
+        )
+        .action(ArgAction::Append)
+}
+
+fn stats_arg<'a>(alloc: Global) -> Arg<'a> {
+    Arg::new(alloc, "stats")
+        .long("stats")
+        .value_name("SECONDS")
+        .help("How often the figures of the service are told on standard error")
+        .value_parser(value_parser!(u32).range(1..))
+}
+
+fn audit_arg<'a>(alloc: Global) -> Arg<'a> {
+    Arg::new(alloc, "audit")
+        .long("audit")
+        .value_name("FILE")
+        .help("A file to which each note is appended, before its request is answered")
+}
