@@ -1,9 +1,11 @@
 //! Asks: a session's client, driven by what the partitions reply.
-ghost use Rattle.std.specs.Prelude.{◌≡◌, ◌≤◌, ◌⊎◌, false, None, Some, Err, All, IsTrue, IfOk, IfErr, IfSome, OnErr};
+ghost use Rattle.std.specs.Prelude.{◌≡◌, ◌≤◌, ◌⊎◌, false, None, Some, Err, All, IsTrue, IfOk, IfErr, IfSome, OnErr, IsOkUnless};
 ghost use Rattle.album_client.specs.Clients.{is_reading};
-ghost use Rattle.album_client.specs.Transitions.{client_of};
+ghost use Rattle.album_client.specs.Steps.{read_begins};
+ghost use Rattle.album_client.specs.Transitions.{client_of, IsMoved};
 ghost use Rattle.album_passes.specs.Cuts.{Extends, IsSound};
 ghost use Rattle.album_stamps.specs.Stamps.{is_client};
+ghost use Rattle.album_views.specs.Asks.{objects_of};
 ghost use Rattle.album_views.specs.Checks.{refusal_of};
 ghost use Rattle.album_sessions.specs.Asks.{IsOn};
 ghost use Rattle.album_keepers.specs.Envelopes.{Shows};
@@ -63,11 +65,34 @@ impl<J: ServiceNames> Session<J> {
     {
         self.channel.is_sound();
         ask.check(principal)?;
-        let topic = Topic::of(&ask);
-        if let Some(answer) = self.tries(rt, principal, &ask, &topic)? {
+        let answer = self.answers(rt, principal, &ask);
+        drop(ask);
+        answer
+    }
+
+    /// Asks by a hint, if there is one that serves, and else with a read of the objects.
+    ///
+    /// # Errors
+    ///
+    /// `Closed` or `OutOfMemory`.
+    fn answers<R: Wait + time::Clock>(
+        &mut self,
+        rt: &R,
+        principal: &Principal,
+        ask: &Ask,
+    ) -> Result<Answer, Refusal>
+        requires taken { refusal_of ask.now principal.now ≡ None }
+        ensures rests { IfOk result (RestsOn J.terms.limit J.policy principal.now ask.now self.old self.new) }
+        ensures refused { IfErr result IsClosedOrOutOfMemory }
+        ensures unbegun { OnErr result (AddsNothing self.old self.new) }
+        ensures on { IsOn self.old self.new }
+    {
+        self.channel.is_sound();
+        let topic = Topic::of(ask);
+        if let Some(answer) = self.tries(rt, principal, ask, &topic)? {
             return Ok(answer);
         }
-        self.asks_by_objects(rt, principal, &ask, &topic)
+        self.asks_by_objects(rt, principal, ask, &topic)
     }
 
     /// Asks with a read of the objects at first, and anew where a read is overtaken: until one isn't, since whoever
@@ -122,8 +147,8 @@ impl<J: ServiceNames> Session<J> {
         ensures on { IsOn self.old self.new }
     {
         self.channel.is_sound();
-        let (asked, phase) = self.begins(rt, principal, ask.copy()?)?;
-        let course = Course::plain(topic.again());
+        let (asked, phase) = self.begins(rt, principal, ask)?;
+        let course = Course::plain(topic);
         self.drives(rt, asked, phase, &course)
     }
 
@@ -174,17 +199,17 @@ impl<J: ServiceNames> Session<J> {
         &mut self,
         rt: &R,
         principal: &Principal,
-        ask: Ask,
+        ask: &Ask,
     ) -> Result<(Asked, Phase), Refusal>
-        requires taken { refusal_of ask principal.now ≡ None }
+        requires taken { refusal_of ask.now principal.now ≡ None }
         ensures way { (session : SessionState) → IsStill session self.old
-            → IfOk result (IsBegunFor J.policy principal.now ask session false self.new) }
+            → IfOk result (IsBegunFor J.policy principal.now ask.now session false self.new) }
         ensures refused { IfErr result IsClosedOrOutOfMemory }
         ensures same { self.new ≡ self.old }
     {
         self.channel.is_open()?;
         self.channel.is_sound();
-        let transition = self.client_step().ask(self.tag, principal.copy()?, ask)?;
+        let transition = begun(self.client_step(), self.tag, principal, ask)?;
         self.starts(rt, transition)
     }
 
@@ -207,8 +232,13 @@ impl<J: ServiceNames> Session<J> {
         let _reads = transition.client.phase.is_reading();
         let (phase, sent) = work_of(transition);
         self.tag = phase.tag();
-        let asked = self.channel.send_round(rt, sent)?;
-        Ok((asked, phase))
+        match self.channel.send_round(rt, sent) {
+            Ok(asked) => Ok((asked, phase)),
+            Err(why) => {
+                drop(phase);
+                Err(why)
+            }
+        }
     }
 
     /// The client, and the terms on which it asks.
@@ -263,17 +293,40 @@ impl<J: ServiceNames> Session<J> {
         let tries = course.tries(reads);
         let transition = match self.gives(&asked, phase, heard) {
             Ok(transition) => transition,
-            Err(why) => return given_up(tries, stamp, why),
+            Err(why) => {
+                drop(asked);
+                return given_up(tries, stamp, why);
+            }
         };
         if is_in_vain(tries, &transition) {
+            drop(asked);
+            drop(transition);
             return Ok(Way::InVain);
         }
         self.remembers(course, reads, &asked, &transition);
         match self.takes_over(rt, transition)? {
-            Reaction::Answers(answer) => Ok(Way::Answered(answer)),
+            Reaction::Answers(answer) => {
+                drop(asked);
+                Ok(Way::Answered(answer))
+            }
             Reaction::Sends(phase, sent) => self.sends(rt, asked, phase, sent),
         }
     }
+}
+
+/// The client's first step where it reads the objects of the ask.
+fn begun(
+    client_step: ClientStep,
+    tag: u64,
+    principal: &Principal,
+    ask: &Ask,
+) -> Result<Transition, Refusal>
+    requires taken { refusal_of ask.now principal.now ≡ None }
+    ensures transition { IfOk result (IsMoved (read_begins client_step.terms (client_of client_step) tag
+        (record { viewing = record { ask = ask.now; reads = 0 }; principal = principal.now }) (objects_of ask.now))) }
+    ensures memory { IsOkUnless result Refusal.OutOfMemory }
+{
+    client_step.ask(tag, principal.copy()?, ask.copy()?)
 }
 
 /// What the client does from then on, and what it sends.

@@ -3,7 +3,8 @@
 ghost use Rattle.std.specs.Prelude.{◌≡◌, ◌==◌, ◌&&◌, false, true, None, Ok, Err, IfOk, IfErr, IfSome, IfNone, OnErr};
 ghost use Rattle.std.specs.List.{list_any};
 ghost use Rattle.album_stamps.specs.declared.refusals.Refusal.{Refusal};
-ghost use Rattle.album_views.specs.Checks.{refusal_of};
+ghost use Rattle.album_views.specs.Asks.{objects_of};
+ghost use Rattle.album_views.specs.Checks.{flaw_of, refusal_of};
 ghost use Rattle.album_views.specs.Steps.{AreReadable};
 ghost use Rattle.album_sessions.specs.Asks.{IsOn};
 ghost use Rattle.album_sessions.specs.Hints.{are_among, is_busy, is_without_view, item_asked, items_asked};
@@ -29,7 +30,7 @@ use std::sync::Wait;
 use std::time;
 
 /// How an ask goes: by a hint, or else by its objects, and of which topic it is.
-#[derive(Drop)]
+#[derive(Clone, Copy)]
 pub(crate) struct Course {
     pub(crate) hinted: bool,
     topic: Topic,
@@ -37,12 +38,12 @@ pub(crate) struct Course {
 
 impl Course {
     /// By its objects.
-    pub(crate) fn plain(topic: Topic) -> Course
+    pub(crate) fn plain(topic: &Topic) -> Course
         ensures { result.hinted ≡ false }
     {
         Course {
             hinted: false,
-            topic,
+            topic: *topic,
         }
     }
 
@@ -52,7 +53,7 @@ impl Course {
     {
         Course {
             hinted: true,
-            topic: topic.again(),
+            topic: *topic,
         }
     }
 
@@ -124,11 +125,8 @@ impl<J: ServiceNames> Session<J> {
         requires readable { AreReadable items }
         ensures { IfSome result (IsBegunWith J.policy principal.now ask.now self.now) }
     {
-        let (viewing, objects) = Viewing::start(self.alloc, ask.copy().ok()?).ok()?;
-        if !are_among(objects.as_slice(), items.as_slice()) {
-            return None;
-        }
         let principal = principal.copy().ok()?;
+        let viewing = viewing_of(self.alloc, ask, items.as_slice())?;
         match self
             .client_step()
             .ask_for(self.tag, principal, viewing, items)
@@ -156,8 +154,23 @@ impl<J: ServiceNames> Session<J> {
             return;
         }
         if let Ok(items) = items_asked(self.alloc, &asked.sent) {
-            self.hints.keep(Hint::new(course.topic.again(), items));
+            self.hints.keep(Hint::new(course.topic, items));
         }
+    }
+}
+
+/// The ask as it is viewed first, if its objects are among these items.
+fn viewing_of(alloc: Global, ask: &Ask, items: &[ItemId]) -> Option<Viewing>
+    requires sound { flaw_of ask.now ≡ None }
+    ensures viewing { IfSome result (λ viewing. viewing ≡ record { ask = ask.now; reads = 0 }) }
+    ensures objects { IfSome result (λ _. are_among (objects_of ask.now) items.now ≡ true) }
+{
+    let (viewing, objects) = Viewing::start(alloc, ask.copy().ok()?).ok()?;
+    if are_among(objects.as_slice(), items) {
+        Some(viewing)
+    } else {
+        drop(viewing);
+        None
     }
 }
 

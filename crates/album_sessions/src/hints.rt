@@ -25,7 +25,7 @@ enum Relatives {
 }
 
 /// What asks have in common that look at the same items: their first object, and which relatives they look at.
-#[derive(Drop)]
+#[derive(Clone, Copy)]
 pub(crate) struct Topic {
     object: Option<ItemId>,
     relatives: Relatives,
@@ -37,14 +37,6 @@ impl Topic {
         Topic {
             object: first_object(ask),
             relatives: relatives_of(ask),
-        }
-    }
-
-    /// The same once more.
-    pub(crate) fn again(&self) -> Topic {
-        Topic {
-            object: self.object,
-            relatives: self.relatives,
         }
     }
 

@@ -54,7 +54,10 @@ impl<J: ServiceNames> Session<J> {
     {
         // What is refused by its check has not listened either.
         self.channel.is_sound();
-        ask.check(principal)?;
+        if let Err(why) = ask.check(principal) {
+            drop(ask);
+            return Err(why);
+        }
         let listened = self.listen(rt);
         let answer = self.ask(rt, principal, ask)?;
         let published = self.publish(rt);

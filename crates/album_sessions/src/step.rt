@@ -249,7 +249,14 @@ fn taken(
         IsMoved (transition_of client_step.terms (client_of client_step) reply phase) transition)) }
     ensures refused { IfErr result (IsNoReply (is_reading phase)) }
 {
-    match client_step.take(phase, &heard?) {
+    let reply = match heard {
+        Ok(reply) => reply,
+        Err(why) => {
+            drop(phase);
+            return Err(why);
+        }
+    };
+    match client_step.take(phase, &reply) {
         Ok(transition) => Ok(transition),
         Err(why) => Err(NoReply::Refused(why)),
     }
@@ -273,7 +280,10 @@ fn by_answer(phase: Phase, sent: Vec<Message>, answer: Option<Answer>) -> Reacti
     ensures { IsReaction phase sent.items answer result }
 {
     match answer {
-        Some(answer) => Reaction::Answers(answer),
+        Some(answer) => {
+            drop(phase);
+            Reaction::Answers(answer)
+        }
         None => Reaction::Sends(phase, sent),
     }
 }
@@ -282,7 +292,9 @@ fn by_answer(phase: Phase, sent: Vec<Message>, answer: Option<Answer>) -> Reacti
 fn stamp_of(phase: Phase) -> Option<Stamp>
     ensures { result ≡ stamp_at_work phase }
 {
-    phase.stamp()
+    let stamp = phase.stamp();
+    drop(phase);
+    stamp
 }
 
 /// What comes of an ask that goes no further: that is the answer to it, where a write of this stamp has begun.

@@ -9,8 +9,8 @@ use Rattle.album_sessions.proofs.session.Session.ask_in_order.Goals as goal
 -- it is refused
 pub returns-in_err-answer-clause-grown : goal.returns-in_err-answer-clause-grown
 returns-in_err-answer-clause-grown g c =
-    extends_trans c.args.self.now.cut c.listen-listened.new.self.cut c.ask-2.new.self.cut
-    c.listen-listened.ensures.still.on.grown c.ask-2.ensures.grown
+    extends_trans c.args.self.now.cut c.listen-listened.new.self.cut c.ask.new.self.cut
+    c.listen-listened.ensures.still.on.grown c.ask.ensures.grown
 
 -- it is answered, and what the session has seen then is published
 pub returns-clause-in_order : goal.returns-clause-in_order
@@ -36,12 +36,12 @@ returns-clause-rests g c =
     let old = c.args.self.now in
     subst (λ (s : SessionState). RestsOn limit policy c.args.principal.now c.args.ask old s answer)
     (sym c.publish-published.ensures.same)
-    (rests_still old c.listen-listened.new.self c.ask-2.new.self c.listen-listened.ensures.still
-    c.ask-2.ensures.grown c.ask-2.ensures.sound policy c.args.principal.now c.args.ask limit answer
+    (rests_still old c.listen-listened.new.self c.ask.new.self c.listen-listened.ensures.still
+    c.ask.ensures.grown c.ask.ensures.sound policy c.args.principal.now c.args.ask limit answer
     c.in_ok-answer.ensures.rests)
 
 pub returns-clause-grown : goal.returns-clause-grown
 returns-clause-grown g c =
     subst (λ (s : SessionState). Extends c.args.self.now.cut s.cut) (sym c.publish-published.ensures.same)
-    (extends_trans c.args.self.now.cut c.listen-listened.new.self.cut c.ask-2.new.self.cut
-    c.listen-listened.ensures.still.on.grown c.ask-2.ensures.grown)
+    (extends_trans c.args.self.now.cut c.listen-listened.new.self.cut c.ask.new.self.cut
+    c.listen-listened.ensures.still.on.grown c.ask.ensures.grown)
