@@ -1,4 +1,6 @@
 //! Asks: a session's client, driven by what the partitions reply.
+//!
+//! What owns much is let go by a call of `drop`: the prover looks at its parts once, and not at each way out.
 ghost use Rattle.std.specs.Prelude.{◌≡◌, ◌≤◌, ◌⊎◌, false, None, Some, Err, All, IsTrue, IfOk, IfErr, IfSome, OnErr, IsOkUnless};
 ghost use Rattle.album_client.specs.Clients.{is_reading};
 ghost use Rattle.album_client.specs.Steps.{read_begins};
@@ -16,10 +18,10 @@ ghost use Rattle.album_channels.specs.Channels.{IsClosedOrOutOfMemory, IsNoReply
 ghost use Rattle.album_sessions.specs.Sessions.{SessionState, AddsNothing};
 ghost use Rattle.album_sessions.specs.Steps.{client_step_in, terms_in, IsBegunFor, IsDone, IsLed, IsSomehowUnderWay, IsSomehowWaited, IsStarted, IsStill, IsWaited};
 
+use crate::hinted::{Course, given_up, is_in_vain};
 use crate::hints::Topic;
 use crate::service_names::ServiceNames;
 use crate::session::Session;
-use crate::hinted::{Course, given_up, is_in_vain};
 use crate::step::Reaction;
 use album_calls::Message;
 use album_channels::{Asked, NoReply};

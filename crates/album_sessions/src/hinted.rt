@@ -12,10 +12,10 @@ ghost use Rattle.album_channels.specs.Channels.{IsClosedOrOutOfMemory};
 ghost use Rattle.album_sessions.specs.Sessions.{AddsNothing};
 ghost use Rattle.album_sessions.specs.Steps.{IsBegunFor, IsBegunWith, IsDone};
 
+use crate::ask::Way;
 use crate::hints::{Hint, Topic};
 use crate::service_names::ServiceNames;
 use crate::session::Session;
-use crate::ask::Way;
 use crate::step::cut_off;
 use album_calls::{Body, Message, Request};
 use album_channels::{Asked, NoReply, begins_read};
@@ -127,13 +127,9 @@ impl<J: ServiceNames> Session<J> {
     {
         let principal = principal.copy().ok()?;
         let viewing = viewing_of(self.alloc, ask, items.as_slice())?;
-        match self
-            .client_step()
+        self.client_step()
             .ask_for(self.tag, principal, viewing, items)
-        {
-            Ok(transition) => Some(transition),
-            Err(_) => None,
-        }
+            .ok()
     }
 
     /// Keeps the items of a read as a hint, where a view has come of it.

@@ -13,9 +13,9 @@ ghost use Rattle.album_sessions.specs.Sending.{announced_by, IsFree, IsAnnounced
 ghost use Rattle.album_channels.specs.Channels.{IsClosedOrOutOfMemory, IsNoReply};
 ghost use Rattle.album_sessions.specs.Steps.{client_step_in, terms_in, IsTaken, IsWaited, IsReaction, IsSent};
 
+use crate::ask::Way;
 use crate::service_names::ServiceNames;
 use crate::session::Session;
-use crate::ask::Way;
 use album_calls::Message;
 use album_channels::{Asked, NoReply};
 use album_client::{Client, ClientStep, Phase, Transition};
@@ -256,10 +256,9 @@ fn taken(
             return Err(why);
         }
     };
-    match client_step.take(phase, &reply) {
-        Ok(transition) => Ok(transition),
-        Err(why) => Err(NoReply::Refused(why)),
-    }
+    let transition = client_step.take(phase, &reply);
+    drop(reply);
+    transition.map_err(NoReply::Refused)
 }
 
 /// What the client has come to is let go.
