@@ -1,4 +1,3 @@
 pub mod ChannelLemmas
-pub mod ReplyLemmas
 pub mod RepeatLemmas
 pub mod SightingLemmas

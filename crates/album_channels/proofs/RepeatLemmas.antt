@@ -28,7 +28,7 @@ use Rattle.album_keepers.specs.Envelopes.{IsAnswered}
 use Rattle.album_channels.specs.Reads.{asks_latest}
 use Rattle.album_keepers.specs.Settling.{stamps_in, AreSettledIn}
 use Rattle.album_channels.specs.Sightings.{IsVersion}
-use Rattle.album_channels.proofs.ReplyLemmas.{get_marks_nothing, replied_so}
+use Rattle.album_keepers.proofs.ReplyLemmas.{get_marks_nothing, replied_so}
 use Rattle.album_keepers.proofs.SettleLemmas.{version_state}
 
 -- ---- what is read again

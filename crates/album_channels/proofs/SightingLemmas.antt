@@ -11,7 +11,7 @@ use Rattle.album_passes.specs.Cuts.{Cut, prefix_at, IsSound, Extends}
 use Rattle.album_passes.proofs.CutLemmas.{extends_self, extends_trans}
 use Rattle.album_keepers.specs.Envelopes.{IsAnswered, IsSettledBelow, IsUpToDate}
 use Rattle.album_channels.specs.Reads.{asks_latest}
-use Rattle.album_channels.specs.Replies.{IsCurrent, IsLate, IsReplied}
+use Rattle.album_keepers.specs.Replies.{IsCurrent, IsLate, IsReplied}
 use Rattle.album_channels.specs.Sightings.{repeated, IfSighted, IsRepeatedBy, IsShownBy, IsSighted, IsVersion}
 use Rattle.album_channels.specs.declared.sightings.Sighting.{Sighting}
 use Rattle.album_channels.proofs.RepeatLemmas.{asked_again}

@@ -1,7 +1,7 @@
 //! What was asked in one round.
 ghost use Rattle.std.specs.Prelude.{◌≡◌, ◌≤◌, ◌<◌, IsTrue, IfSome, Contains, length};
 ghost use Rattle.album_passes.specs.Cuts.{IsSound};
-ghost use Rattle.album_channels.specs.Replies.{IsLate};
+ghost use Rattle.album_keepers.specs.Replies.{IsLate};
 
 use album_calls::{Body, Message, Node, Request, same_items, same_values};
 use album_passes::Pass;

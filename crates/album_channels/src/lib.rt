@@ -5,7 +5,7 @@
 //! partition had by then all marks with which the round began.
 //!
 //! Read `channel` first, then `asked` and `round`. `sightings` are what a read's first round has shown, and `repeating`
-//! is what a session knows by them of the second. The session, with its client, is `album_threads`'.
+//! is what a session knows by them of the second. The session, with its client, is `album_sessions`'.
 #![tactic(auto)]
 
 // The channel: its mailboxes, its pass, and control requests.

@@ -2,7 +2,7 @@
 //! would reply where none of the round's stamps was pending. There it gives itself the replies, and sends nothing.
 ghost use Rattle.std.specs.Prelude.{◌≡◌, None, IsTrue, IfOk, IfErr, IfSome, IfNone};
 ghost use Rattle.album_passes.specs.Cuts.{IsSound};
-ghost use Rattle.album_channels.specs.Replies.{IsCurrent, IsReplied};
+ghost use Rattle.album_keepers.specs.Replies.{IsCurrent, IsReplied};
 ghost use Rattle.album_channels.specs.Channels.{IsLater, IsNoReply};
 
 use crate::asked::{Asked, NoReply};

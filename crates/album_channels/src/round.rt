@@ -2,7 +2,7 @@
 ghost use Rattle.std.specs.Prelude.{◌≡◌, All, None, IfOk, IfErr, OnOk, IfSome, IfNone, IsOkUnless};
 ghost use Rattle.album_passes.specs.Cuts.{Extends, IsSound};
 ghost use Rattle.album_keepers.specs.Envelopes.{Shows};
-ghost use Rattle.album_channels.specs.Replies.{IsReplied};
+ghost use Rattle.album_keepers.specs.Replies.{IsReplied};
 ghost use Rattle.album_channels.specs.Sending.{announced_with, prepared_first, prepared_in, sent_at, sent_last, IsUnused};
 ghost use Rattle.album_channels.specs.Channels.{IsLater, IsClosedOrOutOfMemory, IsNoReply};
 

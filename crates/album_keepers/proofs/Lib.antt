@@ -1,5 +1,6 @@
 pub mod SettleLemmas
 pub mod EnvelopeLemmas
+pub mod ReplyLemmas
 pub mod KeeperLemmas
 pub mod SweepLemmas
 pub mod StartLemmas

@@ -4,7 +4,7 @@ use Rattle.std.proofs.Common.{◌≡◌, ◌≢◌, List, [], ◌∷◌, ◌++�
 use Rattle.std.proofs.KnownBytes.{Appends-nil, Appends-trans}
 use Rattle.std.specs.Io.KnownBytes.{Appends}
 use Rattle.album_eval.specs.declared.policies.Policy.{Policy}
-use Rattle.album_threads.specs.Sessions.{SessionState}
+use Rattle.album_sessions.specs.Sessions.{SessionState}
 use Rattle.album_lines.specs.Lines.{Line}
 use Rattle.album_server.specs.declared.admins.Admins.{Admins}
 use Rattle.album_server.specs.Talk.{Talker, TalksOnce, IsWrittenIf, IsRecordedTalk, IsRecordedPart}

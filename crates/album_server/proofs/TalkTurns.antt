@@ -3,8 +3,8 @@
 use Rattle.std.proofs.Common.{◌≡◌, ◌≢◌, ◌≤◌, ◌<◌, ◌+◌, ℕ, List, [], length, Option, Some, IfSome, refl}
 use Rattle.std.specs.Io.KnownBytes.{Consumes, IsAtEnd, Keeps}
 use Rattle.album_eval.specs.declared.policies.Policy.{Policy}
-use Rattle.album_threads.specs.Asks.{IsOn}
-use Rattle.album_threads.specs.Sessions.{SessionState}
+use Rattle.album_sessions.specs.Asks.{IsOn}
+use Rattle.album_sessions.specs.Sessions.{SessionState}
 use Rattle.album_lines.specs.Lines.{Line, cut, last, lines_of}
 use Rattle.album_judge.specs.declared.engines.judge.TheConstants.{PIECE}
 use Rattle.album_judge.specs.declared.fault.Fault.{Fault}

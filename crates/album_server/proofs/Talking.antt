@@ -6,8 +6,8 @@ use Rattle.std.proofs.KnownBytes.{Appends-nil}
 use Rattle.std.specs.Io.KnownBytes.{Appends}
 use Rattle.album_stamps.specs.declared.refusals.Refusal.TheVariants.{OutOfMemory}
 use Rattle.album_eval.specs.declared.policies.Policy.{Policy}
-use Rattle.album_threads.specs.Asks.{IsOn}
-use Rattle.album_threads.specs.Sessions.{SessionState}
+use Rattle.album_sessions.specs.Asks.{IsOn}
+use Rattle.album_sessions.specs.Sessions.{SessionState}
 use Rattle.album_lines.specs.Lines.{Line, is_blank}
 use Rattle.album_lines.specs.Output.{refusal_line}
 use Rattle.album_judge.specs.declared.fault.Fault.TheVariants.{Writing, Memory}

@@ -11,11 +11,11 @@ use Rattle.album_views.specs.Checks.{refusal_of}
 use Rattle.album_views.specs.declared.asks.Ask.{Ask}
 use Rattle.album_permits.specs.declared.answers.Answer.{Answer}
 use Rattle.album_passes.specs.Cuts.{prefix_at}
-use Rattle.album_threads.specs.Asks.{IsOn}
+use Rattle.album_sessions.specs.Asks.{IsOn}
 use Rattle.album_keepers.specs.Controls.{IsUntrimmed}
-use Rattle.album_threads.specs.Resting.{RestsOn}
+use Rattle.album_sessions.specs.Resting.{RestsOn}
 use Rattle.album_channels.specs.Channels.{IsClosedOrOutOfMemory}
-use Rattle.album_threads.specs.Sessions.{SessionState, AddsNothing}
+use Rattle.album_sessions.specs.Sessions.{SessionState, AddsNothing}
 use Rattle.album_permits.specs.declared.outs.Out.TheVariants as out
 use Rattle.album_lines.specs.Lines.{Line, is_blank}
 use Rattle.album_lines.specs.Output.{line_text, refusal_line}

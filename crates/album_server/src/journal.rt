@@ -8,7 +8,7 @@ use std::sync::Wait;
 
 /// Writes what was noted before it is answered.
 pub trait Journal {
-    ghost use Rattle.album_threads.specs.Sessions.{SessionState};
+    ghost use Rattle.album_sessions.specs.Sessions.{SessionState};
 
     /// What the session had noted, as it was so, is written. Only `settle` tells it: of a file no contract can.
     ghost recorded: { Self → SessionState → Type 0 };

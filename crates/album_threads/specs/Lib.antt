@@ -1,13 +1,1 @@
 pub mod Opened
-pub mod Grounds
-pub mod Granted
-pub mod Sessions
-pub mod Replies
-pub mod Resting
-pub mod Writes
-pub mod Hints
-pub mod Asks
-pub mod Sending
-pub mod Phases
-pub mod Steps
-pub mod InOrder

@@ -1,8 +1,8 @@
 //! What those who run a service look at: how much its partitions have, and what is noted.
-use crate::service_names::ServiceNames;
 use album_audit::{AuditBook, Totals};
 use album_keepers::PartitionMail;
 use album_partition::Figures;
+use album_sessions::ServiceNames;
 use album_stamps::Refusal;
 use crossbeam_channel::{SendError, Sender, unbounded};
 use std::alloc::Global;

@@ -4,13 +4,13 @@ ghost use Rattle.album_eval.specs.Policies.{policy_of};
 ghost use Rattle.album_items.specs.Openings.{is_opening};
 ghost use Rattle.album_passes.specs.Desk.{terms_of};
 
-use crate::hints::MAX_HINTS;
 use album_audit::Blanks;
 use album_board::NewList;
 use album_eval::Policy;
 use album_items::Opening;
 use album_partition::Partition;
 use album_passes::{Desk, Owner, Pass};
+use album_sessions::MAX_HINTS;
 use album_stamps::Refusal;
 use std::alloc::Global;
 use std::marker::Model;

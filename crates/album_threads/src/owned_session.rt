@@ -1,7 +1,6 @@
 //! A session that ends by itself.
 use crate::service::Service;
-use crate::service_names::ServiceNames;
-use crate::session::Session;
+use album_sessions::{ServiceNames, Session};
 use album_stamps::Refusal;
 use std::sync::Wait;
 

@@ -7,16 +7,14 @@ ghost use Rattle.album_passes.specs.Changes.{IsUnheard};
 ghost use Rattle.album_threads.specs.Opened.{opened_as};
 
 use crate::gauge::Gauge;
-use crate::hints::Hints;
 use crate::opened::Opened;
-use crate::service_names::ServiceNames;
-use crate::session::Session;
 use album_audit::{AuditBook, Totals};
 use album_board::Board;
 use album_channels::PartitionChannel;
 use album_eval::Policy;
 use album_keepers::{Breakage, Gate, PartitionMail, start_all};
 use album_passes::{Desk, Pass};
+use album_sessions::{Hints, ServiceNames, Session};
 use album_stamps::Refusal;
 use crossbeam_channel::{Receiver, SendError, Sender, unbounded};
 use std::alloc::{AllocError, Global};

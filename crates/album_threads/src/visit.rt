@@ -4,9 +4,9 @@ ghost use Rattle.album_threads.specs.Opened.{opened_as};
 
 use crate::opened::Opened;
 use crate::service::Service;
-use crate::service_names::ServiceNames;
 use album_items::Opening;
 use album_keepers::{Gate, Open};
+use album_sessions::ServiceNames;
 use album_stamps::Refusal;
 use std::alloc::Global;
 use std::marker::Brand;

@@ -2,7 +2,7 @@
 //! line.
 ghost use Rattle.std.specs.Prelude.{◌≡◌, ◌≢◌, [], map, Err, OnOk, OnErr, IfErr, IfSome};
 ghost use Rattle.std.specs.Io.KnownBytes.{Appends, IsAtEnd};
-ghost use Rattle.album_threads.specs.Asks.{IsOn};
+ghost use Rattle.album_sessions.specs.Asks.{IsOn};
 ghost use Rattle.album_lines.specs.Lines.{lines_of, last, said};
 ghost use Rattle.album_server.specs.Talk.{IsTalk, MayTalk, Talks, stranger, IsRecordedTalk, IsRecordedPart, IsWrittenIf};
 ghost use Rattle.album_judge.specs.Writes.{HasRead, Writes, Exchanges, IsPrefixOf, IsCutShort, IsLeftBy, IsEndedBy};

@@ -2,7 +2,7 @@
 ghost use Rattle.std.specs.Prelude.{◌≡◌, ◌⊎◌, IfOk, Some};
 ghost use Rattle.album_stamps.specs.declared.refusals.Refusal.TheVariants.{OutOfMemory};
 ghost use Rattle.album_stamps.specs.Outcome.{Gives};
-ghost use Rattle.album_threads.specs.Asks.{IsOn};
+ghost use Rattle.album_sessions.specs.Asks.{IsOn};
 ghost use Rattle.album_lines.specs.Lines.{said};
 ghost use Rattle.album_lines.specs.Output.{refusal_line};
 ghost use Rattle.album_server.specs.Talk.{AnswersAsk, AnswersTalk, Attends, Greets, IsAsked, IsPendingAnswered, IsSweptFor, IsTrimmedFor, TalksOnce, hello_line_read, talk_line_heard};

@@ -2,7 +2,7 @@ use Rattle.std.proofs.Common.{rules, Contains, Some, Option, sym, ap, subst}
 use Rattle.std.proofs.lemmas.List.Elements.{All-contains}
 use Rattle.album_calls.specs.declared.messages.Message.{Message}
 use Rattle.album_passes.specs.Cuts.{Cut}
-use Rattle.album_channels.specs.Replies.{IsReplied}
+use Rattle.album_keepers.specs.Replies.{IsReplied}
 use Rattle.album_channels.specs.Channels.{ChannelState}
 use Rattle.album_channels.specs.Sightings.{repeated, IfSighted}
 use Rattle.album_channels.specs.declared.sightings.Sighting.{Sighting}

@@ -1,6 +1,6 @@
 use Rattle.std.proofs.Common.{rules, ℕ, sym, ◌∙◌, subst}
 use Rattle.album_keepers.specs.Envelopes.{IsSettledBelow}
-use Rattle.album_channels.specs.Replies.{IsReplied}
+use Rattle.album_keepers.specs.Replies.{IsReplied}
 use Rattle.album_channels.specs.Channels.{ChannelState}
 use Rattle.album_channels.proofs.SightingLemmas.{current_more, sighted_more}
 use Rattle.album_channels.proofs.channel.PartitionChannel.take.Goals as goal

@@ -1,5 +1,5 @@
 use Rattle.std.proofs.lemmas.Result.{err_from_is_err_and}
-use Rattle.album_threads.proofs.LookLemmas.{on_self, on_trans}
+use Rattle.album_sessions.proofs.SessionLemmas.{on_self, on_trans}
 use Rattle.album_lines.specs.Lines.{said}
 use Rattle.album_server.proofs.Talking.{lines_begin, lines_next, lines_cut, lines_unanswered}
 use Rattle.album_server.proofs.Recording.{recorded_begins, recorded_next, recorded_cut, recorded_part}

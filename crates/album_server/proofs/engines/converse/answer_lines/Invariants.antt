@@ -1,5 +1,5 @@
 use Rattle.std.proofs.Common.{map, take}
-use Rattle.album_threads.specs.Asks.{IsOn}
+use Rattle.album_sessions.specs.Asks.{IsOn}
 use Rattle.album_lines.specs.Lines.{said}
 use Rattle.album_server.specs.Talk.{Talks, IsRecordedTalk}
 use Rattle.album_judge.specs.Writes.{Writes}

@@ -1,5 +1,5 @@
 use Rattle.std.proofs.Common.{◌≡◌}
-use Rattle.album_threads.specs.Asks.{IsOn}
+use Rattle.album_sessions.specs.Asks.{IsOn}
 use Rattle.album_server.specs.Talk.{IsRecordedTalk, stranger}
 use Rattle.album_judge.specs.Writes.{Writes}
 use Rattle.album_server.proofs.TalkTurns.{HasTalked}

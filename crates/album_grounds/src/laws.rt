@@ -1,0 +1,51 @@
+//! What follows of the grounds on which an answer rests.
+ghost use Rattle.std.specs.Prelude.{◌≡◌, ◌≢◌, ◌≤◌, ℕ, List, Contains};
+ghost use Rattle.album_reader.specs.Answers.{ReadVersion};
+ghost use Rattle.album_reader.specs.Atomic.{IsFreshFrom};
+ghost use Rattle.album_permits.specs.Permits.{PermitState};
+ghost use Rattle.album_passes.specs.Cuts.{Cut, IsSound, IsPromisedSomewhere, Extends};
+ghost use Rattle.album_passes.specs.Reads.{HadSeenCommitted, writes_in_cut};
+ghost use Rattle.album_grounds.specs.Grounds.{IsSeen, AreNoOlder, AreAlike, HasSameMarks, AreFrom, items_of, IsKept, IsWithoutRoom};
+
+/// A law: the grounds of an answer stay as the cut grows. What was read stays read atomic, fresh and settled,
+/// what each participant has committed stays so, and so do a promise against a stamp and the
+/// want of room for it.
+pub fn grounds_stay()
+    ensures seen { (begun old new : Cut) (rows : List ReadVersion) → IsSound old → IsSound new
+        → Extends begun old → Extends old new → IsSeen begun old rows → IsSeen begun new rows }
+    ensures kept { (old new : Cut) (permit : PermitState) (stamp : ℕ)
+        → Extends old new → IsKept old permit stamp → IsKept new permit stamp }
+    ensures promised { (old new : Cut) (stamp : ℕ)
+        → Extends old new → IsPromisedSomewhere old stamp → IsPromisedSomewhere new stamp }
+    ensures without_room { (limit : ℕ) (old new : Cut) (permit : PermitState) (stamp : ℕ)
+        → Extends old new → IsWithoutRoom limit old permit stamp → IsWithoutRoom limit new permit stamp }
+{}
+
+/// A law: no read goes back (monotonic reads), and a session reads its own writes. What a cut has shown isn't older in
+/// a read that begins with that cut or with one that extends it; such a read has what was kept in the cut, or newer.
+/// The two reads may be of two sessions, where the later has met the earlier.
+pub fn reads_go_on()
+    ensures no_older { (begun old later new : Cut) (first second : List ReadVersion) → IsSound old → IsSound new
+        → Extends old later → Extends later new → IsSeen begun old first → IsSeen later new second
+        → AreNoOlder first second }
+    ensures own_writes { (old later new : Cut) (permit : PermitState) (stamp : ℕ) (rows : List ReadVersion)
+        → IsSound old → IsSound new → 1 ≤ old.parts → Extends old later → Extends later new
+        → IsKept old permit stamp → IsSeen later new rows → AreFrom stamp (items_of permit stamp) rows }
+{}
+
+/// A law: no new enemy. No item of a view is older than what the author of another of its versions had seen committed
+/// when it wrote that version. So who takes a group off a list, and then puts somebody into the group, is never seen as
+/// having done the second alone: whoever reads the group's new members reads the new list.
+pub fn no_new_enemy()
+    ensures { (begun now : Cut) (rows : List ReadVersion) (row : ReadVersion) → IsSeen begun now rows
+        → Contains rows row → row.stamp ≢ 0
+        → IsFreshFrom (writes_in_cut now) (HadSeenCommitted now row.stamp) rows }
+{}
+
+/// A law: reads are stable. Where no mark was made from where one read begins to where a later one ends, both show the
+/// same of each item that both have.
+pub fn reads_are_stable()
+    ensures { (begun old later new : Cut) (first second : List ReadVersion) → IsSound old → IsSound new
+        → Extends begun old → Extends old later → Extends later new → HasSameMarks begun new
+        → IsSeen begun old first → IsSeen later new second → AreAlike first second }
+{}

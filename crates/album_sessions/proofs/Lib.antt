@@ -1,0 +1,13 @@
+pub mod SessionLemmas
+pub mod GrantedLemmas
+pub mod ClockLemmas
+pub mod SendLemmas
+pub mod BegunLemmas
+pub mod TransitionLemmas
+pub mod RuledLemmas
+pub mod ReadingLemmas
+pub mod CarryLemmas
+pub mod WaitLemmas
+pub mod StepLemmas
+pub mod HintLemmas
+pub mod InOrderLemmas

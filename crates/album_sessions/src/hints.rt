@@ -1,0 +1,192 @@
+//! Hints: which items the last view of an ask had, for later asks that begin alike. Values are never kept here: what a
+//! hint names is read anew, and counts only where it is closed.
+ghost use Rattle.std.specs.Prelude.{IfOk, IfSome};
+ghost use Rattle.album_views.specs.Steps.{AreReadable};
+
+use album_items::{ItemId, Items};
+use album_views::Ask;
+use std::alloc::Global;
+use std::sync::Mutex;
+
+/// How many hints a service keeps at most. A newer one takes the place of an older one.
+pub const MAX_HINTS: usize = 4_096;
+
+/// How many asks a hint serves. Then an ask finds its items by itself again, since a hint may name more than it needs.
+const MAX_USES: u16 = 1_000;
+
+/// Which relatives of its objects an ask looks at.
+#[derive(Clone, Copy, PartialEq, Eq)]
+enum Relatives {
+    None,
+    /// The home of a picture.
+    Home,
+    /// The children of an album.
+    Children,
+}
+
+/// What asks have in common that look at the same items: their first object, and which relatives they look at.
+#[derive(Clone, Copy)]
+pub(crate) struct Topic {
+    object: Option<ItemId>,
+    relatives: Relatives,
+}
+
+impl Topic {
+    /// The topic of the ask.
+    pub(crate) fn of(ask: &Ask) -> Topic {
+        Topic {
+            object: first_object(ask),
+            relatives: relatives_of(ask),
+        }
+    }
+
+    /// Whether this is the other topic.
+    fn is(&self, other: &Topic) -> bool {
+        let same_object = match (self.object, other.object) {
+            (Some(one), Some(other)) => one.is(other),
+            _ => false,
+        };
+        same_object && self.relatives == other.relatives
+    }
+
+    /// Where its hint stands: below `MAX_HINTS`, far apart for numbers that follow each other.
+    fn slot(&self) -> usize {
+        let Some(object) = self.object else {
+            return 0;
+        };
+        let place = match self.relatives {
+            Relatives::None => 0,
+            Relatives::Home => 4,
+            Relatives::Children => 8,
+        };
+        let word = object.number().wrapping_mul(16) ^ (place + u64::from(object.kind().code()));
+        (word.wrapping_mul(0x9E37_79B9_7F4A_7C15) >> 52) as usize
+    }
+}
+
+/// The items of a view, and of which topic its ask was.
+#[derive(Drop)]
+pub(crate) struct Hint {
+    topic: Topic,
+    items: Items,
+    uses: u16,
+    ghost readable: { AreReadable items },
+}
+
+impl Hint {
+    /// These items of the topic. Its copies share them, if there is memory for that.
+    pub(crate) fn new(topic: Topic, mut items: Items) -> Hint
+        requires { AreReadable items }
+    {
+        let _ = items.make_shared();
+        Hint {
+            topic,
+            items,
+            uses: 0,
+        }
+    }
+
+    /// The items for one ask more.
+    fn use_once(&mut self) -> Option<Items>
+        ensures { IfSome result AreReadable }
+    {
+        if self.uses >= MAX_USES {
+            return None;
+        }
+        self.uses += 1;
+        self.items.clone().ok()
+    }
+}
+
+/// The hints of a service, for all its sessions. Each has a lock of its own, and no one waits for it: where another
+/// session has it, there is no hint.
+#[derive(Drop)]
+pub struct Hints {
+    slots: Vec<Mutex<Option<Hint>>>,
+}
+
+impl Hints {
+    /// No hint yet, and room for so many. Where there is no memory there is less room.
+    pub fn new(alloc: Global, most: usize) -> Hints {
+        let mut slots = Vec::new(alloc);
+        for _ in 0..most {
+            if slots.push(Mutex::new(None)).is_err() {
+                break;
+            }
+        }
+        Hints { slots }
+    }
+
+    /// The items of the topic's hint, if there is one.
+    pub(crate) fn find(&self, topic: &Topic) -> Option<Items>
+        ensures { IfSome result AreReadable }
+    {
+        let Some(slot) = self.slots.get(topic.slot()) else {
+            return None;
+        };
+        let Some(mut kept) = slot.try_lock() else {
+            return None;
+        };
+        match &mut *kept {
+            Some(hint) if hint.topic.is(topic) => hint.use_once(),
+            Some(_) | None => None,
+        }
+    }
+
+    /// Keeps the hint, in place of one that stood there.
+    pub(crate) fn keep(&self, hint: Hint) {
+        let Some(slot) = self.slots.get(hint.topic.slot()) else {
+            return;
+        };
+        if let Some(mut kept) = slot.try_lock() {
+            *kept = Some(hint);
+        }
+    }
+
+    /// Lets the topic's hint go.
+    pub(crate) fn forget(&self, topic: &Topic) {
+        let Some(slot) = self.slots.get(topic.slot()) else {
+            return;
+        };
+        if let Some(mut kept) = slot.try_lock() {
+            if matches!(&*kept, Some(hint) if hint.topic.is(topic)) {
+                *kept = None;
+            }
+        }
+    }
+}
+
+/// The first of the ask's objects. An ask without one is refused by its check.
+fn first_object(ask: &Ask) -> Option<ItemId> {
+    match ask {
+        Ask::Read { object } => Some(*object),
+        Ask::List { album } => Some(*album),
+        Ask::GetList { object } => Some(*object),
+        Ask::AddPicture { album, .. } => Some(*album),
+        Ask::AddAlbum { album, .. } => Some(*album),
+        Ask::Retitle { object, .. } => Some(*object),
+        Ask::Replace { object, .. } => Some(*object),
+        Ask::Delete { object } => Some(*object),
+        Ask::Move { object, .. } => Some(*object),
+        Ask::SetLists { lists } => lists.as_slice().first().map(|new| new.object),
+        Ask::SetOwner { object, .. } => Some(*object),
+        Ask::SetMembers { object, .. } => Some(*object),
+        Ask::Share { lists, members } => match lists.as_slice().first() {
+            Some(new) => Some(new.object),
+            None => members.as_slice().first().map(|new| new.object),
+        },
+    }
+}
+
+/// Which relatives of its objects the ask looks at.
+fn relatives_of(ask: &Ask) -> Relatives {
+    match ask {
+        Ask::Delete { .. } | Ask::Move { .. } => Relatives::Home,
+        Ask::List { .. } => Relatives::Children,
+        Ask::Read { .. } | Ask::GetList { .. } => Relatives::None,
+        Ask::AddPicture { .. } | Ask::AddAlbum { .. } => Relatives::None,
+        Ask::Retitle { .. } | Ask::Replace { .. } => Relatives::None,
+        Ask::SetLists { .. } | Ask::SetOwner { .. } | Ask::SetMembers { .. } => Relatives::None,
+        Ask::Share { .. } => Relatives::None,
+    }
+}

@@ -1,0 +1,309 @@
+//! Turns: a session takes a reply, and does what its client has come to.
+ghost use Rattle.std.specs.Prelude.{◌≡◌, ◌≢◌, ◌≤◌, [], true, Some, None, Ok, Err, All, IfOk, IfErr, IfSome, IfNone, OnOk, OnErr, IsOkAnd, IsOkUnless};
+ghost use Rattle.album_client.specs.Clients.{is_reading, stamp_at_work, IsProper};
+ghost use Rattle.album_client.specs.Transitions.{client_of, IsMoved};
+ghost use Rattle.album_client.specs.Steps.{is_waiting, transition_of, IsTakenBy};
+ghost use Rattle.album_stamps.specs.Clocks.{next_of};
+ghost use Rattle.album_stamps.specs.declared.limits.TheConstants.{MAX_COUNTER};
+ghost use Rattle.album_sessions.specs.Asks.{IsHeard, IsOn, AreShared};
+ghost use Rattle.album_keepers.specs.Envelopes.{Shows};
+ghost use Rattle.album_sessions.specs.Phases.{Outset, IsUnderWay};
+ghost use Rattle.album_keepers.specs.Replies.{IsReplied};
+ghost use Rattle.album_sessions.specs.Sending.{announced_by, IsFree, IsAnnouncedBy};
+ghost use Rattle.album_channels.specs.Channels.{IsClosedOrOutOfMemory, IsNoReply};
+ghost use Rattle.album_sessions.specs.Steps.{client_step_in, terms_in, IsTaken, IsWaited, IsReaction, IsSent};
+
+use crate::ask::Way;
+use crate::service_names::ServiceNames;
+use crate::session::Session;
+use album_calls::Message;
+use album_channels::{Asked, NoReply};
+use album_client::{Client, ClientStep, Phase, Transition};
+use album_permits::Answer;
+use album_stamps::{Clock, Refusal, Stamp};
+use std::sync::Wait;
+use std::time;
+
+/// What the client has come to at one reply.
+#[derive(Drop)]
+pub(crate) enum Reaction {
+    /// The ask is answered.
+    Answers(Answer),
+    /// It does this from now on, and sends these messages, if any.
+    Sends(Phase, Vec<Message>),
+}
+
+impl<J: ServiceNames> Session<J> {
+    /// Takes replies in place as long as they end no round of a read, which most don't, and gives the first other one.
+    ///
+    /// # Errors
+    ///
+    /// `Closed` or `OutOfMemory`; or the read is overtaken.
+    pub(crate) fn waits<R: Wait + time::Clock>(
+        &mut self,
+        rt: &R,
+        asked: &Asked,
+        phase: &mut Phase,
+    ) -> Result<Message, NoReply>
+        ensures way { (outset : Outset)
+            → IsUnderWay J.policy outset self.old asked.now.begun.cut asked.now.sent.items phase.old
+            → IsWaited J.policy outset self.new asked.now.begun.cut asked.now.sent.items phase.new }
+        ensures replied { IfOk result
+            (IsReplied J.terms.limit asked.now.begun.cut self.new.cut asked.now.sent.items) }
+        ensures refused { IfErr result (IsNoReply (is_reading phase.new)) }
+        ensures on { IsOn self.old self.new }
+    {
+        self.channel.is_sound();
+        for _ in rt.forever() {
+            if let Some(heard) = self.waits_once(rt, asked, phase) {
+                return heard;
+            }
+        }
+        // `forever` has no end.
+        unreachable!()
+    }
+
+    /// Hears one reply, and takes it, where it ends no round of a read; else gives it, or why none came or was taken.
+    fn waits_once<R: Wait + time::Clock>(
+        &mut self,
+        rt: &R,
+        asked: &Asked,
+        phase: &mut Phase,
+    ) -> Option<Result<Message, NoReply>>
+        ensures way { IfNone result ((outset : Outset)
+            → IsUnderWay J.policy outset self.old asked.now.begun.cut asked.now.sent.items phase.old
+            → IsUnderWay J.policy outset self.new asked.now.begun.cut asked.now.sent.items phase.new) }
+        ensures left { IfSome result (λ _. phase.new ≡ phase.old) }
+        ensures replied { IfSome result (λ heard. IfOk heard
+            (IsReplied J.terms.limit asked.now.begun.cut self.new.cut asked.now.sent.items)) }
+        ensures refused { IfSome result (λ heard. IfErr heard (IsNoReply (is_reading phase.new))) }
+        ensures heard { IsHeard self.old self.new }
+    {
+        let reads = phase.is_reading();
+        let heard = self.hears(rt, asked, reads);
+        waited(phase, heard)
+    }
+
+    /// Waits for one reply, of a read or not.
+    ///
+    /// # Errors
+    ///
+    /// `Closed` or `OutOfMemory`; or the read is overtaken.
+    fn hears<R: Wait + time::Clock>(
+        &mut self,
+        rt: &R,
+        asked: &Asked,
+        reads: bool,
+    ) -> Result<Message, NoReply>
+        ensures replied { IfOk result
+            (IsReplied J.terms.limit asked.now.begun.cut self.new.cut asked.now.sent.items) }
+        ensures refused { IfErr result (IsNoReply reads) }
+        ensures heard { IsHeard self.old self.new }
+    {
+        let heard = self.channel.hear(rt, asked, reads);
+        self.channel.is_sound();
+        // What is true of each session is known once it is looked at.
+        let _actor = self.client_step();
+        heard
+    }
+
+    /// Gives the reply to the client.
+    ///
+    /// # Errors
+    ///
+    /// `Closed` or `OutOfMemory`; or the read is overtaken.
+    pub(crate) fn gives(
+        &self,
+        asked: &Asked,
+        phase: Phase,
+        heard: Result<Message, NoReply>,
+    ) -> Result<Transition, NoReply>
+        requires replied { IfOk heard
+            (IsReplied J.terms.limit asked.now.begun.cut self.now.cut asked.now.sent.items) }
+        requires refused { IfErr heard (IsNoReply (is_reading phase)) }
+        ensures taken { IfOk result (IsTaken J.terms.limit asked.now.begun.cut self.now.cut asked.now.sent.items
+            (terms_in J.policy self.now) (client_step_in self.now) phase) }
+        ensures proper { IfOk result (λ transition. IsProper transition.client.phase) }
+        ensures refused { IfErr result (IsNoReply (is_reading phase)) }
+    {
+        // What was asked is for the contract alone.
+        let _asked = asked;
+        let transition = taken(self.client_step(), phase, heard)?;
+        let _reads = transition.client.phase.is_reading();
+        Ok(transition)
+    }
+
+    /// Adds what is noted to the audit book, before anything more is sent, and takes over the client's clock and tag.
+    ///
+    /// # Errors
+    ///
+    /// `OutOfMemory`.
+    pub(crate) fn takes_over<R: Wait>(
+        &mut self,
+        rt: &R,
+        transition: Transition,
+    ) -> Result<Reaction, Refusal>
+        requires own { transition.client.clock.client ≡ self.old.client }
+        requires risen { self.old.counter ≤ transition.client.clock.counter }
+        ensures reaction { IfOk result (IsReaction transition.client.phase transition.sent.items transition.answer) }
+        ensures shared { OnOk result (AreShared self.old.client self.old.share self.new.share transition.notes.items) }
+        ensures counter { OnOk result (self.new.counter ≡ transition.client.clock.counter) }
+        ensures spent { OnOk result (next_of transition.client.clock ≡ Err Refusal.StampsSpent
+            → transition.client.clock.counter ≡ MAX_COUNTER) }
+        ensures kept { OnErr result (self.new ≡ self.old) }
+        ensures noted { OnErr result (transition.notes.items ≢ []) }
+        ensures memory { IsOkUnless result Refusal.OutOfMemory }
+        ensures client { self.new.client ≡ self.old.client }
+        ensures cut { self.new.cut ≡ self.old.cut }
+    {
+        let Transition {
+            client,
+            notes,
+            sent,
+            answer,
+        } = transition;
+        let Client {
+            number: _,
+            clock,
+            phase,
+        } = client;
+        let tag = phase.tag();
+        let reaction = by_answer(phase, sent, answer);
+        if let Err(why) = self.note_all(rt, notes) {
+            let_go(reaction);
+            return Err(why);
+        }
+
+        // That a clock which draws no more is at its end is known once it is asked.
+        is_spent_at_its_end(clock);
+        self.clock = clock;
+        self.tag = tag;
+        Ok(reaction)
+    }
+
+    /// Sends the messages, once what the first of them prepares is announced. Where there are none, replies to what was
+    /// asked are awaited further. Once a write has begun, what cuts it off is its answer.
+    ///
+    /// # Errors
+    ///
+    /// `Closed` or `OutOfMemory`.
+    pub(crate) fn sends<R: Wait>(
+        &mut self,
+        rt: &R,
+        asked: Asked,
+        phase: Phase,
+        sent: Vec<Message>,
+    ) -> Result<Way, Refusal>
+        requires free { IsFree J.policy self.old sent.items }
+        requires shown { All (Shows (announced_by self.old.cut sent.items)) sent.items }
+        ensures way { IfOk result (IsSent asked phase sent.items self.new.cut) }
+        ensures refused { IfErr result IsClosedOrOutOfMemory }
+        ensures unbegun { OnErr result (stamp_at_work phase ≡ None) }
+        ensures announced { IsAnnouncedBy self.old self.new sent.items }
+    {
+        self.announces(&sent);
+        match self.channel.send_next_round(rt, asked, sent) {
+            Ok(more) => Ok(Way::Awaits(more, phase)),
+            Err(why) => cut_off(stamp_of(phase), why),
+        }
+    }
+
+    /// Announces what the first of the messages prepares, if it prepares anything.
+    fn announces(&mut self, sent: &[Message])
+        requires { IsFree J.policy self.old sent.now }
+        ensures { IsAnnouncedBy self.old self.new sent.now }
+    {
+        self.channel.announce_first(sent);
+        self.channel.is_sound();
+    }
+}
+
+/// Takes the reply, where it ends no round of a read; else gives it, or why none came or was taken.
+fn waited(phase: &mut Phase, heard: Result<Message, NoReply>) -> Option<Result<Message, NoReply>>
+    requires { IfErr heard (IsNoReply (is_reading phase.old)) }
+    ensures taken { IfNone result (IsOkAnd heard (λ reply.
+        (is_waiting phase.old reply ≡ true) × IsTakenBy phase.old reply phase.new)) }
+    ensures left { IfSome result (λ _. phase.new ≡ phase.old) }
+    ensures same { IfSome result (λ given. IfOk given (λ reply. heard ≡ Ok reply)) }
+    ensures refused { IfSome result (λ given. IfErr given (IsNoReply (is_reading phase.new))) }
+{
+    let reply = match heard {
+        Ok(reply) => reply,
+        Err(why) => return Some(Err(why)),
+    };
+    match phase.take_in_place(&reply) {
+        Ok(true) => None,
+        Ok(false) => Some(Ok(reply)),
+        Err(why) => Some(Err(NoReply::Refused(why))),
+    }
+}
+
+/// What comes of the reply, which is let go.
+fn taken(
+    client_step: ClientStep,
+    phase: Phase,
+    heard: Result<Message, NoReply>,
+) -> Result<Transition, NoReply>
+    requires { IfErr heard (IsNoReply (is_reading phase)) }
+    ensures transition { IfOk result (λ transition. IsOkAnd heard (λ reply.
+        IsMoved (transition_of client_step.terms (client_of client_step) reply phase) transition)) }
+    ensures refused { IfErr result (IsNoReply (is_reading phase)) }
+{
+    let reply = match heard {
+        Ok(reply) => reply,
+        Err(why) => {
+            drop(phase);
+            return Err(why);
+        }
+    };
+    let transition = client_step.take(phase, &reply);
+    drop(reply);
+    transition.map_err(NoReply::Refused)
+}
+
+/// What the client has come to is let go.
+fn let_go(reaction: Reaction) {
+    drop(reaction);
+}
+
+/// Says what is so of each clock: one that is spent stands at the greatest counter.
+fn is_spent_at_its_end(clock: Clock)
+    ensures { next_of clock ≡ Err Refusal.StampsSpent → clock.counter ≡ MAX_COUNTER }
+{
+    let mut clock = clock;
+    let _ = clock.next();
+}
+
+/// What the client has come to. Who has answered does nothing more.
+fn by_answer(phase: Phase, sent: Vec<Message>, answer: Option<Answer>) -> Reaction
+    ensures { IsReaction phase sent.items answer result }
+{
+    match answer {
+        Some(answer) => {
+            drop(phase);
+            Reaction::Answers(answer)
+        }
+        None => Reaction::Sends(phase, sent),
+    }
+}
+
+/// The stamp of the write that is under way, if there is one. The write is let go.
+fn stamp_of(phase: Phase) -> Option<Stamp>
+    ensures { result ≡ stamp_at_work phase }
+{
+    let stamp = phase.stamp();
+    drop(phase);
+    stamp
+}
+
+/// What comes of an ask that goes no further: that is the answer to it, where a write of this stamp has begun.
+pub(crate) fn cut_off(stamp: Option<Stamp>, why: Refusal) -> Result<Way, Refusal>
+    ensures begun { IfSome stamp (λ t. result ≡ Ok (Way.Answered (Answer.Unsettled t why))) }
+    ensures before { IfNone stamp (result ≡ Err why) }
+    ensures unbegun { OnErr result (stamp ≡ None) }
+{
+    match stamp {
+        Some(stamp) => Ok(Way::Answered(Answer::Unsettled(stamp, why))),
+        None => Err(why),
+    }
+}
