@@ -327,20 +327,53 @@ where
     requires named { opened ≡ opened_as J.table J.terms J.policy J.list
         J.audit_ok J.audit_failed J.alarm_ok J.alarm_failed }
 {
-    let port = setup.serving.port;
-    let waker = Waker::new(rt, port);
+    let waker = Waker::new(rt, setup.serving.port);
     let service = Service::<J>::open(rt, alloc, opened, waker)?;
-    let done = match print(alloc, &TalkOut::Serving(port), writer) {
-        Ok(()) => attend_all(rt, alloc, &service, listener, setup, notices),
-        Err(fault) => Err(fault),
-    };
+    let done = say_and_attend(rt, alloc, &service, listener, writer, setup, notices);
+    close(&rt, service, done)
+}
+
+/// Closes the service, whose connections have ended so.
+fn close<J, T>(rt: &T, service: Service<J>, done: Result<(), Fault>) -> Result<Totals, Fault>
+where
+    J: ServiceNames + Send + 'static,
+    T: Threads + Wait,
+{
     let is_broken = service.is_broken();
-    let totals = service.close(&rt);
+    let totals = service.close(rt);
     done?;
     if is_broken {
         return Err(Fault::Memory);
     }
     Ok(totals)
+}
+
+/// Says that the port is served, and serves it.
+fn say_and_attend<J, T, R, W>(
+    rt: T,
+    alloc: Global,
+    service: &Service<J>,
+    listener: &TcpListener,
+    writer: &mut W,
+    setup: Setup<R>,
+    notices: Sender<Notice>,
+) -> Result<(), Fault>
+where
+    J: ServiceNames + Send + Sync,
+    T: Net<Listener = TcpListener, Stream = TcpStream>
+        + Threads
+        + Wait
+        + time::Clock
+        + Eprint
+        + Copy
+        + Send
+        + Sync
+        + 'static,
+    R: Read + Send + Drop,
+    W: Write,
+{
+    print(alloc, &TalkOut::Serving(setup.serving.port), writer)?;
+    attend_all(rt, alloc, service, listener, setup, notices)
 }
 
 /// Serves the connections. Meanwhile it watches the figures, and reads the input to its end, if there is one.
@@ -369,50 +402,107 @@ where
         + 'static,
     R: Read + Send + Drop,
 {
-    let (gauge, unwritten, watched) = ends_of(alloc, service, &notices)?;
+    let (shared, own) = parts_of(&rt, alloc, service, setup, notices)?;
+    attend_within(rt, alloc, service, listener, &shared, own);
+    shared.journal.outcome()
+}
+
+/// What the threads of a service share.
+#[derive(Drop)]
+pub(crate) struct Shared<J: ServiceNames> {
+    pub gauge: Gauge<J>,
+    pub connections: Connections,
+    pub journal: AuditJournal,
+    pub limits: Limits,
+    /// Each so many seconds the figures are printed. 0 is never.
+    pub stats: u32,
+}
+
+/// What one of them alone has: who reads the input to its end, and who watches until the sender is let go.
+#[derive(Drop)]
+struct Own<R: Drop> {
+    input: Option<R>,
+    end: Sender<()>,
+    ended: Receiver<()>,
+}
+
+/// What the threads look at and send by.
+#[derive(Drop)]
+struct Ends<J: ServiceNames> {
+    gauge: Gauge<J>,
+    /// Where the journal sends its notices, and the connections theirs.
+    unwritten: Sender<Notice>,
+    notices: Sender<Notice>,
+    end: Sender<()>,
+    ended: Receiver<()>,
+}
+
+/// Both. Where notes are written to a file, the service keeps them until then.
+///
+/// # Errors
+///
+/// `OutOfMemory`.
+fn parts_of<J: ServiceNames, T: Wait, R: Drop>(
+    rt: &T,
+    alloc: Global,
+    service: &Service<J>,
+    setup: Setup<R>,
+    notices: Sender<Notice>,
+) -> Result<(Shared<J>, Own<R>), Refusal> {
+    let ends = ends_of(alloc, service, notices)?;
+    if setup.audit.is_some() {
+        service.keep_records(rt);
+    }
+    Ok(parted(alloc, setup, ends))
+}
+
+/// They are made together, since there may be no memory for each.
+fn ends_of<J: ServiceNames>(
+    alloc: Global,
+    service: &Service<J>,
+    notices: Sender<Notice>,
+) -> Result<Ends<J>, Refusal> {
+    let (end, ended) = unbounded(alloc)?;
+    let unwritten = notices.clone()?;
+    let gauge = service.gauge()?;
+    Ok(Ends {
+        gauge,
+        unwritten,
+        notices,
+        end,
+        ended,
+    })
+}
+
+fn parted<J: ServiceNames, R: Drop>(
+    alloc: Global,
+    setup: Setup<R>,
+    ends: Ends<J>,
+) -> (Shared<J>, Own<R>) {
     let Setup {
         input,
         serving,
         audit,
     } = setup;
+    let Ends {
+        gauge,
+        unwritten,
+        notices,
+        end,
+        ended,
+    } = ends;
     let limits = limits_of(&serving, input.is_some());
-    let (port, stats) = (serving.port, serving.stats);
-    if audit.is_some() {
-        service.keep_records(&rt);
-    }
+    let stats = serving.stats;
+    let connections = Connections::new(alloc, notices, serving.port, limits.conns, serving.admins);
     let journal = AuditJournal::new(alloc, unwritten, audit);
-    let connections = Connections::new(alloc, notices, port, limits.conns, serving.admins);
-    attend_within(
-        rt,
-        alloc,
-        service,
-        listener,
-        &gauge,
-        &connections,
-        &journal,
-        input,
+    let shared = Shared {
+        gauge,
+        connections,
+        journal,
         limits,
         stats,
-        watched,
-    );
-    if journal.has_failed() {
-        Err(Fault::Writing)
-    } else {
-        Ok(())
-    }
-}
-
-/// What the threads of a service look at and send by: its gauge, where the journal sends its notices, and a channel for
-/// who watches. They stand together, since there may be no memory for each.
-fn ends_of<J: ServiceNames>(
-    alloc: Global,
-    service: &Service<J>,
-    notices: &Sender<Notice>,
-) -> Result<(Gauge<J>, Sender<Notice>, (Sender<()>, Receiver<()>)), Refusal> {
-    let gauge = service.gauge()?;
-    let unwritten = notices.clone()?;
-    let watched = unbounded(alloc)?;
-    Ok((gauge, unwritten, watched))
+    };
+    (shared, Own { input, end, ended })
 }
 
 /// The threads of that.
@@ -421,13 +511,8 @@ fn attend_within<J, T, R>(
     alloc: Global,
     service: &Service<J>,
     listener: &TcpListener,
-    gauge: &Gauge<J>,
-    connections: &Connections,
-    journal: &AuditJournal,
-    input: Option<R>,
-    limits: Limits,
-    stats: u32,
-    watched: (Sender<()>, Receiver<()>),
+    shared: &Shared<J>,
+    own: Own<R>,
 )
 where
     J: ServiceNames + Send + Sync,
@@ -441,19 +526,10 @@ where
     R: Read + Send + Drop,
 {
     thread::scope(thread::scope_env(), &rt, |scope| {
-        let (end, ended) = watched;
-        watch_within(rt, alloc, scope, gauge, connections, stats, ended);
-        read_within(rt, scope, input, connections, limits.turns);
-        accept_all(
-            rt,
-            alloc,
-            scope,
-            service,
-            listener,
-            connections,
-            journal,
-            limits,
-        );
+        let Own { input, end, ended } = own;
+        watch_within(rt, alloc, scope, shared, ended);
+        read_within(rt, scope, shared, input);
+        accept_all(rt, alloc, scope, service, listener, shared);
         // The watch ends.
         drop(end);
     });
@@ -464,33 +540,38 @@ fn watch_within<'s, J, T, E>(
     rt: T,
     alloc: Global,
     scope: &'s Scope<'s, E>,
-    gauge: &'s Gauge<J>,
-    connections: &'s Connections,
-    stats: u32,
+    shared: &'s Shared<J>,
     ended: Receiver<()>,
 )
 where
     J: ServiceNames + Send + Sync + 's,
     T: Threads + Wait + time::Clock + Copy + Send + Sync + 's,
 {
-    let _ = scope.spawn(move || watch(&rt, alloc, gauge, connections, stats, &ended));
+    let Shared {
+        gauge,
+        connections,
+        stats,
+        ..
+    } = shared;
+    let _ = scope.spawn(move || watch(&rt, alloc, gauge, connections, *stats, &ended));
 }
 
 /// Reads the input to its end in a thread, if there is one. Where there is no thread, it has ended.
-fn read_within<'s, T, R, E>(
+fn read_within<'s, J, T, R, E>(
     rt: T,
     scope: &'s Scope<'s, E>,
+    shared: &'s Shared<J>,
     input: Option<R>,
-    connections: &'s Connections,
-    turns: u64,
 )
 where
+    J: ServiceNames,
     T: Net<Listener = TcpListener, Stream = TcpStream> + Threads + Wait + Copy + Send + Sync + 's,
     R: Read + Send + Drop + 's,
 {
     let Some(reader) = input else {
         return;
     };
+    let (connections, turns) = (&shared.connections, shared.limits.turns);
     let reads = scope.spawn(move || read_to_end(&rt, reader, connections, turns));
     if reads.is_err() {
         connections.close(&rt);

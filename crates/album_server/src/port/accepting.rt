@@ -1,5 +1,5 @@
 //! The connections that come: each is given a session and a thread, or the reason why not.
-use crate::port::audit::AuditJournal;
+use crate::port::Shared;
 use crate::port::connections::{Connections, attend};
 use album_judge::write_refused;
 use album_stamps::Refusal;
@@ -45,9 +45,7 @@ pub(crate) fn accept_all<'s, J, T, E>(
     scope: &'s Scope<'s, E>,
     service: &Service<J>,
     listener: &TcpListener,
-    connections: &'s Connections,
-    journal: &'s AuditJournal,
-    limits: Limits,
+    shared: &'s Shared<J>,
 )
 where
     J: ServiceNames + Send + Sync + 's,
@@ -64,39 +62,57 @@ where
         counted: 0,
         failed_at: None,
     };
-    if limits.until_closed {
+    if shared.limits.until_closed {
         let _ = listener.set_nonblocking(true);
     }
     for _ in rt.forever() {
-        let is_closed = is_closed(&rt, service, connections);
-        let is_full = is_closed || count.counted >= limits.conns;
+        let is_closed = is_closed(&rt, service, &shared.connections);
+        let is_full = is_closed || count.counted >= shared.limits.conns;
         if is_full {
-            if connections.have_ended() && (is_closed || !limits.until_closed) {
+            if shared.connections.have_ended() && (is_closed || !shared.limits.until_closed) {
                 return;
             }
             // Those beyond the last are refused while the others are served.
             let _ = listener.set_nonblocking(true);
         }
-        match listener.accept() {
-            Ok((stream, _from)) if is_full => turn_away(alloc, &stream, Refusal::Closed),
-            Ok((stream, _from)) => {
-                count.counted = count.counted.saturating_add(1);
-                welcome(
-                    rt,
-                    alloc,
-                    scope,
-                    service,
-                    connections,
-                    journal,
-                    limits,
-                    stream,
-                );
-            }
-            Err(error) if error.kind() == ErrorKind::WouldBlock => nap(&rt),
-            Err(_) => count.fail(&rt, connections),
-        }
+        accept_one(
+            rt, alloc, scope, service, listener, shared, is_full, &mut count,
+        );
     }
     unreachable!()
+}
+
+/// Accepts one, if one comes.
+fn accept_one<'s, J, T, E>(
+    rt: T,
+    alloc: Global,
+    scope: &'s Scope<'s, E>,
+    service: &Service<J>,
+    listener: &TcpListener,
+    shared: &'s Shared<J>,
+    is_full: bool,
+    count: &mut Count,
+)
+where
+    J: ServiceNames + Send + Sync + 's,
+    T: Net<Listener = TcpListener, Stream = TcpStream>
+        + Threads
+        + Wait
+        + time::Clock
+        + Copy
+        + Send
+        + Sync
+        + 's,
+{
+    match listener.accept() {
+        Ok((stream, _from)) if is_full => turn_away(alloc, &stream, Refusal::Closed),
+        Ok((stream, _from)) => {
+            count.counted = count.counted.saturating_add(1);
+            welcome(rt, alloc, scope, service, shared, stream);
+        }
+        Err(error) if error.kind() == ErrorKind::WouldBlock => nap(&rt),
+        Err(_) => count.fail(&rt, &shared.connections),
+    }
 }
 
 /// Whether no connection begins any more. So it is once a partition's thread has ended for want of memory.
@@ -145,9 +161,7 @@ fn welcome<'s, J, T, E>(
     alloc: Global,
     scope: &'s Scope<'s, E>,
     service: &Service<J>,
-    connections: &'s Connections,
-    journal: &'s AuditJournal,
-    limits: Limits,
+    shared: &'s Shared<J>,
     stream: TcpStream,
 )
 where
@@ -161,20 +175,11 @@ where
         + Sync
         + 's,
 {
-    let _ = stream.set_read_timeout(limits.idle);
+    let _ = stream.set_read_timeout(shared.limits.idle);
     let Ok(stream) = Arc::new(alloc, stream) else {
         return;
     };
-    if let Err(why) = begin(
-        rt,
-        alloc,
-        scope,
-        service,
-        connections,
-        journal,
-        limits.turns,
-        &stream,
-    ) {
+    if let Err(why) = begin(rt, alloc, scope, service, shared, &stream) {
         turn_away(alloc, &stream, why);
     }
 }
@@ -185,9 +190,7 @@ fn begin<'s, J, T, E>(
     alloc: Global,
     scope: &'s Scope<'s, E>,
     service: &Service<J>,
-    connections: &'s Connections,
-    journal: &'s AuditJournal,
-    turns: u64,
+    shared: &'s Shared<J>,
     stream: &Arc<TcpStream, Global>,
 ) -> Result<(), Refusal>
 where
@@ -204,10 +207,10 @@ where
     let own = Arc::try_clone(stream)?;
     let guest = OwnedSession::begin(&rt, service)?;
     let client = guest.session.client();
-    connections.begin(&rt, client, stream)?;
-    let thread = scope.spawn(move || attend(alloc, connections, journal, guest, &own, turns));
+    shared.connections.begin(&rt, client, stream)?;
+    let thread = scope.spawn(move || attend(alloc, shared, guest, &own));
     if thread.is_err() {
-        connections.end(&rt, client);
+        shared.connections.end(&rt, client);
         return Err(Refusal::OutOfMemory);
     }
     Ok(())

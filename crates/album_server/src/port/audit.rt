@@ -55,6 +55,14 @@ impl AuditJournal {
         self.has_failed.load(Ordering::SeqCst)
     }
 
+    /// `Writing`, where a note could not be written.
+    pub(crate) fn outcome(&self) -> Result<(), Fault> {
+        if self.has_failed() {
+            return Err(Fault::Writing);
+        }
+        Ok(())
+    }
+
     /// The connection of this session has ended. What was noted of it is written still.
     pub(crate) fn forget<J: ServiceNames, T: Wait>(&self, rt: &T, session: &Session<J>) {
         let _ = self.settle(rt, session, None);

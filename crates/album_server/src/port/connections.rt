@@ -1,5 +1,5 @@
 //! The connections of a service that are open. Each has a session and a thread of its own.
-use crate::port::audit::AuditJournal;
+use crate::port::Shared;
 use crate::port::notices::Notice;
 use crate::port::waker::wake;
 use album_stamps::{ClientNo, Refusal};
@@ -151,16 +151,20 @@ impl Connections {
 /// Answers the lines of a connection, to its end. Where a note can't be written, no connection is answered any more.
 pub(crate) fn attend<J, T>(
     alloc: Global,
-    connections: &Connections,
-    journal: &AuditJournal,
+    shared: &Shared<J>,
     mut guest: OwnedSession<J, T>,
     stream: &Arc<TcpStream, Global>,
-    turns: u64,
 )
 where
     J: ServiceNames + Send + Sync,
     T: Net<Listener = TcpListener, Stream = TcpStream> + Wait + time::Clock + Copy + Send + Sync,
 {
+    let Shared {
+        connections,
+        journal,
+        limits,
+        ..
+    } = shared;
     let _ = stream.set_nodelay(true);
     let (rt, client) = (guest.rt, guest.session.client());
     let (mut from, mut to): (&TcpStream, &TcpStream) = (stream, stream);
@@ -172,7 +176,7 @@ where
         &mut guest.session,
         &connections.admins,
         journal,
-        turns,
+        limits.turns,
     );
     if let Err(fault) = done {
         connections.notify(&rt, Notice::Fault(fault));

@@ -46,72 +46,128 @@ pub(crate) fn read_opening<R: Read>(
     turns: u64,
 ) -> Result<Result<Opening, Unopened>, Fault> {
     let mut lines = Lines::new(alloc);
-    let mut scratch = Scratch::new(alloc);
-    let mut so_far = None;
-    let mut line = 0;
-    let mut piece = [0u8; PIECE];
-    for _turn in 0..turns {
-        let Ok(len) = reader.read(&mut piece) else {
-            return Err(Fault::Reading);
-        };
-        if len == 0 {
-            let last = last_taken(alloc, &mut scratch, so_far, lines, &mut line);
-            return Ok(last.map_err(|why| Unopened { line, why }));
-        }
-        let ended = lines.feed(&piece[..len])?;
-        match take_all(alloc, &mut scratch, so_far, &ended, &mut line) {
-            Ok(Some(SoFar::Whole(header, rows))) => return Ok(Ok(opening_of(header, rows))),
-            Ok(more) => so_far = more,
-            Err(why) => return Ok(Err(Unopened { line, why })),
-        }
+    let mut begun = Begun::new(alloc);
+    match begun.read(reader, turns, &mut lines) {
+        Ok(Some(opening)) => Ok(opening),
+        Ok(None) => Ok(begun.end(lines)),
+        Err(fault) => Err(fault),
     }
-    Err(Fault::Reading)
 }
 
-/// Takes lines up to the one with which the opening is whole. `number` is that of the line taken last.
-fn take_all(
+/// An opening of which some lines are taken.
+#[derive(Drop)]
+struct Begun {
     alloc: Global,
-    scratch: &mut Scratch,
-    mut so_far: Option<SoFar>,
-    lines: &[LineIn],
-    number: &mut u64,
-) -> Result<Option<SoFar>, Refusal> {
-    for line in lines {
-        if let Some(SoFar::Whole(header, rows)) = so_far {
-            return Ok(Some(SoFar::Whole(header, rows)));
-        }
-        *number = number.saturating_add(1);
-        if !line.is_blank() {
-            so_far = match so_far {
-                None => Some(first_line(alloc, scratch, line)?),
-                Some(SoFar::More(header, rows)) => {
-                    Some(later_line(alloc, scratch, header, rows, line)?)
-                }
-                Some(SoFar::Whole(header, rows)) => Some(SoFar::Whole(header, rows)),
-            };
-        }
-    }
-    Ok(so_far)
-}
-
-/// The opening, with what the input ends in. `number` is that of the line taken last, or of the one that is missing.
-fn last_taken(
-    alloc: Global,
-    scratch: &mut Scratch,
+    scratch: Scratch,
     so_far: Option<SoFar>,
-    lines: Lines,
-    number: &mut u64,
-) -> Result<Opening, Refusal> {
-    let so_far = match lines.end() {
-        None => so_far,
-        Some(line) => take_all(alloc, scratch, so_far, &[line], number)?,
-    };
-    match so_far {
-        Some(SoFar::Whole(header, rows)) => Ok(opening_of(header, rows)),
-        Some(SoFar::More(..)) | None => {
-            // It is the line that is missing.
-            *number = number.saturating_add(1);
-            Err(Refusal::BadOpening)
+    /// The number of the line taken last, or of the one that is missing.
+    line: u64,
+}
+
+impl Begun {
+    /// No line is taken yet.
+    fn new(alloc: Global) -> Begun {
+        Begun {
+            alloc,
+            scratch: Scratch::new(alloc),
+            so_far: None,
+            line: 0,
+        }
+    }
+
+    /// Reads up to the piece in which the opening is whole, or refused. Nothing, where the input ends before.
+    fn read<R: Read>(
+        &mut self,
+        reader: &mut R,
+        turns: u64,
+        lines: &mut Lines,
+    ) -> Result<Option<Result<Opening, Unopened>>, Fault> {
+        let mut piece = [0u8; PIECE];
+        for _turn in 0..turns {
+            let Ok(len) = reader.read(&mut piece) else {
+                return Err(Fault::Reading);
+            };
+            if len == 0 {
+                return Ok(None);
+            }
+            match self.feed(lines, &piece[..len])? {
+                None => {}
+                Some(opening) => return Ok(Some(opening)),
+            }
+        }
+        Err(Fault::Reading)
+    }
+
+    /// Takes the lines that end in the piece.
+    fn feed(
+        &mut self,
+        lines: &mut Lines,
+        piece: &[u8],
+    ) -> Result<Option<Result<Opening, Unopened>>, Fault> {
+        let ended = lines.feed(piece)?;
+        Ok(self.take(&ended))
+    }
+
+    /// Takes the lines. Nothing, where the opening is neither whole nor refused by then.
+    fn take(&mut self, lines: &[LineIn]) -> Option<Result<Opening, Unopened>> {
+        match self.take_all(lines) {
+            Ok(None) => None,
+            Ok(Some(opening)) => Some(Ok(opening)),
+            Err(why) => Some(Err(Unopened {
+                line: self.line,
+                why,
+            })),
+        }
+    }
+
+    /// The opening, with what the input ends in.
+    fn end(mut self, lines: Lines) -> Result<Opening, Unopened> {
+        match self.take_last(lines) {
+            Ok(opening) => Ok(opening),
+            Err(why) => Err(Unopened {
+                line: self.line,
+                why,
+            }),
+        }
+    }
+
+    fn take_last(&mut self, lines: Lines) -> Result<Opening, Refusal> {
+        let last = match lines.end() {
+            None => None,
+            Some(line) => self.take_all(&[line])?,
+        };
+        match last {
+            Some(opening) => Ok(opening),
+            None => {
+                // It is the line that is missing.
+                self.line = self.line.saturating_add(1);
+                Err(Refusal::BadOpening)
+            }
+        }
+    }
+
+    /// Takes lines up to the one with which the opening is whole.
+    fn take_all(&mut self, lines: &[LineIn]) -> Result<Option<Opening>, Refusal> {
+        for line in lines {
+            self.line = self.line.saturating_add(1);
+            if !line.is_blank() {
+                match self.next(line)? {
+                    SoFar::Whole(header, rows) => return Ok(Some(opening_of(header, rows))),
+                    SoFar::More(header, rows) => self.so_far = Some(SoFar::More(header, rows)),
+                }
+            }
+        }
+        Ok(None)
+    }
+
+    /// What the lines have said, with this one.
+    fn next(&mut self, line: &LineIn) -> Result<SoFar, Refusal> {
+        match self.so_far.take() {
+            None => first_line(self.alloc, &mut self.scratch, line),
+            Some(SoFar::More(header, rows)) => {
+                later_line(self.alloc, &mut self.scratch, header, rows, line)
+            }
+            Some(SoFar::Whole(header, rows)) => Ok(SoFar::Whole(header, rows)),
         }
     }
 }
