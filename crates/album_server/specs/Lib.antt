@@ -1,3 +1,1 @@
-pub mod Admins
-pub mod Talk
 pub mod Audits

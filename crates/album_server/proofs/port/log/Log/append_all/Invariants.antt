@@ -1,0 +1,11 @@
+use Rattle.std.proofs.Common.{◌≡◌, take}
+use Rattle.std.specs.Io.KnownBytes.{Appends}
+use Rattle.album_server.specs.Audits.{who_in, record_lines}
+use Rattle.album_server.proofs.port.log.Log.append_all.Given as goal
+
+abbrev pub invariant-loop-of : goal.invariant-loop-of
+invariant-loop-of g l = record {
+  written : Appends (g.W.Write.contents l.initial.self.to) (g.W.Write.contents l.self.to)
+      (record_lines (who_in l.initial.self.named) (take l.of-index l.records));
+  named : l.self.named ≡ l.initial.self.named;
+}

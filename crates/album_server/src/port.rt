@@ -1,0 +1,632 @@
+//! The service of a port: it is opened by the lines that are read, and each connection has a thread and a session.
+ghost use Rattle.std.specs.Prelude.{◌≡◌};
+ghost use Rattle.album_threads.specs.Opened.{opened_as};
+
+mod accepting;
+mod audit;
+mod connections;
+mod log;
+mod notices;
+mod opening;
+mod waker;
+mod watch;
+
+use crate::port::accepting::{Limits, accept_all};
+pub use crate::port::audit::AuditFile;
+use crate::port::audit::AuditJournal;
+use crate::port::connections::Connections;
+use crate::port::notices::{Notice, Printer};
+pub use crate::port::opening::opening_of_text;
+use crate::port::opening::{Unopened, read_opening};
+use crate::port::waker::{Waker, local};
+use crate::port::watch::watch;
+use album_audit::Totals;
+use album_judge::{Fault, PIECE, write_refused, write_text};
+use album_stamps::Refusal;
+use album_talk::Admins;
+use album_threads::{Gauge, Opened, Service, ServiceNames};
+use album_wire::{Counted, TalkOut, write_talk};
+use crossbeam_channel::{Receiver, Sender, unbounded};
+use std::alloc::Global;
+use std::io::{Read, Write};
+use std::marker::Brand;
+use std::net::{Net, TcpListener, TcpStream};
+use std::sync::Wait;
+use std::thread::{Scope, Threads};
+use std::time::Duration;
+use std::{thread, time};
+
+/// How `serve` ends, where there was no fault.
+#[derive(Clone, Copy, Debug)]
+pub enum Served {
+    /// All connections were served, and the totals are written.
+    Done,
+    /// The opening was refused, and that is written.
+    Refused,
+    /// The port can't be had.
+    NoPort,
+}
+
+/// Where and how long a service is run.
+#[derive(Debug, Drop)]
+pub struct Serving {
+    /// The port of 127.0.0.1.
+    pub port: u16,
+    /// How many connections are served.
+    pub conns: u16,
+    /// How many reads the opening may take, and each connection may make.
+    pub turns: u64,
+    /// A connection that says nothing for so many seconds ends, by the fault `Reading`. 0 is no limit.
+    pub idle: u32,
+    /// Each so many seconds the figures of the service are printed on standard error. 0 is never.
+    pub stats: u32,
+    /// Who may sweep, trim and ask what is pending.
+    pub admins: Admins,
+}
+
+/// What a service runs on: sockets, threads, the clock and standard error.
+pub trait Host: Net<Listener = TcpListener, Stream = TcpStream>
+    + Threads
+    + Wait
+    + time::Clock
+    + Eprint
+    + Copy
+    + Send
+    + Sync
+    + 'static {}
+
+impl<T> Host for T
+where
+    T: Net<Listener = TcpListener, Stream = TcpStream>
+        + Threads
+        + Wait
+        + time::Clock
+        + Eprint
+        + Copy
+        + Send
+        + Sync
+        + 'static,
+{}
+
+/// Opens a service by the lines that are read, listens at the port of 127.0.0.1, gives each of so many connections a
+/// thread and a session, and then writes the totals of the audit book. What is wrong with an opening, by its line, and
+/// why a port can't be had is printed on standard error, as are the faults of connections.
+///
+/// # Errors
+///
+/// `Reading`, where a read fails, or `turns` reads did not come to the end of the opening; `Writing`, where a write to
+/// `writer` fails or takes no byte; `Memory`. The first that comes ends it. Faults of connections end only these.
+pub fn serve<T: Host, R: Read, W: Write>(
+    rt: T,
+    alloc: Global,
+    reader: &mut R,
+    writer: &mut W,
+    port: u16,
+    conns: u16,
+    turns: u64,
+) -> Result<Served, Fault> {
+    let serving = Serving {
+        port,
+        conns,
+        turns,
+        idle: 0,
+        stats: 0,
+        admins: Admins::Anyone,
+    };
+    serve_for(rt, alloc, reader, writer, serving, None)
+}
+
+/// The same, as `serving` says. Each note is appended to the audit file, if there is one, before its request is
+/// answered.
+///
+/// # Errors
+///
+/// As `serve`; also `Writing`, where a note can't be written to the audit file. Then nothing is answered any more, and
+/// the reason is printed on standard error.
+pub fn serve_for<T: Host, R: Read, W: Write>(
+    rt: T,
+    alloc: Global,
+    reader: &mut R,
+    writer: &mut W,
+    serving: Serving,
+    audit: Option<AuditFile>,
+) -> Result<Served, Fault> {
+    let (opened, listener) = match begin(&rt, alloc, reader, writer, &serving)? {
+        Ok(begun) => begun,
+        Err(served) => return Ok(served),
+    };
+    let setup = Setup::<&[u8]> {
+        input: None,
+        serving,
+        audit,
+    };
+    serve_opened(rt, alloc, opened, &listener, writer, setup)
+}
+
+/// The same, to the end of the input behind the opening: then no connection begins any more, and each line that has
+/// come is answered still. Connections beyond the last that counts are answered `Closed` until then.
+///
+/// # Errors
+///
+/// As `serve_for`.
+pub fn serve_until<T: Host, R: Read + Send + Drop, W: Write>(
+    rt: T,
+    alloc: Global,
+    mut reader: R,
+    writer: &mut W,
+    serving: Serving,
+    audit: Option<AuditFile>,
+) -> Result<Served, Fault> {
+    let (opened, listener) = match begin(&rt, alloc, &mut reader, writer, &serving)? {
+        Ok(begun) => begun,
+        Err(served) => return Ok(served),
+    };
+    let setup = Setup {
+        input: Some(reader),
+        serving,
+        audit,
+    };
+    serve_opened(rt, alloc, opened, &listener, writer, setup)
+}
+
+/// The same, where the opening is read by itself, and the input beside it has nothing but its end.
+///
+/// # Errors
+///
+/// As `serve_for`.
+pub fn serve_beside<T: Host, O: Read, R: Read + Send + Drop, W: Write>(
+    rt: T,
+    alloc: Global,
+    opening: &mut O,
+    input: R,
+    writer: &mut W,
+    serving: Serving,
+    audit: Option<AuditFile>,
+) -> Result<Served, Fault> {
+    let (opened, listener) = match begin(&rt, alloc, opening, writer, &serving)? {
+        Ok(begun) => begun,
+        Err(served) => return Ok(served),
+    };
+    let setup = Setup {
+        input: Some(input),
+        serving,
+        audit,
+    };
+    serve_opened(rt, alloc, opened, &listener, writer, setup)
+}
+
+/// What a service is run with, beside its opening: the input behind that, if it is read, and the audit file.
+#[derive(Drop)]
+struct Setup<R: Drop> {
+    input: Option<R>,
+    serving: Serving,
+    audit: Option<AuditFile>,
+}
+
+/// The opening is read and opened, and the port is had; or else it is answered why not.
+fn begin<T, R: Read, W: Write>(
+    rt: &T,
+    alloc: Global,
+    reader: &mut R,
+    writer: &mut W,
+    serving: &Serving,
+) -> Result<Result<(Opened, TcpListener), Served>, Fault>
+where
+    T: Net<Listener = TcpListener, Stream = TcpStream> + Eprint,
+{
+    let opening = match read_opening(alloc, reader, serving.turns)? {
+        Ok(opening) => opening,
+        Err(Unopened { line, why }) => {
+            let _ = eprintln!(rt; "album: opening, line {line}: {}", why.name());
+            write_refused(alloc, why, writer)?;
+            return Ok(Err(Served::Refused));
+        }
+    };
+    let opened = match Opened::new(alloc, &opening, serving.conns.max(1)) {
+        Ok(opened) => opened,
+        Err(why) => {
+            let _ = eprintln!(rt; "album: opening: {}", why.name());
+            write_refused(alloc, why, writer)?;
+            return Ok(Err(Served::Refused));
+        }
+    };
+    match TcpListener::bind(rt, local(serving.port)) {
+        Ok(listener) => Ok(Ok((opened, listener))),
+        Err(error) => {
+            let _ = eprintln!(rt; "album: port {}: {error}", serving.port);
+            Ok(Err(Served::NoPort))
+        }
+    }
+}
+
+/// Serves what was opened, under names of its own.
+fn serve_opened<T, R, W>(
+    rt: T,
+    alloc: Global,
+    opened: Opened,
+    listener: &TcpListener,
+    writer: &mut W,
+    setup: Setup<R>,
+) -> Result<Served, Fault>
+where
+    T: Net<Listener = TcpListener, Stream = TcpStream>
+        + Threads
+        + Wait
+        + time::Clock
+        + Eprint
+        + Copy
+        + Send
+        + Sync
+        + 'static,
+    R: Read + Send + Drop,
+    W: Write,
+{
+    serve_at::<Brand, T, R, W>(rt, alloc, opened, listener, writer, setup)?;
+    Ok(Served::Done)
+}
+
+fn serve_at<J, T, R, W>(
+    rt: T,
+    alloc: Global,
+    opened: Opened,
+    listener: &TcpListener,
+    writer: &mut W,
+    setup: Setup<R>,
+) -> Result<(), Fault>
+where
+    J: ServiceNames + Send + Sync + 'static,
+    T: Net<Listener = TcpListener, Stream = TcpStream>
+        + Threads
+        + Wait
+        + time::Clock
+        + Eprint
+        + Copy
+        + Send
+        + Sync
+        + 'static,
+    R: Read + Send + Drop,
+    W: Write,
+    requires named { opened ≡ opened_as J.table J.terms J.policy J.list
+        J.audit_ok J.audit_failed J.alarm_ok J.alarm_failed }
+{
+    let (printer, notices) = Printer::open(rt, alloc)?;
+    let ended = serve_all::<J, T, R, W>(rt, alloc, opened, listener, writer, setup, notices);
+    printer.close(&rt);
+    let totals = ended?;
+    print(alloc, &totals_out(totals), writer)
+}
+
+/// Opens the service, says so, and closes it once its connections have ended. What is printed meanwhile is sent as a
+/// notice.
+///
+/// # Errors
+///
+/// Those of `attend_all`; `Memory`, also where a partition has ended for want of it; `Writing`.
+fn serve_all<J, T, R, W>(
+    rt: T,
+    alloc: Global,
+    opened: Opened,
+    listener: &TcpListener,
+    writer: &mut W,
+    setup: Setup<R>,
+    notices: Sender<Notice>,
+) -> Result<Totals, Fault>
+where
+    J: ServiceNames + Send + Sync + 'static,
+    T: Net<Listener = TcpListener, Stream = TcpStream>
+        + Threads
+        + Wait
+        + time::Clock
+        + Eprint
+        + Copy
+        + Send
+        + Sync
+        + 'static,
+    R: Read + Send + Drop,
+    W: Write,
+    requires named { opened ≡ opened_as J.table J.terms J.policy J.list
+        J.audit_ok J.audit_failed J.alarm_ok J.alarm_failed }
+{
+    let waker = Waker::new(rt, setup.serving.port);
+    let service = Service::<J>::open(rt, alloc, opened, waker)?;
+    let done = say_and_attend(rt, alloc, &service, listener, writer, setup, notices);
+    close(&rt, service, done)
+}
+
+/// Closes the service, whose connections have ended so.
+fn close<J, T>(rt: &T, service: Service<J>, done: Result<(), Fault>) -> Result<Totals, Fault>
+where
+    J: ServiceNames + Send + 'static,
+    T: Threads + Wait,
+{
+    let is_broken = service.is_broken();
+    let totals = service.close(rt);
+    done?;
+    if is_broken {
+        return Err(Fault::Memory);
+    }
+    Ok(totals)
+}
+
+/// Says that the port is served, and serves it.
+fn say_and_attend<J, T, R, W>(
+    rt: T,
+    alloc: Global,
+    service: &Service<J>,
+    listener: &TcpListener,
+    writer: &mut W,
+    setup: Setup<R>,
+    notices: Sender<Notice>,
+) -> Result<(), Fault>
+where
+    J: ServiceNames + Send + Sync,
+    T: Net<Listener = TcpListener, Stream = TcpStream>
+        + Threads
+        + Wait
+        + time::Clock
+        + Eprint
+        + Copy
+        + Send
+        + Sync
+        + 'static,
+    R: Read + Send + Drop,
+    W: Write,
+{
+    print(alloc, &TalkOut::Serving(setup.serving.port), writer)?;
+    attend_all(rt, alloc, service, listener, setup, notices)
+}
+
+/// Serves the connections. Meanwhile it watches the figures, and reads the input to its end, if there is one.
+///
+/// # Errors
+///
+/// `Memory`; `Writing`, where a note can't be written.
+fn attend_all<J, T, R>(
+    rt: T,
+    alloc: Global,
+    service: &Service<J>,
+    listener: &TcpListener,
+    setup: Setup<R>,
+    notices: Sender<Notice>,
+) -> Result<(), Fault>
+where
+    J: ServiceNames + Send + Sync,
+    T: Net<Listener = TcpListener, Stream = TcpStream>
+        + Threads
+        + Wait
+        + time::Clock
+        + Eprint
+        + Copy
+        + Send
+        + Sync
+        + 'static,
+    R: Read + Send + Drop,
+{
+    let (shared, own) = parts_of(&rt, alloc, service, setup, notices)?;
+    attend_within(rt, alloc, service, listener, &shared, own);
+    shared.journal.outcome()
+}
+
+/// What the threads of a service share.
+#[derive(Drop)]
+pub(crate) struct Shared<J: ServiceNames> {
+    pub gauge: Gauge<J>,
+    pub connections: Connections,
+    pub journal: AuditJournal,
+    pub limits: Limits,
+    /// Each so many seconds the figures are printed. 0 is never.
+    pub stats: u32,
+}
+
+/// What one of them alone has: who reads the input to its end, and who watches until the sender is let go.
+#[derive(Drop)]
+struct Own<R: Drop> {
+    input: Option<R>,
+    end: Sender<()>,
+    ended: Receiver<()>,
+}
+
+/// What the threads look at and send by.
+#[derive(Drop)]
+struct Ends<J: ServiceNames> {
+    gauge: Gauge<J>,
+    /// Where the journal sends its notices, and the connections theirs.
+    unwritten: Sender<Notice>,
+    notices: Sender<Notice>,
+    end: Sender<()>,
+    ended: Receiver<()>,
+}
+
+/// Both. Where notes are written to a file, the service keeps them until then.
+///
+/// # Errors
+///
+/// `OutOfMemory`.
+fn parts_of<J: ServiceNames, T: Wait, R: Drop>(
+    rt: &T,
+    alloc: Global,
+    service: &Service<J>,
+    setup: Setup<R>,
+    notices: Sender<Notice>,
+) -> Result<(Shared<J>, Own<R>), Refusal> {
+    let ends = ends_of(alloc, service, notices)?;
+    if setup.audit.is_some() {
+        service.keep_records(rt);
+    }
+    Ok(parted(alloc, setup, ends))
+}
+
+/// They are made together, since there may be no memory for each.
+fn ends_of<J: ServiceNames>(
+    alloc: Global,
+    service: &Service<J>,
+    notices: Sender<Notice>,
+) -> Result<Ends<J>, Refusal> {
+    let (end, ended) = unbounded(alloc)?;
+    let unwritten = notices.clone()?;
+    let gauge = service.gauge()?;
+    Ok(Ends {
+        gauge,
+        unwritten,
+        notices,
+        end,
+        ended,
+    })
+}
+
+fn parted<J: ServiceNames, R: Drop>(
+    alloc: Global,
+    setup: Setup<R>,
+    ends: Ends<J>,
+) -> (Shared<J>, Own<R>) {
+    let Setup {
+        input,
+        serving,
+        audit,
+    } = setup;
+    let Ends {
+        gauge,
+        unwritten,
+        notices,
+        end,
+        ended,
+    } = ends;
+    let limits = limits_of(&serving, input.is_some());
+    let stats = serving.stats;
+    let connections = Connections::new(alloc, notices, serving.port, limits.conns, serving.admins);
+    let journal = AuditJournal::new(alloc, unwritten, audit);
+    let shared = Shared {
+        gauge,
+        connections,
+        journal,
+        limits,
+        stats,
+    };
+    (shared, Own { input, end, ended })
+}
+
+/// The threads of that.
+fn attend_within<J, T, R>(
+    rt: T,
+    alloc: Global,
+    service: &Service<J>,
+    listener: &TcpListener,
+    shared: &Shared<J>,
+    own: Own<R>,
+)
+where
+    J: ServiceNames + Send + Sync,
+    T: Net<Listener = TcpListener, Stream = TcpStream>
+        + Threads
+        + Wait
+        + time::Clock
+        + Copy
+        + Send
+        + Sync,
+    R: Read + Send + Drop,
+{
+    thread::scope(thread::scope_env(), &rt, |scope| {
+        let Own { input, end, ended } = own;
+        watch_within(rt, alloc, scope, shared, ended);
+        read_within(rt, scope, shared, input);
+        accept_all(rt, alloc, scope, service, listener, shared);
+        // The watch ends.
+        drop(end);
+    });
+}
+
+/// Watches the figures in a thread, until the sender to `ended` is let go. Without a thread, nothing is watched.
+fn watch_within<'s, J, T, E>(
+    rt: T,
+    alloc: Global,
+    scope: &'s Scope<'s, E>,
+    shared: &'s Shared<J>,
+    ended: Receiver<()>,
+)
+where
+    J: ServiceNames + Send + Sync + 's,
+    T: Threads + Wait + time::Clock + Copy + Send + Sync + 's,
+{
+    let Shared {
+        gauge,
+        connections,
+        stats,
+        ..
+    } = shared;
+    let _ = scope.spawn(move || watch(&rt, alloc, gauge, connections, *stats, &ended));
+}
+
+/// Reads the input to its end in a thread, if there is one. Where there is no thread, it has ended.
+fn read_within<'s, J, T, R, E>(
+    rt: T,
+    scope: &'s Scope<'s, E>,
+    shared: &'s Shared<J>,
+    input: Option<R>,
+)
+where
+    J: ServiceNames,
+    T: Net<Listener = TcpListener, Stream = TcpStream> + Threads + Wait + Copy + Send + Sync + 's,
+    R: Read + Send + Drop + 's,
+{
+    let Some(reader) = input else {
+        return;
+    };
+    let (connections, turns) = (&shared.connections, shared.limits.turns);
+    let reads = scope.spawn(move || read_to_end(&rt, reader, connections, turns));
+    if reads.is_err() {
+        connections.close(&rt);
+    }
+}
+
+/// How the connections are served.
+fn limits_of(serving: &Serving, until_closed: bool) -> Limits {
+    Limits {
+        conns: serving.conns,
+        turns: serving.turns,
+        idle: idle_of(serving.idle),
+        until_closed,
+    }
+}
+
+/// So many seconds, or no limit.
+fn idle_of(seconds: u32) -> Option<Duration> {
+    if seconds == 0 {
+        return None;
+    }
+    Some(Duration::from_secs(u64::from(seconds)))
+}
+
+/// Reads to the end, and closes the connections then, or where reading fails.
+fn read_to_end<T, R>(rt: &T, mut reader: R, connections: &Connections, turns: u64)
+where
+    T: Wait + Net<Listener = TcpListener, Stream = TcpStream>,
+    R: Read + Drop,
+{
+    let mut piece = [0u8; PIECE];
+    for _turn in 0..turns {
+        match reader.read(&mut piece) {
+            Ok(0) | Err(_) => break,
+            Ok(_) => {}
+        }
+    }
+    connections.close(rt);
+}
+
+fn print<W: Write>(alloc: Global, out: &TalkOut, writer: &mut W) -> Result<(), Fault> {
+    let text = write_talk(alloc, out)?;
+    write_text(writer, &text)?;
+    writer.flush().map_err(|_| Fault::Writing)
+}
+
+fn totals_out(totals: Totals) -> TalkOut {
+    TalkOut::Totals {
+        audits: Counted {
+            succeeded: totals.audit_ok,
+            failed: totals.audit_failed,
+        },
+        alarms: Counted {
+            succeeded: totals.alarm_ok,
+            failed: totals.alarm_failed,
+        },
+    }
+}

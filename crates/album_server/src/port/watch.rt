@@ -1,0 +1,130 @@
+//! What a running service has: it is printed each so many seconds, and there is a warning before something is spent.
+ghost use Rattle.std.specs.Prelude.{◌≤◌, ◌*◌, ◌↔◌, IsTrue};
+
+use crate::port::connections::Connections;
+use crate::port::notices::Notice;
+use album_threads::{Figures, Gauge, ServiceNames};
+use album_wire::{Counted, ServiceFigures, write_figures};
+use crossbeam_channel::{Receiver, RecvTimeoutError};
+use std::alloc::{AllocError, Global};
+use std::sync::Wait;
+use std::time;
+use std::time::Duration;
+
+/// How many seconds lie between two looks, where nobody wants figures.
+const PAUSE: u32 = 10;
+
+/// Of what it was warned: of the marks of these partitions, and of the connections.
+#[derive(Drop)]
+struct Warned {
+    parts: Vec<usize>,
+    connections: bool,
+}
+
+/// Looks at the figures each so many seconds, until it is ended. Where `stats` is not 0 they are printed each time.
+pub(crate) fn watch<J: ServiceNames, T: Wait + time::Clock>(
+    rt: &T,
+    alloc: Global,
+    gauge: &Gauge<J>,
+    connections: &Connections,
+    stats: u32,
+    ended: &Receiver<()>,
+) {
+    let seconds = if stats == 0 { PAUSE } else { stats };
+    let pause = Duration::from_secs(u64::from(seconds));
+    let mut warned = Warned {
+        parts: Vec::new(alloc),
+        connections: false,
+    };
+    for _ in rt.forever() {
+        match ended.recv_timeout(rt, pause) {
+            Err(RecvTimeoutError::Timeout) => {}
+            Ok(()) | Err(RecvTimeoutError::Disconnected) => return,
+        }
+        // Without memory, or where a partition's thread has ended, there are none this time.
+        if let Ok(parts) = gauge.figures(rt) {
+            let figures = figures_of(rt, gauge, connections, parts);
+            let _ = warned.warn(rt, alloc, connections, &figures);
+            if stats > 0 {
+                print(rt, alloc, connections, &figures);
+            }
+        }
+    }
+    // `forever` has no end.
+    unreachable!()
+}
+
+fn figures_of<J: ServiceNames, T: Wait>(
+    rt: &T,
+    gauge: &Gauge<J>,
+    connections: &Connections,
+    parts: Vec<Figures>,
+) -> ServiceFigures {
+    let totals = gauge.totals(rt);
+    // Those that have ended first: each of them has begun.
+    let ended = connections.ended();
+    let begun = connections.begun();
+    ServiceFigures {
+        connected: begun.saturating_sub(ended),
+        begun,
+        most: connections.most(),
+        parts,
+        audits: Counted {
+            succeeded: totals.audit_ok,
+            failed: totals.audit_failed,
+        },
+        alarms: Counted {
+            succeeded: totals.alarm_ok,
+            failed: totals.alarm_failed,
+        },
+    }
+}
+
+/// Prints the figures, unless what was to be printed before still waits: then nobody reads it.
+fn print<T: Wait>(rt: &T, alloc: Global, connections: &Connections, figures: &ServiceFigures) {
+    if let Ok(line) = write_figures(alloc, figures)
+        && let Ok(line) = String::from_utf8(line)
+    {
+        connections.notify_if_read(rt, Notice::Figures(line));
+    }
+}
+
+impl Warned {
+    /// Warns once of each thing that is nearly spent.
+    ///
+    /// # Errors
+    ///
+    /// `AllocError`. It warns the next time.
+    fn warn<T: Wait>(
+        &mut self,
+        rt: &T,
+        alloc: Global,
+        connections: &Connections,
+        figures: &ServiceFigures,
+    ) -> Result<(), AllocError> {
+        for (part, has) in figures.parts.iter().enumerate() {
+            let made = has.marks.saturating_add(has.pending);
+            if is_nearly_spent(made, has.limit) && !self.parts.contains(&part) {
+                self.parts.push(part)?;
+                let limit = has.limit;
+                let text = format!(in alloc; "partition {part}: {made} of {limit} marks")?;
+                connections.notify(rt, Notice::Warning(text));
+            }
+        }
+        let (begun, most) = (figures.begun, figures.most);
+        if is_nearly_spent(begun, most) && !self.connections {
+            let text = format!(in alloc; "{begun} of {most} connections")?;
+            self.connections = true;
+            connections.notify(rt, Notice::Warning(text));
+        }
+        Ok(())
+    }
+}
+
+/// Whether nine tenths are made of what there may be. Of less than a hundred nobody is warned: who sets so low a limit
+/// wants it reached.
+fn is_nearly_spent(made: u64, most: u64) -> bool
+    ensures { IsTrue result ↔ ((100 ≤ most) × (9 * most ≤ 10 * made)) }
+{
+    most >= 100 && 9 * u128::from(most) <= 10 * u128::from(made)
+}

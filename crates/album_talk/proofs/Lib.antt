@@ -1,0 +1,4 @@
+pub mod Talking
+pub mod TalkTurns
+pub mod Recording
+pub mod Naming

@@ -1,0 +1,2 @@
+pub mod Admins
+pub mod Talk

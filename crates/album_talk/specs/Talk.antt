@@ -1,0 +1,219 @@
+-- A talk: what the lines of a connection are answered, in a session.
+use Rattle.std.specs.Prelude.{◌≡◌, ◌≢◌, ◌⊎◌, ◌≤◌, ℕ, List, [], ◌∷◌, ◌++◌, MatchBool, Option, Some, None, Result, Ok, Err}
+use Rattle.album_stamps.specs.declared.refusals.Refusal.{Refusal}
+use Rattle.album_stamps.specs.Outcome.{◌>>=◌}
+use Rattle.album_stamps.specs.declared.refusals.Refusal.TheVariants.{OutOfMemory, BadLine, NoSuchPart, NotPrepared}
+use Rattle.album_terminate.specs.declared.deciding.StampState.TheVariants as state
+use Rattle.album_partition.specs.Marks.{ArePending, state_of, latest, floor}
+use Rattle.album_eval.specs.declared.facts.Principal.{Principal}
+use Rattle.album_eval.specs.declared.policies.Policy.{Policy}
+use Rattle.album_views.specs.Checks.{refusal_of}
+use Rattle.album_views.specs.declared.asks.Ask.{Ask}
+use Rattle.album_permits.specs.declared.answers.Answer.{Answer}
+use Rattle.album_passes.specs.Cuts.{prefix_at}
+use Rattle.album_sessions.specs.Asks.{IsOn}
+use Rattle.album_keepers.specs.Controls.{IsUntrimmed}
+use Rattle.album_sessions.specs.Resting.{RestsOn}
+use Rattle.album_channels.specs.Channels.{IsClosedOrOutOfMemory}
+use Rattle.album_sessions.specs.Sessions.{SessionState, AddsNothing}
+use Rattle.album_permits.specs.declared.outs.Out.TheVariants as out
+use Rattle.album_lines.specs.Lines.{Line, is_blank}
+use Rattle.album_lines.specs.Output.{line_text, refusal_line}
+use Rattle.album_wire.specs.OutJson.{out_line}
+use Rattle.album_wire.specs.TalkJson.{pending_json, talk_text}
+use Rattle.album_wire.specs.declared.talk_json.TalkOut.{TalkOut}
+use Rattle.album_wire.specs.declared.talk_json.TalkOut.TheVariants as says
+use Rattle.album_wire.specs.TalkLine.{hello_line_of, talk_line_of}
+use Rattle.album_wire.specs.declared.talk_line.TalkLine.{TalkLine}
+use Rattle.album_wire.specs.declared.talk_line.TalkLine.TheVariants as line
+use Rattle.album_talk.specs.Admins.{permitted}
+use Rattle.album_talk.specs.declared.admins.Admins.{Admins}
+use Rattle.album_judge.specs.Writes.{IsPrefixOf}
+
+-- ---- what a session answers to a line
+
+-- of an ask: the answer, on what it rests; or it is refused by its check, or no reply comes, and then nothing was
+-- noted, drawn or announced
+abbrev pub AnswersAsk : ℕ → Policy → Principal → Ask → SessionState → SessionState → Result Answer Refusal → Type 0
+AnswersAsk limit policy who ask old new (Ok answer) = RestsOn limit policy who ask old new answer
+AnswersAsk limit policy who ask old new (Err why) =
+    ((refusal_of ask who ≡ Some why) ⊎ IsClosedOrOutOfMemory why) × AddsNothing old new
+
+-- there is no partition of this number
+pub record IsNowhere (session : SessionState) (part : ℕ) (why : Refusal) : Type 0 where
+  pub is : why ≡ NoSuchPart
+  pub past : session.cut.parts ≤ part
+
+-- the stamps that are pending at a partition
+abbrev pub AnswersPending : ℕ → SessionState → SessionState → Result (List ℕ) Refusal → Type 0
+AnswersPending part old new (Ok stamps) = ArePending (prefix_at new.cut part) stamps
+AnswersPending part old new (Err why) = IsNowhere old part why ⊎ IsClosedOrOutOfMemory why
+
+-- the stamp is not pending there
+pub record IsUnprepared (session : SessionState) (part stamp : ℕ) (why : Refusal) : Type 0 where
+  pub is : why ≡ NotPrepared
+  pub other : state_of (prefix_at session.cut part) stamp ≢ state.Pending
+
+-- of a sweep: the stamp is pending at the partition, and the others are asked how it stands
+abbrev pub AnswersSweep : ℕ → ℕ → SessionState → SessionState → Result Unit Refusal → Type 0
+AnswersSweep part stamp old new (Ok done) = state_of (prefix_at new.cut part) stamp ≡ state.Pending
+AnswersSweep part stamp old new (Err why) =
+    IsNowhere old part why ⊎ (IsUnprepared new part stamp why ⊎ IsClosedOrOutOfMemory why)
+
+-- no version of the item is kept at the partition that is below its latest stamp, nor below that which the session knew
+pub record IsTrimmed (part item : ℕ) (old new : SessionState) : Type 0 where
+  pub latest_kept : floor (prefix_at new.cut part) item ≡ latest (prefix_at new.cut part) item
+  pub known : latest (prefix_at old.cut part) item ≤ floor (prefix_at new.cut part) item
+
+abbrev pub AnswersTrim : ℕ → ℕ → ℕ → SessionState → SessionState → Result Unit Refusal → Type 0
+AnswersTrim limit part item old new (Ok done) = IsTrimmed part item old new
+AnswersTrim limit part item old new (Err why) =
+    IsNowhere old part why ⊎ (IsUntrimmed limit new.cut part item why ⊎ IsClosedOrOutOfMemory why)
+
+-- ---- the text of an answer, or of a refusal
+
+abbrev pub asked_text : (client : ℕ) → Result Answer Refusal → List ℕ
+asked_text client (Ok answer) = out_line (out.Answered client answer) None
+asked_text client (Err why) = refusal_line why
+
+abbrev pub pending_text : Result (List ℕ) Refusal → List ℕ
+pending_text (Ok stamps) = line_text (pending_json stamps)
+pending_text (Err why) = refusal_line why
+
+abbrev pub done_text : TalkOut → Result Unit Refusal → List ℕ
+done_text said (Ok done) = talk_text said
+done_text said (Err why) = refusal_line why
+
+-- ---- what a line is answered, by a session that is so before it and so after it
+
+abbrev pub IsAsked : ℕ → Policy → Principal → Ask → SessionState → SessionState → List ℕ → Type 0
+IsAsked limit policy who ask old new text =
+    (answer : Result Answer Refusal)
+    × AnswersAsk limit policy who ask old new answer
+    × (text ≡ asked_text old.client answer)
+
+-- for an ask alone something is noted, drawn or announced
+abbrev pub IsPendingAnswered : ℕ → SessionState → SessionState → List ℕ → Type 0
+IsPendingAnswered part old new text =
+    (answer : Result (List ℕ) Refusal)
+    × AnswersPending part old new answer
+    × (text ≡ pending_text answer)
+    × AddsNothing old new
+
+abbrev pub IsSweptFor : ℕ → ℕ → SessionState → SessionState → List ℕ → Type 0
+IsSweptFor part stamp old new text =
+    (answer : Result Unit Refusal)
+    × AnswersSweep part stamp old new answer
+    × (text ≡ done_text says.Swept answer)
+    × AddsNothing old new
+
+abbrev pub IsTrimmedFor : ℕ → ℕ → ℕ → SessionState → SessionState → List ℕ → Type 0
+IsTrimmedFor limit part item old new text =
+    (answer : Result Unit Refusal)
+    × AnswersTrim limit part item old new answer
+    × (text ≡ done_text says.Trimmed answer)
+    × AddsNothing old new
+
+abbrev pub AnswersTalk : ℕ → Policy → Principal → TalkLine → SessionState → SessionState → List ℕ → Type 0
+AnswersTalk limit policy who (line.Ask ask) old new text = IsAsked limit policy who ask old new text
+AnswersTalk limit policy who (line.Pending part) old new text = IsPendingAnswered part old new text
+AnswersTalk limit policy who (line.Sweep part stamp) old new text = IsSweptFor part stamp old new text
+AnswersTalk limit policy who (line.Trim part item) old new text = IsTrimmedFor limit part item old new text
+
+-- ---- a line
+
+-- who talks, once that is said, and the session
+pub record Talker : Type 0 where
+  pub who : Option Principal
+  pub session : SessionState
+
+-- it isn't said yet who talks
+abbrev pub stranger : SessionState → Talker
+stranger session = record { who = None; session = session }
+
+-- the first line, and a later one, which who talks may send; nothing is read of one that is too long
+abbrev pub hello_line_read : Line → Result Principal Refusal
+hello_line_read None = Err BadLine
+hello_line_read (Some bytes) = hello_line_of bytes
+
+abbrev pub talk_line_read : Line → Result TalkLine Refusal
+talk_line_read None = Err BadLine
+talk_line_read (Some bytes) = talk_line_of bytes
+
+abbrev pub talk_line_heard : Admins → Principal → Line → Result TalkLine Refusal
+talk_line_heard admins who line = talk_line_read line >>= permitted admins who
+
+-- the first line says who talks, and is answered the client's number
+abbrev pub Greets : Talker → Result Principal Refusal → Talker → List ℕ → Type 0
+Greets old (Ok who) new text =
+    (new ≡ record { who = Some who; session = old.session })
+    × (text ≡ talk_text (says.Hello old.session.client))
+Greets old (Err why) new text = (new ≡ old) × (text ≡ refusal_line why)
+
+-- a later line is answered, and the session has seen more
+pub record IsAnswered (limit : ℕ) (policy : Policy) (who : Principal) (said : TalkLine) (old new : Talker)
+    (text : List ℕ) : Type 0 where
+  pub named : new.who ≡ Some who
+  pub on : IsOn old.session new.session
+  pub answers : AnswersTalk limit policy who said old.session new.session text
+
+abbrev pub Attends : ℕ → Policy → Principal → Talker → Result TalkLine Refusal → Talker → List ℕ → Type 0
+Attends limit policy who old (Ok said) new text = IsAnswered limit policy who said old new text
+Attends limit policy who old (Err why) new text = (new ≡ old) × (text ≡ refusal_line why)
+
+-- until it is said who talks, a line that doesn't say so is refused
+abbrev pub Hears : ℕ → Policy → Admins → Option Principal → Talker → Line → Talker → List ℕ → Type 0
+Hears limit policy admins None old line new text = Greets old (hello_line_read line) new text
+Hears limit policy admins (Some who) old line new text =
+    Attends limit policy who old (talk_line_heard admins who line) new text
+
+-- A blank line is skipped. On another memory may run out; then that is answered, and nothing has happened.
+abbrev pub TalksOnce : ℕ → Policy → Admins → Talker → Line → Talker → List ℕ → Type 0
+TalksOnce limit policy admins old line new text =
+    MatchBool (is_blank line) ((new ≡ old) × (text ≡ []))
+    (Hears limit policy admins old.who old line new text ⊎ ((new ≡ old) × (text ≡ refusal_line OutOfMemory)))
+
+-- ---- the whole talk
+
+-- the lines are answered one after another, and this is written
+abbrev pub Talks : ℕ → Policy → Admins → Talker → List Line → Talker → List ℕ → Type 0
+Talks limit policy admins old [] new text = (new ≡ old) × (text ≡ [])
+Talks limit policy admins old (line ∷ lines) new text =
+    (between : Talker) × (first : List ℕ) × (others : List ℕ)
+    × TalksOnce limit policy admins old line between first
+    × Talks limit policy admins between lines new others
+    × (text ≡ first ++ others)
+
+-- what may be written of the lines, by talks in which the session saw no more than this one has seen
+abbrev pub MayTalk : ℕ → Policy → Admins → SessionState → Talker → List Line → List ℕ → Type 0
+MayTalk limit policy admins bound old lines text =
+    (new : Talker) × Talks limit policy admins old lines new text × IsOn new.session bound
+
+-- the talk of these lines, in a session that is so before it and so after it
+abbrev pub IsTalk : ℕ → Policy → Admins → SessionState → SessionState → List Line → List ℕ → Type 0
+IsTalk limit policy admins old new lines text =
+    (who : Option Principal) × Talks limit policy admins (stranger old) lines (record { who = who; session = new }) text
+
+-- ---- what is recorded before it is answered
+
+-- So much of a text is written. Where any byte of it is, this holds.
+abbrev pub IsWrittenIf : List ℕ → Type 0 → List ℕ → Type 0
+IsWrittenIf whole Holds text = IsPrefixOf (λ all. all ≡ whole) text × (text ≢ [] → Holds)
+
+-- A talk of some lines, from the first of these talkers to the other, and its text. Behind each answer that has a byte
+-- what the session had noted by then is recorded.
+pub data IsRecordedTalk
+    (limit : ℕ) (policy : Policy) (admins : Admins) (Recorded : SessionState → Type 0) (old : Talker)
+    : Talker → List ℕ → Type 0 where
+  Begins : IsRecordedTalk limit policy admins Recorded old old []
+  Answers :
+      (between new : Talker) (line : Line) (text answer : List ℕ)
+      → IsRecordedTalk limit policy admins Recorded old between text
+      → TalksOnce limit policy admins between line new answer
+      → (answer ≢ [] → Recorded new.session)
+      → IsRecordedTalk limit policy admins Recorded old new (text ++ answer)
+
+-- a prefix of the text of such a talk
+abbrev pub IsRecordedPart : ℕ → Policy → Admins → (SessionState → Type 0) → Talker → List ℕ → Type 0
+IsRecordedPart limit policy admins Recorded old text =
+    IsPrefixOf (λ all. (new : Talker) × IsRecordedTalk limit policy admins Recorded old new all) text

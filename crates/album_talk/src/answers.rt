@@ -1,0 +1,235 @@
+//! The answer to a line of a connection: what the session answers, or why it is refused.
+ghost use Rattle.std.specs.Prelude.{◌≡◌, ◌⊎◌, IfOk, Some};
+ghost use Rattle.album_stamps.specs.declared.refusals.Refusal.TheVariants.{OutOfMemory};
+ghost use Rattle.album_stamps.specs.Outcome.{Gives};
+ghost use Rattle.album_sessions.specs.Asks.{IsOn};
+ghost use Rattle.album_lines.specs.Lines.{said};
+ghost use Rattle.album_lines.specs.Output.{refusal_line};
+ghost use Rattle.album_talk.specs.Talk.{AnswersAsk, AnswersTalk, Attends, Greets, IsAsked, IsPendingAnswered, IsSweptFor, IsTrimmedFor, TalksOnce, hello_line_read, talk_line_heard};
+
+use crate::admins::Admins;
+use album_eval::Principal;
+use album_items::ItemId;
+use album_lines::{LineIn, write_refusal};
+use album_permits::{Answer, Out};
+use album_stamps::{Refusal, Stamp};
+use album_sessions::{Acknowledged, ServiceNames, Session};
+use album_views::Ask;
+use album_wire::{TalkLine, TalkOut, read_hello, read_talk, write_out, write_talk};
+use json::Scratch;
+use std::alloc::Global;
+use std::sync::Wait;
+use std::time;
+
+/// The answer to a line, without a byte for a line that is skipped.
+///
+/// # Errors
+///
+/// `OutOfMemory`, where there is none for the text of the answer.
+pub(crate) fn answer<J: ServiceNames, T: Wait + time::Clock>(
+    rt: &T,
+    alloc: Global,
+    scratch: &mut Scratch,
+    session: &mut Session<J>,
+    admins: &Admins,
+    who: &mut Option<Principal>,
+    line: &LineIn,
+) -> Result<Vec<u8>, Refusal>
+    ensures answered { IfOk result (λ text. TalksOnce J.terms.limit J.policy admins.now
+        (record { who = who.old; session = session.old }) (said line.now)
+        (record { who = who.new; session = session.new }) text.items) }
+    ensures on { IsOn session.old session.new }
+{
+    session.has_granted_writes();
+    if line.is_blank() {
+        return Ok(Vec::new(alloc));
+    }
+    match &*who {
+        None => greet(alloc, scratch, session, who, line),
+        Some(principal) => attend(rt, alloc, scratch, session, admins, principal, line),
+    }
+}
+
+/// The answer to the first line, which has to say who talks.
+fn greet<J: ServiceNames>(
+    alloc: Global,
+    scratch: &mut Scratch,
+    session: &Session<J>,
+    who: &mut Option<Principal>,
+    line: &LineIn,
+) -> Result<Vec<u8>, Refusal>
+    ensures { IfOk result (λ text. Greets (record { who = who.old; session = session.now })
+        (hello_line_read (said line.now)) (record { who = who.new; session = session.now }) text.items
+        ⊎ ((who.new ≡ who.old) × (text.items ≡ refusal_line OutOfMemory))) }
+{
+    match hello_line(alloc, scratch, line) {
+        Ok(principal) => {
+            *who = Some(principal);
+            write_talk(alloc, &TalkOut::Hello(session.client()))
+        }
+        Err(refusal) => write_refusal(alloc, refusal),
+    }
+}
+
+/// Who talks, by the first line. Of a line that is too long nothing is read.
+fn hello_line(alloc: Global, scratch: &mut Scratch, line: &LineIn) -> Result<Principal, Refusal>
+    ensures { Gives (λ who. who) result (hello_line_read (said line.now)) }
+{
+    read_hello(alloc, scratch, line.bytes()?)
+}
+
+/// The answer to a later line.
+fn attend<J: ServiceNames, T: Wait + time::Clock>(
+    rt: &T,
+    alloc: Global,
+    scratch: &mut Scratch,
+    session: &mut Session<J>,
+    admins: &Admins,
+    principal: &Principal,
+    line: &LineIn,
+) -> Result<Vec<u8>, Refusal>
+    ensures attends { IfOk result (λ text. Attends J.terms.limit J.policy principal.now
+        (record { who = Some principal.now; session = session.old })
+        (talk_line_heard admins.now principal.now (said line.now))
+        (record { who = Some principal.now; session = session.new }) text.items
+        ⊎ ((session.new ≡ session.old) × (text.items ≡ refusal_line OutOfMemory))) }
+    ensures on { IsOn session.old session.new }
+{
+    session.has_granted_writes();
+    match talk_line(alloc, scratch, admins, principal, line) {
+        Ok(line) => carry_out(rt, alloc, session, principal, line),
+        Err(refusal) => write_refusal(alloc, refusal),
+    }
+}
+
+/// What a later line says, where who talks may send it.
+fn talk_line(
+    alloc: Global,
+    scratch: &mut Scratch,
+    admins: &Admins,
+    principal: &Principal,
+    line: &LineIn,
+) -> Result<TalkLine, Refusal>
+    ensures { Gives (λ line. line) result (talk_line_heard admins.now principal.now (said line.now)) }
+{
+    let said = read_talk(alloc, scratch, line.bytes()?)?;
+    admins.permit(principal, said)
+}
+
+/// The text of what the session answers to the line.
+fn carry_out<J: ServiceNames, T: Wait + time::Clock>(
+    rt: &T,
+    alloc: Global,
+    session: &mut Session<J>,
+    principal: &Principal,
+    line: TalkLine,
+) -> Result<Vec<u8>, Refusal>
+    ensures answers { IfOk result (λ text.
+        AnswersTalk J.terms.limit J.policy principal.now line session.old session.new text.items) }
+    ensures on { IsOn session.old session.new }
+{
+    match line {
+        TalkLine::Ask(ask) => carry_out_ask(rt, alloc, session, principal, ask),
+        TalkLine::Pending(part) => pending(rt, alloc, session, part),
+        TalkLine::Sweep(part, stamp) => sweep(rt, alloc, session, part, stamp),
+        TalkLine::Trim(part, item) => trim(rt, alloc, session, part, item),
+    }
+}
+
+fn carry_out_ask<J: ServiceNames, T: Wait + time::Clock>(
+    rt: &T,
+    alloc: Global,
+    session: &mut Session<J>,
+    principal: &Principal,
+    ask: Ask,
+) -> Result<Vec<u8>, Refusal>
+    ensures answers { IfOk result (λ text.
+        IsAsked J.terms.limit J.policy principal.now ask session.old session.new text.items) }
+    ensures on { IsOn session.old session.new }
+{
+    match asked(rt, session, principal, ask) {
+        Ok(answer) => write_out(alloc, &Out::Answered(session.client(), answer), None),
+        Err(refusal) => write_refusal(alloc, refusal),
+    }
+}
+
+/// What the session answers, in the order of the service's board.
+fn asked<J: ServiceNames, T: Wait + time::Clock>(
+    rt: &T,
+    session: &mut Session<J>,
+    principal: &Principal,
+    ask: Ask,
+) -> Result<Answer, Refusal>
+    ensures answered { AnswersAsk J.terms.limit J.policy principal.now ask session.old session.new result }
+    ensures on { IsOn session.old session.new }
+{
+    match session.ask_in_order(rt, principal, ask) {
+        Ok(given) => Ok(answer_of(given)),
+        Err(refusal) => Err(refusal),
+    }
+}
+
+/// The answer. What was listened to and published is let go.
+fn answer_of<J: ServiceNames>(given: Acknowledged<J>) -> Answer
+    ensures { result ≡ given.answer }
+{
+    let Acknowledged {
+        answer,
+        listened: _,
+        published: _,
+    } = given;
+    answer
+}
+
+#[tactic(auto, unfolding(album_wire::specs::TalkJson::talk_text))]
+fn pending<J: ServiceNames, T: Wait + time::Clock>(
+    rt: &T,
+    alloc: Global,
+    session: &mut Session<J>,
+    part: u16,
+) -> Result<Vec<u8>, Refusal>
+    ensures answers { IfOk result (λ text. IsPendingAnswered part session.old session.new text.items) }
+    ensures on { IsOn session.old session.new }
+{
+    match session.pending(rt, part) {
+        Ok(stamps) => {
+            let mut pending = Vec::new(alloc);
+            pending.extend_from_slice(stamps.as_slice())?;
+            write_talk(alloc, &TalkOut::Pending(pending))
+        }
+        Err(refusal) => write_refusal(alloc, refusal),
+    }
+}
+
+fn sweep<J: ServiceNames, T: Wait + time::Clock>(
+    rt: &T,
+    alloc: Global,
+    session: &mut Session<J>,
+    part: u16,
+    stamp: Stamp,
+) -> Result<Vec<u8>, Refusal>
+    ensures answers { IfOk result (λ text. IsSweptFor part stamp session.old session.new text.items) }
+    ensures on { IsOn session.old session.new }
+{
+    match session.sweep(rt, part, stamp) {
+        Ok(()) => write_talk(alloc, &TalkOut::Swept),
+        Err(refusal) => write_refusal(alloc, refusal),
+    }
+}
+
+fn trim<J: ServiceNames, T: Wait + time::Clock>(
+    rt: &T,
+    alloc: Global,
+    session: &mut Session<J>,
+    part: u16,
+    item: ItemId,
+) -> Result<Vec<u8>, Refusal>
+    ensures answers { IfOk result (λ text.
+        IsTrimmedFor J.terms.limit part item session.old session.new text.items) }
+    ensures on { IsOn session.old session.new }
+{
+    match session.trim(rt, part, item) {
+        Ok(()) => write_talk(alloc, &TalkOut::Trimmed),
+        Err(refusal) => write_refusal(alloc, refusal),
+    }
+}

@@ -1,0 +1,25 @@
+//! The talk of a connection: what its lines are answered, in a session.
+//!
+//! What comes in: a reader and a writer, whatever they are, a session, who may send more than asks, and a journal. What
+//! goes out: of each line that is read, the line of what the session answers, or of its refusal; or a fault, before
+//! which the beginning of such a talk was written. What was noted for an answer is in the journal before any byte of
+//! the answer is written.
+//!
+//! Read `talk` first, the engine: `converse_with` reads, and `answer_lines` writes. `answers` asks the session for each
+//! line. specs/Talk.antt says what a talk is, in the order of the answers, their texts, a line and the whole. Who opens
+//! the session and accepts the connection is not known here: `album_server` does both.
+#![tactic(auto)]
+
+// Who may say what over a connection.
+mod admins;
+
+// Where is written what was noted.
+mod journal;
+
+// What a line is answered, and the engine.
+mod answers;
+mod talk;
+
+pub use admins::{Admins, only_admins_are_heard};
+pub use journal::{Journal, NoJournal};
+pub use talk::{converse, converse_with};
