@@ -21,6 +21,7 @@ use crate::port::opening::{Unopened, read_opening};
 use crate::port::waker::{Waker, local};
 use crate::port::watch::watch;
 use album_audit::Totals;
+use album_items::Opening;
 use album_judge::{Fault, PIECE, write_refused, write_text};
 use album_stamps::Refusal;
 use album_talk::Admins;
@@ -131,16 +132,13 @@ pub fn serve_for<T: Host, R: Read, W: Write>(
     serving: Serving,
     audit: Option<AuditFile>,
 ) -> Result<Served, Fault> {
-    let (opened, listener) = match begin(&rt, alloc, reader, writer, &serving)? {
-        Ok(begun) => begun,
-        Err(served) => return Ok(served),
-    };
+    let begun = begin(&rt, alloc, reader, writer, &serving)?;
     let setup = Setup::<&[u8]> {
         input: None,
         serving,
         audit,
     };
-    serve_opened(rt, alloc, opened, &listener, writer, setup)
+    serve_begun(rt, alloc, begun, writer, setup)
 }
 
 /// The same, to the end of the input behind the opening: then no connection begins any more, and each line that has
@@ -157,16 +155,13 @@ pub fn serve_until<T: Host, R: Read + Send + Drop, W: Write>(
     serving: Serving,
     audit: Option<AuditFile>,
 ) -> Result<Served, Fault> {
-    let (opened, listener) = match begin(&rt, alloc, &mut reader, writer, &serving)? {
-        Ok(begun) => begun,
-        Err(served) => return Ok(served),
-    };
+    let begun = begin(&rt, alloc, &mut reader, writer, &serving)?;
     let setup = Setup {
         input: Some(reader),
         serving,
         audit,
     };
-    serve_opened(rt, alloc, opened, &listener, writer, setup)
+    serve_begun(rt, alloc, begun, writer, setup)
 }
 
 /// The same, where the opening is read by itself, and the input beside it has nothing but its end.
@@ -183,16 +178,13 @@ pub fn serve_beside<T: Host, O: Read, R: Read + Send + Drop, W: Write>(
     serving: Serving,
     audit: Option<AuditFile>,
 ) -> Result<Served, Fault> {
-    let (opened, listener) = match begin(&rt, alloc, opening, writer, &serving)? {
-        Ok(begun) => begun,
-        Err(served) => return Ok(served),
-    };
+    let begun = begin(&rt, alloc, opening, writer, &serving)?;
     let setup = Setup {
         input: Some(input),
         serving,
         audit,
     };
-    serve_opened(rt, alloc, opened, &listener, writer, setup)
+    serve_begun(rt, alloc, begun, writer, setup)
 }
 
 /// What a service is run with, beside its opening: the input behind that, if it is read, and the audit file.
@@ -203,39 +195,93 @@ struct Setup<R: Drop> {
     audit: Option<AuditFile>,
 }
 
+/// What was opened, and its port; or how it ends without them.
+type Begun = Result<(Opened, TcpListener), Served>;
+
 /// The opening is read and opened, and the port is had; or else it is answered why not.
-fn begin<T, R: Read, W: Write>(
+fn begin<T: Host, R: Read, W: Write>(
     rt: &T,
     alloc: Global,
     reader: &mut R,
     writer: &mut W,
     serving: &Serving,
-) -> Result<Result<(Opened, TcpListener), Served>, Fault>
-where
-    T: Net<Listener = TcpListener, Stream = TcpStream> + Eprint,
-{
-    let opening = match read_opening(alloc, reader, serving.turns)? {
-        Ok(opening) => opening,
+) -> Result<Begun, Fault> {
+    match open(rt, alloc, reader, writer, serving)? {
+        Ok(opened) => Ok(listen(rt, opened, serving.port)),
+        Err(served) => Ok(Err(served)),
+    }
+}
+
+/// The opening is read and opened.
+fn open<T: Host, R: Read, W: Write>(
+    rt: &T,
+    alloc: Global,
+    reader: &mut R,
+    writer: &mut W,
+    serving: &Serving,
+) -> Result<Result<Opened, Served>, Fault> {
+    match read_opening(alloc, reader, serving.turns)? {
+        Ok(opening) => open_by(rt, alloc, &opening, writer, serving.conns),
         Err(Unopened { line, why }) => {
             let _ = eprintln!(rt; "album: opening, line {line}: {}", why.name());
-            write_refused(alloc, why, writer)?;
-            return Ok(Err(Served::Refused));
+            refuse(alloc, why, writer)
         }
-    };
-    let opened = match Opened::new(alloc, &opening, serving.conns.max(1)) {
-        Ok(opened) => opened,
+    }
+}
+
+fn open_by<T: Host, W: Write>(
+    rt: &T,
+    alloc: Global,
+    opening: &Opening,
+    writer: &mut W,
+    conns: u16,
+) -> Result<Result<Opened, Served>, Fault> {
+    match Opened::new(alloc, opening, conns.max(1)) {
+        Ok(opened) => Ok(Ok(opened)),
         Err(why) => {
             let _ = eprintln!(rt; "album: opening: {}", why.name());
-            write_refused(alloc, why, writer)?;
-            return Ok(Err(Served::Refused));
+            refuse(alloc, why, writer)
         }
-    };
-    match TcpListener::bind(rt, local(serving.port)) {
-        Ok(listener) => Ok(Ok((opened, listener))),
+    }
+}
+
+/// Answers why nothing is opened.
+fn refuse<W: Write>(
+    alloc: Global,
+    why: Refusal,
+    writer: &mut W,
+) -> Result<Result<Opened, Served>, Fault> {
+    write_refused(alloc, why, writer)?;
+    Ok(Err(Served::Refused))
+}
+
+/// The port is had.
+fn listen<T: Host>(rt: &T, opened: Opened, port: u16) -> Begun {
+    match TcpListener::bind(rt, local(port)) {
+        Ok(listener) => Ok((opened, listener)),
         Err(error) => {
-            let _ = eprintln!(rt; "album: port {}: {error}", serving.port);
-            Ok(Err(Served::NoPort))
+            let _ = eprintln!(rt; "album: port {port}: {error}");
+            Err(Served::NoPort)
         }
+    }
+}
+
+/// Serves what was opened, if anything was.
+fn serve_begun<T, R, W>(
+    rt: T,
+    alloc: Global,
+    begun: Begun,
+    writer: &mut W,
+    setup: Setup<R>,
+) -> Result<Served, Fault>
+where
+    T: Host,
+    R: Read + Send + Drop,
+    W: Write,
+{
+    match begun {
+        Ok((opened, listener)) => serve_opened(rt, alloc, opened, &listener, writer, setup),
+        Err(served) => Ok(served),
     }
 }
 
@@ -249,15 +295,7 @@ fn serve_opened<T, R, W>(
     setup: Setup<R>,
 ) -> Result<Served, Fault>
 where
-    T: Net<Listener = TcpListener, Stream = TcpStream>
-        + Threads
-        + Wait
-        + time::Clock
-        + Eprint
-        + Copy
-        + Send
-        + Sync
-        + 'static,
+    T: Host,
     R: Read + Send + Drop,
     W: Write,
 {
@@ -275,15 +313,7 @@ fn serve_at<J, T, R, W>(
 ) -> Result<(), Fault>
 where
     J: ServiceNames + Send + Sync + 'static,
-    T: Net<Listener = TcpListener, Stream = TcpStream>
-        + Threads
-        + Wait
-        + time::Clock
-        + Eprint
-        + Copy
-        + Send
-        + Sync
-        + 'static,
+    T: Host,
     R: Read + Send + Drop,
     W: Write,
     requires named { opened ≡ opened_as J.table J.terms J.policy J.list
@@ -313,15 +343,7 @@ fn serve_all<J, T, R, W>(
 ) -> Result<Totals, Fault>
 where
     J: ServiceNames + Send + Sync + 'static,
-    T: Net<Listener = TcpListener, Stream = TcpStream>
-        + Threads
-        + Wait
-        + time::Clock
-        + Eprint
-        + Copy
-        + Send
-        + Sync
-        + 'static,
+    T: Host,
     R: Read + Send + Drop,
     W: Write,
     requires named { opened ≡ opened_as J.table J.terms J.policy J.list
@@ -360,15 +382,7 @@ fn say_and_attend<J, T, R, W>(
 ) -> Result<(), Fault>
 where
     J: ServiceNames + Send + Sync,
-    T: Net<Listener = TcpListener, Stream = TcpStream>
-        + Threads
-        + Wait
-        + time::Clock
-        + Eprint
-        + Copy
-        + Send
-        + Sync
-        + 'static,
+    T: Host,
     R: Read + Send + Drop,
     W: Write,
 {
@@ -391,15 +405,7 @@ fn attend_all<J, T, R>(
 ) -> Result<(), Fault>
 where
     J: ServiceNames + Send + Sync,
-    T: Net<Listener = TcpListener, Stream = TcpStream>
-        + Threads
-        + Wait
-        + time::Clock
-        + Eprint
-        + Copy
-        + Send
-        + Sync
-        + 'static,
+    T: Host,
     R: Read + Send + Drop,
 {
     let (shared, own) = parts_of(&rt, alloc, service, setup, notices)?;
@@ -418,7 +424,7 @@ pub(crate) struct Shared<J: ServiceNames> {
     pub stats: u32,
 }
 
-/// What one of them alone has: who reads the input to its end, and who watches until the sender is let go.
+/// What one of them alone has: who reads the input to its end, and who watches until `end` is let go.
 #[derive(Drop)]
 struct Own<R: Drop> {
     input: Option<R>,
@@ -426,7 +432,7 @@ struct Own<R: Drop> {
     ended: Receiver<()>,
 }
 
-/// What the threads look at and send by.
+/// What they look at and send by.
 #[derive(Drop)]
 struct Ends<J: ServiceNames> {
     gauge: Gauge<J>,
@@ -437,7 +443,7 @@ struct Ends<J: ServiceNames> {
     ended: Receiver<()>,
 }
 
-/// Both. Where notes are written to a file, the service keeps them until then.
+/// What they share, and what one of them alone has. The service keeps its notes, if a file is to have them.
 ///
 /// # Errors
 ///
@@ -456,7 +462,7 @@ fn parts_of<J: ServiceNames, T: Wait, R: Drop>(
     Ok(parted(alloc, setup, ends))
 }
 
-/// They are made together, since there may be no memory for each.
+/// They stand together, since there may be no memory for each.
 fn ends_of<J: ServiceNames>(
     alloc: Global,
     service: &Service<J>,
@@ -516,13 +522,7 @@ fn attend_within<J, T, R>(
 )
 where
     J: ServiceNames + Send + Sync,
-    T: Net<Listener = TcpListener, Stream = TcpStream>
-        + Threads
-        + Wait
-        + time::Clock
-        + Copy
-        + Send
-        + Sync,
+    T: Host,
     R: Read + Send + Drop,
 {
     thread::scope(thread::scope_env(), &rt, |scope| {
@@ -545,7 +545,7 @@ fn watch_within<'s, J, T, E>(
 )
 where
     J: ServiceNames + Send + Sync + 's,
-    T: Threads + Wait + time::Clock + Copy + Send + Sync + 's,
+    T: Host + 's,
 {
     let Shared {
         gauge,
@@ -565,7 +565,7 @@ fn read_within<'s, J, T, R, E>(
 )
 where
     J: ServiceNames,
-    T: Net<Listener = TcpListener, Stream = TcpStream> + Threads + Wait + Copy + Send + Sync + 's,
+    T: Host + 's,
     R: Read + Send + Drop + 's,
 {
     let Some(reader) = input else {

@@ -1,6 +1,6 @@
 //! The connections that come: each is given a session and a thread, or the reason why not.
-use crate::port::Shared;
-use crate::port::connections::{Connections, attend};
+use crate::port::connections::{Connections, Guest, attend};
+use crate::port::{Host, Shared};
 use album_judge::write_refused;
 use album_stamps::Refusal;
 use album_threads::{OwnedSession, Service, ServiceNames};
@@ -49,14 +49,7 @@ pub(crate) fn accept_all<'s, J, T, E>(
 )
 where
     J: ServiceNames + Send + Sync + 's,
-    T: Net<Listener = TcpListener, Stream = TcpStream>
-        + Threads
-        + Wait
-        + time::Clock
-        + Copy
-        + Send
-        + Sync
-        + 's,
+    T: Host + 's,
 {
     let mut count = Count {
         counted: 0,
@@ -95,14 +88,7 @@ fn accept_one<'s, J, T, E>(
 )
 where
     J: ServiceNames + Send + Sync + 's,
-    T: Net<Listener = TcpListener, Stream = TcpStream>
-        + Threads
-        + Wait
-        + time::Clock
-        + Copy
-        + Send
-        + Sync
-        + 's,
+    T: Host + 's,
 {
     match listener.accept() {
         Ok((stream, _from)) if is_full => turn_away(alloc, &stream, Refusal::Closed),
@@ -166,14 +152,7 @@ fn welcome<'s, J, T, E>(
 )
 where
     J: ServiceNames + Send + Sync + 's,
-    T: Net<Listener = TcpListener, Stream = TcpStream>
-        + Threads
-        + Wait
-        + time::Clock
-        + Copy
-        + Send
-        + Sync
-        + 's,
+    T: Host + 's,
 {
     let _ = stream.set_read_timeout(shared.limits.idle);
     let Ok(stream) = Arc::new(alloc, stream) else {
@@ -195,23 +174,27 @@ fn begin<'s, J, T, E>(
 ) -> Result<(), Refusal>
 where
     J: ServiceNames + Send + Sync + 's,
-    T: Net<Listener = TcpListener, Stream = TcpStream>
-        + Threads
-        + Wait
-        + time::Clock
-        + Copy
-        + Send
-        + Sync
-        + 's,
+    T: Host + 's,
 {
-    let own = Arc::try_clone(stream)?;
-    let guest = OwnedSession::begin(&rt, service)?;
-    let client = guest.session.client();
-    shared.connections.begin(&rt, client, stream)?;
-    let thread = scope.spawn(move || attend(alloc, shared, guest, &own));
+    let guest = guest_of(&rt, service, &shared.connections, stream)?;
+    let client = guest.owned.session.client();
+    let thread = scope.spawn(move || attend(alloc, shared, guest));
     if thread.is_err() {
         shared.connections.end(&rt, client);
         return Err(Refusal::OutOfMemory);
     }
     Ok(())
+}
+
+/// The connection is open, and has a session.
+fn guest_of<J: ServiceNames, T: Host>(
+    rt: &T,
+    service: &Service<J>,
+    connections: &Connections,
+    stream: &Arc<TcpStream, Global>,
+) -> Result<Guest<J, T>, Refusal> {
+    let stream = Arc::try_clone(stream)?;
+    let owned = OwnedSession::begin(rt, service)?;
+    connections.begin(rt, owned.session.client(), &stream)?;
+    Ok(Guest { owned, stream })
 }

@@ -1,7 +1,7 @@
 //! The connections of a service that are open. Each has a session and a thread of its own.
-use crate::port::Shared;
 use crate::port::notices::Notice;
 use crate::port::waker::wake;
+use crate::port::{Host, Shared};
 use album_stamps::{ClientNo, Refusal};
 use album_talk::{Admins, converse_with};
 use album_threads::{OwnedSession, ServiceNames};
@@ -148,16 +148,18 @@ impl Connections {
     }
 }
 
+/// Who talks over a connection, from its thread.
+#[derive(Drop)]
+pub(crate) struct Guest<J: ServiceNames, T: Wait + Copy> {
+    pub owned: OwnedSession<J, T>,
+    pub stream: Arc<TcpStream, Global>,
+}
+
 /// Answers the lines of a connection, to its end. Where a note can't be written, no connection is answered any more.
-pub(crate) fn attend<J, T>(
-    alloc: Global,
-    shared: &Shared<J>,
-    mut guest: OwnedSession<J, T>,
-    stream: &Arc<TcpStream, Global>,
-)
+pub(crate) fn attend<J, T>(alloc: Global, shared: &Shared<J>, guest: Guest<J, T>)
 where
     J: ServiceNames + Send + Sync,
-    T: Net<Listener = TcpListener, Stream = TcpStream> + Wait + time::Clock + Copy + Send + Sync,
+    T: Host,
 {
     let Shared {
         connections,
@@ -165,15 +167,16 @@ where
         limits,
         ..
     } = shared;
+    let Guest { mut owned, stream } = guest;
     let _ = stream.set_nodelay(true);
-    let (rt, client) = (guest.rt, guest.session.client());
-    let (mut from, mut to): (&TcpStream, &TcpStream) = (stream, stream);
+    let (rt, client) = (owned.rt, owned.session.client());
+    let (mut from, mut to): (&TcpStream, &TcpStream) = (&stream, &stream);
     let done = converse_with(
         &rt,
         alloc,
         &mut from,
         &mut to,
-        &mut guest.session,
+        &mut owned.session,
         &connections.admins,
         journal,
         limits.turns,
@@ -181,10 +184,10 @@ where
     if let Err(fault) = done {
         connections.notify(&rt, Notice::Fault(fault));
     }
-    journal.forget(&rt, &guest.session);
+    journal.forget(&rt, &owned.session);
     if journal.has_failed() {
         connections.close(&rt);
     }
-    drop(guest);
+    drop(owned);
     connections.end(&rt, client);
 }

@@ -58,11 +58,15 @@ impl Printer {
 /// Prints each by one line. `end` is let go afterwards.
 fn print_all<T: Wait + Eprint>(rt: &T, from: &Receiver<Notice>, end: Sender<Notice>) {
     for notice in from.iter(rt) {
-        let _ = match notice {
-            Notice::Fault(fault) => eprintln!(rt; "album: {fault}"),
-            Notice::Warning(text) => eprintln!(rt; "album: {text}"),
-            Notice::Figures(line) => eprint!(rt; "{line}"),
-        };
+        print(rt, &notice);
     }
     drop(end);
+}
+
+fn print<T: Eprint>(rt: &T, notice: &Notice) {
+    let _ = match notice {
+        Notice::Fault(fault) => eprintln!(rt; "album: {fault}"),
+        Notice::Warning(text) => eprintln!(rt; "album: {text}"),
+        Notice::Figures(line) => eprint!(rt; "{line}"),
+    };
 }

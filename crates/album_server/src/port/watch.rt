@@ -37,21 +37,41 @@ pub(crate) fn watch<J: ServiceNames, T: Wait + time::Clock>(
         connections: false,
     };
     for _ in rt.forever() {
-        match ended.recv_timeout(rt, pause) {
-            Err(RecvTimeoutError::Timeout) => {}
-            Ok(()) | Err(RecvTimeoutError::Disconnected) => return,
+        if ends_within(rt, ended, pause) {
+            return;
         }
-        // Without memory, or where a partition's thread has ended, there are none this time.
-        if let Ok(parts) = gauge.figures(rt) {
-            let figures = figures_of(rt, gauge, connections, parts);
-            let _ = warned.warn(rt, alloc, connections, &figures);
-            if stats > 0 {
-                print(rt, alloc, connections, &figures);
-            }
-        }
+        look(rt, alloc, gauge, connections, stats, &mut warned);
     }
     // `forever` has no end.
     unreachable!()
+}
+
+/// Waits so long, or until it is ended. Returns whether it is.
+fn ends_within<T: Wait + time::Clock>(rt: &T, ended: &Receiver<()>, pause: Duration) -> bool {
+    match ended.recv_timeout(rt, pause) {
+        Err(RecvTimeoutError::Timeout) => false,
+        Ok(()) | Err(RecvTimeoutError::Disconnected) => true,
+    }
+}
+
+/// Looks at them once.
+fn look<J: ServiceNames, T: Wait>(
+    rt: &T,
+    alloc: Global,
+    gauge: &Gauge<J>,
+    connections: &Connections,
+    stats: u32,
+    warned: &mut Warned,
+) {
+    // Without memory, or where a partition's thread has ended, there are none this time.
+    let Ok(parts) = gauge.figures(rt) else {
+        return;
+    };
+    let figures = figures_of(rt, gauge, connections, parts);
+    let _ = warned.warn(rt, alloc, connections, &figures);
+    if stats > 0 {
+        print(rt, alloc, connections, &figures);
+    }
 }
 
 fn figures_of<J: ServiceNames, T: Wait>(
