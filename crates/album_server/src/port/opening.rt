@@ -46,17 +46,17 @@ pub(crate) fn read_opening<R: Read>(
     turns: u64,
 ) -> Result<Result<Opening, Unopened>, Fault> {
     let mut lines = Lines::new(alloc);
-    let mut begun = Begun::new(alloc);
-    match begun.read(reader, turns, &mut lines) {
+    let mut taken = TakenLines::new(alloc);
+    match taken.read(reader, turns, &mut lines) {
         Ok(Some(opening)) => Ok(opening),
-        Ok(None) => Ok(begun.end(lines)),
+        Ok(None) => Ok(taken.end(lines)),
         Err(fault) => Err(fault),
     }
 }
 
-/// An opening of which some lines are taken.
+/// What is taken of an opening.
 #[derive(Drop)]
-struct Begun {
+struct TakenLines {
     alloc: Global,
     scratch: Scratch,
     so_far: Option<SoFar>,
@@ -64,10 +64,10 @@ struct Begun {
     line: u64,
 }
 
-impl Begun {
+impl TakenLines {
     /// No line is taken yet.
-    fn new(alloc: Global) -> Begun {
-        Begun {
+    fn new(alloc: Global) -> TakenLines {
+        TakenLines {
             alloc,
             scratch: Scratch::new(alloc),
             so_far: None,
