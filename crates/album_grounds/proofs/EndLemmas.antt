@@ -1,5 +1,5 @@
--- How a read of two rounds ends: `read_so`, where it is done, and `overtaken`, where an item was gone. ReadingLemmas
--- cites both.
+-- How a read of two rounds ends: `read_so`, where it is done, and `overtaken`, where an item was gone. ReadingLemmas of
+-- `album_sessions` cites both.
 use Rattle.std.proofs.Common.{◌≡◌, ℕ, zero, suc, ◌<◌, ◌≤◌, true, List, [], ◌∷◌, get_or, map, All, Contains, Option, refl, sym, ap, ◌∙◌, subst, arith}
 use Rattle.std.specs.Option.{unwrap_or}
 use Rattle.std.specs.List.{count_by}

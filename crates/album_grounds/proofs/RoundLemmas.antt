@@ -1,5 +1,5 @@
--- What a reply brings to a round of a read. ReadingLemmas cites the lemmas that are `pub`;
--- the main one is `leads`.
+-- What a reply brings to a round of a read: `leads`. ReadingLemmas and WaitLemmas of `album_sessions` cite the lemmas that
+-- are `pub`.
 use Rattle.std.proofs.Common.{◌≡◌, ◌≢◌, ℕ, zero, suc, ◌≤◌, Bool, true, false, cond, ◌==◌, List, [], ◌∷◌, ◌++◌, length, append-nil, map, All, Contains, Option, Some, None, is_some, option_and_then, option_to_list, refl, sym, ap, ◌∙◌, subst, arith, get_or, if◌then◌else◌}
 use Rattle.std.specs.Option.{option_map_or, unwrap_or}
 use Rattle.std.proofs.lemmas.List.Elements.{All-nil, All-cons, All-head, All-tail, All-map}

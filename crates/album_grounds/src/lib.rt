@@ -1,9 +1,8 @@
 //! On what an answer rests: what the replies of partitions show together, in the cut that has seen them.
 //!
-//! What comes in: replies, each with what its cut shows of the partition that gave it. What goes out: of a read, that
-//! what it has read is read atomic, fresh and settled, or that a trim has overtaken it; of the reads of an ask, whether
-//! they make a view; of a write, how it ends. There is no client here and no thread. Definitions, lemmas and laws are
-//! all that there is, and nothing is computed.
+//! What comes in: replies, each with what its cut shows of the partition that gave it. What goes out: what was read is
+//! read atomic, fresh and settled, or a trim has overtaken the read; what the reads of an ask have come to; and how a
+//! write ends. There is neither a client here nor a thread, and nothing is computed.
 //!
 //! Read specs/ in the order of specs/Lib.antt, then `laws`. The sessions, whose answers rest so, are `album_sessions`'.
 #![tactic(auto)]

@@ -211,7 +211,7 @@ impl<J: ServiceNames> Session<J> {
     {
         self.channel.is_open()?;
         self.channel.is_sound();
-        let transition = begun(self.client_step(), self.tag, principal, ask)?;
+        let transition = first_step(self.client_step(), self.tag, principal, ask)?;
         self.starts(rt, transition)
     }
 
@@ -317,7 +317,7 @@ impl<J: ServiceNames> Session<J> {
 }
 
 /// The client's first step where it reads the objects of the ask.
-fn begun(
+fn first_step(
     client_step: ClientStep,
     tag: u64,
     principal: &Principal,

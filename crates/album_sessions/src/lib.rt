@@ -1,10 +1,10 @@
 //! A session: a client that asks the partitions of a service.
 //!
-//! What comes in: an ask of a principal, and the replies of the partitions' threads. What goes out: the messages of each
-//! round, notes, and one answer, whose grounds are `album_grounds`'.
+//! What comes in: an ask of a principal, and the replies of the partitions' threads. What goes out: the messages of
+//! each round, notes, and one answer, whose grounds are `album_grounds`'.
 //!
-//! A session sends its messages by its channel, which is `album_channels`'. The channel joins the pass of each reply, and
-//! the session gives the reply to its client, which is `album_client`'s (`step`), until the client answers (`ask`). The
+//! A session sends its messages by its channel, which is `album_channels`'. The channel joins the pass of each reply.
+//! The session gives the reply to its client, which is `album_client`'s (`step`), until the client answers (`ask`). The
 //! first read asks for the items of an earlier view, where `hints` has them (`hinted`). Asked in order (`in_order`), a
 //! session listens to the service's board before it asks, and publishes there what it has seen before it answers.
 //!

@@ -3,7 +3,7 @@
 //! What comes in: an opening, and then requests of sessions. What goes out: answers, and at the end the audit totals.
 //!
 //! A session, which is `album_sessions`', sends envelopes to the mailboxes of partitions by its channel, which is
-//! `album_channels`'. A partition's thread, which is `album_keepers`', gives the message to the partition, and sends the
+//! `album_channels`'. A partition's thread, which is `album_keepers`', gives the message to the partition. It sends the
 //! reply back with a pass that shows the reply's history. A service opens the threads, gives each session its channel,
 //! and has what they share: a board, an audit book, and hints.
 //!
