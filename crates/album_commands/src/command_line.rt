@@ -1,4 +1,4 @@
-//! The command line of `album`: its subcommands, how it is read, and what is done by those that need no running service.
+//! The command line of `album`: its subcommands, how it is read, and what those do that need no running service.
 
 use crate::asking::{ask_command, ask_service};
 use crate::explaining::{explain_command, explain_lines, flags_command, mask_command, tell_bits};
