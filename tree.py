@@ -4,6 +4,7 @@ import hashlib
 import os
 import pathlib
 import shutil
+import subprocess
 
 ROOT = pathlib.Path(__file__).resolve().parent
 PARTS = ("src", "specs", "proofs")
@@ -25,15 +26,22 @@ def wanted(rows, *names):
     return {name: rows[name] for name in rows if name in found}
 
 
-def sums_of(rows, version):
-    """Of each crate a checksum of its sources, of those that it cites, and of the toolchain."""
+def without_comments(path):
+    """What is in this file but for empty lines and for those that are a comment: what a proof may rest on."""
+    sign = {".rt": b"//", ".antt": b"--"}[path.suffix]
+    return b"\n".join(line for line in path.read_bytes().splitlines() if line.strip() and not line.strip().startswith(sign))
+
+
+def sums_of(rows, read=pathlib.Path.read_bytes):
+    """Of each crate a checksum of its sources as they are read, of those that it cites, and of the toolchain."""
+    version = subprocess.run(["rt", "version"], stdout=subprocess.PIPE, check=True).stdout
     sums = {}
     for name, below in rows.items():
         sum_ = hashlib.sha256(version)
         for part in PARTS:
             for file in sorted((ROOT / "crates" / name / part).rglob("*")):
                 if file.is_file():
-                    sum_.update(str(file.relative_to(ROOT)).encode() + b"\0" + file.read_bytes() + b"\0")
+                    sum_.update(str(file.relative_to(ROOT)).encode() + b"\0" + read(file) + b"\0")
         for other in below:
             sum_.update(sums[other])
         sums[name] = sum_.digest()
