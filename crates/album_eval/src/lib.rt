@@ -4,8 +4,11 @@
 //! `policies` first, then `verdicts`.
 #![tactic(auto)]
 
+// Who asks, whose the object is, and who is in which group.
 mod facts;
 mod groups;
+
+// What a list says of that: which entries take note, and the verdict by a policy.
 mod notes;
 mod policies;
 mod verdicts;

@@ -3,10 +3,10 @@
 //! What comes in: lines of openings with the events behind them, of events alone, or of a connection. What goes out: of
 //! each line that is read, a line with its number. It is refused, or taken, as the readers of `album_wire` do it.
 //!
-//! Read `events` first, then `talks`, where the first line says who talks; then `openings`, where lines have an order
-//! and make an opening together, and `scripts`, which explains its end too. `explanations` has the lines that are
-//! written. `places` finds where a refused line fails, by `places/tables`, which has the names of each line in their
-//! order.
+//! Read `events` first, then `talks`, where the first line says who talks. Then read `openings`, where lines have an
+//! order and make an opening together, and `scripts`, which explains a script's end too. `explanations` has the lines
+//! that are written. `places` finds where a refused line fails, by `places/tables`, which has the names of each line in
+//! their order.
 #![tactic(auto)]
 
 // What a line is, and the line that says so.

@@ -1,6 +1,10 @@
 //! The items of the service, their values, and the state that the service opens with.
 //!
-//! Read `item_ids` first, then `places`, then `values` with the lists and texts that they are made of, then `openings`.
+//! What comes in: kinds, numbers, texts and lists. What goes out: items, the partition at which each is placed, values
+//! with their parts, and an `Opening`, with the check whether the service may open with it.
+//!
+//! Read `item_ids` first, then `places`. Then read `values`, with the lists and texts that they are made of
+//! (`collections`, `texts`), and `shared_values`. `openings` comes last; by `pairs` it tests every two rows.
 #![tactic(auto)]
 
 mod collections;

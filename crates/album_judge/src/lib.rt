@@ -6,8 +6,8 @@
 //!
 //! Read `engines/judge` first: `judge` reads, `answer_line` answers one line, and `verdict` judges it. The programs
 //! call it by `buffered`. Then specs/Judge.antt, which says what an answer is, and specs/Writes.antt, which says how
-//! what was written goes with what was read. The other engines, in `album_server`, end by the same faults and write by
-//! the same `writing`.
+//! what was written goes with what was read. The other engines, in `album_replay`, `album_explain` and `album_talk`,
+//! end by the same faults and write by the same `writing`.
 #![tactic(auto)]
 
 // The engine, the same with a buffer on both sides, and what either does before it reads.

@@ -3,10 +3,10 @@
 //! What comes in: an envelope with a message, or a control request, each with a pass that shows what it rests on. What
 //! goes out: the partition's reply, with a pass that shows the partition as it was when it had replied.
 //!
-//! Read `envelopes` and `control` first, then `keeper`: a partition with the owner of its history, which settles the
-//! stamps that a reader has seen committed elsewhere, does what the message asks, and makes each mark in both. `thread`
-//! is the loop around it, `mailbox` is how threads wait, and `start` starts them. specs/Replies.antt says when a reply
-//! counts for who has asked. The sessions are `album_sessions`', and the service is `album_threads`'.
+//! Read `envelopes` and `control` first, then `keeper`: a partition with the owner of its history. The keeper settles
+//! the stamps that a reader has seen committed elsewhere, does what the message asks, and makes each mark in both.
+//! `thread` is the loop around it, `mailbox` is how threads wait, and `start` starts them. specs/Replies.antt says when
+//! a reply counts for who has asked. The sessions are `album_sessions`', and the service is `album_threads`'.
 #![tactic(auto)]
 
 // What is sent to a partition and back: messages with their passes, and requests of whoever runs the service.

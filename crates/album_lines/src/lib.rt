@@ -1,6 +1,6 @@
 //! Lines: cut out of a text that comes in pieces, read by their JSON, and judge lines with their answers.
 //!
-//! What comes in: bytes, in pieces of any size. What goes out: the lines that end in them, and of a line its JSON
+//! What comes in: bytes, in pieces of any size. What goes out: the lines that end in them. Of a line there is its JSON
 //! value, the parts of that, or the question of a judge line; or else the first test that it fails. A verdict or a
 //! refusal comes in too, and its line goes out.
 //!

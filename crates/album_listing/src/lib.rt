@@ -2,7 +2,9 @@
 //!
 //! What comes in: a view, and the principal. What goes out: the rows of the album's children that the principal may
 //! see.
+//!
 //! Read `view_lookups`, `reasons` and `ruling_contexts` first, which rulings on other asks use too, then `listing`.
+//! `disclosure` and `titles` have laws alone.
 #![tactic(auto)]
 
 // What a ruling is based on.

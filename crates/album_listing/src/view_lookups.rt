@@ -78,6 +78,7 @@ impl<'a> ViewLookup<'a> {
             }
         }
     }
+
     /// The list that the head of the item names; one that is missing has no entries.
     pub fn list_of(&self, item: ItemId) -> &AccessList
         ensures { result.now ≡ entries_named (seen self.now.view.now.rows) item }

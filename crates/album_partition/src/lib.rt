@@ -3,11 +3,14 @@
 //! settled by asking the other partitions of its items.
 //!
 //! A `Partition` opens with the first values of its items. Then its caller gives it each message by
-//! `receive`, and now and then, for each stamp of `pending`, sends what `sweep` gives. What it keeps
-//! is its `history`: a list of marks that only grows.
+//! `receive`. What it keeps is its `history`: a list of marks that only grows. For a stamp of
+//! `pending` the caller may send what `sweep` gives. Nobody does so unasked: in a world an event
+//! asks for it, and in a service a session, as by a line of an admin.
 //!
 //! Read `marks` first, and specs/Marks.antt beside it; then `partition` and the table in
-//! `partition/answers`; then what they stand on, `stored` and `history`; and `laws` last.
+//! `partition/answers`. Which Prepares are well-formed, `proper` says, and `votes` are those noted
+//! on pending stamps. Then read what these stand on, `stored` and `history`, and `laws` last.
+//! `figures` tells how much a partition holds.
 #![tactic(auto)]
 
 mod figures;

@@ -1,15 +1,20 @@
 //! Passes: what was seen of the partitions' histories, in tokens that travel with messages.
 //!
-//! A `Desk` opens with an `Owner` for each partition and a first `Pass`. A partition's thread
-//! appends each mark that it makes, a client draws its number and announces the items of each
-//! write; each splits a pass off for every message that it sends, and joins the pass of every
-//! message that it takes. What a pass has seen is a cut: a prefix of each history, and the lists
-//! that were announced. It is there for contracts alone; when the program runs, a pass is the
-//! lengths of its prefixes, and what the threads share is a word for each partition and one for the
-//! numbers.
+//! What comes in: an opening, and then the marks that partitions make and the items that clients
+//! announce. What goes out: passes, whose cuts are closed (consistent), and the clients' numbers.
 //!
-//! Read `pass` and `owner` first, and specs/Cuts.antt beside them; then `desk`; then what they
-//! stand on, `holding` and the rule of the words in `rule`; and `laws` last.
+//! A `Desk` opens with an `Owner` for each partition and a first `Pass`. A partition's thread
+//! appends each mark that it makes. A client draws its number, and announces the items of each
+//! write. Each splits a pass off for every message that it sends, and joins the pass of every
+//! message that it takes. What a pass has seen is a cut: a prefix of each history, and the lists
+//! that were announced.
+//!
+//! The cut is there for contracts alone. When the program runs, a pass is the lengths of its
+//! prefixes: a version vector. What the threads share is then a word for each partition, and one
+//! for the numbers.
+//!
+//! Read `pass` and `owner` first, and specs/Cuts.antt beside them; then `desk`. Then read what they
+//! stand on: `holding` with its `lengths`, and the rule of the words in `rule`. `laws` comes last.
 #![tactic(auto)]
 
 mod desk;

@@ -3,10 +3,10 @@
 //! What comes in: a view, and the principal. What goes out: a permit, which is spent on what the ask is served or on
 //! what it writes; or why it is denied; or which object is missing.
 //!
-//! Read `needs` and `findings` first, then `permits` with what they are spent on. Tables of what is needed, found,
-//! noted, served and written stand in specs/, a definition for each. `Event`, `Answer` and `Out` are a
-//! store's inputs and outputs: they stand here, below the crates that carry them out and the crate that writes their
-//! lines.
+//! Read `needs` and `findings` first, then `permits` with what they are spent on: `serving`, and `effects` where the
+//! ask writes. Tables of what is needed, found, noted, served and written stand in specs/, a definition for each.
+//! `rights` and `disclosure` have laws alone. `Event`, `Answer` and `Out` are a store's inputs and outputs: they stand
+//! here, below the crates that carry them out and the crate that writes their lines.
 #![tactic(auto)]
 
 // What is ruled on an ask, and what is noted of it.

@@ -1,8 +1,10 @@
 //! What stands around a replay's script: a reader that asks for a trace, and a watch for the first refused line.
 //!
-//! What comes in: a script's reader, and the writer of what is told. What goes out: a reader of the same script but for
-//! its first line (`traced`); or a reader and a writer that go together, and know which line was refused (`strict`).
-//! Nothing is promised of what they give but that they are safe and end: rows show the rest.
+//! What comes in: a script's reader, and the writer of what is told. What goes out, by `traced`: a reader of the same
+//! script but for its first line. What goes out, by `strict`: a reader and a writer that go together, and know which
+//! line was refused. Nothing is promised of what they give but that they are safe and end: rows show the rest.
+//!
+//! Read `traced` first, then `strict`.
 #![tactic(auto)]
 
 mod strict;

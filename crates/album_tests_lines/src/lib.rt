@@ -1,5 +1,7 @@
 //! Tests of lines, of the engines that answer, replay and talk over readers and writers in memory, and of a world by
 //! calls that no line makes.
+//!
+//! Read `streams` and `runs` first: the readers and writers, and what the tests of engines do with them.
 #![tactic(auto)]
 
 #[cfg(test)]

@@ -1,6 +1,9 @@
-//! Tests of partitions, reads and passes that no script of `rows/replay` reaches, most of them driven by tables of
-//! messages that are spelled as short texts; of sessions of a running service, with gates that its partitions pass; and
-//! of a world and a service in which the same happens.
+//! Tests of partitions, reads and passes that no script of `rows/replay` reaches. Most of them are driven by tables of
+//! messages that are spelled as short texts. Other tests are of sessions of a running service, with gates that its
+//! partitions pass, and of a world and a service in which the same happens.
+//!
+//! Read `messages` first, which spells messages, then `partition`. Before the tests of sessions read `gates`, and
+//! before those of worlds `scripts`.
 #![tactic(auto)]
 
 #[cfg(test)]

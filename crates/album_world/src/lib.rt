@@ -1,7 +1,7 @@
 //! The store as one machine: partitions, clients and the messages between them, and what each event does.
 //!
-//! What comes in: an opening, and then events in any order: asks of clients, deliveries of messages, sweeps, stops and
-//! trims. What goes out of each event: notes, the numbers of the messages that it sends, and an answer.
+//! What comes in: an opening, and then events in any order: asks and stops of clients, deliveries of messages, sweeps
+//! and trims. What goes out of each event: notes, the numbers of the messages that it sends, and an answer.
 //!
 //! The promises hold for every list of events, with any losses, repeats and reorderings of messages. An answer that
 //! rests on a view is what the written policy says of that view's lists, owners and groups. A denial names the first
