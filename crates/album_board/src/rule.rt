@@ -1,5 +1,9 @@
 //! The rule of the book in which a board's list stands, and the kinds of step. Nothing of it is there when the program
 //! runs.
+//!
+//! A book is `logbook`'s: a log of entries that only grows, under a rule. An entry has a pass here. Its writer gives up
+//! a key for it, and has another one from then on. By these keys the entries of one writer are a list to which nobody
+//! else adds: the list of a board. `writer` makes the steps.
 use album_passes::Pass;
 use logbook::{Gain, Pen, Plain, Play, Rule};
 use std::marker::Model;

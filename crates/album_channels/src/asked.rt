@@ -1,4 +1,5 @@
-//! What was asked in one round.
+//! What was asked in one round. By it a session finds whether a reply counts. The reply has to carry back one of the
+//! round's messages, and its partition must have had by then all marks with which the round began.
 ghost use Rattle.std.specs.Prelude.{◌≡◌, ◌≤◌, ◌<◌, IsTrue, IfSome, Contains, length};
 ghost use Rattle.album_passes.specs.Cuts.{IsSound};
 ghost use Rattle.album_keepers.specs.Replies.{IsLate};

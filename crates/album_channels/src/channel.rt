@@ -43,11 +43,11 @@ pub struct PartitionChannel<J: DeskNames> {
     from: Inbox<SessionMail<J>>,
     /// What was heard and not yet taken.
     heard: VecDeque<ReplyEnvelope<J>>,
-    /// Where, among the messages of a round, the one stands to which a reply was taken last.
+    /// The index, among the messages of a round, of the one that was replied to last.
     pub(crate) found: usize,
-    /// What the replies of a read's first round have shown, each where the message stands to which it was.
+    /// What the replies of a read's first round have shown, each at the index of the message that it replies to.
     pub(crate) sightings: Vec<Option<Sighting>>,
-    /// Whether it may give itself the replies that it knows.
+    /// Whether it may give itself the replies of a read's second round, where it knows them all.
     pub(crate) repeats: bool,
     breakage: Arc<Breakage, Global>,
 }

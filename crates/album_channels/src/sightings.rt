@@ -21,6 +21,7 @@ use std::alloc::AllocError;
 pub(crate) struct Sighting {
     reply: Message,
     marks: u64,
+    /// A low watermark: no stamp below it was pending at the partition.
     settled_below: u64,
 }
 

@@ -11,6 +11,10 @@ use std::rt::Files;
 pub const TURNS: u64 = 4_294_967_296;
 
 /// The file at the path, to be read. Why it can't be is told on standard error.
+///
+/// # Errors
+///
+/// `Reading`, where the file can't be opened.
 pub fn open<T: Files + Eprint>(rt: &T, path: &str) -> Result<T::File, Fault> {
     fs::open(rt, path).map_err(|error| {
         let _ = eprintln!(rt; "album: {path}: {error}");

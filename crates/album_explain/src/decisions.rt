@@ -104,6 +104,8 @@ fn is_given(facts: &Facts, bit: u32) -> bool
     facts.principal.is_user(facts.owner) && gives_owner(facts.policy, bit)
 }
 
+/// Whether the policy gives the owner this bit: Two gives READ_ACL, which is bit 17, and WRITE_ACL, bit 18. Its twin in
+/// `album_eval` is `Policy::owner_bits`, which gives all of them as a mask.
 fn gives_owner(policy: Policy, bit: u32) -> bool
     ensures { result ≡ gives_owner policy bit }
 {
@@ -113,7 +115,8 @@ fn gives_owner(policy: Policy, bit: u32) -> bool
     }
 }
 
-/// Whether the entry takes part, as `evaluate` has it.
+/// Whether the entry takes part. Its twin is `Facts::is_match`, which `album_eval` keeps to itself: both have the same
+/// definition in their contracts.
 #[tactic(auto, unfolding(album_eval::specs::Matching::is_match))]
 fn is_match(facts: &Facts, entry: &Ace) -> bool
     ensures { result ≡ is_match (case_of facts.now) entry.now }
@@ -121,7 +124,7 @@ fn is_match(facts: &Facts, entry: &Ace) -> bool
     !entry.flags.contains(AceFlags::INHERIT_ONLY) && is_for(facts, &entry.who)
 }
 
-/// Whether the who means the principal.
+/// Whether the who means the principal. Its twin is `Facts::is_for` of `album_eval`.
 fn is_for(facts: &Facts, who: &Who) -> bool
     ensures { result ≡ is_for (case_of facts.now) who.now }
 {

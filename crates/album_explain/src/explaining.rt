@@ -49,7 +49,7 @@ pub fn explain<E: Explainer, R: Read, W: Write>(
     explainer: E,
     turns: u64,
 ) -> Result<Progress<E>, Fault>
-    // Without a fault all was read, and just the explanations of its lines are written.
+    // Without a fault the whole input was read, and exactly the explanations of its lines are written.
     ensures ok { IfOk result (λ end. IfSome (R.remaining reader.old) (λ input.
         Writes (Explains E.IsExplanation (at_start explainer) (lines_of input) end)
         (W.contents writer.old) (W.contents writer.new))) }

@@ -24,7 +24,7 @@ pub fn explain_script<R: Read, W: Write>(
     writer: &mut W,
     turns: u64,
 ) -> Result<bool, Fault>
-    // Without a fault all was read, and just the explanations are written.
+    // Without a fault the whole input was read, and exactly the explanations are written.
     ensures ok { IfOk result (λ refused. IfSome (R.remaining reader.old) (λ input.
         Writes (ExplainsScript refused (lines_of input)) (W.contents writer.old) (W.contents writer.new))) }
     ensures whole { OnOk result (IsAtEnd (R.remaining reader.new)) }

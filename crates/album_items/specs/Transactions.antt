@@ -20,6 +20,6 @@ are_items items =
 abbrev pub has_right_kind : Row → Bool
 has_right_kind row = is_of row.1 (kind_of row.0)
 
--- one transaction may write just these values of these items
+-- one transaction may write exactly these values of these items
 abbrev pub is_transaction : List Row → Bool
 is_transaction writes = are_items (items_written writes) && list_all has_right_kind writes

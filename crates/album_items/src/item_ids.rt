@@ -115,7 +115,8 @@ impl ItemId {
         4 * self.number as usize + self.kind.code() as usize
     }
 
-    /// Whether this is the other item.
+    /// Whether this is the other item. It decides equality as contracts have it: of the one number
+    /// that they see. `==` calls it; a derived one would speak of the fields, which contracts don't see.
     pub fn is(self, other: ItemId) -> bool
         ensures { result ≡ (self == other) }
     {
@@ -147,6 +148,8 @@ pub fn place(item: ItemId, parts: u16) -> u16
     place as u16
 }
 
+// The comparisons are by hand, since a derive compares the fields in their order, and so by kind first.
+// Items are ordered by the one number that contracts see: by their own numbers first, then by kind.
 impl PartialEq for ItemId {
     ghost eq = { ◌==◌ };
 
@@ -161,7 +164,7 @@ impl Eq for ItemId {
     ghost laws = { Prim.search (comparing, rules) };
 }
 
-// By hand, since what is compared is by hand.
+// By hand beside them, of exactly what `is` compares: items that are equal have to be hashed alike.
 impl Hash for ItemId {
     ghost hash_input = { λ item. fed.u8 (kind_of item) ++ fed.u64 (number_of item) };
 

@@ -18,6 +18,10 @@ pub fn lies_at(number: u16, parts: u16, items: &[ItemId]) -> bool
 }
 
 /// The partitions of the items, rising.
+///
+/// # Errors
+///
+/// `AllocError`, where there is no memory for the list.
 #[tactic(auto, using(crate::proofs::PlaceLemmas::filter_range_then, crate::proofs::PlaceLemmas::filter_range_else))]
 pub fn places_of(alloc: Global, parts: u16, items: &[ItemId]) -> Result<Vec<u16>, AllocError>
     requires low { 1 ≤ parts }
@@ -34,6 +38,10 @@ pub fn places_of(alloc: Global, parts: u16, items: &[ItemId]) -> Result<Vec<u16>
 }
 
 /// The partitions of the items but the one of this number, rising.
+///
+/// # Errors
+///
+/// `AllocError`, where there is no memory for the list.
 #[tactic(auto, using(crate::proofs::PlaceLemmas::filter_range_then, crate::proofs::PlaceLemmas::filter_range_else))]
 pub fn others_of(
     alloc: Global,

@@ -23,6 +23,10 @@ impl Model for SharedValue {
 
 impl SharedValue {
     /// This value.
+    ///
+    /// # Errors
+    ///
+    /// `AllocError`, where there is no memory to share it. The value is let go then.
     pub fn of(alloc: Global, value: Value) -> Result<SharedValue, AllocError>
         ensures { IfOk result (λ shared. shared ≡ value) }
     {

@@ -56,7 +56,7 @@ pub fn judge_buffered<R: Read, W: Write + Drop>(
     writer: &mut BufWriter<W>,
     turns: u64,
 ) -> Result<(), Fault>
-    // Without a fault all was read, just the answers to its lines are written, and none is held.
+    // Without a fault the whole input was read, exactly the answers to its lines are written, and none is held.
     ensures ok { OnOk result (IfSome (reader_remaining R.remaining reader.old) (λ input.
         Writes (Answers (lines_of input))
         (writer_contents W.contents writer.old) (writer_contents W.contents writer.new))) }

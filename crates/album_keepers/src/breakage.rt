@@ -1,7 +1,7 @@
 //! Whether a service is broken: a partition's thread had no memory for what others wait for.
 use std::sync::atomic::{AtomicBool, Ordering};
 
-/// A mark that the threads and the sessions of a service share. To set it takes no memory.
+/// A flag that the threads and the sessions of a service share. To set it takes no memory.
 #[derive(Drop)]
 pub struct Breakage {
     broken: AtomicBool,

@@ -80,6 +80,7 @@ pub struct ReplyEnvelope<J: DeskNames> {
     request: Message,
     reply: Message,
     overtaken: bool,
+    /// A low watermark: no stamp below it was pending at the partition.
     settled_below: u64,
     pass: Pass,
     of: PhantomData<J>,

@@ -20,6 +20,11 @@ use std::time;
 
 /// Starts the threads of all partitions, as they open, the last one first, and puts them into
 /// `threads`. Where one can't be had, those that run stay there.
+///
+/// # Errors
+///
+/// `AllocError`, where there is no memory, `mails` has none left for a partition, or its thread
+/// can't be had.
 pub fn start_all<
     J: DeskNames + Send + 'static,
     R: Threads + Wait + time::Clock + Copy + Send + 'static,

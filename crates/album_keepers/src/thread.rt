@@ -119,7 +119,7 @@ fn taken<T: Drop>(sent: Result<(), SendError<T>>) -> Result<(), AllocError> {
 }
 
 /// A partition's loop: the partition with the owner of its history, the mailboxes to which it sends, the number of
-/// messages that it took, and the mark that it sets where it has no memory to go on.
+/// messages that it took, and the flag that it sets where it has no memory to go on.
 #[derive(Drop)]
 pub(crate) struct PartitionLoop<J: DeskNames> {
     part: u16,

@@ -17,7 +17,7 @@ use std::marker::Model;
 /// An entry of an access list (RFC 7530, section 6.2.1).
 #[derive(Clone, Debug, Drop)]
 pub struct Ace {
-    /// What it does with the bits of its mask.
+    /// What it does with the bits of its mask: the ACE's type (RFC 7530, section 6.2.1.1).
     pub sort: AceType,
     /// Whom it speaks of.
     pub who: Who,
@@ -41,7 +41,8 @@ impl Ace {
     }
 }
 
-/// What carries a list: a picture or a group is `Plain`, an album is a `Folder`.
+/// What the object is that carries a list. A picture or a group is `Plain`, as a file is in RFC 7530; an album is a
+/// `Folder`, as a directory is.
 #[derive(Clone, Copy, Debug, PartialEq, Eq)]
 pub enum Holder {
     Plain,

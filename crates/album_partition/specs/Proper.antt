@@ -15,12 +15,12 @@ has_row rows item = list_any (λ row. row.0 == item) rows
 abbrev pub is_among : List ℕ → Row → Bool
 is_among items row = list_any (λ item. item == row.0) items
 
--- the rows are of these items, of each just one, in any order
+-- the rows are of these items, of each exactly one, in any order
 abbrev pub are_rows_of : List ℕ → List Row → Bool
 are_rows_of items rows =
     has_single_rows rows && list_all (is_among items) rows && list_all (has_row rows) items
 
--- the writes are of just those items that are placed at the partition, and each value is of its item's kind
+-- the writes are of exactly those items that are placed at the partition, and each value is of its item's kind
 abbrev pub are_own_writes : ℕ → ℕ → List Row → List ℕ → Bool
 are_own_writes number parts writes items =
     are_rows_of (placed_at number parts items) writes && list_all has_right_kind writes

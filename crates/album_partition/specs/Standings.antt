@@ -24,7 +24,7 @@ stands_pending (Some (Pending index)) = true
 stands_pending (Some (Committed index)) = false
 stands_pending (Some Discarded) = false
 
--- just the stamps that stand as pending are in the set
+-- exactly the stamps that stand as pending are in the set
 abbrev pub AreInSet : List (ℕ × Standing) → BTreeSet ℕ → Type 0
 AreInSet standings set = (stamp : ℕ) → contains nat_cmp set stamp ≡ stands_pending (standing_in standings stamp)
 

@@ -6,7 +6,7 @@ use album_items::{ItemId, ItemValues, Items, Value};
 use album_stamps::Stamp;
 use std::alloc::AllocError;
 
-/// An entry of a partition's history.
+/// An entry of a partition's history: a log record.
 #[derive(Debug, Drop)]
 pub enum Mark {
     /// These writes of the stamp are kept here, and can't be read yet by all. The items are those of

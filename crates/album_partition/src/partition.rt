@@ -117,6 +117,7 @@ impl Partition {
         if !message.to().is_part(self.seat.number) {
             return Ok(None);
         }
+        // Of a Prepare `answers` asks first whether it is well-formed: `proper` decides that.
         let action = self.on_body(message.from(), message.body())?;
         match self.apply(action)? {
             None => Ok(None),

@@ -53,7 +53,7 @@ merged first second = record first {
 abbrev pub IsUnheard : ℕ → Cut → Type 0
 IsUnheard client cut = (stamp : ℕ) → client_number stamp ≡ client → announced_for cut stamp ≡ None
 
--- where there is a client of this number, just that is announced of its stamps which was before
+-- where there is a client of this number, what is announced of its stamps is exactly what was announced before
 abbrev pub KeepsOwn : Option ℕ → Cut → Cut → Type 0
 KeepsOwn number old new = (client stamp : ℕ) → number ≡ Some client → client_number stamp ≡ client
     → announced_for new stamp ≡ announced_for old stamp

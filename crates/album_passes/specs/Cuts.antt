@@ -1,4 +1,5 @@
--- Cuts: what was seen of the partitions' histories and of the announced item lists, and when a cut is closed.
+-- Cuts: what was seen of the partitions' histories and of the announced item lists, and when a cut is closed, which is
+-- to say consistent.
 use Rattle.std.specs.Prelude.{◌≡◌, ℕ, ◌≤◌, true, ◌==◌, List, [], ◌++◌, length, slice_index, slice_index_or, All, Contains, Option, Some, is_some}
 use Rattle.std.specs.List.{list_all, list_any}
 use Rattle.std.specs.Map.{lookup}
@@ -84,7 +85,7 @@ IsBacked cut (Committed stamp) = IsPreparedThroughout cut stamp
 IsBacked cut (Discarded stamp) = IsPromisedSomewhere cut stamp
 IsBacked cut (Trimmed item) = Unit {0}
 
--- it has that beside each mark
+-- it has that beside each mark: the cut is consistent
 abbrev pub IsClosedCut : Cut → Type 0
 IsClosedCut cut = (part : ℕ) → All (IsBacked cut) (prefix_at cut part)
 

@@ -21,8 +21,9 @@ use std::sync::Wait;
 /// How many words a desk may have: one for the numbers drawn, and one for each partition.
 const WORDS: usize = PARTS + 1;
 
-/// A word for each partition, which counts the marks of its history, and one that counts the
-/// numbers drawn. Contracts see its table, and what it was opened with.
+/// The shared registry of a service: a word for each partition, which counts the marks of its
+/// history, and one that counts the numbers drawn. Contracts see its table, and what it was opened
+/// with.
 #[derive(Drop)]
 pub struct Desk {
     pub(crate) table: Table<u8, SeatView, Plan, OneRun, Global>,

@@ -1,4 +1,8 @@
 //! A seat of the desk's table that knows one cut, with the lengths of its prefixes as numbers.
+//!
+//! Each pass and each owner has one. All steps on the desk's table are made here, so that `pass` and `owner` speak of
+//! cuts alone. A holding is split and joined, appends a mark, announces items, or draws a number. Contracts see the
+//! seat, which allows it to do so. When the program runs, the lengths are all that a holding has.
 ghost use Rattle.std.specs.Prelude.{◌≡◌, ◌<◌, ◌≤◌, true, [], ◌∷◌, length, replicate, Some, None, IfSome, IfNone};
 ghost use Rattle.album_partition.specs.Marks.{may_follow};
 ghost use Rattle.album_stamps.specs.Stamps.{client_number};
@@ -21,7 +25,7 @@ use atomic_table::Seat;
 use std::marker::{Brand, Model};
 use std::sync::Wait;
 
-/// A seat with one cut, and the cut's lengths. Contracts see its table and what it knows.
+/// A seat with one cut, and the cut's lengths, which are a version vector. Contracts see its table and what it knows.
 #[derive(Drop)]
 pub struct Holding {
     seat: Seat<u8, SeatView>,

@@ -31,7 +31,7 @@ impl Model for Owner {
 }
 
 impl Owner {
-    /// The owner of the partition, with this seat.
+    /// The owner of the partition, with this holding.
     pub(crate) fn of(holding: Holding, part: usize) -> Owner
         requires { IsOwner holding part }
         ensures { result ≡ owner_of holding part }
@@ -89,7 +89,7 @@ impl Owner {
         self.holding.join(desk, other.into_holding());
     }
 
-    /// For contracts alone: the cut is sound, and of the owner's partition, by the invariant of its seat. Nothing is
+    /// For contracts alone: the cut is sound, and of the owner's partition, by the invariant of its holding. Nothing is
     /// computed.
     pub fn is_sound(&self)
         ensures sound { IsSound self.now.cut }

@@ -15,9 +15,9 @@ use std::marker::Model;
 use std::mem;
 use std::sync::Wait;
 
-/// What was seen of the partitions' histories and of the announced lists: a cut. It may hold a
-/// client's number, which no other pass of its desk holds then. Contracts see its desk's table, the
-/// cut and the number.
+/// What was seen of the partitions' histories and of the announced lists: a cut. When the program
+/// runs it is a version vector. It may hold a client's number, which no other pass of its desk holds
+/// then. Contracts see its desk's table, the cut and the number.
 #[derive(Drop)]
 pub struct Pass {
     holding: Holding,
@@ -32,14 +32,14 @@ impl Model for Pass {
 }
 
 impl Pass {
-    /// The pass with this seat.
+    /// The pass with this holding.
     pub(crate) fn of(holding: Holding) -> Pass
         ensures { result ≡ pass_of holding }
     {
         Pass { holding }
     }
 
-    /// Its seat.
+    /// Its holding.
     pub(crate) fn into_holding(self) -> Holding
         ensures { self ≡ pass_of result }
     {
@@ -88,8 +88,8 @@ impl Pass {
         self.holding.announce(desk, stamp, items)
     }
 
-    /// Takes in all that the other pass has seen, which has no number. Nothing new is announced by
-    /// it of the pass's own client.
+    /// Takes in all that the other pass has seen, which has no number: the pass's version vector
+    /// becomes the least upper bound of both. Nothing new is announced by it of the pass's own client.
     pub fn join(&mut self, desk: &Desk, other: Pass)
         requires table { self.old.table ≡ desk.now.table }
         requires other_table { other.table ≡ desk.now.table }
@@ -117,8 +117,9 @@ impl Pass {
     }
 }
 
-/// Both passes take in all that the other has seen, and then have one cut. Each keeps its number,
-/// and the numbers of two passes differ.
+/// Both passes take in all that the other has seen, and then have one cut: their version vectors are
+/// the least upper bound of the two. Each keeps its number, and the numbers of two passes differ. It
+/// is named for sessions that meet, and isn't the meet of a lattice.
 pub fn meet(desk: &Desk, one: &mut Pass, other: &mut Pass)
     requires table { one.old.table ≡ desk.now.table }
     requires other_table { other.old.table ≡ desk.now.table }
@@ -137,7 +138,7 @@ pub fn meet(desk: &Desk, one: &mut Pass, other: &mut Pass)
     ensures drawn { one.new.drawn ≡ max one.old.drawn other.old.drawn }
     ensures other_drawn { other.new.drawn ≡ one.new.drawn }
 {
-    // The other's seat has to be given away for a while, and a pass is never without one.
+    // The other's holding has to be given away for a while, and a pass is never without one.
     let stand_in = other.holding.split(desk);
     let theirs = mem::replace(&mut other.holding, stand_in);
     other.holding = one.holding.meet(desk, theirs);

@@ -1,4 +1,4 @@
-//! Permits.
+//! Permits: what a ruling gives that grants an ask.
 ghost use Rattle.std.specs.Prelude.{◌≡◌};
 ghost use Rattle.album_permits.specs.Permits.{IsPermit};
 
@@ -6,7 +6,7 @@ use album_eval::{Policy, Principal};
 use album_views::View;
 use std::marker::Model;
 
-/// A view whose ask is granted to the principal by the policy. It must be spent.
+/// A capability: a view whose ask is granted to the principal by the policy. It must be spent.
 #[derive(Debug)]
 pub struct Permit {
     view: View,

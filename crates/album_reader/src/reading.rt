@@ -139,8 +139,8 @@ impl Reading {
         }
     }
 
-    /// Takes a message that doesn't end the round, in place. The result is whether it is one: any other is left to
-    /// `on_reply`.
+    /// Takes the message in place, unless it ends the round, and tells whether the read waits for more. Where the
+    /// result is true, the message is taken. Where it is false, nothing has changed, and the message is `on_reply`'s.
     ///
     /// # Errors
     ///

@@ -22,6 +22,10 @@ pub enum SoFar {
 }
 
 /// The header comes first.
+///
+/// # Errors
+///
+/// `BadLine` where the line is too long; else as `read_opening_line`; else `BadRequest` where the line isn't a header.
 #[tactic(auto, using(crate::proofs::Standing::unread, crate::proofs::Standing::read_so))]
 pub fn first_line(alloc: Global, scratch: &mut Scratch, line: &LineIn) -> Result<SoFar, Refusal>
     ensures { GoesOn (opened_by first_line (opening_line_read (said line.now))) result }
@@ -33,6 +37,11 @@ pub fn first_line(alloc: Global, scratch: &mut Scratch, line: &LineIn) -> Result
 }
 
 /// Behind it come the items, and then that these are all.
+///
+/// # Errors
+///
+/// `BadLine` where the line is too long; else as `read_opening_line`; else `BadRequest` where the line is a header
+/// again, and `OutOfMemory` where there is none for the item.
 #[tactic(auto, using(crate::proofs::Standing::unread, crate::proofs::Standing::read_so))]
 pub fn later_line(
     alloc: Global,

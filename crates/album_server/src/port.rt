@@ -1,4 +1,15 @@
 //! The service of a port: it is opened by the lines that are read, and each connection has a thread and a session.
+//!
+//! `serve` calls `serve_for`. That, `serve_until` and `serve_beside` differ in what is read. Each of them calls
+//! `begin`, which opens the service's state and listens at the port, and then `serve_begun`. From there each calls the
+//! next:
+//!
+//! - `serve_begun` and `serve_opened`, which gives the service its names;
+//! - `serve_at`, which prints the notices meanwhile, and the totals at the end;
+//! - `serve_all`, which opens the service and closes it;
+//! - `say_and_attend`, which says that the port is served;
+//! - `attend_all`, which makes what the threads share and what one of them alone has, by `parts_of`;
+//! - `attend_within`, which runs the threads: `watch_within`, `read_within` and `accept_all`.
 ghost use Rattle.std.specs.Prelude.{◌≡◌};
 ghost use Rattle.album_threads.specs.Opened.{opened_as};
 
@@ -117,8 +128,8 @@ pub fn serve<T: Host, R: Read, W: Write>(
     serve_for(rt, alloc, reader, writer, serving, None)
 }
 
-/// The same, as `serving` says. Each note is appended to the audit file, if there is one, before its request is
-/// answered.
+/// Serves as `serve` does, but as `serving` says. Each note is appended to the audit file, if there is one, before its
+/// request is answered.
 ///
 /// # Errors
 ///
@@ -141,8 +152,8 @@ pub fn serve_for<T: Host, R: Read, W: Write>(
     serve_begun(rt, alloc, begun, writer, setup)
 }
 
-/// The same, to the end of the input behind the opening: then no connection begins any more, and each line that has
-/// come is answered still. Connections beyond the last that counts are answered `Closed` until then.
+/// Serves as `serve_for` does, to the end of the input behind the opening: then no connection begins any more, and each
+/// line that has come is answered still. Connections beyond the last that counts are answered `Closed` until then.
 ///
 /// # Errors
 ///
@@ -164,7 +175,7 @@ pub fn serve_until<T: Host, R: Read + Send + Drop, W: Write>(
     serve_begun(rt, alloc, begun, writer, setup)
 }
 
-/// The same, where the opening is read by itself, and the input beside it has nothing but its end.
+/// Serves as `serve_until` does, where the opening is read by itself, and the input beside it has nothing but its end.
 ///
 /// # Errors
 ///
@@ -195,10 +206,10 @@ struct Setup<R: Drop> {
     audit: Option<AuditFile>,
 }
 
-/// What was opened, and its port; or how it ends without them.
+/// What was opened, and its port; or how `serve` ends without them.
 type Begun = Result<(Opened, TcpListener), Served>;
 
-/// The opening is read and opened, and the port is had; or else it is answered why not.
+/// Reads the opening, opens the service's state by it, and listens at the port; or else answers why not.
 fn begin<T: Host, R: Read, W: Write>(
     rt: &T,
     alloc: Global,
@@ -212,7 +223,7 @@ fn begin<T: Host, R: Read, W: Write>(
     }
 }
 
-/// The opening is read and opened.
+/// Reads the opening, and opens the service's state by it; or else answers why not.
 fn open<T: Host, R: Read, W: Write>(
     rt: &T,
     alloc: Global,
@@ -229,6 +240,7 @@ fn open<T: Host, R: Read, W: Write>(
     }
 }
 
+/// Opens the service's state by the opening, or answers why not.
 fn open_by<T: Host, W: Write>(
     rt: &T,
     alloc: Global,
@@ -255,7 +267,7 @@ fn refuse<W: Write>(
     Ok(Err(Served::Refused))
 }
 
-/// The port is had.
+/// Listens at the port. Why it can't be had is printed on standard error.
 fn listen<T: Host>(rt: &T, opened: Opened, port: u16) -> Begun {
     match TcpListener::bind(rt, local(port)) {
         Ok(listener) => Ok((opened, listener)),
@@ -303,6 +315,7 @@ where
     Ok(Served::Done)
 }
 
+/// Serves what was opened under the names J, prints notices on standard error meanwhile, and then writes the totals.
 fn serve_at<J, T, R, W>(
     rt: T,
     alloc: Global,
@@ -424,7 +437,8 @@ pub(crate) struct Shared<J: ServiceNames> {
     pub stats: u32,
 }
 
-/// What one of them alone has: who reads the input to its end, and who watches until `end` is let go.
+/// What one thread of a service alone has. The one that reads the input to its end has `input`, and the one that
+/// watches has `ended`. It watches until `end` is let go, by the thread that accepts connections.
 #[derive(Drop)]
 struct Own<R: Drop> {
     input: Option<R>,
@@ -432,7 +446,7 @@ struct Own<R: Drop> {
     ended: Receiver<()>,
 }
 
-/// What they look at and send by.
+/// The gauge of the figures, and the ends of channels, which `parted` puts into `Shared` and `Own`.
 #[derive(Drop)]
 struct Ends<J: ServiceNames> {
     gauge: Gauge<J>,
@@ -443,7 +457,8 @@ struct Ends<J: ServiceNames> {
     ended: Receiver<()>,
 }
 
-/// What they share, and what one of them alone has. The service keeps its notes, if a file is to have them.
+/// Makes what the threads of a service share, and what one of them alone has. The service keeps its notes from now on,
+/// if a file is to have them.
 ///
 /// # Errors
 ///
@@ -462,7 +477,11 @@ fn parts_of<J: ServiceNames, T: Wait, R: Drop>(
     Ok(parted(alloc, setup, ends))
 }
 
-/// They stand together, since there may be no memory for each.
+/// Makes the gauge and the ends. All that may find no memory is made here, before anything is parted.
+///
+/// # Errors
+///
+/// `OutOfMemory`.
 fn ends_of<J: ServiceNames>(
     alloc: Global,
     service: &Service<J>,
@@ -480,6 +499,7 @@ fn ends_of<J: ServiceNames>(
     })
 }
 
+/// Parts the setup and the ends into what the threads of a service share, and what one of them alone has.
 fn parted<J: ServiceNames, R: Drop>(
     alloc: Global,
     setup: Setup<R>,
@@ -511,7 +531,8 @@ fn parted<J: ServiceNames, R: Drop>(
     (shared, Own { input, end, ended })
 }
 
-/// The threads of that.
+/// Runs the threads of a service, until all have ended: one that watches, one that reads the input, if there is any,
+/// and one for each connection. The calling thread accepts the connections.
 fn attend_within<J, T, R>(
     rt: T,
     alloc: Global,
@@ -578,7 +599,7 @@ where
     }
 }
 
-/// How the connections are served.
+/// The limits of the connections. With `until_closed` the service ends only once they are closed.
 fn limits_of(serving: &Serving, until_closed: bool) -> Limits {
     Limits {
         conns: serving.conns,

@@ -35,7 +35,7 @@ pub fn converse<J: ServiceNames, T: Wait + time::Clock, R: Read, W: Write>(
     session: &mut Session<J>,
     turns: u64,
 ) -> Result<(), Fault>
-    // Without a fault all was read, and just the talk of its lines is written, in which the session went on.
+    // Without a fault the whole input was read, and exactly the lines' talk is written, in which the session went on.
     ensures ok { OnOk result (IfSome (R.remaining reader.old) (λ input.
         Writes (IsTalk J.terms.limit J.policy Admins.Anyone session.old session.new (lines_of input))
         (W.contents writer.old) (W.contents writer.new))) }
@@ -91,7 +91,7 @@ pub fn converse_with<J: ServiceNames, T: Wait + time::Clock, R: Read, W: Write, 
     journal: &A,
     turns: u64,
 ) -> Result<(), Fault>
-    // Without a fault all was read, and just the talk of its lines is written, in which the session went on.
+    // Without a fault the whole input was read, and exactly the lines' talk is written, in which the session went on.
     ensures ok { OnOk result (IfSome (R.remaining reader.old) (λ input.
         Writes (IsTalk J.terms.limit J.policy admins.now session.old session.new (lines_of input))
         (W.contents writer.old) (W.contents writer.new))) }

@@ -22,6 +22,7 @@ pub struct Version {
 #[derive(Debug, Drop)]
 pub struct Row {
     latest: Stamp,
+    /// A low watermark: below it no version is kept.
     floor: Stamp,
     versions: Vec<Version>,
 }

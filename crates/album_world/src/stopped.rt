@@ -1,4 +1,5 @@
-//! Which clients were stopped.
+//! Which clients were stopped. A world looks here before a client asks, takes a message or is stopped: one that was
+//! stopped asks nothing more, takes nothing, and isn't stopped again.
 ghost use Rattle.std.specs.Prelude.{◌≡◌, ◌==◌, true, false, [], IfOk};
 ghost use Rattle.std.specs.List.{list_any};
 ghost use Rattle.album_stamps.specs.Stamps.{is_client};

@@ -16,9 +16,10 @@ use album_permits::Permit;
 use album_stamps::Stamp;
 use std::marker::Model;
 
-/// A write whose Commits are sent. It can't be copied; dropping it leaves the write as it is. Contracts see the permit
-/// that was spent on it, its stamp, its client and tag, how many partitions there are, and the participants whose
-/// replies are outstanding.
+/// A write whose Commits are sent: the second phase of a two-phase commit, as in PUT_ALL of RAMP-Small (Bailis et al.,
+/// SIGMOD 2014, Algorithm 2). It can't be copied; dropping it leaves the write as it is. Contracts see the permit that
+/// was spent on it, its stamp, its client and tag, how many partitions there are, and the participants whose replies
+/// are outstanding.
 #[derive(Debug, Drop)]
 pub struct Committing {
     writing: Writing,

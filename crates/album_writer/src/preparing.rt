@@ -20,9 +20,10 @@ use album_permits::Permit;
 use album_stamps::Stamp;
 use std::marker::Model;
 
-/// A write whose Prepares are sent. It can't be copied; dropping it leaves the write as it is. Contracts see the permit
-/// that was spent on it, its stamp, its client and tag, how many partitions there are, and the participants whose
-/// replies are outstanding. Its Commits are made already, so that no message to it takes memory.
+/// A write whose Prepares are sent: the first phase of a two-phase commit, as in PUT_ALL of RAMP-Small (Bailis et al.,
+/// SIGMOD 2014, Algorithm 2). It can't be copied; dropping it leaves the write as it is. Contracts see the permit that
+/// was spent on it, its stamp, its client and tag, how many partitions there are, and the participants whose replies
+/// are outstanding. Its Commits are made already, so that no message to it takes memory.
 #[derive(Debug, Drop)]
 pub struct Preparing {
     writing: Writing,

@@ -25,8 +25,8 @@ use std::io::{Read, Write};
 /// How many bytes a read of an engine may give.
 pub const PIECE: usize = 4096;
 
-/// Answers each line that is read by one line, in order; a line of spaces, tabs and carriage returns
-/// alone is skipped.
+/// Answers the lines that are read, each by one line, in their order. A line that has nothing but
+/// spaces, tabs and carriage returns is skipped.
 ///
 /// # Errors
 ///
@@ -38,7 +38,7 @@ pub fn judge<R: Read, W: Write>(
     writer: &mut W,
     turns: u64,
 ) -> Result<(), Fault>
-    // Without a fault all was read, and just the answers to its lines are written.
+    // Without a fault the whole input was read, and exactly the answers to its lines are written.
     ensures ok { OnOk result (IfSome (R.remaining reader.old) (λ input.
         Writes (Answers (lines_of input)) (W.contents writer.old) (W.contents writer.new))) }
     ensures whole { OnOk result (IsAtEnd (R.remaining reader.new)) }
@@ -117,7 +117,8 @@ fn finish<W: Write>(
     }
 }
 
-/// Answers the lines, in their order, and writes the answers all at once. Reading is no fault of it.
+/// Answers the lines in their order, and writes the answers together, as one text. It reads nothing, so its fault is
+/// never `Reading`.
 fn answer_lines<W: Write>(
     alloc: Global,
     scratch: &mut Scratch,
@@ -181,6 +182,7 @@ fn verdict(alloc: Global, line: JudgeLine) -> Result<Verdict, Refusal>
     ensures judged { IfOk result (IsJudged (question line)) }
     ensures memory { IsOkUnless result Refusal.OutOfMemory }
 {
+    // (the `holder` is left out: that it may carry the list was tested as the line was read)
     let JudgeLine {
         list,
         head_group,

@@ -99,6 +99,7 @@ impl Partition {
         }
     }
 
+    /// A Prepare that isn't well-formed (`proper`) clashes. What any other does goes by the state of its stamp.
     fn on_prepare(
         &self,
         stamp: Stamp,

@@ -72,6 +72,7 @@ where
             rt, alloc, scope, service, listener, shared, is_full, &mut count,
         );
     }
+    // `forever` has no end.
     unreachable!()
 }
 
@@ -163,7 +164,11 @@ where
     }
 }
 
-/// The same, or why not.
+/// Gives a connection a session and a thread.
+///
+/// # Errors
+///
+/// As `OwnedSession::begin`; else `Closed`, where no connection begins any more; else `OutOfMemory`.
 fn begin<'s, J, T, E>(
     rt: T,
     alloc: Global,

@@ -119,7 +119,7 @@ impl Connections {
         }
     }
 
-    /// The same, but for waking. Returns whether they weren't closed before.
+    /// Closes the connections, and wakes nobody. Returns whether they weren't closed before.
     fn begin_to_close<T: Wait>(&self, rt: &T) -> bool {
         let mut streams = self.streams.lock(rt);
         for (_, stream) in &streams.open {
@@ -130,12 +130,12 @@ impl Connections {
         is_first
     }
 
-    /// Has it printed on standard error, some time.
+    /// Has the notice printed on standard error, some time.
     pub(crate) fn notify<T: Wait>(&self, rt: &T, notice: Notice) {
         let _ = self.notices.send(rt, notice);
     }
 
-    /// The same, where nothing waits to be printed.
+    /// Has the notice printed on standard error, where no other waits to be printed.
     pub(crate) fn notify_if_read<T: Wait>(&self, rt: &T, notice: Notice) {
         if self.notices.is_empty() {
             self.notify(rt, notice);

@@ -1,4 +1,8 @@
 //! Where a replay stands between two lines, and what a line makes of that.
+//!
+//! `replay` keeps one `Stage`, and gives it each line. The lines of the opening are gathered (`openings`), until one
+//! says that the items are all there: then the world opens. From then on the events of a line run in it (`events`). A
+//! replay whose opening is refused is over.
 ghost use Rattle.std.specs.Prelude.{◌≡◌, ◌≢◌, [], IfErr, OnErr, OnOk};
 ghost use Rattle.std.specs.Io.KnownBytes.{Appends};
 ghost use Rattle.album_lines.specs.Lines.{said};
