@@ -2,8 +2,8 @@
 #![tactic(auto)]
 
 use album_server::{
-    Ask, Out, OwnedSession, Principal, Refusal, Service, ServiceNames, Visit, opening_of_text,
-    read_item, with_service, write_out,
+    Ask, OwnedSession, Principal, Refusal, Service, ServiceNames, Visit, opening_of_text,
+    read_item, with_service, write_answer,
 };
 use std::alloc::Global;
 
@@ -27,7 +27,7 @@ impl<R: std::sync::Wait + std::time::Clock + Print + Copy> Visit<R> for TwoReads
         for who in ["amy@users", "bo@users"] {
             let object = read_item("picture/0").ok_or(Refusal::BadRequest)?;
             let answer = session.ask(rt, &Principal::read(who)?, Ask::Read { object })?;
-            let line = write_out(alloc, &Out::Answered(session.client(), answer), None)?;
+            let line = write_answer(alloc, session.client(), &answer)?;
             let _ = print!(rt; "{who}: {}", str::from_utf8(&line).unwrap_or(""));
         }
         Ok(())

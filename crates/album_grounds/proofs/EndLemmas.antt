@@ -1,4 +1,4 @@
--- How a read of two rounds ends: `read_so`, where it is done, and `overtaken`, where an item was gone. ReadingLemmas of
+-- How a read of two rounds ends: `read_so`, where it is done, and `trimmed_away`, where an item was gone. ReadingLemmas of
 -- `album_sessions` cites both.
 use Rattle.std.proofs.Common.{◌≡◌, ℕ, zero, suc, ◌<◌, ◌≤◌, true, List, [], ◌∷◌, get_or, map, All, Contains, Option, refl, sym, ap, ◌∙◌, subst, arith}
 use Rattle.std.specs.Option.{unwrap_or}
@@ -21,7 +21,7 @@ use Rattle.album_reader.specs.Snapshots.{items_read}
 use Rattle.album_reader.specs.StampSets.{stamps_of}
 use Rattle.album_reader.proofs.StampSets.{stamps_of-Contains}
 use Rattle.album_grounds.specs.Grounds.{is_trim}
-use Rattle.album_grounds.specs.Replies.{AreOf, IsFirstOver, IsGoneFrom, IsReadOf, IsOvertaken}
+use Rattle.album_grounds.specs.Replies.{AreOf, IsFirstOver, IsGoneFrom, IsReadOf, IsTrimmedAway}
 use Rattle.album_grounds.proofs.TrimLemmas.{prefix_trims, trimmed_since, trims_rise}
 
 -- ---- what a list of answers has
@@ -92,10 +92,10 @@ module _ (b m c : Cut) (begun next : RoundState) (gets : List Message) (F : IsFi
         };
       }
 
-  -- where the second round finds an item gone, a trim has overtaken the read
-  pub overtaken : (all : List ℕ) → IsSound b → IsSound m → IsSound c → Extends b m → Extends m c → IsGoneFrom m c next all
-      → IsOvertaken b c begun.items all
-  overtaken all s r t x y g =
+  -- where the second round finds an item gone, a trim has let go of its version
+  pub trimmed_away : (all : List ℕ) → IsSound b → IsSound m → IsSound c → Extends b m → Extends m c → IsGoneFrom m c next all
+      → IsTrimmedAway b c begun.items all
+  trimmed_away all s r t x y g =
       let gone = g.gone in
       let i = gone.item in
       let first = answered i gone.asked in

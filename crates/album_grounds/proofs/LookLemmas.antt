@@ -76,7 +76,7 @@ module _ (b c : Cut) (viewing : ViewingState) (items : List ℕ) where
       go false false false e f g h =
           subst (LooksOnce b c viewing items) (sym h) (refl, subst AsksReadable h readable, inl (rows, vain e f, refl))
 
-  -- a trim has overtaken it
+  -- a trim has let go of an item's version
   pub gone_so : (step : ViewStep) → trims_in b < trims_in c → AreReadable items → step ≡ again viewing items
       → LooksOnce b c viewing items step
   gone_so step more readable is = go (nat_le MAX_READS (viewing.reads + 1)) refl is

@@ -141,7 +141,7 @@ abbrev pub trims_in : Cut → ℕ
 trims_in cut = sum_by (λ marks. count_by is_trim marks) cut.prefixes
 
 -- As many reads were made as an ask may have. Those that led to no view begin with one of the ask's objects. The others
--- were overtaken by a trim, and are no more than the trims that the cut has gained.
+-- found an item gone by a trim, and are no more than the trims that the cut has gained.
 pub record IsOutOfReads (begun now : Cut) (ask : Ask) : Type 0 where
   pub reads : List (List ReadVersion)
   pub in_vain : AreInVain begun now ask (objects_of ask) reads

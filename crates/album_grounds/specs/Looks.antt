@@ -35,7 +35,7 @@ pub record IsVain (begun now : Cut) (ask : Ask) (items : List ℕ) (rows : List 
   pub lacking : IsClosed ask rows → ⊥
   pub few : length (names_of rows ask) ≤ MAX_READ_ITEMS
 
--- What comes of one read of these items for the ask. Where it is no view, it was in vain, or overtaken by a trim.
+-- What comes of one read of these items for the ask. Where it is no view, it was in vain, or an item was gone by a trim.
 abbrev pub LooksOnce : Cut → Cut → ViewingState → List ℕ → ViewStep → Type 0
 LooksOnce begun now viewing items (Closed view) = IsViewOf begun now viewing.ask view
 LooksOnce begun now viewing items (Busy Wide) = IsWide begun now viewing.ask
@@ -53,7 +53,7 @@ abbrev pub items_next : Ask → List ℕ → List (List ReadVersion) → List �
 items_next ask items [] = items
 items_next ask items (rows ∷ later) = items_next ask (names_of rows ask) later
 
--- The reads so far were in vain, or overtaken by a trim each, and these items are to be read next.
+-- The reads so far were in vain, or found an item gone by a trim, and these items are to be read next.
 pub record IsLooking (begun now : Cut) (viewing : ViewingState) (items : List ℕ) : Type 0 where
   pub flawless : flaw_of viewing.ask ≡ None
   pub reads : List (List ReadVersion)

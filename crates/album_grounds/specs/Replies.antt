@@ -71,7 +71,7 @@ pub record IsReadOf (begun now : Cut) (items : List ℕ) (rows : List ReadVersio
   pub items_are : items_read rows ≡ items
   pub seen : IsSeen begun now rows
 
--- A trim has overtaken the read of these items, which are handed back: the cut has gained it.
-pub record IsOvertaken (begun now : Cut) (items all : List ℕ) : Type 0 where
+-- A trim has let go of what the read of these items asked for. They are handed back, and the cut has gained the trim.
+pub record IsTrimmedAway (begun now : Cut) (items all : List ℕ) : Type 0 where
   pub items_are : all ≡ items
   pub trimmed : trims_in begun < trims_in now

@@ -118,14 +118,14 @@ fn taken<T: Drop>(sent: Result<(), SendError<T>>) -> Result<(), AllocError> {
     }
 }
 
-/// A partition's loop: the partition with the owner of its history, the mailboxes to which it sends, the number of
-/// messages that it took, and the flag that it sets where it has no memory to go on.
+/// A partition's loop: the partition with the owner of its history, the mailboxes to which it sends, how many messages it
+/// took, and the flag that it sets where it has no memory to go on.
 #[derive(Drop)]
 pub(crate) struct PartitionLoop<J: DeskNames> {
     part: u16,
     keeper: PartitionKeeper<J>,
     outbox: Outbox<J>,
-    number: u64,
+    messages: u64,
     breakage: Arc<Breakage, Global>,
 }
 
@@ -141,7 +141,7 @@ impl<J: DeskNames> PartitionLoop<J> {
             part,
             keeper,
             outbox,
-            number: 0,
+            messages: 0,
             breakage,
         }
     }
@@ -226,7 +226,7 @@ impl<J: DeskNames> PartitionLoop<J> {
         requires table { desk.now.table ≡ J.table }
         requires terms { desk.now.terms ≡ J.terms }
     {
-        let (mut number, count) = (self.number, envelopes.len());
+        let (mut message, count) = (self.messages, envelopes.len());
         let mut replies = VecDeque::new(alloc);
         replies.reserve(count)?;
         for envelope in envelopes {
@@ -234,8 +234,8 @@ impl<J: DeskNames> PartitionLoop<J> {
         }
         self.outbox.send(rt, replies)?;
         for _ in 0..count {
-            gate.leave(self.part, number);
-            number = number.saturating_add(1);
+            gate.leave(self.part, message);
+            message = message.saturating_add(1);
         }
         Ok(())
     }
@@ -257,8 +257,8 @@ impl<J: DeskNames> PartitionLoop<J> {
         requires table { desk.now.table ≡ J.table }
         requires terms { desk.now.terms ≡ J.terms }
     {
-        gate.enter(self.part, self.number);
-        self.number = self.number.saturating_add(1);
+        gate.enter(self.part, self.messages);
+        self.messages = self.messages.saturating_add(1);
         let (from, tag) = (envelope.message().from(), envelope.message().tag());
         match self.keeper.receive(desk, envelope) {
             Ok(None) => Ok(()),

@@ -26,7 +26,7 @@ pub use album_items::{Opening, read_item};
 pub use album_permits::{Answer, Out};
 pub use album_threads::{OwnedSession, Service, ServiceNames, Session, Visit, with_service};
 pub use album_views::Ask;
-pub use album_wire::write_out;
+pub use album_wire::{write_answer, write_out};
 pub use port::{
     AuditFile, Host, Served, Serving, opening_of_text, serve, serve_beside, serve_for, serve_until,
 };

@@ -36,14 +36,14 @@ use Rattle.album_sessions.specs.Hints.{are_among, is_busy, is_without_view}
 use Rattle.album_sessions.specs.Phases.{Outset, IsRound, IsReading, IsUnderWay}
 use Rattle.album_sessions.specs.Phases.IsRound.{First, Second}
 use Rattle.album_keepers.specs.Replies.{IsReplied}
-use Rattle.album_grounds.specs.Replies.{IsFirstOver, IsReadOf, IsOvertaken, Leads}
+use Rattle.album_grounds.specs.Replies.{IsFirstOver, IsReadOf, IsTrimmedAway, Leads}
 use Rattle.album_sessions.specs.Resting.{RestsOn}
 use Rattle.album_channels.specs.Sending.{prepared_first}
 use Rattle.album_sessions.specs.Sessions.{SessionState, AddsNothing}
 use Rattle.album_keepers.specs.Settling.{AreCommitted}
 use Rattle.album_sessions.specs.Steps.{client_step_in, terms_in, IsBegunFor, IsStarted, IsStill}
 use Rattle.album_channels.specs.declared.asked.Asked.{Asked}
-use Rattle.album_grounds.proofs.EndLemmas.{mapped_from, read_so, overtaken}
+use Rattle.album_grounds.proofs.EndLemmas.{mapped_from, read_so, trimmed_away}
 use Rattle.album_grounds.proofs.LookLemmas.{done_so, gone_so, looking_first, looking_next, looks_seen, looks_busy}
 use Rattle.album_sessions.proofs.TransitionLemmas.{IsNoted, IsMovedOn, on_heard, adds_heard, heard_same, goes_plain, goes_sent}
 use Rattle.album_sessions.proofs.TransitionLemmas.IsMovedOn.{Told}
@@ -442,7 +442,7 @@ module _ (limit : ℕ) (policy : Policy) (o : Outset) (now next noted : SessionS
       which : IsRound w.start at w.begun → After
       which (First none same) = absurd (let some = led.0 in let no = ap is_some none in cc)
       which (Second first gets y F) =
-          let found : IsOvertaken w.start d first.items items = overtaken w.start at d first w.begun gets F items
+          let found : IsTrimmedAway w.start d first.items items = trimmed_away w.start at d first w.begun gets F items
           (for_sound o.hinted a w.start pending_ask.viewing w.begun.items w.looking) w.sound N.heard.sound y since led.1 in
           let same : w.begun.items ≡ items = ap (λ (r : RoundState). r.items) F.next_is ∙ sym found.items_are in
           let looking = subst (λ (is : List ℕ). IsReadFor o.hinted a w.start pending_ask.viewing is) same w.looking in

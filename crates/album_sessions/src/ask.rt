@@ -67,7 +67,7 @@ impl<J: ServiceNames> Session<J> {
     {
         self.channel.is_sound();
         ask.check(principal)?;
-        let answer = self.answers(rt, principal, &ask);
+        let answer = self.answer(rt, principal, &ask);
         drop(ask);
         answer
     }
@@ -77,7 +77,7 @@ impl<J: ServiceNames> Session<J> {
     /// # Errors
     ///
     /// `Closed` or `OutOfMemory`.
-    fn answers<R: Wait + time::Clock>(
+    fn answer<R: Wait + time::Clock>(
         &mut self,
         rt: &R,
         principal: &Principal,
@@ -91,10 +91,10 @@ impl<J: ServiceNames> Session<J> {
     {
         self.channel.is_sound();
         let topic = Topic::of(ask);
-        if let Some(answer) = self.tries(rt, principal, ask, &topic)? {
+        if let Some(answer) = self.ask_by_hint(rt, principal, ask, &topic)? {
             return Ok(answer);
         }
-        self.asks_by_objects(rt, principal, ask, &topic)
+        self.ask_by_objects(rt, principal, ask, &topic)
     }
 
     /// Asks with a read of the objects at first, and anew where a read is overtaken: until one isn't, since whoever
@@ -103,7 +103,7 @@ impl<J: ServiceNames> Session<J> {
     /// # Errors
     ///
     /// `Closed` or `OutOfMemory`.
-    fn asks_by_objects<R: Wait + time::Clock>(
+    fn ask_by_objects<R: Wait + time::Clock>(
         &mut self,
         rt: &R,
         principal: &Principal,
@@ -120,7 +120,7 @@ impl<J: ServiceNames> Session<J> {
     {
         self.channel.is_sound();
         for _ in rt.forever() {
-            if let Some(answer) = self.asks_once(rt, principal, ask, topic)? {
+            if let Some(answer) = self.ask_once(rt, principal, ask, topic)? {
                 return Ok(answer);
             }
         }
@@ -133,7 +133,7 @@ impl<J: ServiceNames> Session<J> {
     /// # Errors
     ///
     /// `Closed` or `OutOfMemory`.
-    fn asks_once<R: Wait + time::Clock>(
+    fn ask_once<R: Wait + time::Clock>(
         &mut self,
         rt: &R,
         principal: &Principal,
@@ -149,9 +149,9 @@ impl<J: ServiceNames> Session<J> {
         ensures on { IsOn self.old self.new }
     {
         self.channel.is_sound();
-        let (asked, phase) = self.begins(rt, principal, ask)?;
+        let (asked, phase) = self.begin(rt, principal, ask)?;
         let course = Course::plain(topic);
-        self.drives(rt, asked, phase, &course)
+        self.drive(rt, asked, phase, &course)
     }
 
     /// Takes replies until the ask is answered, or has come to no view.
@@ -159,7 +159,7 @@ impl<J: ServiceNames> Session<J> {
     /// # Errors
     ///
     /// `Closed` or `OutOfMemory`.
-    pub(crate) fn drives<R: Wait + time::Clock>(
+    pub(crate) fn drive<R: Wait + time::Clock>(
         &mut self,
         rt: &R,
         mut asked: Asked,
@@ -178,8 +178,8 @@ impl<J: ServiceNames> Session<J> {
     {
         self.channel.is_sound();
         for _ in rt.forever() {
-            let heard = self.waits(rt, &asked, &mut phase);
-            match self.goes_on(rt, asked, phase, heard, course)? {
+            let heard = self.wait(rt, &asked, &mut phase);
+            match self.go_on(rt, asked, phase, heard, course)? {
                 Way::Answered(answer) => return Ok(Some(answer)),
                 Way::InVain => return Ok(None),
                 Way::Awaits(more, next) => {
@@ -197,7 +197,7 @@ impl<J: ServiceNames> Session<J> {
     /// # Errors
     ///
     /// `Closed` or `OutOfMemory`.
-    fn begins<R: Wait>(
+    fn begin<R: Wait>(
         &mut self,
         rt: &R,
         principal: &Principal,
@@ -212,7 +212,7 @@ impl<J: ServiceNames> Session<J> {
         self.channel.is_open()?;
         self.channel.is_sound();
         let transition = first_step(self.client_step(), self.tag, principal, ask)?;
-        self.starts(rt, transition)
+        self.start(rt, transition)
     }
 
     /// Sends the first messages of an ask.
@@ -220,7 +220,7 @@ impl<J: ServiceNames> Session<J> {
     /// # Errors
     ///
     /// `Closed` or `OutOfMemory`.
-    pub(crate) fn starts<R: Wait>(
+    pub(crate) fn start<R: Wait>(
         &mut self,
         rt: &R,
         transition: Transition,
@@ -268,7 +268,7 @@ impl<J: ServiceNames> Session<J> {
     /// # Errors
     ///
     /// `Closed` or `OutOfMemory`.
-    fn goes_on<R: Wait>(
+    fn go_on<R: Wait>(
         &mut self,
         rt: &R,
         asked: Asked,
@@ -293,7 +293,7 @@ impl<J: ServiceNames> Session<J> {
         let stamp = phase.stamp();
         let reads = phase.is_reading();
         let tries = course.tries(reads);
-        let transition = match self.gives(&asked, phase, heard) {
+        let transition = match self.give(&asked, phase, heard) {
             Ok(transition) => transition,
             Err(why) => {
                 drop(asked);
@@ -305,13 +305,13 @@ impl<J: ServiceNames> Session<J> {
             drop(transition);
             return Ok(Way::InVain);
         }
-        self.remembers(course, reads, &asked, &transition);
-        match self.takes_over(rt, transition)? {
+        self.remember(course, reads, &asked, &transition);
+        match self.take_over(rt, transition)? {
             Reaction::Answers(answer) => {
                 drop(asked);
                 Ok(Way::Answered(answer))
             }
-            Reaction::Sends(phase, sent) => self.sends(rt, asked, phase, sent),
+            Reaction::Sends(phase, sent) => self.send(rt, asked, phase, sent),
         }
     }
 }

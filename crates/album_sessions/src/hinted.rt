@@ -71,7 +71,7 @@ impl<J: ServiceNames> Session<J> {
     /// # Errors
     ///
     /// `Closed` or `OutOfMemory`.
-    pub(crate) fn tries<R: Wait + time::Clock>(
+    pub(crate) fn ask_by_hint<R: Wait + time::Clock>(
         &mut self,
         rt: &R,
         principal: &Principal,
@@ -86,11 +86,11 @@ impl<J: ServiceNames> Session<J> {
         ensures on { IsOn self.old self.new }
     {
         self.channel.is_sound();
-        let Some((asked, phase)) = self.begins_by_hint(rt, principal, ask, topic) else {
+        let Some((asked, phase)) = self.begin_by_hint(rt, principal, ask, topic) else {
             return Ok(None);
         };
         let course = Course::by_hint(topic);
-        let answer = self.drives(rt, asked, phase, &course)?;
+        let answer = self.drive(rt, asked, phase, &course)?;
         if answer.is_none() {
             self.hints.forget(topic);
         }
@@ -98,7 +98,7 @@ impl<J: ServiceNames> Session<J> {
     }
 
     /// The ask begins with a read of the hinted items, if there is a hint, and memory for it.
-    fn begins_by_hint<R: Wait>(
+    fn begin_by_hint<R: Wait>(
         &mut self,
         rt: &R,
         principal: &Principal,
@@ -113,7 +113,7 @@ impl<J: ServiceNames> Session<J> {
         self.channel.is_sound();
         let items = self.hints.find(topic)?;
         let transition = self.asks_with(principal, ask, items)?;
-        match self.starts(rt, transition) {
+        match self.start(rt, transition) {
             Ok(started) => Some(started),
             Err(_) => None,
         }
@@ -133,7 +133,7 @@ impl<J: ServiceNames> Session<J> {
     }
 
     /// Keeps the items of a read as a hint, where a view has come of it.
-    pub(crate) fn remembers(
+    pub(crate) fn remember(
         &self,
         course: &Course,
         reads: bool,

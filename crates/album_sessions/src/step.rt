@@ -39,7 +39,7 @@ impl<J: ServiceNames> Session<J> {
     /// # Errors
     ///
     /// `Closed` or `OutOfMemory`; or the read is overtaken.
-    pub(crate) fn waits<R: Wait + time::Clock>(
+    pub(crate) fn wait<R: Wait + time::Clock>(
         &mut self,
         rt: &R,
         asked: &Asked,
@@ -55,7 +55,7 @@ impl<J: ServiceNames> Session<J> {
     {
         self.channel.is_sound();
         for _ in rt.forever() {
-            if let Some(heard) = self.waits_once(rt, asked, phase) {
+            if let Some(heard) = self.wait_once(rt, asked, phase) {
                 return heard;
             }
         }
@@ -64,7 +64,7 @@ impl<J: ServiceNames> Session<J> {
     }
 
     /// Hears one reply, and takes it, where it ends no round of a read; else gives it, or why none came or was taken.
-    fn waits_once<R: Wait + time::Clock>(
+    fn wait_once<R: Wait + time::Clock>(
         &mut self,
         rt: &R,
         asked: &Asked,
@@ -80,7 +80,7 @@ impl<J: ServiceNames> Session<J> {
         ensures heard { IsHeard self.old self.new }
     {
         let reads = phase.is_reading();
-        let heard = self.hears(rt, asked, reads);
+        let heard = self.hear(rt, asked, reads);
         waited(phase, heard)
     }
 
@@ -89,7 +89,7 @@ impl<J: ServiceNames> Session<J> {
     /// # Errors
     ///
     /// `Closed` or `OutOfMemory`; or the read is overtaken.
-    fn hears<R: Wait + time::Clock>(
+    fn hear<R: Wait + time::Clock>(
         &mut self,
         rt: &R,
         asked: &Asked,
@@ -112,7 +112,7 @@ impl<J: ServiceNames> Session<J> {
     /// # Errors
     ///
     /// `Closed` or `OutOfMemory`; or the read is overtaken.
-    pub(crate) fn gives(
+    pub(crate) fn give(
         &self,
         asked: &Asked,
         phase: Phase,
@@ -138,7 +138,7 @@ impl<J: ServiceNames> Session<J> {
     /// # Errors
     ///
     /// `OutOfMemory`.
-    pub(crate) fn takes_over<R: Wait>(
+    pub(crate) fn take_over<R: Wait>(
         &mut self,
         rt: &R,
         transition: Transition,
@@ -187,7 +187,7 @@ impl<J: ServiceNames> Session<J> {
     /// # Errors
     ///
     /// `Closed` or `OutOfMemory`.
-    pub(crate) fn sends<R: Wait>(
+    pub(crate) fn send<R: Wait>(
         &mut self,
         rt: &R,
         asked: Asked,
@@ -201,7 +201,7 @@ impl<J: ServiceNames> Session<J> {
         ensures unbegun { OnErr result (stamp_at_work phase ≡ None) }
         ensures announced { IsAnnouncedBy self.old self.new sent.items }
     {
-        self.announces(&sent);
+        self.announce(&sent);
         match self.channel.send_next_round(rt, asked, sent) {
             Ok(more) => Ok(Way::Awaits(more, phase)),
             Err(why) => cut_off(stamp_of(phase), why),
@@ -209,7 +209,7 @@ impl<J: ServiceNames> Session<J> {
     }
 
     /// Announces what the first of the messages prepares, if it prepares anything.
-    fn announces(&mut self, sent: &[Message])
+    fn announce(&mut self, sent: &[Message])
         requires { IsFree J.policy self.old sent.now }
         ensures { IsAnnouncedBy self.old self.new sent.now }
     {

@@ -16,10 +16,9 @@ use Rattle.album_keepers.specs.Controls.{IsUntrimmed}
 use Rattle.album_sessions.specs.Resting.{RestsOn}
 use Rattle.album_channels.specs.Channels.{IsClosedOrOutOfMemory}
 use Rattle.album_sessions.specs.Sessions.{SessionState, AddsNothing}
-use Rattle.album_permits.specs.declared.outs.Out.TheVariants as out
 use Rattle.album_lines.specs.Lines.{Line, is_blank}
 use Rattle.album_lines.specs.Output.{line_text, refusal_line}
-use Rattle.album_wire.specs.OutJson.{out_line}
+use Rattle.album_wire.specs.OutJson.{answer_json}
 use Rattle.album_wire.specs.TalkJson.{pending_json, talk_text}
 use Rattle.album_wire.specs.declared.talk_json.TalkOut.{TalkOut}
 use Rattle.album_wire.specs.declared.talk_json.TalkOut.TheVariants as says
@@ -73,7 +72,7 @@ AnswersTrim limit part item old new (Err why) =
 -- ---- the text of an answer, or of a refusal
 
 abbrev pub asked_text : (client : ℕ) → Result Answer Refusal → List ℕ
-asked_text client (Ok answer) = out_line (out.Answered client answer) None
+asked_text client (Ok answer) = line_text (answer_json client answer)
 asked_text client (Err why) = refusal_line why
 
 abbrev pub pending_text : Result (List ℕ) Refusal → List ℕ

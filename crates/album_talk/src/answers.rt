@@ -11,11 +11,11 @@ use crate::admins::Admins;
 use album_eval::Principal;
 use album_items::ItemId;
 use album_lines::{LineIn, write_refusal};
-use album_permits::{Answer, Out};
+use album_permits::Answer;
 use album_sessions::{Acknowledged, ServiceNames, Session};
 use album_stamps::{Refusal, Stamp};
 use album_views::Ask;
-use album_wire::{TalkLine, TalkOut, read_hello, read_talk, write_out, write_talk};
+use album_wire::{TalkLine, TalkOut, read_hello, read_talk, write_answer, write_talk};
 use json::Scratch;
 use std::alloc::Global;
 use std::sync::Wait;
@@ -148,7 +148,7 @@ fn carry_out_ask<J: ServiceNames, T: Wait + time::Clock>(
     ensures on { IsOn session.old session.new }
 {
     match asked(rt, session, principal, ask) {
-        Ok(answer) => write_out(alloc, &Out::Answered(session.client(), answer), None),
+        Ok(answer) => write_answer(alloc, session.client(), &answer),
         Err(refusal) => write_refusal(alloc, refusal),
     }
 }

@@ -15,7 +15,7 @@ fn members_checked(alloc: Global, len: u64) -> Result<(), Refusal> {
 
 /// A group has at most 128 members, which the line of an ask is refused for before the ask is.
 #[test]
-fn numbers_of_members(rt: HostRuntime) {
+fn a_group_has_128_members_at_most(rt: HostRuntime) {
     assert_eq!(rt; members_checked(rt.alloc(), 129), Err(Refusal::ListFull));
 }
 
@@ -28,7 +28,7 @@ fn share_checked(alloc: Global, len: u64) -> Result<(), Refusal> {
 
 /// So has a group of a share. Its own list is set too: it is named twice, and may be.
 #[test]
-fn numbers_of_members_of_a_share(rt: HostRuntime) {
+fn a_group_of_a_share_has_128_members_at_most(rt: HostRuntime) {
     assert_eq!(rt; share_checked(rt.alloc(), 128), Ok(()));
     assert_eq!(rt; share_checked(rt.alloc(), 129), Err(Refusal::ListFull));
 }

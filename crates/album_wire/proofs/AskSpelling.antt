@@ -17,7 +17,7 @@ use Rattle.album_wire.specs.ItemTexts.{owner_read, title_read, content_read}
 use Rattle.album_lines.specs.Spelling.{HasOnly, IsList, AreMembers, list_data}
 use Rattle.album_wire.specs.ItemShapes.{item_named}
 use Rattle.album_wire.specs.AskShape.{SpelledNewList, SpelledNewMembership, SpelledAsk, Read, ListAlbum, GetList, AddPicture, AddAlbum, Retitle, Replace, Delete, Move, SetLists, SetOwner, SetMembers, Share, read_shape_of, list_shape_of, get_list_shape_of, add_picture_shape_of, add_album_shape_of, retitle_shape_of, replace_shape_of, delete_shape_of, move_shape_of, new_list_shape_of, set_lists_shape_of, set_owner_shape_of, set_members_shape_of, new_membership_shape_of, share_shape_of, shape_by_word, ask_shape_of}
-use Rattle.album_wire.specs.EventLine.{new_list_read, new_membership_read, ask_read}
+use Rattle.album_wire.specs.Asks.{new_list_read, new_membership_read, ask_read}
 use Rattle.album_wire.specs.ObjectSpelling.{HasMember}
 use Rattle.album_wire.specs.ItemSpelling.{IsItem, IsOwner, IsTitle, IsContent}
 use Rattle.album_wire.specs.AskSpelling.{IsNewList, IsNewMembership, IsAsk}

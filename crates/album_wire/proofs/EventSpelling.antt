@@ -15,7 +15,8 @@ use Rattle.album_lines.specs.Fields.{guard, sized, has, is_list, text_of, whole_
 use Rattle.album_lines.specs.Spelling.{HasOnly, list_data}
 use Rattle.album_wire.specs.AskShape.{SpelledAsk, ask_shape_of}
 use Rattle.album_wire.specs.EventShape.{SpelledEvent, Asked, Whole, client_named, stamp_named, part_named, asked_shape_of, range_of, delivered_of, deliver_shape_of, sweep_of, sweep_shape_of, stop_shape_of, trim_of, trim_shape_of, event_shape_of}
-use Rattle.album_wire.specs.EventLine.{ask_read, event_read, event_line_of}
+use Rattle.album_wire.specs.Asks.{ask_read}
+use Rattle.album_wire.specs.EventLine.{event_read, event_line_of}
 use Rattle.album_wire.specs.ObjectSpelling.{IsWhole, HasJust}
 use Rattle.album_wire.specs.AskSpelling.{IsAsk}
 use Rattle.album_wire.specs.EventSpelling.{IsPrincipal, IsClient, IsStamp, IsPart, IsAsked, IsRange, IsSweep, IsTrim, AreEvents, IsEventLine}

@@ -10,7 +10,7 @@ use Rattle.album_views.specs.declared.asks.Ask.{Ask}
 use Rattle.album_lines.specs.Fields.{has, text_of}
 use Rattle.album_wire.specs.AskShape.{SpelledAsk, ask_shape_of}
 use Rattle.album_wire.specs.EventShape.{part_named, sweep_of, trim_of}
-use Rattle.album_wire.specs.EventLine.{ask_read}
+use Rattle.album_wire.specs.Asks.{ask_read}
 use Rattle.album_wire.specs.TalkShape.{SpelledTalk, Asked, Pending, Swept, Trimmed, hello_shape_of, talk_ask_shape_of, pending_shape_of, talk_sweep_shape_of, talk_trim_shape_of, talk_shape_of}
 use Rattle.album_wire.specs.TalkLine.{hello_line_of, talk_read, talk_line_of}
 use Rattle.album_wire.specs.ObjectSpelling.{HasJust}

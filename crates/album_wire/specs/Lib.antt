@@ -11,6 +11,7 @@ pub mod AskShape
 pub mod EventShape
 pub mod TalkShape
 pub mod OpeningLine
+pub mod Asks
 pub mod EventLine
 pub mod TalkLine
 pub mod ValueJson

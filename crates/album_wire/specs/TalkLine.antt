@@ -7,7 +7,7 @@ use Rattle.album_stamps.specs.Outcome.{◌>>=◌}
 use Rattle.album_eval.specs.Matching.{principal_of}
 use Rattle.album_eval.specs.declared.facts.Principal.{Principal}
 use Rattle.album_lines.specs.Fields.{data_of}
-use Rattle.album_wire.specs.EventLine.{ask_read}
+use Rattle.album_wire.specs.Asks.{ask_read}
 use Rattle.album_wire.specs.TalkShape.{SpelledTalk, Asked, Pending, Swept, Trimmed, hello_shape_of, talk_shape_of}
 use Rattle.album_wire.specs.declared.talk_line.TalkLine.{TalkLine}
 use Rattle.album_wire.specs.declared.talk_line.TalkLine.TheVariants as line

@@ -4,12 +4,12 @@
 //! the first test that it fails. A store's outputs come in too, and their lines go out.
 //!
 //! Read `opening_line` first: the shape of a line (`opening_shape`, `item_shapes`), then its values (`item_texts`).
-//! `event_line` goes the same way, by `event_shape` and `ask_shape`; `talk_line`, what a connection says, by
-//! `talk_shape`. That what is read is exactly what the bytes spell, `laws` says. What is written is in `out_json` and
-//! `talk_json`, which make a JSON value first, by `value_json` and `message_json`, but for the most frequent answers
-//! (`object_text`). For those who run a service, `record_json` has the lines of an audit file, and `figures_json` those
-//! of its figures. How lines are cut out of a text, and what stands where in one, is in `album_lines`, whose public
-//! names are passed on here.
+//! `event_line` goes the same way, by `event_shape`; `talk_line`, what a connection says, by `talk_shape`. What both may
+//! ask is in `ask_shape` and `asks`. That what is read is exactly what the bytes spell, `laws` says. What is written is
+//! in `out_json` and `talk_json`, which make a JSON value first, by `value_json` and `message_json`, but for the most
+//! frequent answers (`object_text`). For those who run a service, `record_json` has the lines of an audit file, and
+//! `figures_json` those of its figures. How lines are cut out of a text, and what stands where in one, is in
+//! `album_lines`, whose public names are passed on here.
 #![tactic(auto)]
 
 // An opening: its items, and its lines.
@@ -20,6 +20,7 @@ mod opening_shape;
 
 // The line of an event, whose ask a connection may have too.
 mod ask_shape;
+mod asks;
 mod event_line;
 mod event_shape;
 
@@ -50,7 +51,7 @@ pub use laws::{events_by_line, hellos_by_line, openings_by_line, talks_by_line};
 pub use message_json::worked_messages;
 pub use opening_line::{OpeningLine, read_opening_line, worked_openings};
 pub use opening_shape::{DEFAULT_LIMIT, DEFAULT_POLICY, Header};
-pub use out_json::{worked_outs, write_out};
+pub use out_json::{worked_outs, write_answer, write_out};
 pub use record_json::{worked_records, write_record};
 pub use talk_json::{Counted, TalkOut, worked_talk_outs, write_talk};
 pub use talk_line::{TalkLine, read_hello, read_talk, worked_talks};

@@ -38,8 +38,20 @@ pub fn write_out(alloc: Global, out: &Out, message: Option<&Message>) -> Result<
         (Out::Sent(_), None) => Ok(Vec::new(alloc)),
         (Out::Sent(number), Some(message)) => Ok(message_line(alloc, *number, message)?),
         (Out::Noted(client, note), _) => Ok(note_line(alloc, *client, *note)?),
-        (Out::Answered(client, answer), _) => Ok(answer_line(alloc, *client, answer)?),
+        (Out::Answered(client, answer), _) => write_answer(alloc, *client, answer),
     }
+}
+
+/// The line of an answer to this client.
+///
+/// # Errors
+///
+/// `OutOfMemory`.
+pub fn write_answer(alloc: Global, client: ClientNo, answer: &Answer) -> Result<Vec<u8>, Refusal>
+    ensures text { IfOk result (λ bytes. bytes.items ≡ line_text (answer_json client answer.now)) }
+    ensures memory { IsOkUnless result Refusal.OutOfMemory }
+{
+    Ok(answer_line(alloc, client, answer)?)
 }
 
 /// A law: lines of notes and answers that were worked out by hand.

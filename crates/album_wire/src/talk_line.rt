@@ -5,7 +5,7 @@ ghost use Rattle.album_items.specs.ItemIds.{picture};
 ghost use Rattle.album_wire.specs.TalkLine.{hello_line_of, talk_line_of, talk_read};
 ghost use Rattle.album_wire.specs.TalkShape.{spelled_talk};
 
-use crate::event_line::ask_of;
+use crate::asks::ask_of;
 use crate::talk_shape::{TalkShape, hello_shape, talk_shape};
 use album_eval::Principal;
 use album_items::ItemId;

@@ -182,7 +182,7 @@ fn verdict(alloc: Global, line: JudgeLine) -> Result<Verdict, Refusal>
     ensures judged { IfOk result (IsJudged (question line)) }
     ensures memory { IsOkUnless result Refusal.OutOfMemory }
 {
-    // (the `holder` is left out: that it may carry the list was tested as the line was read)
+    // The `holder` is left out: that it may carry the list was tested as the line was read.
     let JudgeLine {
         list,
         head_group,

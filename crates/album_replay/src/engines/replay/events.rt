@@ -93,7 +93,7 @@ fn run_event<W: Write>(
     ensures terms { world.new.terms ≡ world.old.terms }
 {
     match world.step(event) {
-        Ok(outs) => write_outs(alloc, trace, world, &outs, writer),
+        Ok(outs) => write_outputs(alloc, trace, world, &outs, writer),
         Err(refusal) => {
             if is_printed(in_range, refusal) {
                 return write_refused(alloc, refusal, writer);
@@ -159,7 +159,7 @@ fn deliver<W: Write>(
 }
 
 /// Writes the outputs, line by line.
-fn write_outs<W: Write>(
+fn write_outputs<W: Write>(
     alloc: Global,
     trace: bool,
     world: &World,
@@ -173,12 +173,13 @@ fn write_outs<W: Write>(
         (W.contents writer.old) (W.contents writer.new)) }
 {
     for out in outs {
-        write_outputs(alloc, trace, world, out, writer)?;
+        write_output(alloc, trace, world, out, writer)?;
     }
     Ok(())
 }
 
-fn write_outputs<W: Write>(
+/// Writes an output: its line, or nothing.
+fn write_output<W: Write>(
     alloc: Global,
     trace: bool,
     world: &World,

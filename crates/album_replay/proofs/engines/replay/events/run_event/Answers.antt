@@ -8,19 +8,19 @@ use Rattle.album_replay.proofs.engines.replay.events.run_event.Goals as goal
 -- it is done, and its outputs are written
 pub returns-in-Ok-clause-ok : goal.returns-in-Ok-clause-ok
 returns-in-Ok-clause-ok g c =
-    on_ok_weaker c.write_outs.result
+    on_ok_weaker c.write_outputs.result
     (λ w past. event_written (text_in c.args.in_range) c.args.world.now.terms c.args.trace c.args.event.now c.args.world.now c.step.new.self past _
     (done_written (text_in c.args.in_range) (outputs_in c.args.in_range) c.args.world.now.terms c.args.trace c.args.world.now c.step.new.self c.args.event.now c.in-Ok.outs.items past c.in-Ok.ensures.done)
     _ _ w)
-    (rw c.deref.ensures.value at c.write_outs.ensures.ok)
+    (rw c.deref.ensures.value at c.write_outputs.ensures.ok)
 
 pub returns-in-Ok-clause-fault : goal.returns-in-Ok-clause-fault
 returns-in-Ok-clause-fault g c =
-    IfErr-weaker c.write_outs.result _ _
+    IfErr-weaker c.write_outputs.result _ _
     (λ fault w past. event_left (text_in c.args.in_range) c.args.world.now.terms c.args.trace c.args.event.now c.args.world.now c.step.new.self past _
     (done_written (text_in c.args.in_range) (outputs_in c.args.in_range) c.args.world.now.terms c.args.trace c.args.world.now c.step.new.self c.args.event.now c.in-Ok.outs.items past c.in-Ok.ensures.done)
     fault _ _ w)
-    (rw c.deref.ensures.value at c.write_outs.ensures.fault)
+    (rw c.deref.ensures.value at c.write_outputs.ensures.fault)
 
 -- it is refused, and that is written
 pub returns-then-is_printed-clause-ok : goal.returns-then-is_printed-clause-ok

@@ -1,0 +1,11 @@
+use Rattle.std.proofs.Common.{◌≡◌, drop, map}
+use Rattle.album_wire.specs.AskShape.{spelled_new_list}
+use Rattle.album_wire.specs.Asks.{new_list_read}
+use Rattle.album_lines.specs.Values.{each_of}
+use Rattle.album_lines.proofs.Lists.{with_front}
+use Rattle.album_wire.proofs.asks.each_new_list.Given as goal
+
+abbrev pub invariant-loop-shape : goal.invariant-loop-shape
+invariant-loop-shape l =
+    with_front l.lists.items (each_of new_list_read (map spelled_new_list (drop l.shape-index l.shapes)))
+    ≡ each_of new_list_read (map spelled_new_list l.shapes)
