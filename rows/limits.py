@@ -2,6 +2,7 @@
 import fcntl
 import json
 import os
+import signal
 import socket
 import subprocess
 import time
@@ -93,6 +94,18 @@ def nothing_said_for_too_long(program):
         service.end(NOTHING_NOTED, [b"album: reading failed\n"])
 
 
+def stopped_and_continued(program):
+    """A connection that waits is answered still, where the service was stopped and goes on."""
+    with Service(program, OPENING, 1, "--idle", str(SECONDS)) as service:
+        talking = greeted(service)
+        for sign in (signal.SIGSTOP, signal.SIGCONT):
+            service.run.send_signal(sign)
+            time.sleep(0.2)
+        want(PENDING, talking.ask({"pending": 0}), "an answer")
+        talking.finish()
+        service.end(NOTHING_NOTED, [b""])
+
+
 def errors_that_nobody_reads(program):
     """Connections that break off are told on standard error. Where nobody reads it, the others are answered still."""
     reads, writes = os.pipe()
@@ -171,6 +184,7 @@ FACTS = {
     "until the end of its input": until_the_end_of_its_input,
     "no more than are counted until the end of its input": no_more_than_counted_until_the_end,
     "a connection that says nothing for too long": nothing_said_for_too_long,
+    "stopped and continued, while a connection waits": stopped_and_continued,
     "errors that nobody reads": errors_that_nobody_reads,
     "memory runs out": memory_that_runs_out,
     "what is refused is named on standard error": refused_on_standard_error,

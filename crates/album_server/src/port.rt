@@ -19,6 +19,7 @@ mod connections;
 mod log;
 mod notices;
 mod opening;
+mod resumed;
 mod waker;
 mod watch;
 

@@ -1,5 +1,6 @@
 //! The connections that come: each is given a session and a thread, or the reason why not.
 use crate::port::connections::{Connections, Guest, attend};
+use crate::port::resumed::Resumed;
 use crate::port::{Host, Shared};
 use album_judge::write_refused;
 use album_stamps::Refusal;
@@ -198,8 +199,16 @@ fn guest_of<J: ServiceNames, T: Host>(
     connections: &Connections,
     stream: &Arc<TcpStream, Global>,
 ) -> Result<Guest<J, T>, Refusal> {
+    let from = Resumed {
+        rt: *rt,
+        stream: Arc::try_clone(stream)?,
+    };
     let stream = Arc::try_clone(stream)?;
     let owned = OwnedSession::begin(rt, service)?;
     connections.begin(rt, owned.session.client(), &stream)?;
-    Ok(Guest { owned, stream })
+    Ok(Guest {
+        owned,
+        from,
+        stream,
+    })
 }

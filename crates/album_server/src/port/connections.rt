@@ -1,5 +1,6 @@
 //! The connections of a service that are open. Each has a session and a thread of its own.
 use crate::port::notices::Notice;
+use crate::port::resumed::Resumed;
 use crate::port::waker::wake;
 use crate::port::{Host, Shared};
 use album_stamps::{ClientNo, Refusal};
@@ -152,6 +153,8 @@ impl Connections {
 #[derive(Drop)]
 pub(crate) struct Guest<J: ServiceNames, T: Wait + Copy> {
     pub owned: OwnedSession<J, T>,
+    /// What the connection is read by, and what its answers are written to.
+    pub from: Resumed<T>,
     pub stream: Arc<TcpStream, Global>,
 }
 
@@ -167,10 +170,14 @@ where
         limits,
         ..
     } = shared;
-    let Guest { mut owned, stream } = guest;
+    let Guest {
+        mut owned,
+        mut from,
+        stream,
+    } = guest;
     let _ = stream.set_nodelay(true);
     let (rt, client) = (owned.rt, owned.session.client());
-    let (mut from, mut to): (&TcpStream, &TcpStream) = (&stream, &stream);
+    let mut to: &TcpStream = &stream;
     let done = converse_with(
         &rt,
         alloc,
