@@ -58,7 +58,8 @@ impl Asked {
         None
     }
 
-    /// Whether the reply's partition had by then, as the pass shows it, all marks with which the round began.
+    /// Whether the round's beginning is before the reply: the reply's partition had by then, as the pass shows it, all
+    /// marks with which the round began.
     pub(crate) fn is_before(&self, reply: &Message, pass: &Pass) -> bool
         ensures late { IsTrue result → IsLate self.now.begun.cut pass.now.cut reply.now }
         ensures sound { IsTrue result → IsSound pass.now.cut }

@@ -195,7 +195,7 @@ impl<J: DeskNames> PartitionChannel<J> {
 
     /// Takes in what is replied, where it answers one of these messages, at a point of the partition's history that is
     /// no earlier than what was seen of it when they were sent. A version ends the read, where by then a newer one of
-    /// the item may have been committed.
+    /// the item may have been committed, unless what the first round has shown tells that it is new enough.
     #[tactic(auto, using(crate::proofs::ChannelLemmas::later_same))]
     fn take(
         &mut self,

@@ -5,8 +5,8 @@
 //! client waits for nothing: who drives it carries the messages, be it a simulated world or a session of a running
 //! service.
 //!
-//! Read `clients` and `transitions` first, then specs/Steps.antt, the table of a client's transition at each event:
-//! `ClientStep::ask` and `ClientStep::take` do what it says.
+//! Read `clients` and `transitions` first, then specs/Steps.antt, the table of a client's transition at each event.
+//! `ClientStep::ask` and `ClientStep::take` do what it says: they begin in `reads`, and `rulings` and `writes` go on.
 #![tactic(auto)]
 
 // What a client is.

@@ -26,8 +26,8 @@ impl<R: std::sync::Wait + std::time::Clock + Print + Copy> Visit<R> for TwoReads
         let session = &mut owned.session;
         for who in ["amy@users", "bo@users"] {
             let object = read_item("picture/0").ok_or(Refusal::BadRequest)?;
-            let answer = session.ask(rt, &Principal::read(who)?, Ask::Read { object })?;
-            let line = write_answer(alloc, session.client(), &answer)?;
+            let given = session.ask_in_order(rt, &Principal::read(who)?, Ask::Read { object })?;
+            let line = write_answer(alloc, session.client(), &given.answer)?;
             let _ = print!(rt; "{who}: {}", str::from_utf8(&line).unwrap_or(""));
         }
         Ok(())

@@ -1,4 +1,5 @@
-//! What the policy shows of an album, and what every ruling is based on.
+//! What every ruling is based on (the policy, the principal, its groups, and what a view has), and what the policy
+//! shows of an album by that.
 //!
 //! What comes in: a view, and the principal. What goes out: the rows of the album's children that the principal may
 //! see.

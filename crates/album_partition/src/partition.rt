@@ -33,6 +33,7 @@ use std::marker::Model;
 #[derive(Debug, Drop)]
 pub struct Partition {
     alloc: Global,
+    /// Which partition this is, and of how many.
     seat: Seat,
     /// How many marks the history may have.
     limit: u64,

@@ -17,7 +17,7 @@ use std::sync::Wait;
 
 /// What was seen of the partitions' histories and of the announced lists: a cut. When the program
 /// runs it is a version vector. It may hold a client's number, which no other pass of its desk holds
-/// then. Contracts see its desk's table, the cut and the number.
+/// then. Contracts see its desk's table, the cut, the number, and what was drawn.
 #[derive(Drop)]
 pub struct Pass {
     holding: Holding,
@@ -46,7 +46,8 @@ impl Pass {
         self.holding
     }
 
-    /// How many marks the pass has seen of the partition's history. Its cut is sound: it is closed.
+    /// How many marks the pass has seen of the partition's history. Its cut is sound: it is
+    /// closed and causal, and its marks may follow each other.
     pub fn length(&self, part: u16) -> u64
         requires { part < MAX_PARTS }
         ensures length { result ≡ length (prefix_at self.now.cut part) }

@@ -8,8 +8,9 @@
 //! first read asks for the items of an earlier view, where `hints` has them (`hinted`). Asked in order (`in_order`), a
 //! session listens to the service's board before it asks, and publishes there what it has seen before it answers.
 //!
-//! Read `session` and `ask` first, and specs/ in the order of specs/Lib.antt. The service, which has the threads and
-//! gives each session its channel, is `album_threads`'.
+//! Read `session` and `ask` first, and specs/ in the order of specs/Lib.antt. Calls of `is_sound` compute nothing: each
+//! says by its clauses what the channel's invariant knows, for the proof of its caller. The service, which has the
+//! threads and gives each session its channel, is `album_threads`'.
 #![tactic(auto)]
 
 // The names of a service, and the hints of what to read, which its sessions share.

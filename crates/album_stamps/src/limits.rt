@@ -1,4 +1,5 @@
-//! The limits of the service: each stands here alone, and docs/FORMATS.md lists them.
+//! The limits of the service that more than one crate has to know, and docs/FORMATS.md lists all. Those of lines are in
+//! `album_wire`, and those of a session's hints in `album_sessions`.
 
 /// How many partitions a service may have.
 pub const MAX_PARTS: u16 = 16;

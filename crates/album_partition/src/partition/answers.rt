@@ -247,6 +247,7 @@ impl Partition {
         }
     }
 
+    /// Committed and Never settle the stamp, whoever says so: that is `decide`'s decision for them, too.
     fn on_vote(&self, from: Node, stamp: Stamp, vote: Vote) -> Result<Action, AllocError>
         requires { state_of self.now.marks stamp ≡ StampState.Pending }
         ensures { Does result (on_vote self.now from stamp vote) }
