@@ -35,7 +35,7 @@ pub record IsVain (begun now : Cut) (ask : Ask) (items : List ℕ) (rows : List 
   pub lacking : IsClosed ask rows → ⊥
   pub few : length (names_of rows ask) ≤ MAX_READ_ITEMS
 
--- What comes of one read of these items for the ask. Where it is no view, it was in vain, or an item was gone by a trim.
+-- What one read of these items comes to for the ask. Where it is no view, it was in vain, or found an item trimmed.
 abbrev pub LooksOnce : Cut → Cut → ViewingState → List ℕ → ViewStep → Type 0
 LooksOnce begun now viewing items (Closed view) = IsViewOf begun now viewing.ask view
 LooksOnce begun now viewing items (Busy Wide) = IsWide begun now viewing.ask

@@ -118,8 +118,8 @@ fn taken<T: Drop>(sent: Result<(), SendError<T>>) -> Result<(), AllocError> {
     }
 }
 
-/// A partition's loop: the partition with the owner of its history, the mailboxes to which it sends, how many messages it
-/// took, and the flag that it sets where it has no memory to go on.
+/// A partition's loop: the partition with the owner of its history, the mailboxes to which it sends, how many messages
+/// it took, and the flag that it sets where it has no memory to go on.
 #[derive(Drop)]
 pub(crate) struct PartitionLoop<J: DeskNames> {
     part: u16,
