@@ -308,7 +308,7 @@ begun_further begun P all = record {
   done = λ n there. inl (subst (λ (ns : List ℕ). Contains ns n) (sym all) there);
 }
 
--- ---- what a cut shows with the messages of a write
+-- ---- what a cut shows about the messages of a write
 
 pub shows_prepares : (c : Cut) (w : WritingState) → announced_for c w.stamp ≡ Some (items_in w) → All (Shows c) (prepares_of w)
 shows_prepares c w h = All-map (Shows c) (prepare_to w) (places_in w) (λ k e l. h)
