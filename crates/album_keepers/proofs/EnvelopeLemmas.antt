@@ -92,6 +92,6 @@ more_body : (c d : Cut) → Extends c d → (from to : Node) (b : Body) → Show
 more_body c d x from to (body.Request r) h = more_request c d x to r h
 more_body c d x from to (body.Reply r) h = more_reply c d x from r h
 
--- what a cut shows of a message, a cut that extends it shows too
+-- what a cut shows about a message, a cut that extends it shows too
 pub shows_more : (c d : Cut) → Extends c d → (m : Message) → Shows c m → Shows d m
 shows_more c d x m h = more_body c d x m.from m.to m.body h

@@ -127,7 +127,7 @@ pub on_err : {A E : Type 0} (X : Type 0) (r : Result A E) → X → OnErr r X
 on_err X (Ok a) x = tt
 on_err X (Err e) x = x
 
--- ---- what is shown with the Commit
+-- ---- what is shown about the Commit
 
 shown_request : (c : Cut) (to : Node) (r : Request) → ShowsRequest c to r → AreCommitted c (stamps_in (body.Request r))
 shown_request c to (Prepare t ws is) h = All-nil _
