@@ -32,7 +32,7 @@ pub record AreRuledAlike (ask : Ask) (one other : List ReadVersion) : Type 0 whe
   pub bared : (item : ℕ) → IsNamed (seen one) ask item → bare_read one item ≡ bare_read other item
 
 -- The two are alike in all that the principal may read. What is not named may differ in any way. What is named may
--- differ in its stamp, its title, its content and its children, wherever these are not granted.
+-- differ only in its stamp, its title, its content and its children, wherever these are not granted.
 pub record AreAlikeFor
     (policy : Policy) (principal : Principal) (ask : Ask) (one other : List ReadVersion)
     : Type 0 where
