@@ -53,7 +53,7 @@ none_before text at is = by_test (nat_lt _ (length text)) is
         subst P first (none_before_first text)
     by_test false none = cc
 
--- the first newline is between what is before it and what is after it
+-- a text is what is before its first newline, that newline, and what is after it
 pub parts_at : (text : List ℕ) (at : ℕ)
     → position is_newline text ≡ Some at
     → text ≡ take at text ++ 10 ∷ drop (at + 1) text

@@ -51,7 +51,7 @@ pub struct JudgeLine {
 pub fn read_judge(alloc: Global, scratch: &mut Scratch, bytes: &[u8]) -> Result<JudgeLine, Refusal>
     ensures { Gives question result (judge_of bytes.now) }
 {
-    // Only a line's tree shows what is wrong with it.
+    // Only the tree shows what is wrong with a line.
     if let Some(shape) = shape_of_tokens(alloc, bytes) {
         return values_of(alloc, &shape);
     }
