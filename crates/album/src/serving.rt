@@ -117,7 +117,7 @@ fn audit_file<T: Files<File = File> + Eprint>(
     Ok(Some(AuditFile { path, file }))
 }
 
-/// The file at the path, made where there is none, to be appended to. Why it can't be is told on standard error.
+/// The file at the path, made where there is none, to be appended to. Where that fails, standard error says why.
 fn open_to_append<T: Files + Eprint>(rt: &T, path: &str) -> Result<T::File, Fault> {
     let opened = OpenOptions::new().append(true).create(true).open(rt, path);
     opened.map_err(|error| {

@@ -1,4 +1,4 @@
-//! The conversation: who asks is said first, and then each request is answered before the next is sent.
+//! The conversation: the principal is said first, and then each request is answered before the next is sent.
 ghost use Rattle.std.specs.Prelude.{◌≤◌, length};
 
 use crate::requests::{connection_line, hello_line};
@@ -12,7 +12,7 @@ use std::io::{Read, Write};
 /// How a client talks.
 #[derive(Clone, Copy, Debug)]
 pub struct Asking<'a> {
-    /// Who asks: `name@users` or `ANONYMOUS@`.
+    /// The principal: `name@users` or `ANONYMOUS@`.
     pub who: &'a str,
     /// Whether answers are spelled out for people.
     pub is_spelled: bool,
@@ -22,9 +22,9 @@ pub struct Asking<'a> {
     pub turns: u64,
 }
 
-/// Says who asks, and then sends each line of the requests and writes what it is answered, to the end of the requests.
+/// Says who the principal is, and then sends each line of the requests, to their end, and writes its answer.
 /// Blank lines are left out. A line that has a key `do` is sent as an ask, any other as it is. Returns whether the
-/// service answered all; where it refuses who asks, that is written, and nothing is asked.
+/// service answered all. Where it refuses the principal, the refusal is written, and nothing is asked.
 ///
 /// # Errors
 ///
@@ -71,7 +71,7 @@ impl<'a, S: Read + Write> Client<'a, S> {
         }
     }
 
-    /// Says who asks. Returns whether the service takes that; a refusal is written.
+    /// Says who the principal is. Returns whether the service accepts that; a refusal is written.
     fn say_hello<W: Write>(&mut self, writer: &mut W) -> Result<bool, Fault> {
         let hello = hello_line(self.alloc, self.asking.who)?;
         let Some(answer) = self.answer(&hello)? else {
@@ -97,8 +97,8 @@ impl<'a, S: Read + Write> Client<'a, S> {
         self.pass_last_on(writer, lines.end().as_ref())
     }
 
-    /// Passes on each line that has its end, and leaves in `lines` what stands behind the last. Returns whether all
-    /// were answered.
+    /// Passes on each line that has its end, and leaves in `lines` what follows the last. Returns whether all were
+    /// answered.
     fn pass_ended_on<R: Read, W: Write>(
         &mut self,
         requests: &mut R,
@@ -131,7 +131,7 @@ impl<'a, S: Read + Write> Client<'a, S> {
         writer.flush().map_err(|_| Fault::Writing)
     }
 
-    /// Passes on what stands behind the last line's end, if anything does. Returns whether it was answered.
+    /// Passes on what follows the last line's end, if anything does. Returns whether it was answered.
     fn pass_last_on<W: Write>(
         &mut self,
         writer: &mut W,
@@ -153,7 +153,7 @@ impl<'a, S: Read + Write> Client<'a, S> {
         Ok(true)
     }
 
-    /// Sends the request, and writes what it is answered. Returns whether it was answered.
+    /// Sends the request, and writes its answer. Returns whether it was answered.
     fn pass_on<W: Write>(&mut self, writer: &mut W, line: &LineIn) -> Result<bool, Fault> {
         if line.is_blank() {
             return Ok(true);
@@ -183,7 +183,7 @@ impl<'a, S: Read + Write> Client<'a, S> {
         writer.flush().map_err(|_| Fault::Writing)
     }
 
-    /// Sends the line, and gives the line that it is answered. None, where the connection ends before.
+    /// Sends the line, and returns the line of its answer. None, where the connection ends before.
     fn answer(&mut self, line: &[u8]) -> Result<Option<Vec<u8>>, Fault> {
         write_text(self.service, line)?;
         self.service.flush().map_err(|_| Fault::Writing)?;

@@ -6,7 +6,7 @@ use json::Scratch;
 use serde_json::{Value, json};
 use std::alloc::{AllocError, Global};
 
-/// The line that says who asks.
+/// The line that says who the principal is.
 pub(crate) fn hello_line(alloc: Global, who: &str) -> Result<Vec<u8>, Fault> {
     hello_text(alloc, who).map_err(|_| Fault::Memory)
 }

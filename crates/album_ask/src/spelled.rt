@@ -61,7 +61,7 @@ fn copied(alloc: Global, answer: &[u8]) -> Result<Vec<u8>, AllocError> {
     Ok(text)
 }
 
-/// A picture's content is hexadecimal: the text that it is stands in its place, under `text`.
+/// A picture's content is hexadecimal. Where it spells a text in UTF-8, that text replaces it, under `text`.
 fn spell_content(alloc: Global, fields: &mut Map<String, Value>) -> Result<(), AllocError> {
     let Some(Value::String(digits)) = fields.get("content") else {
         return Ok(());
@@ -78,7 +78,7 @@ fn spell_content(alloc: Global, fields: &mut Map<String, Value>) -> Result<(), A
     Ok(())
 }
 
-/// Where masks and flags stand in a row.
+/// At which index of a row its mask is, and its flags, if it has them.
 #[derive(Clone, Copy)]
 struct Places {
     mask: usize,

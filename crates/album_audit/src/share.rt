@@ -9,7 +9,7 @@ use album_stamps::ClientNo;
 use std::marker::Model;
 use std::sync::ledger;
 
-/// A client's notes that were noted together. Contracts see it as their records, which tell whose they are.
+/// A client's notes that were noted together. Contracts see it as their records, which have the client's number.
 #[derive(Drop)]
 pub(crate) struct Noted {
     client: ClientNo,

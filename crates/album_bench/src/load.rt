@@ -9,7 +9,7 @@ use album_partition::Partition;
 use album_stamps::{ClientNo, MAX_COUNTER, Refusal, Stamp};
 use std::alloc::Global;
 
-/// The sorts of which the mixed messages are: half of them read.
+/// The sorts from which mixed messages are drawn: half of them read.
 const MIXED: [Sort; 16] = [
     Sort::Get,
     Sort::Get,

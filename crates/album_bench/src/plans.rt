@@ -29,11 +29,11 @@ pub enum Sort {
     Commit,
     /// A Get without stamps.
     Get,
-    /// A Get with one to three stamps, at one of which the item is written.
+    /// A Get with one to three stamps. The item is written at one of them.
     GetAt,
     /// A Check of a stamp that is unknown.
     Check,
-    /// A vote that the first stamp that is pending is prepared, of which the partition is the one.
+    /// A vote that the first pending stamp is prepared, from the partition itself: it is the only participant.
     Vote,
     /// A vote that the first stamp that is pending never will be.
     Discard,
@@ -41,7 +41,7 @@ pub enum Sort {
     Trim,
 }
 
-/// So many messages of a sort, to the partition of this number, of which 0 alone is there.
+/// `count` messages of a sort, to the partition with the number `part`. There is only partition 0.
 #[derive(Clone, Copy)]
 pub struct Step {
     pub sort: Sort,

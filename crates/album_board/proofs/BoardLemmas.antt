@@ -44,7 +44,8 @@ has_at d xs k p h at l = subst (λ (q : PassState). Extends q.cut d) (get_there 
 number_less : (i j : ℕ) → number_of i < number_of j → i < j
 number_less i j l = omega arith
 
--- what stands in a beginning of the list below the length of another one, that one's cut goes on from
+-- Two beginnings of one list, and a pass in the first, under a number below that of what follows the second. A cut that
+-- has seen all of the second extends the pass's cut.
 pub published_seen : (n m : ℕ) (c d : Cut) (published listened both : List PassState) → Stands n c published
     → m ≡ number_of (length listened) → HasSeen d listened → IsPrefix published both → IsPrefix listened both → n < m
     → Extends c d

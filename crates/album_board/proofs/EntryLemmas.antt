@@ -1,4 +1,4 @@
--- What is published by one writer, of entries that go on. `Front::meet` needs `passes_from-prefix`.
+-- What one writer has published, as entries are added. `Front::meet` needs `passes_from-prefix`.
 use Rattle.std.proofs.Common.{◌≡◌, ℕ, ◌==◌, Bool, true, false, List, [], ◌∷◌, ◌++◌, refl, ap, sym, ◌∙◌}
 use mathlib.Core.List.{IsPrefix}
 use Rattle.album_board.specs.Entries.{Entry, passes_from, key_after}

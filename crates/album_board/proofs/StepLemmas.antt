@@ -60,7 +60,7 @@ others cs key (e ∷ es) away g = by (e.key == key) refl (others cs key es away 
         absurd (cc (sym g.0 ∙ (ap (λ (k : ℕ). (cell cs k).1) same ∙ away)))
     by false is rest = rw is rest
 
--- who held the entry's key has published its pass beside all from before, and holds the next key
+-- the writer that held the entry's key has published its pass after all from before, and holds the next key
 added : (first : ℕ) (v rest : List Entry) (e : Entry) → key_after first v ≡ e.key
     → passes_from e.key rest ≡ [] → key_after e.key rest ≡ e.key
     → (passes_from first ((v ++ rest) ++ e ∷ []) ≡ passes_from first v ++ e.pass ∷ [])

@@ -5,7 +5,7 @@ use Rattle.album_passes.specs.Cuts.{Cut, Extends}
 use Rattle.album_passes.specs.Pass.{PassState}
 use Rattle.album_board.specs.Writer.{number_of}
 
--- what was published, in order, and a cut that goes on from all of it
+-- what was published, in order, and a cut that extends the cut of each
 pub record BoardState : Type 0 where
   pub cut : Cut
   pub published : List PassState
@@ -15,7 +15,7 @@ pub record Numbered : Type 0 where
   pub number : ℕ
   pub cut : Cut
 
--- the cut goes on from that of each pass
+-- the cut extends that of each pass
 abbrev pub HasSeen : Cut → List PassState → Type 0
 HasSeen cut published = All (λ pass. Extends pass.cut cut) published
 
@@ -25,7 +25,7 @@ pub record IsSeeing (table : TableId) (pass : PassState) (published : List PassS
   pub unnumbered : pass.number ≡ None
   pub seen : HasSeen pass.cut published
 
--- a pass with the cut stands in the list, under the number
+-- a pass with the cut is in the list, under the number
 pub record Stands (number : ℕ) (cut : Cut) (published : List PassState) : Type 0 where
   pub index : ℕ
   pub pass : PassState

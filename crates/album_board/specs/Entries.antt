@@ -16,7 +16,7 @@ passes_from key [] = []
 passes_from key (entry ∷ entries) =
     if entry.key == key then entry.pass ∷ passes_from entry.next entries else passes_from key entries
 
--- the key that this writer holds behind them
+-- the key that this writer holds after these entries
 abbrev pub key_after : ℕ → List Entry → ℕ
 key_after key [] = key
 key_after key (entry ∷ entries) = if entry.key == key then key_after entry.next entries else key_after key entries

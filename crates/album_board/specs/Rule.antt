@@ -1,4 +1,4 @@
--- The rule of the book, and what a step on its first word tells.
+-- The rule of the book, and what a step on its first word shows.
 use Rattle.std.specs.Prelude.{◌≡◌, ℕ, ◌<◌, true, List, [], ◌∷◌, ◌++◌, length, None}
 use Rattle.logbook.specs.Pages.{Cell, cell, Step, View, may_make}
 use Rattle.atomic_table.specs.Seated.{TableId}
@@ -21,7 +21,8 @@ pub record IsKept (cells : List Cell) (log : List Entry) : Type 0 where
 abbrev pub Draws : Step Entry → View Entry ℕ → ℕ → View Entry ℕ → Type 0
 Draws step old found new = new.1.0.right ≡ may_make
 
--- The entry is added. So of the writer who held its key, whoever that is, its pass stands behind those from before.
+-- The entry is added. So the writer that held its key, whichever that is, has the entry's pass after those from before,
+-- and holds the next key.
 abbrev pub Adds : Step Entry → View Entry ℕ → ℕ → View Entry ℕ → Type 0
 Adds step old found new = (first : ℕ) → key_after first old.0 ≡ step.ask.key
     → (passes_from first new.0 ≡ passes_from first old.0 ++ step.ask.pass ∷ [])

@@ -3,7 +3,7 @@ use Rattle.std.specs.Prelude.{◌≡◌, ℕ, ◌-◌, ◌^◌, true, min, List,
 use Rattle.logbook.specs.Pages.{Book, Named, Nib, may_write}
 use Rattle.album_board.specs.Entries.{Entry, ListName, passes_from, key_after}
 
--- the number of what is added behind so many: how many they are, and the greatest number from that on
+-- the number of what is added after so many: how many they are, or the greatest number where they are more
 abbrev pub number_of : ℕ → ℕ
 number_of count = min count (2 ^ 64 - 1)
 
@@ -11,13 +11,13 @@ number_of count = min count (2 ^ 64 - 1)
 abbrev pub head_of : Book → Named
 head_of book = record { tracked = true; key = 0; book = book }
 
--- of which book a pen is, and what it is the right to
+-- a pen: its book, and what it is the right to
 pub record PenState : Type 0 where
   pub book : Book
   pub nib : Nib
 
--- The word is the first one of the book, the pen has the right to the key that the writer holds behind the log's
--- entries, and the number is that of what is added next.
+-- The word is the first one of the book. The pen has the right to the key that the writer holds after the log's
+-- entries. The number is that of what is added next.
 pub record IsWriter
     (name : ListName) (head : Named) (pen : PenState) (number : ℕ) (book : Book) (log : List Entry) : Type 0 where
   pub head_is : head ≡ head_of name.book

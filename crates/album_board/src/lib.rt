@@ -1,13 +1,13 @@
 //! The board of a service: the passes with which answers were published, in a list that only grows.
 //!
 //! What comes in: the pass of a session, before it gives an answer. What goes out: to a request that listens before it
-//! begins, a pass that has seen all that was published. So what an answer rests on, each later request has in its cut.
+//! begins, a pass that has seen all that was published. So what an answer rests on is in each later request's cut.
 //!
 //! A board lies under a lock, and alone writes its list. When the program runs it is the lengths of its pass and a
 //! number; the list is there for contracts alone.
 //!
-//! Read `board` first, with specs/Board.antt, then `locked`; then what they stand on, `writer` and the rule of its book
-//! in `rule`; and `laws` last.
+//! Read `board` first, with specs/Board.antt, then `locked`; then what they use, `writer` and the rule of its book in
+//! `rule`; and `laws` last.
 #![tactic(auto)]
 
 // What callers see: a board, by itself and under its lock.

@@ -1,7 +1,7 @@
 //! The name of a board's list, and the table of its passes, as types.
 use std::marker::Brand;
 
-/// Names a list of publications, and the table of the desk whose passes stand in it. Whoever opens a board picks the
+/// Names a list of publications, and the table of the desk whose passes are in it. Whoever opens a board picks the
 /// names by passing `Brand`.
 pub trait BoardNames {
     ghost use Rattle.atomic_table.specs.Seated.{TableId};

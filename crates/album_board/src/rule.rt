@@ -1,5 +1,4 @@
-//! The rule of the book in which a board's list stands, and the kinds of step. Nothing of it is there when the program
-//! runs.
+//! The rule of the book that has a board's list, and the kinds of step. Nothing of it is there when the program runs.
 //!
 //! A book is `logbook`'s: a log of entries that only grows, under a rule. An entry has a pass here. Its writer gives up
 //! a key for it, and has another one from then on. By these keys the entries of one writer are a list to which nobody

@@ -93,7 +93,7 @@ impl<J: BoardNames> Model for Writer<J> {
 /// A beginning of the list that `J` names. Contracts see it.
 #[derive(Drop)]
 pub(crate) struct Front<J: BoardNames> {
-    /// The number of what is added behind it.
+    /// The number of what is added after it.
     number: u64,
     seen: Seen<Entry, u64, KeysAreGivenUp>,
     of: PhantomData<J>,
@@ -164,7 +164,7 @@ impl<J: BoardNames> Writer<J> {
 }
 
 impl<J: BoardNames> Front<J> {
-    /// The number of what is added behind it.
+    /// The number of what is added after it.
     pub(crate) fn number(&self) -> u64
         ensures { result ≡ number_of (length self.now) }
     {

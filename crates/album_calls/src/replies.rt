@@ -1,9 +1,9 @@
-//! What a partition answers.
+//! What a partition replies.
 use crate::nodes::Vote;
 use album_items::{ItemId, SharedValue};
 use album_stamps::Stamp;
 
-/// What a partition answers.
+/// What a partition replies.
 #[derive(Clone, Debug, Drop)]
 pub enum Reply {
     /// The writes of the stamp are kept, pending.
@@ -14,7 +14,7 @@ pub enum Reply {
     Discarded(Stamp),
     /// The item's version: its stamp and its value.
     Version(ItemId, Stamp, SharedValue),
-    /// How the stamp stands here.
+    /// The vote on the stamp: its state here.
     Status(Stamp, Vote),
     /// The stamp is not pending here.
     NotPrepared(Stamp),

@@ -18,7 +18,7 @@ use Rattle.album_keepers.specs.declared.control.ControlAnswer.{ControlAnswer}
 use Rattle.album_keepers.specs.declared.control.ControlAnswer.TheVariants as answer
 use Rattle.album_channels.specs.Channels.{ChannelState, IsLater}
 
--- ---- what is told, once its pass is joined
+-- ---- answers to control requests, once their passes are joined
 
 -- a prefix that is no shorter is the whole
 whole_prefix : (ms ns : List Mark) → IsPrefix ms ns → length ns ≤ length ms → ns ≡ ms
@@ -71,7 +71,7 @@ later_self a = record { client = refl; grown = extends_self a.cut; own = λ n t 
 pub later_same : (a b : ChannelState) → b ≡ a → IsLater a b
 later_same a b e = subst (λ (c : ChannelState). IsLater a c) (sym e) (later_self a)
 
--- who has this client and this pass has seen more with another pass, which goes on from it
+-- a channel with this client and this pass has seen more with another pass that extends it
 pub later_joined : (a : ChannelState) (n : ℕ) (p q : PassState) → record { client = n; cut = p.cut } ≡ a → p.number ≡ Some n
     → Extends p.cut q.cut → KeepsOwn p.number p.cut q.cut → IsLater a (record { client = n; cut = q.cut })
 later_joined a n p q view is x own =

@@ -102,8 +102,8 @@ without_stamps i j ts e = cc
 
 -- ---- the same reply again
 
--- What was replied is replied as well to a Get of the same item with stamps, one of which is that of the version, and
--- none of which was pending.
+-- The reply to a Get without stamps is also the reply to a Get of the same item with stamps. One of these stamps has to
+-- be that of the version, and none of them may have been pending.
 pub asked_again : (limit : ℕ) (c : Cut) (q r m : Message) (part item stamp : ℕ) (stamps : List ℕ) → IsAnswered limit c q r
     → asks_latest q.body ≡ true → IsVersion r part item stamp → All (λ t. state_of (prefix_at c part) t ≢ state.Pending) stamps
     → m.body ≡ body.Request (Get item stamps) → m.to ≡ Part part → Contains stamps stamp

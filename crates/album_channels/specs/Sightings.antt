@@ -1,4 +1,4 @@
--- Sightings: what a partition has replied to a Get without stamps, and how it stood then.
+-- Sightings: what a partition has replied to a Get without stamps, and the partition as it was then.
 use Rattle.std.specs.Prelude.{◌≡◌, ℕ, ◌<◌, ◌≤◌, true, List, length, All, Contains, Option, IfSome}
 use Rattle.album_calls.specs.declared.messages.Body.TheVariants as body
 use Rattle.album_calls.specs.declared.messages.Message.{Message}

@@ -1,4 +1,4 @@
-//! What was asked in one round. By it a session finds whether a reply counts. The reply has to carry back one of the
+//! What was asked in one round. A session finds by it whether a reply counts. The reply has to carry back one of the
 //! round's messages, and its partition must have had by then all marks with which the round began.
 ghost use Rattle.std.specs.Prelude.{◌≡◌, ◌≤◌, ◌<◌, IsTrue, IfSome, Contains, length};
 ghost use Rattle.album_passes.specs.Cuts.{IsSound};
@@ -34,8 +34,8 @@ impl Asked {
         self.sent.first().map_or(0, |message| message.tag())
     }
 
-    /// Where the request stands among the messages. Looked for from `first` on, and then before it: replies come mostly
-    /// in the order of the messages, so each is found next to the one before it.
+    /// The index of the request among the messages. It is looked for from `first` on, and then before `first`: replies
+    /// come mostly in the order of the messages, so each is found next to the one before it.
     pub(crate) fn find(&self, request: &Message, first: usize) -> Option<usize>
         ensures { IfSome result (λ _. Contains self.now.sent.items request.now) }
     {
@@ -45,7 +45,7 @@ impl Asked {
         }
     }
 
-    /// Where it stands from `first` on and before `end`.
+    /// The index of the request from `first` on and before `end`.
     fn find_among(&self, request: &Message, first: usize, end: usize) -> Option<usize>
         requires { end ≤ length self.now.sent.items }
         ensures { IfSome result (λ _. Contains self.now.sent.items request.now) }

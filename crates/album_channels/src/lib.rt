@@ -4,8 +4,8 @@
 //! them. What goes out: replies to these, each with what the channel's pass shows of it. A reply counts only where its
 //! partition had by then all marks with which the round began.
 //!
-//! Read `channel` first, then `asked` and `round`. `reads` tells how a read begins, `sightings` are what its first
-//! round has shown, and `repeating` is what a session knows by them of the second. The session, with its client, is
+//! Read `channel` first, then `asked` and `round`. `reads` says how a read begins, `sightings` are what its first
+//! round has shown, and `repeating` is what a session knows of the second by them. The session, with its client, is
 //! `album_sessions`'.
 #![tactic(auto)]
 

@@ -193,9 +193,9 @@ impl<J: DeskNames> PartitionChannel<J> {
         }
     }
 
-    /// Takes in what is replied, where it answers one of these messages, at a point of the partition's history that is
-    /// no earlier than what was seen of it when they were sent. A version ends the read, where by then a newer one of
-    /// the item may have been committed, unless what the first round has shown tells that it is new enough.
+    /// Takes in the reply, where it answers one of these messages, at a point of the partition's history no earlier
+    /// than the session had seen when they were sent. A version ends the read, where a newer one of the item may have
+    /// been committed by then, unless the first round has shown that this one is new enough.
     #[tactic(auto, using(crate::proofs::ChannelLemmas::later_same))]
     fn take(
         &mut self,
@@ -233,7 +233,7 @@ impl<J: DeskNames> PartitionChannel<J> {
     }
 }
 
-/// What a reply leads to that is overtaken: only a read asks for versions.
+/// What an overtaken reply leads to: only a read asks for versions.
 pub(crate) fn ends_read(reads: bool) -> Result<Option<Message>, NoReply>
     ensures none { IfOk result (λ reply. reply ≡ None) }
     ensures refused { IfErr result (IsNoReply reads) }

@@ -136,7 +136,7 @@ fn are_below(stamps: &[Stamp], below: u64) -> bool
     stamps.iter().all(|stamp| stamp.value() < below)
 }
 
-/// Which partition replies a version of which item, and its stamp, if the message is such a reply.
+/// The partition, the item and the stamp of the version that the message replies, if it replies one.
 fn version_in(reply: &Message) -> Option<(u16, ItemId, Stamp)>
     ensures { IfSome result (λ found. IsVersion reply.now found.0 found.1 found.2) }
 {

@@ -97,8 +97,8 @@ impl Phase {
 }
 
 impl Phase {
-    /// Takes a message that ends no round of a read. Nothing but the phase changes then, and most messages are such, so
-    /// it is done in place. True for such a message; any other is left to `ClientStep::take`.
+    /// Takes a message that ends no round of a read. Most messages are of this kind, and change nothing but the phase,
+    /// so it is done in place. True for one of this kind; any other is left to `ClientStep::take`.
     ///
     /// # Errors
     ///

@@ -6,7 +6,8 @@
 //! service.
 //!
 //! Read `clients` and `transitions` first, then specs/Steps.antt, the table of a client's transition at each event.
-//! `ClientStep::ask` and `ClientStep::take` do what it says: they begin in `reads`, and `rulings` and `writes` go on.
+//! `ClientStep::ask` and `ClientStep::take` do what it says: they begin in `reads`, and continue in `rulings` and
+//! `writes`.
 #![tactic(auto)]
 
 // What a client is.

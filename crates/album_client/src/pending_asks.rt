@@ -7,7 +7,7 @@ use album_stamps::Refusal;
 use album_views::Viewing;
 use std::marker::Model;
 
-/// An ask that has no view yet, and for whom it is asked: by a principal who may ask it.
+/// An ask that has no view yet, and its principal, who may ask it.
 #[derive(Drop)]
 pub struct PendingAsk {
     viewing: Viewing,
@@ -35,7 +35,7 @@ impl PendingAsk {
         PendingAsk { viewing, principal }
     }
 
-    /// The viewing, and for whom it is asked.
+    /// The viewing, and the principal of the ask.
     pub(crate) fn into_parts(self) -> (Viewing, Principal)
         ensures viewing { result.0 ≡ self.viewing }
         ensures principal { result.1 ≡ self.principal }

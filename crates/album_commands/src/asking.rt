@@ -35,8 +35,8 @@ pub(crate) fn ask_command<'a>(alloc: Global) -> Result<Command<'a>, AllocError> 
         .arg(text)
 }
 
-/// Asks the service at the port what the reader has, line by line. The status is 1 where it isn't there, refuses who
-/// asks, or goes away before the end.
+/// Asks the service at the port what the reader has, line by line. The status is 1 where it isn't there, refuses the
+/// principal, or goes away before the end.
 pub(crate) fn ask_service<T, R: Read, W: Write>(
     rt: &T,
     alloc: Global,

@@ -120,7 +120,7 @@ fn explained<T: Files + Eprint, R: Read, W: Write>(
     Ok(has_refused)
 }
 
-/// Explains lines of this name to the end of the reader, and tells whether one was refused.
+/// Explains lines of this name to the end of the reader, and returns whether one was refused.
 fn explain_each<R: Read, W: Write>(
     alloc: Global,
     lines: &str,

@@ -1,4 +1,4 @@
-//! The command line of `album`, and all its subcommands but `serve`, of which it has the arguments.
+//! The command line of `album`, and its subcommands. Of `serve` it has the arguments alone.
 //!
 //! What comes in: the words of a command line, a reader and a writer. What goes out: lines, and the status that the
 //! program ends with. Each file has a subcommand: its arguments, and what it does; `album` does what `serve` says.

@@ -10,7 +10,7 @@ use std::rt::Files;
 /// How many reads a run may make.
 pub const TURNS: u64 = 4_294_967_296;
 
-/// The file at the path, to be read. Why it can't be is told on standard error.
+/// The file at the path, to be read. Where it can't be opened, standard error says why.
 ///
 /// # Errors
 ///

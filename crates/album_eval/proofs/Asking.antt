@@ -1,4 +1,4 @@
--- Which bits are asked, and what stands at the first mention of one.
+-- Which bits are asked, and the entry at the first mention of one.
 use Rattle.std.proofs.Common.{◌≡◌, ◌≢◌, ◌≤◌, ◌<◌, ◌-◌, ◌^◌, ◌&&◌, ◌||◌, ◌==◌, ℕ, zero, suc, List, [], ◌∷◌, true, false, not, Option, Some, None, IsSomeAnd, bit_and, min, max, w32, length, get_or, refl, sym, ◌∙◌, ap, arith, inl, inr, ◌⊎◌}
 use Rattle.std.specs.Int.{bit_at, bit_not}
 use Rattle.std.specs.List.{slice_get, position, position_or_len}
@@ -84,7 +84,7 @@ bit_of_one mask other apart bit has = false_from_ne_true (has_bit mask bit) (λ 
 
 -- ---- a first mention
 
--- what stands there
+-- the first mention is in the list, and the entry there mentions the bit
 pub at_mention : (case : Case) (bit : ℕ) (entries : List Ace) (k : ℕ) (d : Ace) → first_mention case bit entries ≡ Some k → (k < length entries) × (mentions case bit (get_or entries k d) ≡ true)
 unfolding first_mention
 at_mention case bit entries k d e = let p = position-Some (mentions case bit) entries k d e in (p.0, p.1)

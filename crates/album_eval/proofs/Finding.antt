@@ -33,7 +33,7 @@ inserts_from_updates old new group updates now = record {
 looked_more : (old new : ℕ → Bool) (other : ℕ) (others : List ℕ) (n : ℕ) → Inserts old new other → slice_get others n ≡ Some other → ((k group : ℕ) → k < n → slice_get others k ≡ Some group → old group ≡ true) → (k group : ℕ) → k < n + 1 → slice_get others k ≡ Some group → new group ≡ true
 looked_more old new other others n inserts at looked k group l here = elim (cases_eq k n) [ inl same ↦ (let is : other ≡ group = cc (at, here, same) in subst (λ (q : ℕ). new q ≡ true) is inserts.comes) | inr before ↦ inserts.stays group (looked k group (omega (arith, l, before)) here) ]
 
--- the set has just those of the list, up to an index
+-- the set has only groups of the list, and all of those before an index
 pub record Holds (found : ℕ → Bool) (numbers : List ℕ) (n : ℕ) : Type 0 where
   pub only : (q : ℕ) → found q ≡ true → Contains numbers q
   pub each : (k q : ℕ) → k < n → slice_get numbers k ≡ Some q → found q ≡ true

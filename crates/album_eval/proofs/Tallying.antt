@@ -1,4 +1,4 @@
--- What a tally tells of the bits below a number, for the proof that the computed verdict is one.
+-- What a tally says of the bits below a number, for the proof that the computed verdict is one.
 use Rattle.std.proofs.Common.{◌≡◌, ◌≤◌, ◌<◌, ◌+◌, ◌&&◌, ℕ, List, Bool, true, false, Option, Some, None, IfSome, IsSome, IsSomeAnd, MatchOption, min, below_more, refl, arith, inl, inr}
 use Rattle.std.proofs.lemmas.Option.{slice_get_cases}
 use Rattle.std.proofs.lemmas.Bool.{cases_lt, and_parts}
@@ -63,7 +63,7 @@ tally_denied case entries mask i open' j = (j.denies, λ k d. j.least d.bit k (a
 pub tally_open : (case : Case) (entries : List Ace) (mask : Mask) → Judged case entries mask (mask_bits mask) None true → IsVerdict case entries mask DeniedAtEnd
 tally_open case entries mask j = (λ k d. j.least d.bit k (asked_below case mask d.bit d.asked) d.asked d.first d.denied, (j.unmentioned refl).0, (j.unmentioned refl).1, (j.unmentioned refl).2)
 
--- an entry of such a type allows or denies
+-- a type that allows or denies, and isn't Denied, is Allowed
 allowed_sort : (s : AceType) → allows_or_denies s ≡ true → (s ≡ Denied → ⊥) → s ≡ Allowed
 allowed_sort Allowed e h = refl
 allowed_sort Denied e h = absurd (h refl)

@@ -25,7 +25,7 @@ Groups = BTreeMap ℕ (Vec Member Global)
 
 -- ---- entries of a map, by their places
 
--- the group at a place lists what stands there
+-- the group at a place of the map lists the members there
 pub listed_at : (groups : Groups) (k group : ℕ) (v : Vec Member Global) → tree.IsOrdered nat_cmp groups → slice_get groups.entries k ≡ Some (group, v) → listed_in groups group ≡ v.items
 listed_at groups k group v ordered at = ap members_found (btree_map_get_place nat_cmp_total groups k group v ordered at)
 
@@ -101,7 +101,7 @@ by_result groups user (Err e) ordered are = tt
 
 -- ---- the map turned round: for each inner group those that list it
 
--- what stands there is right, and it has what the entries before an index list
+-- what the turned map has is listed, and it has what the entries before an index list
 pub record Turned (groups : Groups) (outer : ℕ → List ℕ) (n : ℕ) : Type 0 where
   pub sound : (inner group : ℕ) → Contains (outer inner) group → Contains (listed_in groups group) (Group inner)
   pub whole : (k group : ℕ) (v : Vec Member Global) → k < n → slice_get groups.entries k ≡ Some (group, v) → (inner : ℕ) → Contains v.items (Group inner) → Contains (outer inner) group

@@ -12,8 +12,8 @@ use Rattle.album_eval.specs.declared.facts.Principal.{Principal}
 use Rattle.album_eval.specs.declared.facts.Principal.TheVariants as principal
 use Rattle.album_eval.specs.declared.policies.Policy.{Policy}
 
--- by which policy a request is judged, who asks, whose the object is, its head group, and whether who asks is in a
--- group
+-- the policy that a request is judged by, the principal, the object's owner and head group, and the groups that the
+-- principal is in
 pub record Case : Type 0 where
   pub policy : Policy
   pub principal : Principal
@@ -39,7 +39,7 @@ abbrev pub is_known : Principal → Bool
 is_known principal.Anonymous = false
 is_known (principal.User user) = true
 
--- the who means who asks
+-- the who means the principal
 abbrev pub is_for : Case → Who → Bool
 is_for case (who.User name) = is_user case.principal name
 is_for case (who.Group number) = case.is_in number
@@ -49,7 +49,7 @@ is_for case who.Everyone = true
 is_for case who.Anonymous = not (is_known case.principal)
 is_for case who.Authenticated = is_known case.principal
 
--- an entry takes part where its who means who asks, and never where it is only inherited
+-- an entry takes part where its who means the principal, and never where it is only inherited
 unfoldable pub is_match : Case → Ace → Bool
 is_match case entry = not (is_only_inherited entry.flags) && is_for case entry.who
 

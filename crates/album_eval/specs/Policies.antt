@@ -1,4 +1,4 @@
--- By which rules a request is judged, and what is given before a list is looked at.
+-- The rules that a request is judged by, and what is given before a list is looked at.
 use Rattle.std.specs.Prelude.{ℕ, Bool, false, ◌&&◌, ◌||◌, ◌==◌, if◌then◌else◌, Option, Some, None}
 use Rattle.album_eval.specs.declared.policies.Policy.{Policy}
 use Rattle.album_eval.specs.declared.policies.Policy.TheVariants.{One, Two}
@@ -8,7 +8,8 @@ use Rattle.album_eval.specs.Matching.{Case, is_user}
 abbrev pub policy_of : ℕ → Option Policy
 policy_of number = if number == 1 then Some One else if number == 2 then Some Two else None
 
--- what a policy gives to an owner who asks: Two gives READ_ACL (bit 17) and WRITE_ACL (bit 18), One gives nothing
+-- what a policy gives to a principal who is the owner: Two gives READ_ACL (bit 17) and WRITE_ACL (bit 18), One gives
+-- nothing
 abbrev pub gives_owner : Policy → ℕ → Bool
 gives_owner One bit = false
 gives_owner Two bit = bit == 17 || bit == 18

@@ -27,7 +27,7 @@ allows_or_denies Alarm = false
 unfoldable pub mentions : Case → ℕ → Ace → Bool
 mentions case bit entry = is_match case entry && allows_or_denies entry.sort && has_bit entry.mask bit
 
--- the first mention of a bit: the least index of such an entry, if there is one
+-- the first mention of a bit: the least index of an entry that mentions it, if there is one
 unfoldable pub first_mention : Case → ℕ → List Ace → Option ℕ
 first_mention case bit entries = position (mentions case bit) entries
 

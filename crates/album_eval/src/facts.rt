@@ -14,7 +14,7 @@ use album_stamps::Refusal;
 use bitflags::Flags;
 use std::collections::BTreeSet;
 
-/// The principal: the user or nobody named, for whom is asked.
+/// The principal: the user, or the requester without authentication, on whose behalf something is requested.
 #[derive(Clone, Debug, Drop)]
 pub enum Principal {
     /// `ANONYMOUS@`
@@ -27,7 +27,7 @@ pub enum Principal {
 #[derive(Clone, Copy, Debug)]
 pub struct Facts<'a> {
     pub policy: Policy,
-    /// For whom is asked.
+    /// On whose behalf something is requested.
     pub principal: &'a Principal,
     /// Whose the object is.
     pub owner: &'a Name,

@@ -34,7 +34,7 @@ pub fn members(
     Ok(found)
 }
 
-/// The groups that the user is in. Each goes on the worklist once, when it is found.
+/// The groups that the user is in. Each is put on the worklist once, when it is found.
 fn groups_of(
     alloc: Global,
     groups: &BTreeMap<u64, Vec<Member>>,

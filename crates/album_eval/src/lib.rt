@@ -4,7 +4,7 @@
 //! `policies` first, then `verdicts`.
 #![tactic(auto)]
 
-// Who asks, whose the object is, and who is in which group.
+// The principal, the object's owner, and who is in which group.
 mod facts;
 mod groups;
 

@@ -1,4 +1,4 @@
-//! By which rules a request is judged.
+//! The rules that a request is judged by.
 ghost use Rattle.std.specs.Prelude.{◌≡◌, ℕ};
 ghost use Rattle.album_access.specs.Bits.{has_bit};
 ghost use Rattle.album_eval.specs.Policies.{policy_of, gives_owner};
@@ -6,7 +6,7 @@ ghost use Rattle.album_eval.specs.Policies.{policy_of, gives_owner};
 use album_access::Mask;
 use bitflags::Flags;
 
-/// By which rules a request is judged.
+/// The rules that a request is judged by.
 #[derive(Clone, Copy, Debug, PartialEq, Eq)]
 pub enum Policy {
     /// Those of RFC 7530.

@@ -18,7 +18,7 @@ use Rattle.album_eval.proofs.Asking.{at_mention, within_mention}
 use Rattle.album_explain.specs.declared.decisions.Decision.TheVariants.{Given, AllowedBy, DeniedBy, DeniedAtEnd}
 use Rattle.album_explain.specs.Decisions.{decision_by, decision, allows, HasDenied, AddsUp}
 
--- ---- what stands at an index
+-- ---- the entry at an index
 
 denied_sort : (s : AceType) → denies s ≡ true → s ≡ Denied
 denied_sort Allowed e = absurd (cc)

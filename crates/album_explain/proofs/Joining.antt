@@ -39,7 +39,7 @@ explanations_exist IsExplanation always (line ∷ lines) p =
     let rest = explanations_exist IsExplanation always lines (after p first.0 first.2) in
     (rest.0, first.1 ++ rest.1, (first.0, first.1, first.2, rest.1, first.3, rest.2, refl))
 
--- explanations go on, whatever lines come
+-- explanations continue, whatever lines come
 pub explanations_go_on : {E : Type 0} (IsExplanation : Explanation E) → AlwaysExplains IsExplanation → (p : Progress E)
     → GoesOn (ExplainsOn IsExplanation p)
 explanations_go_on IsExplanation always p lines later text h =

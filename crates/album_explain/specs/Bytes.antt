@@ -1,4 +1,4 @@
--- What stands where in a text that is no JSON.
+-- The bytes of a text that is no JSON.
 use Rattle.std.specs.Prelude.{ℕ, Bool, not, ◌==◌, ◌||◌}
 use Rattle.json.specs.Word.{is_operator, is_space}
 use Rattle.json.specs.Ascii as ascii

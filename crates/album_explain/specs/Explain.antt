@@ -30,7 +30,7 @@ counted p is_refused = record {
   explainer = p.explainer;
 }
 
--- a line more, behind which this explains
+-- a line more is counted, and this explains the next
 abbrev pub after : {E : Type 0} → Progress E → Bool → E → Progress E
 after p is_refused new =
     counted (record { next = p.next; has_refused = p.has_refused; explainer = new }) is_refused

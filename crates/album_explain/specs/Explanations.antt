@@ -21,14 +21,14 @@ use Rattle.album_explain.specs.Decisions.{decision}
 
 -- ---- a refusal
 
--- a text that says where, and the number that stands there, if one does
+-- a text that says where, and the number there, if there is one
 abbrev pub Place : Type 0
 Place = List ℕ × Option ℕ
 
 abbrev pub place_of : Found → Place
 place_of found = (string_bytes found.at, found.value)
 
--- what the line of a refusal tells beside its place
+-- what the line of a refusal says in addition to its place
 abbrev pub refused_fields : ℕ → Refusal → Members
 refused_fields number refusal =
     member (codes "line") (whole_data number) (
@@ -71,7 +71,7 @@ bit_of value = trailing_zeros w32 value
 abbrev pub is_row : Mask → List ℕ × ℕ → Bool
 is_row mask named = has_bit mask (bit_of named.1)
 
--- the bit's name on such an object, and its decision
+-- the bit's name on an object of this kind, and its decision
 abbrev pub row_of : Case → List Ace → Holder → List ℕ × ℕ → Row
 row_of case entries holder named = (bit_name holder named.0 named.1, decision case entries (bit_of named.1))
 

@@ -1,4 +1,4 @@
-//! How each bit of a question is decided: by which entry, or before the list, or at its end.
+//! How each bit of a question is decided: by an entry, or before the list, or at its end.
 ghost use Rattle.std.specs.Prelude.{◌≡◌, ◌<◌, ℕ, List, true};
 ghost use Rattle.album_access.specs.Bits.{has_bit};
 ghost use Rattle.album_access.specs.declared.masks.Mask.{Mask};

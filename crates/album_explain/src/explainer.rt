@@ -11,7 +11,7 @@ pub trait Explainer: Drop {
     ghost use Rattle.album_lines.specs.Lines.{Line, said};
 
     /// What an explanation of a line that isn't blank is: who explains it, the line's number, the line, whether it is
-    /// refused, the explanation's text, and who explains the lines behind it.
+    /// refused, the explanation's text, and who explains the lines after it.
     ghost IsExplanation: { Self → ℕ → Line → Bool → List ℕ → Self → Type 0 };
 
     /// The explanation of a line that isn't blank, and whether the line is refused.

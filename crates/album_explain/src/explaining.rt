@@ -26,7 +26,7 @@ pub struct Progress<E> {
 }
 
 impl<E> Progress<E> {
-    /// Goes past a line, of which the explainer knows by now.
+    /// Counts a line, which the explainer knows by now.
     fn go_on(&mut self, is_refused: bool)
         ensures { self.new ≡ counted self.old is_refused }
     {
@@ -140,7 +140,7 @@ fn explain_lines<E: Explainer, W: Write>(
     write_text(writer, &text)
 }
 
-/// Puts the explanation of a line behind the text; of a blank line there is none.
+/// Appends the explanation of a line to the text; a blank line has none.
 fn explain_line<E: Explainer>(
     alloc: Global,
     scratch: &mut Scratch,

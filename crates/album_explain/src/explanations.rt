@@ -27,7 +27,7 @@ pub struct BitRow {
     pub decision: Decision,
 }
 
-/// The line of a refusal: its number, where it is, the refusal's name and number, and the number that stands there.
+/// The line of a refusal: its number, where it is, the refusal's name and number, and the number that is there.
 ///
 /// # Errors
 ///
@@ -80,7 +80,7 @@ fn refused_at(
     Ok(Value::Object(fields))
 }
 
-/// What the line of a refusal tells beside its place.
+/// What the line of a refusal says in addition to its place.
 fn refused_fields(
     alloc: Global,
     number: u64,
@@ -161,7 +161,7 @@ fn granted_json(alloc: Global, number: u64, rows: &[BitRow]) -> Result<Value, Al
     json!(in alloc; {"answer": "granted", "bits": bits_json(alloc, rows)?, "line": number})
 }
 
-/// The line of a denial, which is decided so.
+/// The line of a denial that is decided as `decision` says.
 fn denied_json(
     alloc: Global,
     number: u64,

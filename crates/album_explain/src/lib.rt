@@ -1,10 +1,10 @@
-//! The engine that explains lines, and the explanations of judge lines: where each refusal is, and by which entry each
-//! bit was decided.
+//! The engine that explains lines, and the explanations of judge lines: where each refusal is, and what decided each
+//! bit.
 //!
 //! What comes in: a reader and a writer, as for `album_judge`, and an `Explainer`, which explains a line. What goes
 //! out: of each line that is read, a line with its number; or a fault, before which a prefix of these was written.
-//! The refusals and the verdicts of judge lines are those of `album_judge`. What the bits of masks and flags are called
-//! comes out too, and what is called so goes in. Other lines are explained by crates above, by the same engine.
+//! The refusals and the verdicts of judge lines are those of `album_judge`. Masks and flags come in as numbers and go
+//! out as their bits' names, and the reverse. Other lines are explained by crates above, by the same engine.
 //!
 //! Read `explaining` first: `explain` reads, and an `explainer` explains one line. Then `judging`, the explanations of
 //! judge lines; `decisions`, how each bit is decided, with the law `verdict_by_bits`; `places`, where a refused line

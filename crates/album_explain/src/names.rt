@@ -1,5 +1,5 @@
-//! What the bits of masks and flags are called. The names stand in the tables of `album_access`; an album's lowest
-//! three bits have names of their own, which stand here.
+//! What the bits of masks and flags are called. The tables of `album_access` have the names; an album's lowest three
+//! bits have names of their own, which are here.
 ghost use Rattle.std.specs.Prelude.{◌≡◌, ◌==◌, map, filter, IfOk};
 ghost use Rattle.serde_json.specs.View.{view};
 ghost use Rattle.album_access.specs.Bits.{mask_bits, flag_bits};
@@ -12,7 +12,7 @@ use bitflags::{Flag, Flags};
 use serde_json::{Value, json};
 use std::alloc::{AllocError, Global};
 
-/// What a bit of a mask is called on such an object (RFC 7530, section 6.2.1.3.1).
+/// What a bit of a mask is called on an object of this kind (RFC 7530, section 6.2.1.3.1).
 pub fn bit_name(holder: Holder, flag: &Flag<Mask>) -> &'static str
     ensures { result.now ≡ bit_name holder flag.now.name.now (mask_bits flag.now.value) }
 {

@@ -95,7 +95,7 @@ fn in_object(alloc: Global, line: &Value<'_>) -> Result<Option<Found>, AllocErro
     found_of(alloc, found)
 }
 
-/// Where a list of entries, a value's member of this name, hasn't its form, if it hasn't.
+/// Where the value hasn't the form of a list of entries, if it hasn't.
 ///
 /// # Errors
 ///
@@ -104,7 +104,7 @@ pub fn find_entries_form(alloc: Global, value: &Value<'_>) -> Result<Option<Foun
     found_of(alloc, bad_entries_form(value))
 }
 
-/// Where one that has its form is none that such an object may carry, if it is none.
+/// Where a list of entries that has its form is none that an object of this kind may carry, if it is none.
 ///
 /// # Errors
 ///

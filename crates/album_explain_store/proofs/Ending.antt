@@ -1,4 +1,4 @@
--- The end of a script, behind the explanations of its lines. For `explain_script`, and for `explain_end`:
+-- The end of a script, after the explanations of its lines. For `explain_script`, and for `explain_end`:
 -- `end_not_whole`.
 use Rattle.std.proofs.Common.{◌≡◌, ℕ, List, [], ◌++◌, Bool, false, cond, Option, Some, None, IfSome, refl, sym, ap, ◌∙◌, subst, append_assoc}
 use Rattle.std.specs.Io.KnownBytes.{Appends}

@@ -40,18 +40,18 @@ taken_json number taken = object (
     member (codes "line") (whole_data number) (
     member (codes "reads") (string (lines_word taken.lines)) no_members)))
 
--- the line for what was read, and whether that is a refusal; of which the place is left open
+-- the line for what was read, and whether that is a refusal, whose place is left open
 abbrev pub IsReply : ℕ → Result Taken Refusal → Bool → List ℕ → Type 0
 IsReply number (Ok taken) is_refused text =
     (is_refused ≡ false) × (text ≡ line_text (taken_json number taken))
 IsReply number (Err refusal) is_refused text = (is_refused ≡ true) × IsRefused number refusal text
 
--- what comes of a line: what it is, or its refusal; and where its explainer stands then
+-- the outcome of a line: what it is, or its refusal; and its explainer's state then
 pub record Step (S : Type 0) : Type 0 where
   pub reading : Result Taken Refusal
   pub next : S
 
--- A line's explanation is what comes of it; or that memory ran out on it, which changes nothing.
+-- A line's explanation is its outcome; or that memory ran out on it, which changes nothing.
 abbrev pub ExplainsBy : {S : Type 0} → Step S → S → ℕ → Bool → List ℕ → S → Type 0
 ExplainsBy step old number is_refused text new =
     (IsReply number step.reading is_refused text × (new ≡ step.next))

@@ -1,4 +1,4 @@
--- What comes of the lines of a script: first those of its opening, then the events behind it.
+-- The outcomes of the lines of a script: first those of its opening, then the events after it.
 use Rattle.std.specs.Prelude.{◌++◌, ◌∷◌, [], ℕ, List, Bool, true, false, None, if◌then◌else◌, Result, Ok, Err, refl}
 use Rattle.std.proofs.Common.{inr}
 use Rattle.album_stamps.specs.declared.refusals.Refusal.{Refusal}
@@ -21,7 +21,7 @@ use Rattle.album_explain_store.specs.declared.explanations.Taken.{Taken}
 use Rattle.album_explain_store.specs.Readings.{read_by, event_reading}
 use Rattle.album_explain_store.specs.Explanations.{Step, ExplainsBy}
 
--- where it stands between two lines: no line was read; it is being opened, with these items so far; or all are there
+-- the script between two lines: no line was read; it is being opened, with these items so far; or all are there
 pub data Stage : Type 0 where
   Unopened : Stage
   BeingOpened : Header → List Row → Stage
@@ -40,7 +40,7 @@ has_begun Begun = true
 abbrev pub taken_opening : Kind → Taken
 taken_opening kind = record { lines = lines.Opening; kind = kind }
 
--- a header that is one, which is gone on with where the first line is refused
+-- a header that is one, which takes the first line's place where that is refused
 abbrev pub any_header : Header
 any_header = record { parts = 1; limit = DEFAULT_LIMIT; policy = DEFAULT_POLICY; trace = false }
 
@@ -56,7 +56,7 @@ abbrev pub header_reading : Result Header Refusal → Result Taken Refusal
 header_reading (Ok header) = Ok (taken_opening kind.Open)
 header_reading (Err refusal) = Err refusal
 
--- where the explainer stands behind the first line
+-- the explainer's stage after the first line
 abbrev pub opened_by : Result Header Refusal → Stage
 opened_by (Ok header) = BeingOpened header []
 opened_by (Err refusal) = BeingOpened any_header []
@@ -80,7 +80,7 @@ later_step header rows (Ok (line.Item item value)) =
 later_step header rows (Ok line.Begin) = record { reading = begin_reading header rows; next = Begun }
 later_step header rows (Err refusal) = record { reading = Err refusal; next = BeingOpened header rows }
 
--- behind it stand events, whether it was one or not
+-- events follow the opening, whether it was one or not
 abbrev pub opening_step : Stage → Line → Step Stage
 opening_step Unopened line = first_step (read_by opening_line_of line)
 opening_step (BeingOpened header rows) line = later_step header rows (read_by opening_line_of line)

@@ -1,4 +1,4 @@
--- What comes of the lines of events, and of those of a connection.
+-- The outcomes of the lines of events, and of those of a connection.
 use Rattle.std.specs.Prelude.{Result, Ok, Err}
 use Rattle.album_stamps.specs.declared.refusals.Refusal.{Refusal}
 use Rattle.album_lines.specs.Lines.{Line}
@@ -13,7 +13,7 @@ use Rattle.album_explain_store.specs.Explanations.{Step}
 abbrev pub event_step : EventLines → Line → Step EventLines
 event_step old line = record { reading = event_reading line; next = old }
 
--- it is said who talks, once such a line is taken
+-- the principal is known, once a line that names it is taken
 abbrev pub known_by : Result Taken Refusal → TalkLines
 known_by (Ok taken) = Known
 known_by (Err refusal) = Stranger

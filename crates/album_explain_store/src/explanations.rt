@@ -13,7 +13,7 @@ use json::Scratch;
 use serde_json::{Value, json};
 use std::alloc::{AllocError, Global};
 
-/// Where a line stands: in an opening, among the events of a script, or in a connection.
+/// Where a line is: in an opening, among the events of a script, or in a connection.
 #[derive(Clone, Copy, Debug, PartialEq, Eq)]
 pub enum Lines {
     Opening,

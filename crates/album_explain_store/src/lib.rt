@@ -1,6 +1,6 @@
 //! The explanations of a store's lines, by the engine of `album_explain`: what each is, or where it is refused.
 //!
-//! What comes in: lines of openings with the events behind them, of events alone, or of a connection. What goes out: of
+//! What comes in: lines of openings with the events after them, of events alone, or of a connection. What goes out: of
 //! each line that is read, a line with its number. It is refused, or taken, as the readers of `album_wire` do it.
 //!
 //! Read `events` first, then `talks`, where the first line says who talks. Then read `openings`, where lines have an

@@ -1,4 +1,4 @@
-//! The explanations of the lines of a script: first those of its opening, then the events behind it.
+//! The explanations of the lines of a script: first those of its opening, then the events after it.
 ghost use Rattle.std.specs.Prelude.{◌≡◌, ◌≢◌, ◌++◌, ◌∷◌, [], Ok, Err, IfOk};
 ghost use Rattle.album_stamps.specs.Outcome.{Gives};
 ghost use Rattle.album_lines.specs.Lines.{said};
@@ -20,7 +20,7 @@ use json::Scratch;
 use std::alloc::Global;
 use std::mem;
 
-/// Explains the lines of an opening, and the events behind it.
+/// Explains the lines of an opening, and the events after it.
 #[derive(Drop)]
 pub enum OpeningLines {
     /// No line was read.
@@ -80,7 +80,7 @@ impl OpeningLines {
     }
 }
 
-/// A line's explanation, whether the line is refused, and where its explainer stands then.
+/// A line's explanation, whether the line is refused, and its explainer's state then.
 type Explained = ((Vec<u8>, bool), OpeningLines);
 
 fn explain_script_line(
@@ -103,7 +103,7 @@ fn explain_script_line(
     }
 }
 
-/// The first line is the header's. Where it is refused, any header is gone on with.
+/// The first line is the header's. Where it is refused, `ANY_HEADER` takes its place.
 fn explain_first(
     alloc: Global,
     scratch: &mut Scratch,
@@ -138,7 +138,7 @@ fn header_reading(header: Result<Header, Refusal>) -> Result<Taken, Refusal>
     }
 }
 
-/// Where the explainer stands behind the first line. Where memory ran out on it, the next line is the first.
+/// The explainer's state after the first line. Where memory ran out on that line, the next line is the first.
 fn opened_by(alloc: Global, header: Result<Header, Refusal>, header_line: u64) -> OpeningLines
     ensures read { header ≢ Err Refusal.OutOfMemory → stage_of result ≡ opened_by header }
     ensures memory { header ≡ Err Refusal.OutOfMemory → stage_of result ≡ Unopened }

@@ -1,4 +1,4 @@
-//! A script explained whole: the lines of its opening, the events behind it, and that it ends too early.
+//! A script explained whole: the lines of its opening, the events after it, and that it ends too early.
 ghost use Rattle.std.specs.Prelude.{◌≡◌, IfOk, OnOk, OnErr, IfSome};
 ghost use Rattle.std.specs.Io.KnownBytes.{Appends, IsAtEnd};
 ghost use Rattle.album_lines.specs.Lines.{lines_of};
@@ -12,7 +12,7 @@ use album_stamps::Refusal;
 use std::alloc::Global;
 use std::io::{Read, Write};
 
-/// Explains each line of an opening, and of the events behind it, by one line, in order, and says whether one was
+/// Explains each line of an opening, and of the events after it, by one line, in order, and says whether one was
 /// refused. Where the input ends before `begin`, the last line says so, with the number of the line that is missing.
 ///
 /// # Errors

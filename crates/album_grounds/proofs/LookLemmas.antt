@@ -1,4 +1,4 @@
--- What comes of one read more for an ask: `done_so` and `gone_so`. And of all reads so far: `looking_first`,
+-- The outcome of one read more for an ask: `done_so` and `gone_so`. And that of all reads so far: `looking_first`,
 -- `looking_next`, `looks_seen` and `looks_busy`.
 use Rattle.std.proofs.Common.{◌≡◌, inl, inr, ℕ, ◌+◌, ◌<◌, ◌≤◌, Bool, true, false, None, List, [], ◌∷◌, ◌++◌, length, length-append, nat_le, nat_lt, if◌then◌else◌, refl, sym, ◌∙◌, subst, arith}
 use Rattle.std.proofs.lemmas.Bool.{ltb-true, ltb-false, leb-true}
@@ -25,7 +25,7 @@ use Rattle.album_grounds.specs.Replies.{IsReadOf}
 use Rattle.album_grounds.proofs.GroundLemmas.{seen_more}
 use Rattle.album_grounds.proofs.TrimLemmas.{trims_stay}
 
--- ---- what comes of a read
+-- ---- the outcome of a read
 
 module _ (b c : Cut) (viewing : ViewingState) (items : List ℕ) where
   abbrev next : ViewingState

@@ -80,7 +80,7 @@ answers_it a m x e = go (body_version m.body) refl e
 
 -- ---- where it was read
 
--- the value of an item stands among the rows that are placed at its partition
+-- an item has the same value in all rows and in those that are placed at its partition
 pub value_placed : (rows : List Row) (p n i : ℕ) → place_of n i ≡ p → value_in (rows_placed_at p n rows) i ≡ value_in rows i
 value_placed [] p n i e = refl
 value_placed (row ∷ rows) p n i e = go (place_of n row.0 == p) (row.0 == i) refl refl (value_placed rows p n i e)
@@ -107,7 +107,7 @@ with_stamps a ts items q i us own asked =
     let get = asks_with a ts items q own in
     same_stamps i get.0 us ts (sym asked ∙ ap (λ (n : Message). n.body) get.1)
 
--- who tells of an item that it was asked for is the item's partition, whose history lies between the two cuts then
+-- a partition that replies on an item is the item's own, and its history was then between those of the two cuts
 record IsToldBetween (b c heard : Cut) (p : PartitionState) (i : ℕ) : Type 0 where
   from : IsPrefix (prefix_for b i) p.marks
   to : IsPrefix p.marks (prefix_for c i)
@@ -140,7 +140,7 @@ told_between limit b c n sent m i us on parts r asked sender =
     same_part : (i j : ℕ) → Part i ≡ Part j → i ≡ j
     same_part i j f = cc
 
--- A version of an item, told to one of a round's Gets, was read at a history between the two cuts.
+-- A version of an item, in a reply to one of a round's Gets, was read at a history between the two cuts.
 read_between : (limit : ℕ) (b c : Cut) (a : Asker) (ts items : List ℕ) (m : Message) (x : ReadVersion) → Extends b c → a.parts ≡ b.parts
     → IsReplied limit b c (gets_of a ts items) m → answer_in a m ≡ Some x → IsAnsweredBetween b c ts x
 read_between limit b c a ts items m x on parts r e =
@@ -187,7 +187,7 @@ latest_then limit b c a ts items m x on parts r e =
     (subst (λ (ms : List Mark). is_legal ms ≡ true) (sym from.1) (r.current.sound.legal part))) in
     omega arith
 
--- An item that is told to be gone was gone at such a history.
+-- An item that is gone by the reply was gone at a history between the two cuts.
 gone_between : (limit : ℕ) (b c : Cut) (a : Asker) (ts items : List ℕ) (m : Message) (i : ℕ) → Extends b c → a.parts ≡ b.parts
     → IsReplied limit b c (gets_of a ts items) m → m.body ≡ body.Reply (reply.Gone i) → m.from ≡ Part (place_of a.parts i) → Contains items i
     → IsGoneBetween b c ts items
@@ -249,7 +249,7 @@ counts round m x e = go (answer_in round.asker m) refl e
     go None f g = absurd (cc)
     go (Some v) f g = f ∙ here (lacks round v.item) v g
 
--- what comes of a round with one answer more
+-- the outcome of a round with one answer more
 outcome_leads : (b c : Cut) (begun round : RoundState) → round.asker ≡ begun.asker → round.items ≡ begun.items → round.stamps ≡ begun.stamps
     → are_in_order round.items round.answers ≡ true
     → All (IsAnsweredBetween b c (asked_stamps begun)) (answers_there round.answers) → AreSettled c (answers_there round.answers)
@@ -283,7 +283,7 @@ outcome_leads b c begun round asker items stamps order all kept last = go (are_t
         (sym stamps) (by begun.stamps refl e) stays
     go false e stays = record { asker = asker; items = items; stamps = stamps; still_open = stays; between = all; settled = kept; latest = last }
 
--- What comes of a reply to one of the round's Gets.
+-- The outcome of a reply to one of the round's Gets.
 pub leads : (limit : ℕ) (b c d : Cut) (begun round : RoundState) (m : Message) → Extends b c → Extends c d → Extends b d → begun.asker.parts ≡ b.parts
     → IsReplied limit b d (gets_of begun.asker (asked_stamps begun) begun.items) m → IsUnder b c begun round → Leads b d begun (stepped round m)
 leads limit b c d begun round m first on both parts r u = by (is_gone round m) refl (stepped-open round m u.still_open)
@@ -327,9 +327,9 @@ leads limit b c d begun round m first on both parts r u = by (is_gone round m) r
     by true e stays = (ap is_some (sym u.stamps) ∙ second true e refl, record { items_are = u.items; gone = gone (IsGone-is_gone round m e) })
     by false e stays = go (new_answer round m) refl stays
 
--- ---- how a round begins, and goes on
+-- ---- how a round begins, and continues
 
--- beside a Get it has to be shown that each of its stamps is committed somewhere
+-- the cut with a Get has to show that each of its stamps is committed somewhere
 pub gets_shown : (c : Cut) (a : Asker) (ts items : List ℕ) → AreCommitted c ts → All (Shows c) (gets_of a ts items)
 gets_shown c a ts items h = All-map (Shows c) (get_of a ts) items (λ k d l. h)
 

@@ -75,7 +75,7 @@ committed_is (Committed s ∷ marks) t = ap (λ (b : Bool). (s == t) || b) (comm
 state_committed : (marks : List Mark) (t : ℕ) → list_any (commits t) marks ≡ true → state_of marks t ≡ state.Committed
 state_committed marks t e = rw e refl
 
--- a stamp that is the latest is no lower than `latest` tells
+-- a stamp that is the latest is no lower than the result of `latest`
 latest_low : (marks : List Mark) (i t : ℕ) → IsLatest marks i t → latest marks i ≤ t
 latest_low marks i t is = dite (ℕ_discrete (latest marks i) 0)
     (λ none. omega (arith, none))
@@ -154,7 +154,7 @@ trims_rise c d p s r x less =
     sums_rise (λ (ms : List Mark). count_by is_trim ms) c.prefixes d.prefixes p (s.wide ∙ sym x.parts ∙ sym r.wide)
     (λ q. prefix_trims (prefix_at c q) (prefix_at d q) (x.prefixes q)) less
 
--- and none has fewer than one that it goes on from
+-- and none has fewer than one that it extends
 pub trims_stay : (c d : Cut) → IsSound c → IsSound d → Extends c d → trims_in c ≤ trims_in d
 trims_stay c d s r x =
     sums_grow (λ (ms : List Mark). count_by is_trim ms) c.prefixes d.prefixes (s.wide ∙ sym x.parts ∙ sym r.wide)

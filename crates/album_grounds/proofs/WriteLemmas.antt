@@ -230,7 +230,7 @@ module _ (limit : ℕ) (b c d : Cut) (begun : WritingState) (m : Message) (x : E
   abbrev left : List ℕ → List ℕ
   left ns = filter (λ place. not (is_part m.from place)) ns
 
-  -- what comes of a reply to one of a round's Prepares
+  -- what a reply to one of a round's Prepares shows
   pub prepare_tells : IsSound d → begun.parts ≡ d.parts → IsReplied limit b d (prepares_of begun) m
       → (w : WritingState) → IsFurther begun (IsPreparedAt c begun) w → PrepareShows limit d begun (prepare_stepped w m)
   prepare_tells sound parts r w h =
@@ -270,7 +270,7 @@ module _ (limit : ℕ) (b c d : Cut) (begun : WritingState) (m : Message) (x : E
           (refl, heard_full limit b d (prepares_of begun) m t.0 r t.1.sender begun.permit begun.stamp of t.1.body)
       go write_reply.Nothing e = still
 
-  -- what comes of a reply to one of a round's Commits
+  -- what a reply to one of a round's Commits shows
   pub commit_tells : IsReplied limit b d (commits_of begun) m
       → (w : WritingState) → IsFurther begun (IsCommittedAt c begun) w → CommitShows d begun (commit_stepped w m)
   commit_tells r w h =
@@ -308,7 +308,7 @@ begun_further begun P all = record {
   done = λ n there. inl (subst (λ (ns : List ℕ). Contains ns n) (sym all) there);
 }
 
--- ---- what a cut shows beside the messages of a write
+-- ---- what a cut shows about the messages of a write
 
 pub shows_prepares : (c : Cut) (w : WritingState) → announced_for c w.stamp ≡ Some (items_in w) → All (Shows c) (prepares_of w)
 shows_prepares c w h = All-map (Shows c) (prepare_to w) (places_in w) (λ k e l. h)

@@ -16,7 +16,7 @@ pub record IsPermitFor (stamp : ℕ) (items : List ℕ) (permit : PermitState) :
   pub above : All (λ row. row.stamp < stamp) permit.view.rows
   pub items_are : items ≡ items_of permit stamp
 
--- Some principal asked for it. Its view was read between two cuts, the later of which this cut extends.
+-- Some principal asked for it. Its view was read between two cuts, and this cut extends the later one.
 pub record IsGrantedWrite (policy : Policy) (cut : Cut) (stamp : ℕ) (items : List ℕ) : Type 0 where
   pub principal : Principal
   pub ask : Ask
@@ -25,7 +25,7 @@ pub record IsGrantedWrite (policy : Policy) (cut : Cut) (stamp : ℕ) (items : L
   pub since : Extends then cut
   pub permitted : IsOnView begun then policy principal ask (IsPermitFor stamp items)
 
--- what is to be announced, if there is something, is of such a write
+-- what is to be announced, if there is something, is of a write that was granted
 abbrev pub IsGrantedFor : Policy → Cut → Option Announcement → Type 0
 IsGrantedFor policy cut None = Unit {0}
 IsGrantedFor policy cut (Some (stamp, items)) = IsGrantedWrite policy cut stamp items

@@ -1,4 +1,4 @@
--- On what an answer of a session rests: the cut that it began with, and the one that it has then.
+-- What an answer of a session rests on: the cut that it began with, and the one that it has then.
 use Rattle.std.specs.Prelude.{◌≡◌, ◌≢◌, ℕ, ◌+◌, ◌<◌, ◌≤◌, Bool, true, false, List, [], ◌∷◌, length, sum_by, count_by, All, Contains}
 use Rattle.std.specs.List.{list_any}
 use Rattle.album_stamps.specs.declared.limits.TheConstants.{MAX_READ_ITEMS, MAX_READS}

@@ -1,4 +1,4 @@
--- What comes of the reads of an ask: a view, one read more, or that it is busy.
+-- The outcomes of the reads of an ask: a view, one read more, or that it is busy.
 use Rattle.std.specs.Prelude.{◌≡◌, ◌⊎◌, ◌+◌, ◌<◌, ◌≤◌, ℕ, List, [], ◌∷◌, length, None}
 use Rattle.album_stamps.specs.declared.limits.TheConstants.{MAX_READ_ITEMS, MAX_READS}
 use Rattle.album_passes.specs.Cuts.{Cut, IsSound}
@@ -35,7 +35,7 @@ pub record IsVain (begun now : Cut) (ask : Ask) (items : List ℕ) (rows : List 
   pub lacking : IsClosed ask rows → ⊥
   pub few : length (names_of rows ask) ≤ MAX_READ_ITEMS
 
--- What one read of these items comes to for the ask. Where it is no view, it was in vain, or found an item trimmed.
+-- The outcome of one read of these items for the ask. Where it is no view, it was in vain, or found an item trimmed.
 abbrev pub LooksOnce : Cut → Cut → ViewingState → List ℕ → ViewStep → Type 0
 LooksOnce begun now viewing items (Closed view) = IsViewOf begun now viewing.ask view
 LooksOnce begun now viewing items (Busy Wide) = IsWide begun now viewing.ask
@@ -48,7 +48,7 @@ LooksOnce begun now viewing items (Again next names) =
     × (((rows : List ReadVersion) × IsVain begun now viewing.ask items rows × (names ≡ names_of rows viewing.ask))
     ⊎ ((trims_in begun < trims_in now) × (names ≡ items)))
 
--- the items read after reads in vain, the first of which read these items
+-- the items to be read next, after reads in vain that began with these items
 abbrev pub items_next : Ask → List ℕ → List (List ReadVersion) → List ℕ
 items_next ask items [] = items
 items_next ask items (rows ∷ later) = items_next ask (names_of rows ask) later

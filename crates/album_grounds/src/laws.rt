@@ -1,4 +1,4 @@
-//! What follows of the grounds on which an answer rests.
+//! What follows from the grounds on which an answer rests.
 ghost use Rattle.std.specs.Prelude.{◌≡◌, ◌≢◌, ◌≤◌, ℕ, List, Contains};
 ghost use Rattle.album_reader.specs.Answers.{ReadVersion};
 ghost use Rattle.album_reader.specs.Atomic.{IsFreshFrom};
@@ -22,7 +22,7 @@ pub fn grounds_stay()
 {}
 
 /// A law: no read goes back (monotonic reads), and a session reads its own writes. What a cut has shown isn't older in
-/// a read that begins with that cut or with one that extends it; such a read has what was kept in the cut, or newer.
+/// a read that begins with that cut or with one that extends it. That read has what was kept in the cut, or newer.
 /// The two reads may be of two sessions, where the later has met the earlier.
 pub fn reads_go_on()
     ensures no_older { (begun old later new : Cut) (first second : List ReadVersion) → IsSound old → IsSound new

@@ -1,5 +1,5 @@
--- That each list fits what carries it, told list by list. For `has_fit_lists` of `pairs`: `row_marked` and `row_plain`
--- are the steps of its first loop, `fit_lists` is what its second loop tells.
+-- That each list fits what carries it, tested list by list. For `has_fit_lists` of `pairs`: `row_marked` and
+-- `row_plain` are the steps of its first loop, `fit_lists` is the result of its second loop.
 use Rattle.std.proofs.Common.{◌≡◌, ◌==◌, ◌&&◌, ◌||◌, ◌<◌, ◌≢◌, ◌+◌, ◌*◌, ◌/◌, ◌%◌, ℕ, List, [], ◌∷◌, length, get_or, set, drop, replicate, Bool, true, false, not, Some, None, Decides, refl, sym, ap, ◌∙◌, arith}
 use Rattle.std.specs.List.{list_all, list_any}
 use Rattle.std.specs.Option.{option_map, option_map_or}

@@ -139,11 +139,11 @@ low_list row k right = go row.1 (and_parts (is_low (number_of row.0)) (has_low_n
     go (value.List l) is e = absurd (cc)
     go (value.Group g) is e = at g.head.list is e
 
--- the row at an index, and those behind it
+-- the row at an index, and those after it
 pub row_from : (rows : List Row) (i : ℕ) (row : Row) → i < length rows → row ≡ get_or rows i row → drop i rows ≡ row ∷ drop (i + 1) rows
 row_from rows i row below is = drop-cons rows i row below ∙ rw (add-one) (ap (λ x. x ∷ drop (suc i) rows) (sym is))
 
--- `==` doesn't tell its sides apart
+-- `==` is symmetric
 pub same_back : (k q : ℕ) → (q == k) ≡ (k == q)
 same_back k q = same_from_decides (q == k) (k == q) (Decides-eqb q k) back
   where

@@ -48,7 +48,7 @@ is_low_row row = is_low (number_of row.0) && has_low_numbers row.1
 abbrev pub has_few_children : Row → Bool
 has_few_children row = nat_le (length (children_of row.1)) MAX_CHILDREN
 
--- no child stands twice in one album
+-- no album has a child twice
 abbrev pub has_single_children : Row → Bool
 has_single_children row = are_distinct (children_of row.1)
 

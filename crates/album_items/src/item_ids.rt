@@ -164,7 +164,7 @@ impl Eq for ItemId {
     ghost laws = { Prim.search (comparing, rules) };
 }
 
-// By hand beside them, of exactly what `is` compares: items that are equal have to be hashed alike.
+// By hand too, of exactly what `is` compares: items that are equal have to be hashed alike.
 impl Hash for ItemId {
     ghost hash_input = { λ item. fed.u8 (kind_of item) ++ fed.u64 (number_of item) };
 

@@ -15,7 +15,7 @@ use album_stamps::{
 };
 
 /// The state that the service opens with: how many partitions there are, how many marks the
-/// history of each may have, the number of the policy by which lists are judged, and the first
+/// history of each may have, the number of the policy that lists are judged by, and the first
 /// values of items.
 #[derive(Debug, Drop)]
 pub struct Opening {
@@ -23,7 +23,7 @@ pub struct Opening {
     pub parts: u64,
     /// How many marks the history of each partition may have: `MIN_MARKS` to `MAX_MARKS`.
     pub limit: u64,
-    /// The number of the policy by which lists are judged: 1 or 2.
+    /// The number of the policy that lists are judged by: 1 or 2.
     pub policy: u64,
     /// At most `MAX_OPENING_ITEMS` items with their first values. An item that isn't among them is missing at first.
     pub items: ItemValues,
@@ -55,7 +55,7 @@ impl Opening {
     }
 
     /// Whether the partitions, their marks and the items are neither too few nor too many, and there is
-    /// such a policy.
+    /// a policy of the number.
     fn has_counts(&self) -> bool
         ensures { result ≡ (has_parts self.now.parts && has_limit self.now.limit && has_policy self.now.policy
             && has_few_items self.now.items) }
@@ -139,7 +139,7 @@ fn has_single_children(row: &(ItemId, Value)) -> bool
     are_distinct(row.1.children())
 }
 
-/// Whether no item stands twice.
+/// Whether no item is there twice.
 pub fn are_distinct(items: &[ItemId]) -> bool
     ensures { result ≡ are_distinct items.now }
 {

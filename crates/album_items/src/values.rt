@@ -148,8 +148,8 @@ impl Value {
     }
 
     /// Lets the copies that are made from now on share what the value holds: its entries, its members or its
-    /// children, as its texts are shared from the first. Such a copy costs counts, whatever the value's size.
-    /// It is for a partition, which shares the writes that it keeps before it copies them into answers.
+    /// children, as its texts are shared from the first. Each copy then costs counts, whatever the value's size.
+    /// It is for a partition, which shares the writes that it keeps before it copies them into replies.
     ///
     /// # Errors
     ///

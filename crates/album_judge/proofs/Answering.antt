@@ -1,5 +1,5 @@
--- Texts that answer lines, whichever engine writes them. `left_after` is what the turns rest on: what a fault leaves of the
--- answers to lines, behind whole answers and before lines that come later.
+-- Texts that answer lines, whichever engine writes them. `left_after` is what the turns rest on: what a fault leaves of
+-- the answers to lines, after whole answers and before lines that come later.
 use Rattle.std.proofs.Common.{◌≡◌, ◌≢◌, ℕ, List, [], ◌∷◌, ◌++◌, refl, sym, subst, append_assoc}
 use Rattle.album_lines.specs.Lines.{Line}
 use Rattle.album_judge.specs.declared.fault.Fault.{Fault}
@@ -10,19 +10,19 @@ use Rattle.album_judge.specs.Writes.{IsPrefixOf, IsLeftBy}
 abbrev pub Answering : Type 1
 Answering = List Line → List ℕ → Type 0
 
--- behind the answers to some lines stand those to the next
+-- the answers to some lines, and then those to the next, are answers to both
 abbrev pub Joins : Answering → Answering → Answering → Type 0
 Joins A N B = (lines next : List Line) (x y : List ℕ) → A lines x → N next y → B (lines ++ next) (x ++ y)
 
--- answers go on, whatever lines come
+-- answers continue, whatever lines come
 abbrev pub GoesOn : Answering → Type 0
 GoesOn A = (lines later : List Line) (x : List ℕ) → A lines x → (more : List ℕ) × A (lines ++ later) (x ++ more)
 
--- what answers lines so does so too
+-- what answers lines in the one way does so in the other
 abbrev pub Are : Answering → Answering → Type 0
 Are A B = (lines : List Line) (x : List ℕ) → A lines x → B lines x
 
--- a list that goes on is not empty
+-- a list that is not empty stays so with more after it
 pub goes_on : {X : Type 0} (xs ys : List X) → xs ≢ [] → xs ++ ys ≢ []
 goes_on [] ys some none = some refl
 goes_on (x ∷ xs) ys some none = cc

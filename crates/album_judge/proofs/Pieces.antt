@@ -19,7 +19,7 @@ longer_last (Some bytes) x = by_length (nat_lt MAX_LINE (length (bytes ++ x ∷ 
     by_length false [] none = cc
     by_length false (b ∷ begin) none = cc
 
--- a byte ends the line, or the line goes on
+-- a byte ends the line, or the line continues
 by_byte : (e : Bool) (line next : Line) (later : List Line) (unended : Line) (others : List Line)
     → others ++ last unended ≢ []
     → (cond {A = List Line × Line} e (line ∷ later, next) (others, unended)).0

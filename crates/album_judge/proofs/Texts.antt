@@ -35,7 +35,7 @@ answers_append (x ∷ xs) ys a b g h =
 pub one_answer : (line : Line) (text : List ℕ) → IsAnswer line text → Answers (line ∷ []) text
 one_answer line text h = (text, [], h, refl, sym (append-nil text))
 
--- answers go on, whatever lines come
+-- answers continue, whatever lines come
 pub answers_go_on : GoesOn Answers
 answers_go_on lines later text h =
     let more = answers_exist later in
@@ -64,7 +64,7 @@ pub up_to_next : {X : Type 0} (f : X → Line) (xs : List X) (i : ℕ) (x : X)
 up_to_next f xs i x h e =
     ap (map f) (take_more xs i x h ∙ ap (λ y. take i xs ++ y ∷ []) (sym e)) ∙ map-append f (take i xs) (x ∷ [])
 
--- and those behind it
+-- the lines before an index, and the others
 pub with_others : {X : Type 0} (f : X → Line) (xs : List X) (i : ℕ) → map f xs ≡ map f (take i xs) ++ map f (drop i xs)
 with_others f xs i = ap (map f) (sym (take-append-drop i xs)) ∙ map-append f (take i xs) (drop i xs)
 
@@ -91,7 +91,7 @@ no_memory_at f xs i text h g =
 
 -- ---- the text of answers, written
 
--- a text of which this holds is written
+-- a text with this property is written
 pub writes_this : (P : List ℕ → Type 0) (text written : List ℕ) (a b c : Option (List ℕ))
     → b ≡ a → written ≡ text → P text → Appends b c written → Writes P a c
 writes_this P text written a b c from is h w =

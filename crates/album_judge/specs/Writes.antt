@@ -10,11 +10,11 @@ use Rattle.album_judge.specs.declared.fault.Fault.TheVariants.{Reading, Writing,
 abbrev pub HasRead : ℕ → Option (List ℕ) → Option (List ℕ) → Type 0
 HasRead turns remaining left = (given : List ℕ) × Consumes remaining left given × (length given ≤ turns * PIECE)
 
--- the writer gained a text of which this holds
+-- the writer gained a text with this property
 abbrev pub Writes : (List ℕ → Type 0) → Option (List ℕ) → Option (List ℕ) → Type 0
 Writes P old new = (text : List ℕ) × P text × Appends old new text
 
--- a text of which this holds stands behind what was there
+-- a text with this property follows what was there
 abbrev pub Gains : (List ℕ → Type 0) → List ℕ → List ℕ → Type 0
 Gains P old new = (text : List ℕ) × P text × (new ≡ old ++ text)
 
@@ -24,7 +24,7 @@ abbrev pub Exchanges : (List ℕ → List ℕ → Type 0)
 Exchanges R remaining left old new =
     (given : List ℕ) × Consumes remaining left given × Writes (R given) old new
 
--- a prefix of a text of which this holds
+-- a prefix of a text with this property
 abbrev pub IsPrefixOf : (List ℕ → Type 0) → List ℕ → Type 0
 IsPrefixOf P text = (rest : List ℕ) × P (text ++ rest)
 
@@ -32,8 +32,8 @@ IsPrefixOf P text = (rest : List ℕ) × P (text ++ rest)
 abbrev pub IsCutShort : (List ℕ → Type 0) → List ℕ → Type 0
 IsCutShort P text = (rest : List ℕ) × (rest ≢ []) × P (text ++ rest)
 
--- What a fault leaves of a text of which this holds. Writing: it is cut short. Memory: it ends early, if it doesn't end
--- where it should. No fault of reading comes of writing.
+-- What a fault leaves of a text with this property. Writing: it is cut short. Memory: it ends early, if it doesn't end
+-- where it should. Writing has no fault of reading.
 abbrev pub LeavesOf : Fault → (List ℕ → Type 0) → List ℕ → Type 0
 LeavesOf Reading P text = ⊥
 LeavesOf Writing P text = IsCutShort P text
@@ -47,7 +47,7 @@ AnswersFirst answers lines text =
     (done : List Line) × (later : List Line) × (later ≢ []) × (lines ≡ done ++ later) × answers done text
 
 -- What a fault leaves of the answers to these lines. Writing: an answer is cut short. Memory: those that are there are
--- whole, and one is not there. No fault of reading comes of answering.
+-- whole, and one is not there. Answering has no fault of reading.
 abbrev pub IsLeftBy : Fault → (List Line → List ℕ → Type 0) → List Line → List ℕ → Type 0
 IsLeftBy Reading answers lines text = ⊥
 IsLeftBy Writing answers lines text = IsCutShort (answers lines) text

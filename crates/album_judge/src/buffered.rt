@@ -44,8 +44,8 @@ pub fn with_buffers<R: Read + Drop, W: Write + Drop>(
 }
 
 /// Answers each line that is read, as `judge` does, and writes what it holds before it waits for more, and at the end.
-/// In the clauses a reader has what its buffer has, and then what is behind it; a writer what was written through its
-/// buffer, and then what the buffer holds.
+/// In the clauses a reader has what its buffer has, and then what is still to be read into it; a writer has what was
+/// written through its buffer, and then what the buffer holds.
 ///
 /// # Errors
 ///

@@ -1,4 +1,4 @@
-//! The judge alone: `album judge` for who needs no store. It stands on few crates, so it is proved in minutes.
+//! The judge alone: `album judge` for those who need no store. It uses few crates, so it is proved in minutes.
 #![tactic(auto)]
 
 use album_judge::{Fault, judge_buffered, with_buffers};

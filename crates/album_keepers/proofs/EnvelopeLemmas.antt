@@ -1,5 +1,5 @@
--- What a reply shows that goes on to another partition, and that what is shown stays so. `ReplyEnvelope::into_envelope` cites
--- `answer_shows`, and `PartitionKeeper::receive` cites `shows_more`.
+-- What a reply shows that is passed to another partition, and that what is shown stays so.
+-- `ReplyEnvelope::into_envelope` cites `answer_shows`, and `PartitionKeeper::receive` cites `shows_more`.
 use Rattle.std.proofs.Common.{◌≡◌, ℕ, Bool, true, false, List, get_or, refl, sym, subst}
 use Rattle.album_calls.specs.declared.messages.Body.{Body}
 use Rattle.album_calls.specs.declared.messages.Body.TheVariants as body
@@ -92,6 +92,6 @@ more_body : (c d : Cut) → Extends c d → (from to : Node) (b : Body) → Show
 more_body c d x from to (body.Request r) h = more_request c d x to r h
 more_body c d x from to (body.Reply r) h = more_reply c d x from r h
 
--- what a cut shows beside a message, one that goes on from it shows
+-- what a cut shows about a message, a cut that extends it shows too
 pub shows_more : (c d : Cut) → Extends c d → (m : Message) → Shows c m → Shows d m
 shows_more c d x m h = more_body c d x m.from m.to m.body h

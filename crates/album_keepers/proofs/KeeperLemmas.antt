@@ -1,5 +1,5 @@
--- What the owner's cut has beside each mark that a partition makes. `PartitionKeeper` cites the lemmas that are `pub`; the main
--- one is `mark_backed`.
+-- That the owner's cut has what backs each mark that a partition makes. `PartitionKeeper` cites the lemmas that are
+-- `pub`; the main one is `mark_backed`.
 use Rattle.std.proofs.Common.{◌≡◌, ⊎_elim, ℕ, zero, suc, ◌<◌, ◌≤◌, Bool, true, false, ◌==◌, List, [], ◌∷◌, ◌++◌, map, filter, length, get_or, if◌then◌else◌, All, Contains, Option, Some, None, option_to_list, refl, sym, ap, ◌∙◌, subst, arith, append-nil, length-append}
 use Rattle.std.specs.List.{list_any}
 use Rattle.std.proofs.lemmas.Bool.Decides.{Decides-eqb}
@@ -64,7 +64,7 @@ all_heard P (v ∷ votes) t h = go (v.stamp == t) refl (all_heard P votes t (All
         All-cons (P t) v.part (heard votes t) here rest
     go false e rest = rest
 
--- ---- by what each mark is backed
+-- ---- what each mark is backed by
 
 -- some item of a list that lies at a partition
 item_there : (p parts : ℕ) (is : List ℕ) → lies_at p parts is ≡ true → (i : ℕ) × Contains is i × (place_of parts i ≡ p)
@@ -138,7 +138,7 @@ mark_backed limit c p m s inside shown votes h mark e =
 none_some : {A : Type 0} {x : A} {R : Type 0} → None ≡ Some x → R
 none_some e = absurd (cc (e))
 
--- a vote that is noted is one that the message tells
+-- a vote that is noted is the message's
 noted_from : (p : PartitionState) (from : Node) (b : Body) (e : Action) → Acts p from b e → (v : NotedVote) → e.vote ≡ Some v
     → (from ≡ Part v.part) × (b ≡ body.Reply (reply.Status v.stamp vote.Prepared))
 noted_from p from b e (idle is) v f = none_some (ap (λ (x : Action). x.vote) (sym is) ∙ f)
@@ -166,13 +166,13 @@ vote_shown c p m h (Some v) e =
     All-cons (λ (x : NotedVote). list_any (prepares x.stamp) (prefix_at c x.part) ≡ true) v []
     (subst (λ (k : Node). ShowsVote c k v.stamp vote.Prepared) n.0 told) (All-nil _)
 
--- what the votes tell stays shown as the cut grows
+-- what the votes report stays shown as the cut grows
 pub shown_more : (c d : Cut) → Extends c d → (votes : List NotedVote) → AreShown c votes → AreShown d votes
 shown_more c d x votes h =
     All-weaker (λ (v : NotedVote). list_any (prepares v.stamp) (prefix_at c v.part) ≡ true) (λ (v : NotedVote). list_any (prepares v.stamp) (prefix_at d v.part) ≡ true)
     (λ v e. any_more (prepares v.stamp) (prefix_at c v.part) (prefix_at d v.part) (x.prefixes v.part) e) votes h
 
--- after a message, what is left of the votes that were noted and the one that the message tells is shown
+-- after a message, what is left of the votes that were noted and of the message's own is shown
 pub votes_shown : (c : Cut) (p : PartitionState) (m : Message) → Shows c m → AreShown c p.votes → AreShown c (after p m).votes
 votes_shown c p m h votes =
     All-votes_left (λ (v : NotedVote). list_any (prepares v.stamp) (prefix_at c v.part) ≡ true) (decided (action_of p m).mark)

@@ -35,7 +35,7 @@ answered_so p q m f = go (action_of p q).reply refl f
     go None g h = absurd (cc)
     go (Some o) g h = (o, g, cc)
 
--- and that is the reply that was told
+-- and that is the reply in the message
 pub replied_so : (p : PartitionState) (q m : Message) (o : Reply) → answer p q ≡ Some m → m.body ≡ body.Reply o → (action_of p q).reply ≡ Some o
 replied_so p q m o f told =
     let said = answered_so p q m f in

@@ -38,7 +38,8 @@ commit_marks p t some pending =
     ∙ ap (λ (b : Bool). (with_action p (if b then on_commit p 0 else commit_by (state_of p.marks t) t)).marks) some
     ∙ ap (λ (s : StampState). (with_action p (commit_by s t)).marks) pending
 
--- what is so of each partition of which it isn't pending, and of one that has committed it, is so once it is settled
+-- what holds of the partition where the stamp isn't pending, and where it is, of the partition that has committed it,
+-- holds once the stamp is settled
 by_settling : (P : PartitionState → Type 0) (p : PartitionState) (t : ℕ)
     → (is_unsettled p t ≡ false → P p)
     → ((t == 0) ≡ false → state_of p.marks t ≡ state.Pending → P (after p (own_commit p t))) → P (settle_one p t)
@@ -126,7 +127,7 @@ pub on_err : {A E : Type 0} (X : Type 0) (r : Result A E) → X → OnErr r X
 on_err X (Ok a) x = tt
 on_err X (Err e) x = x
 
--- ---- what is shown beside the Commit
+-- ---- what is shown about the Commit
 
 shown_request : (c : Cut) (to : Node) (r : Request) → ShowsRequest c to r → AreCommitted c (stamps_in (body.Request r))
 shown_request c to (Prepare t ws is) h = All-nil _
@@ -150,7 +151,7 @@ committed_shown c t s h = committed_backed c h.0 t s.closed h.1
 
 -- ---- what is read
 
--- an item's version stands at a stamp that is prepared and not discarded
+-- an item's version has a stamp that is prepared and not discarded: it is committed, where it isn't pending
 pub version_state : (ms : List Mark) (i t : ℕ) → has_version ms i t ≡ true → state_of ms t ≢ state.Pending → state_of ms t ≡ state.Committed
 version_state ms i t there none = go (list_any (commits t) ms) (list_any (discards t) ms) (list_any (prepares t) ms) refl refl refl
   where

@@ -1,5 +1,5 @@
--- What goes out for a stamp that is pending, and what comes of a trim. `PartitionKeeper::sweep`, `trim` and `answer` cite the
--- lemmas that are `pub`.
+-- What goes out for a stamp that is pending, and the outcome of a trim. `PartitionKeeper::sweep`, `trim` and `answer`
+-- cite the lemmas that are `pub`.
 use Rattle.std.proofs.Common.{◌≡◌, ◌≢◌, ℕ, Bool, true, false, not, ◌==◌, List, [], ◌∷◌, ◌++◌, map, filter, get_or, if◌then◌else◌, All, Contains, Option, Some, None, Result, Ok, Err, option_to_list, refl, sym, ap, ◌∙◌, subst, append-nil}
 use Rattle.std.specs.List.{list_any, range_with_len}
 use Rattle.std.proofs.lemmas.Bool.{and_parts}
@@ -110,7 +110,7 @@ swept_refused p t e f = go (is_pending (state_of p.marks t)) refl f
 
 -- ---- a trim
 
--- what a trim comes to: nothing is to be done, or there is one mark, or it is refused
+-- the outcome of a trim: nothing is to be done, or there is one mark, or it is refused
 data Trims (p : PartitionState) (i : ℕ) (r : Result (Option Mark) Refusal) : Type 0 where
   nothing_to_do : r ≡ Ok None → floor p.marks i ≡ latest p.marks i → Trims p i r
   one_mark : r ≡ Ok (Some (Trimmed i)) → Trims p i r

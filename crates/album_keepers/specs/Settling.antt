@@ -1,5 +1,6 @@
--- What a partition commits before it answers a Get. Whoever asks with a stamp has seen it committed at some partition;
--- so where it is pending here, it is committed here first, and what was read once is read by all who read later.
+-- What a partition commits before it answers a Get. The sender of a Get has seen each of its stamps committed at some
+-- partition. So where one is pending here, it is committed here first, and what was read once is read by all who read
+-- later.
 use Rattle.std.specs.Prelude.{◌≢◌, ℕ, Bool, ◌==◌, ◌&&◌, not, List, [], ◌∷◌, All, if◌then◌else◌}
 use Rattle.album_calls.specs.declared.messages.Body.{Body}
 use Rattle.album_calls.specs.declared.messages.Body.TheVariants as body

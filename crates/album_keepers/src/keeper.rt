@@ -180,7 +180,7 @@ impl<J: DeskNames> PartitionKeeper<J> {
         self.settle(desk, message)
     }
 
-    /// Commits those stamps of a Get that are pending here. Whoever asks with them has seen each committed at some
+    /// Commits those stamps of a Get that are pending here. The sender of the Get has seen each committed at some
     /// partition; so each participant has prepared it, and it will be committed here too. Committed now, it is found by
     /// whoever reads later, whether or not the writer's Commit has come by then.
     ///

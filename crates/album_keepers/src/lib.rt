@@ -6,7 +6,8 @@
 //! Read `envelopes` and `control` first, then `keeper`: a partition with the owner of its history. The keeper settles
 //! the stamps that a reader has seen committed elsewhere, does what the message asks, and makes each mark in both.
 //! `thread` is the loop around it, `mailbox` is how threads wait, and `start` starts them. specs/Replies.antt says when
-//! a reply counts for who has asked. The sessions are `album_sessions`', and the service is `album_threads`'.
+//! a reply counts for the session that has asked. The sessions are `album_sessions`', and the service is
+//! `album_threads`'.
 #![tactic(auto)]
 
 // What is sent to a partition and back: messages with their passes, and requests of whoever runs the service.
@@ -23,7 +24,7 @@ mod mailbox;
 mod start;
 mod thread;
 
-// The names by which all of that is tied to one service.
+// The names that tie all of that to one service.
 mod names;
 
 pub use album_partition::Figures;

@@ -2,8 +2,8 @@
 use album_board::BoardNames;
 use std::marker::Brand;
 
-/// Names the terms of one service's desk, beside its table and the list of its board. Mails, and what a partition's
-/// thread keeps, have a type parameter `J: DeskNames`, since no clause names what a channel holds.
+/// Names the terms of one service's desk, in addition to its table and the list of its board. Mails, and what a
+/// partition's thread keeps, have a type parameter `J: DeskNames`, since no clause names what a channel holds.
 pub trait DeskNames: BoardNames {
     ghost use Rattle.album_passes.specs.Knowledge.{Terms};
 

@@ -60,7 +60,7 @@ impl<J: DeskNames> Outbox<J> {
         }
     }
 
-    /// Refuses a message for which there was no memory. A partition that asks how a stamp stands gets no refusal: the
+    /// Refuses a message for which there was no memory. A partition that asks for a stamp's state gets no refusal: the
     /// stamp stays pending there, and may be swept again.
     fn refuse<R: Wait>(&self, rt: &R, from: Node, tag: u64) -> Result<(), AllocError> {
         match from {
@@ -118,8 +118,8 @@ fn taken<T: Drop>(sent: Result<(), SendError<T>>) -> Result<(), AllocError> {
     }
 }
 
-/// A partition's loop: the partition with the owner of its history, the mailboxes to which it sends, how many messages
-/// it took, and the flag that it sets where it has no memory to go on.
+/// A partition's loop: the partition with the owner of its history, the mailboxes that it sends to, and how many
+/// messages it took. It sets the flag `breakage` where it has no memory to continue.
 #[derive(Drop)]
 pub(crate) struct PartitionLoop<J: DeskNames> {
     part: u16,
@@ -177,7 +177,7 @@ impl<J: DeskNames> PartitionLoop<J> {
         unreachable!()
     }
 
-    /// Takes a mail. Returns whether the loop goes on.
+    /// Takes a mail. Returns whether the loop continues.
     ///
     /// # Errors
     ///
@@ -197,7 +197,7 @@ impl<J: DeskNames> PartitionLoop<J> {
             PartitionMail::Leave => return Ok(false),
             PartitionMail::Register(client, end) => self.outbox.register(client, end)?,
             PartitionMail::Forget(client) => self.outbox.forget(client),
-            // Who asks does without them, where there is no memory to send them.
+            // Whoever wants the figures does without them, where there is no memory to send them.
             PartitionMail::Figures(end) => drop(end.send(rt, self.keeper.figures())),
             PartitionMail::ControlRequest(request) => {
                 self.inquire(rt, alloc, desk, Box::into_inner(request))?;

@@ -62,20 +62,20 @@ by_length bytes part x true is others =
     longer_none part ∙ sym (kept_long (bytes ++ x ∷ part) longer_still)
 by_length bytes part x false is others = others (ltb-false _ _ is) ∙ ap kept (append_assoc bytes (x ∷ []) part)
 
--- bytes behind those of a line
+-- bytes after those of a line
 pub longer_kept : (bytes part : List ℕ) → length bytes ≤ MAX_LINE
     → fold longer (Some bytes) part ≡ kept (bytes ++ part)
 longer_kept bytes [] short = rw append-nil (sym (kept_short bytes short))
 longer_kept bytes (x ∷ part) short =
     by_length bytes part x (nat_lt MAX_LINE (length (bytes ++ x ∷ []))) refl (longer_kept (bytes ++ x ∷ []) part)
 
--- bytes that fit behind those of a line
+-- bytes that fit after those of a line
 pub longer_short : (bytes part : List ℕ) → length bytes + length part ≤ MAX_LINE
     → fold longer (Some bytes) part ≡ Some (bytes ++ part)
 longer_short bytes part short =
     longer_kept bytes part (omega arith) ∙ kept_short (bytes ++ part) (omega (arith, length-append bytes part))
 
--- bytes that do not fit behind those of a line
+-- bytes that do not fit after those of a line
 pub longer_long : (bytes part : List ℕ) → length bytes ≤ MAX_LINE → MAX_LINE < length bytes + length part
     → fold longer (Some bytes) part ≡ None
 longer_long bytes part short long =
@@ -104,7 +104,7 @@ lines_of_joined lines rest all none = ap (λ (c : List Line × Line). c.0 ++ las
 pub continued_append : (a b : List Line) (c : List Line × Line) → continued (a ++ b) c ≡ continued a (continued b c)
 continued_append a b c = rw append_assoc refl
 
--- one more line is put behind those of a cut
+-- one more line is put after those of a cut
 pub line_more : (lines : List LineIn) (line : Line) (rest front behind : List ℕ) (new : LineIn)
     → rest ≡ front ++ 10 ∷ behind → IsTrue (has_no_newline front) → said new ≡ fold longer line front
     → continued (map said (lines ++ new ∷ [])) (cut (Some []) behind) ≡ continued (map said lines) (cut line rest)
@@ -112,7 +112,7 @@ line_more lines line rest front behind new parts none is =
     rw (map-append, parts, cut_line line front behind none, is)
     (continued_append (map said lines) (fold longer line front ∷ []) (cut (Some []) behind))
 
--- no line is put behind those of a cut
+-- no line is put after those of a cut
 pub line_last : (lines : List Line) (line : Line) (rest : List ℕ) → IsTrue (has_no_newline rest)
     → continued lines (cut line rest) ≡ (lines, fold longer line rest)
 line_last lines line rest none = rw (cut_part line rest none, append-nil) refl

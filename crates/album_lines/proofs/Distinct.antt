@@ -37,7 +37,7 @@ none_seen ns f none = rw (any_same f (λ n. false) none ns, never ns) (and-true 
     never [] = refl
     never (m ∷ ms) = never ms
 
--- the order and `==` tell the same keys apart
+-- the order and `==` agree on which keys are the same
 pub same_key : (k q : ℕ) → is_at (nat_cmp k) q ≡ (q == k)
 same_key k q = same_from_decides (is_at (nat_cmp k) q) (q == k) by_order (Decides-eqb q k)
   where
@@ -47,7 +47,7 @@ same_key k q = same_from_decides (is_at (nat_cmp k) q) (q == k) by_order (Decide
       λ e. rw e ((eq_by_cmp_equiv nat_cmp_total).refl k),
     )
 
--- `==` doesn't tell its sides apart
+-- `==` is symmetric
 same_back : (k q : ℕ) → (q == k) ≡ (k == q)
 same_back k q = same_from_decides (q == k) (k == q) (Decides-eqb q k) back
   where
@@ -72,7 +72,7 @@ first_new old new k ns updates unseen =
     go true false o = refl
     go false d o = refl
 
--- the group at an index, and those behind it
+-- the group at an index, and those after it
 pub numbers_from : (gs : List GroupShape) (i : ℕ) (g : GroupShape)
     → i < length gs
     → g ≡ get_or gs i g
@@ -82,7 +82,7 @@ numbers_from gs i g below is =
     drop-cons gs i g below ∙ rw (add-one) (ap (λ x. x ∷ drop (suc i) gs) (sym is)) in
     ap (λ xs. numbers (map spelled_group xs)) first
 
--- what `insert` answers
+-- what `insert` returns
 pub new_from_added : (added seen : Bool) → added ≡ true → added ≡ not seen → seen ≡ false
 new_from_added added false yes' is = refl
 new_from_added added true yes' is = absurd (cc)

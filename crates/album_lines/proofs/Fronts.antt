@@ -1,4 +1,4 @@
--- The token at the front of a text, and what stands behind it. For `tokens`.
+-- The token at the front of a text, and what follows it. For `tokens`.
 use Rattle.std.proofs.Common.{nat_lt, ◌≡◌, ◌<◌, ◌+◌, ◌^◌, ℕ, suc, List, [], ◌∷◌, ◌++◌, length, take, drop, Bool, true, false, cond, not, ◌||◌, ◌==◌, Some, None, decimal, refl, sym, ap, ap₂, ◌∙◌, arith}
 use Rattle.std.specs.List.{list_all, prefix_len, slice_get}
 use Rattle.std.proofs.lemmas.List.{take-append-drop}
@@ -95,7 +95,7 @@ blanks_passed (x ∷ xs) = go (is_blank x) refl (prefix_len is_blank xs) (blanks
     go true e n rest = let step : 1 + n ≡ suc n = omega arith in rw step (rest ∙ sym (blank_first x xs e))
     go false e n rest = refl
 
--- ---- where a token stands
+-- ---- where a token is
 
 begun_text : (p : lexed.Place) (s : List ℕ) (ls : List Lexeme) → may_begin p ≡ true → begins_colon ls ≡ false
     → punctuate p (token (string s) ∷ ls) ≡ string s ∷ punctuate lexed.after_value ls
@@ -200,7 +200,7 @@ list_ended old new more m g = m.2 ∙ closed_list m.0 more m.1 ∙ ap (λ ts. en
 pub object_ended : (old new : List Token) (more : List ℕ) → MayClose old (125 ∷ more) → GoesOn more new → old ≡ end_object ∷ new
 object_ended old new more m g = m.2 ∙ closed_object m.0 more m.1 ∙ ap (λ ts. end_object ∷ ts) g.1
 
--- ---- behind a value
+-- ---- after a value
 
 pub comma_behind : (text text' more rest : List ℕ)
     → lex between text' ≡ lex between text

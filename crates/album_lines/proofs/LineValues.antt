@@ -31,7 +31,7 @@ pub data_read : (bytes : List ℕ) (d : Data) → IsUtf8 bytes → read bytes �
 unfolding data_of
 data_read bytes d utf8 is = rw (is_utf8-from_IsUtf8 bytes utf8, is) refl
 
--- bytes of which a value was read
+-- bytes that a value was read from
 pub data_spelled : (bytes : List ℕ) (d : Data) → data_of bytes ≡ Ok d → IsJson d bytes
 unfolding data_of
 data_spelled bytes d = go (is_utf8 bytes) refl
@@ -40,11 +40,11 @@ data_spelled bytes d = go (is_utf8 bytes) refl
     go true e h = record { utf8 = IsUtf8-from_is_utf8 bytes e; value = value_there _ BadLine d h }
     go false e h = cc
 
--- no value stands at the front of the tokens
+-- no value is at the front of the tokens
 pub none_read : (bytes : List ℕ) → json.value max_depth (tokens bytes) ≡ None → read bytes ≡ None
 none_read bytes none = rw none refl
 
--- more stands behind the value
+-- more follows the value
 pub more_read : (bytes : List ℕ) (j : json.Json) (rest : List Token)
     → json.value max_depth (tokens bytes) ≡ Some (j, rest)
     → rest ≢ []

@@ -1,4 +1,4 @@
--- What is read of a list, behind what was read before. For the invariants of the loops that read lists.
+-- What is read of a list, after what was read before. For the invariants of the loops that read lists.
 use Rattle.std.proofs.Common.{List, ◌++◌, Result, Ok}
 use Rattle.album_stamps.specs.declared.refusals.Refusal.{Refusal}
 use Rattle.album_stamps.specs.Outcome.{◌>>=◌}

@@ -31,7 +31,7 @@ all_in_prefix p (x ∷ xs) = by_test (p x) refl (prefix_len p xs) (all_in_prefix
 none_before_first : (text : List ℕ) → IsTrue (has_no_newline (take (newline_at text) text))
 none_before_first text = all_in_prefix (λ byte. not (is_newline byte)) text
 
--- the first newline, as a search for it tells it
+-- the first newline, as a search for it returns it
 pub at_first : (text : List ℕ) (r : Option ℕ) → IsFirstByte (is_byte 10) text r → r ≡ position is_newline text
 at_first text None h =
     let past : newline_at text ≡ length text =
@@ -42,7 +42,7 @@ at_first text (Some k) h =
     position_or_len_is is_newline text k 0 (omega (arith, h.0.high)) (λ i below. not_true _ (h.0.before i (omega arith) below)) (λ _. h.1) in
     rw (there, lt-ltb k (length text) h.0.high) refl
 
--- before the first newline stands none
+-- no newline is before the first one
 pub none_before : (text : List ℕ) (at : ℕ) → position is_newline text ≡ Some at → IsTrue (has_no_newline (take at text))
 none_before text at is = by_test (nat_lt _ (length text)) is
   where
@@ -53,7 +53,7 @@ none_before text at is = by_test (nat_lt _ (length text)) is
         subst P first (none_before_first text)
     by_test false none = cc
 
--- the first newline stands between what is before it and what is behind it
+-- a text is what is before its first newline, that newline, and what is after it
 pub parts_at : (text : List ℕ) (at : ℕ)
     → position is_newline text ≡ Some at
     → text ≡ take at text ++ 10 ∷ drop (at + 1) text

@@ -1,4 +1,5 @@
--- A value as the grammar has it, beside the value that it is. For `data`: `in_range` and `is_read`; for `fields`, the others.
+-- A value as the grammar has it, and the value that it is. For `data`: `in_range` and `is_read`; for `fields`, the
+-- others.
 use Rattle.std.proofs.Common.{◌≡◌, ℕ, zero, suc, List, [], ◌∷◌, length, map, Bool, true, false, cond, ◌&&◌, is_some, bytes_eq, Ordering, Less, Equal, Greater, Option, Some, None, option_map, option_and_then, unwrap_or, is_eq, Bor, Global, Vec, Err, refl, sym, ap, ◌∙◌}
 use Rattle.std.specs.Cmp.Lexicographic.{slice_cmp}
 use Rattle.std.specs.List.{list_any, list_all}
@@ -121,7 +122,7 @@ found_put k l d ms = go (bytes_eq l k) refl
         get_member-put_other k l d ms
         (λ same. let yes = (bytes_eq-Decides l k).1 (sym same) in cc)
 
--- the last member of a name, or what stood there before
+-- the last member of a name, or what was there before
 abbrev last_or : Option json.Json → Option Data → Option Data
 last_or None before = before
 last_or (Some j) before = Some (data_in j)

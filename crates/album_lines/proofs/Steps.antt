@@ -90,7 +90,7 @@ zip_through P Q R both (x ∷ xs) [] zs g h = absurd g
 zip_through P Q R both (x ∷ xs) (y ∷ ys) [] g h = absurd h
 zip_through P Q R both (x ∷ xs) (y ∷ ys) (z ∷ zs) g h = (both x y z g.0 h.0, zip_through P Q R both xs ys zs g.1 h.1)
 
--- what stands between two lists that are paired
+-- a list between two lists that are paired
 pub zip_between : {A B C : Type 0} (P : A → B → Type 0) (Q : B → C → Type 0) (R : A → C → Type 0)
     → ((x : A) (z : C) → R x z → (y : B) × P x y × Q y z)
     → (xs : List A) (zs : List C) → AllZip R xs zs → (ys : List B) × AllZip P xs ys × AllZip Q ys zs

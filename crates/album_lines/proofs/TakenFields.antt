@@ -393,7 +393,7 @@ takes_policy k ts rest f x e t =
     subst (λ name. TakesField name ts rest f (with_policy f x)) (sym e)
     (t.0, deeper 0 3 ts rest t.0 (omega arith) t.1, λ ms are. are_with_policy ms f t.0 x t.2 t.3 are)
 
--- ---- the loop over the members: what was taken stands before what is taken of the rest
+-- ---- the loop over the members: what was taken comes before what is taken of the rest
 
 abbrev pub onto : json.Members → json.Members → json.Members
 onto json.no_members ms = ms

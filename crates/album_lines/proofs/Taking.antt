@@ -105,7 +105,7 @@ pub all_taken : {A : Type 0} (deep : ℕ) (read : Data → Result A Refusal) (ts
     → Takes (suc deep) (λ d. list_of d >>= each read) ts xs rest
 all_taken deep read ts us rest xs e all = (json.array all.0, opened deep ts us rest all.0 e all.1, all.2, all.3)
 
--- ---- a loop over the items: what was read stands before what is read of the rest
+-- ---- a loop over the items: what was read comes before what is read of the rest
 
 pub none_yet : {A : Type 0} (deep : ℕ) (read : Data → Result A Refusal) (ts : List Token) (front : List A)
     → front ≡ []

@@ -1,4 +1,4 @@
--- The JSON value of a line, and what must stand where in it, or the line is refused.
+-- The JSON value of a line, and the parts that it must have, or the line is refused.
 use Rattle.std.specs.Prelude.{ℕ, List, [], ◌∷◌, Bool, true, ◌&&◌, ◌==◌, if◌then◌else◌, bytes_eq, Option, Some, None, is_some, option_and_then, Result, Ok, Err}
 use Rattle.std.specs.List.{list_any}
 use Rattle.std.specs.Option.{ok_or}
@@ -76,7 +76,7 @@ list_of d = ok_or (as_array d) BadRequest
 abbrev pub sized : ℕ → Data → Result Bool Refusal
 sized n d = list_of d >>= λ items. guard (items_len items == n)
 
--- what stands under a name of an object, and at an index of a list, as `read` reads it
+-- the value under a name of an object, and the one at an index of a list, as `read` reads it
 abbrev pub under : {A : Type 0} → (Data → Result A Refusal) → List ℕ → Data → Result A Refusal
 under read name d = field_of name d >>= read
 

@@ -1,4 +1,4 @@
--- The tokens of what is left of a text, by what stands before it.
+-- The tokens of what is left of a text, by what comes before it.
 use Rattle.std.specs.Prelude.{◌≡◌, ◌||◌, ◌==◌, ℕ, List, Bool, true, false}
 use Rattle.json.specs.Token.{Token}
 use Rattle.json.specs.Lex as lexed
@@ -6,7 +6,7 @@ use Rattle.json.specs.Lex.{between, lex, punctuate, may_begin, may_close, begins
 use Rattle.album_lines.specs.declared.tokens.Place.{Place}
 use Rattle.album_lines.specs.declared.tokens.Place.TheVariants.{Fresh, AfterComma, AfterValue}
 
--- a bracket or a colon stands before it, a comma, or a value
+-- what comes before it: a bracket or a colon, a comma, or a value
 abbrev pub place_of : Place → lexed.Place
 place_of Fresh = lexed.fresh
 place_of AfterComma = lexed.after_comma
@@ -22,10 +22,10 @@ MayBegin ts text = (p : lexed.Place) × (may_begin p ≡ true) × (ts ≡ punctu
 abbrev pub MayClose : List Token → List ℕ → Type 0
 MayClose ts text = (p : lexed.Place) × (may_close p ≡ true) × (ts ≡ punctuate p (lex between text))
 
--- the tokens are those behind a value that ends where this text begins
+-- the tokens are those after a value that ends where this text begins
 abbrev pub GoesOn : List ℕ → List Token → Type 0
 GoesOn text ts = (begins_colon (lex between text) ≡ false) × (punctuate lexed.after_value (lex between text) ≡ ts)
 
--- it stands between tokens: a space, a tab, a newline or a carriage return
+-- a byte between tokens: a space, a tab, a newline or a carriage return
 abbrev pub is_blank : ℕ → Bool
 is_blank byte = (byte == 32) || ((byte == 9) || ((byte == 10) || (byte == 13)))

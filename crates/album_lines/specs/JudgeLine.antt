@@ -80,7 +80,7 @@ pub record AreGroups (groups : List Listing) (d : Data) : Type 0 where
   pub each : IsList IsGroup groups d
   pub apart : AllPairs (λ a b. a ≢ b) (map (λ group. group.number) groups)
 
--- the members that may stand in a line
+-- the names of the members that a line may have
 abbrev pub member_names : List (List ℕ)
 member_names =
     codes "entries" ∷ codes "kind" ∷ codes "group" ∷ codes "groups" ∷ codes "owner"

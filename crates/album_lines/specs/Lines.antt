@@ -23,7 +23,7 @@ abbrev pub longer : Line → ℕ → Line
 longer None byte = None
 longer (Some bytes) byte = kept (bytes ++ byte ∷ [])
 
--- the lines that end in a text, of which the first began before it, and what has come of the next
+-- the lines that end in a text, where the first began before it, and the next line as far as it has come
 abbrev pub cut : Line → List ℕ → List Line × Line
 cut line [] = ([], line)
 cut line (byte ∷ text) =
@@ -34,13 +34,13 @@ cut line (byte ∷ text) =
 abbrev pub continued : List Line → List Line × Line → List Line × Line
 continued lines more = (lines ++ more.0, more.1)
 
--- what stands behind the last newline is a line where it has a byte
+-- what follows the last newline is a line where it has a byte
 abbrev pub last : Line → List Line
 last None = None ∷ []
 last (Some []) = []
 last (Some (byte ∷ bytes)) = Some (byte ∷ bytes) ∷ []
 
--- the lines that end in a text from its start, and what has come of the next
+-- the lines that end in a text from its start, and the next line as far as it has come
 abbrev pub ended : List ℕ → List Line
 ended text = (cut (Some []) text).0
 

@@ -1,4 +1,4 @@
--- The shapes of entries, members and groups in a line: what stands where, before any of it is tested further.
+-- The shapes of entries, members and groups in a line: which parts they have, before any of these is tested further.
 use Rattle.std.specs.Prelude.{ℕ, List, codes, bytes_eq, if◌then◌else◌, Option, Some, None, Result, Ok}
 use Rattle.std.specs.Option.{ok_or}
 use Rattle.serde_json.specs.Data.{Data}

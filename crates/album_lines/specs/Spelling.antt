@@ -37,7 +37,7 @@ pub record HasOnly (names : List (List ℕ)) (d : Data) : Type 0 where
   pub is_object : d ≡ object members
   pub known : (name : List ℕ) (value : Data) → get name d ≡ Some value → Contains names name
 
--- a text of which this holds
+-- a text with this property
 abbrev pub IsText : (List ℕ → Type 0) → Data → Type 0
 IsText P d = (text : List ℕ) × (d ≡ string text) × P text
 
@@ -71,7 +71,7 @@ pub record IsEntry (entry : Ace) (d : Data) : Type 0 where
   pub flags : IsTrue (is_within (flag_bits entry.flags) all_flag_bits)
   pub who : IsWhoText entry.who entry.flags who_text
 
--- a list of entries that such an object may carry
+-- a list of entries that an object of this kind may carry
 pub record IsAccessList (holder : Holder) (entries : List Ace) (d : Data) : Type 0 where
   pub each : IsList IsEntry entries d
   pub few : length entries ≤ MAX_ENTRIES

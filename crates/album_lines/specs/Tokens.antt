@@ -46,7 +46,7 @@ abbrev pub are_named : List (List ℕ) → json.Members → Bool
 are_named names json.no_members = true
 are_named names (json.member k j ms) = is_among names k && are_named names ms
 
--- one more behind them
+-- one more after them
 abbrev pub with_last : json.Members → List ℕ → json.Json → json.Members
 with_last json.no_members k j = json.member k j json.no_members
 with_last (json.member l i ms) k j = json.member l i (with_last ms k j)
@@ -77,6 +77,6 @@ TakesField name ts left old new =
     × Begins 3 ts j left
     × ((ms : json.Members) → AreFields ms old → AreFields (with_last ms name j) new)
 
--- the tokens begin with the members of which these fields are read
+-- the tokens begin with the members that these fields are read from
 abbrev pub TakesFields : List Token → Fields → List Token → Type 0
 TakesFields ts f left = (ms : json.Members) × BeginMembers 3 ts ms left × AreFields ms f

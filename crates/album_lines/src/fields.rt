@@ -1,5 +1,5 @@
-//! What stands in a JSON value: object = {name: value, ..}, list = [value, ..], a text, a number. What isn't there, or
-//! is of another form, is a bad request.
+//! The parts of a JSON value: object = {name: value, ..}, list = [value, ..], a text, a number. What isn't there, or is
+//! of another form, is a bad request.
 ghost use Rattle.std.specs.Prelude.{◌≡◌, map, option_map, true, bytes_eq};
 ghost use Rattle.std.specs.List.{list_any, list_all};
 ghost use Rattle.json.specs.Value.{members_view};
@@ -36,7 +36,7 @@ fn has_only_names(members: &[(&str, Value<'_>)], names: &[&str]) -> bool
     are_known(members, names)
 }
 
-// The chain stands alone, where the clause that mirrors it is proved without a word.
+// The chain is a function of its own, where the clause that mirrors it is proved without a word.
 fn are_known(members: &[(&str, Value<'_>)], names: &[&str]) -> bool
     ensures { result ≡ list_all (λ m. list_any (λ n. bytes_eq n.now m.0.now) names.now) members.now }
 {
@@ -64,7 +64,7 @@ pub fn field<'v, 'a>(value: &'v Value<'a>, name: &str) -> Result<&'v Value<'a>, 
 ///
 /// # Errors
 ///
-/// `BadRequest`, where nothing stands there, or no text.
+/// `BadRequest`, where nothing is there, or no text.
 pub fn text_under<'a>(value: &Value<'a>, name: &str) -> Result<&'a str, Refusal>
     ensures { Gives (λ t. t.now) result (under text_of name.now (value_data value.now)) }
 {
@@ -75,7 +75,7 @@ pub fn text_under<'a>(value: &Value<'a>, name: &str) -> Result<&'a str, Refusal>
 ///
 /// # Errors
 ///
-/// `BadRequest`, where nothing stands there, or no whole number.
+/// `BadRequest`, where nothing is there, or no whole number.
 pub fn whole_under(value: &Value<'_>, name: &str) -> Result<u64, Refusal>
     ensures { Gives (λ n. n) result (under whole_of name.now (value_data value.now)) }
 {
@@ -111,7 +111,7 @@ pub fn item<'v, 'a>(value: &'v Value<'a>, i: usize) -> Result<&'v Value<'a>, Ref
 ///
 /// # Errors
 ///
-/// `BadRequest`, where nothing stands there, or no list.
+/// `BadRequest`, where nothing is there, or no list.
 pub fn list_under<'v, 'a>(value: &'v Value<'a>, name: &str) -> Result<&'v Vec<Value<'a>>, Refusal>
     ensures { Gives (λ v. items_data v.now.items) result (under list_of name.now (value_data value.now)) }
 {

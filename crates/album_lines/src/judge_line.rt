@@ -40,7 +40,7 @@ pub struct JudgeLine {
 }
 
 /// Reads a judge line: what it asks, or the first test that it fails. The scratch is room that is kept from line
-/// to line, whatever stood in it.
+/// to line, whatever was in it.
 ///
 /// # Errors
 ///
@@ -51,7 +51,7 @@ pub struct JudgeLine {
 pub fn read_judge(alloc: Global, scratch: &mut Scratch, bytes: &[u8]) -> Result<JudgeLine, Refusal>
     ensures { Gives question result (judge_of bytes.now) }
 {
-    // What is wrong with a line only its tree tells.
+    // Only the tree shows what is wrong with a line.
     if let Some(shape) = shape_of_tokens(alloc, bytes) {
         return values_of(alloc, &shape);
     }

@@ -139,7 +139,7 @@ fn group_shape<'a>(alloc: Global, value: &Value<'a>) -> Result<GroupShape<'a>, R
     Ok(GroupShape { number, members })
 }
 
-/// Whether no number stands twice.
+/// Whether no two groups have one number.
 pub(crate) fn are_distinct(alloc: Global, groups: &[GroupShape]) -> Result<bool, AllocError>
     ensures { IfOk result (λ single. single ≡ are_distinct (numbers (map spelled_group groups.now))) }
 {

@@ -1,5 +1,5 @@
 //! The shape of a judge line, taken token by token, with no tree between. Of a line that hasn't the shape nothing is
-//! taken, nor of one that has it with an escape: the line's tree tells what it is, or what is wrong with it.
+//! taken, nor of one that has it with an escape: the line's tree shows what it is, or what is wrong with it.
 ghost use Rattle.std.specs.Prelude.{◌≡◌, ◌∷◌, [], ◌++◌, ◌<◌, List, Some, Ok, IfSome, OnSome, map, length};
 ghost use Rattle.json.specs.Token.{begin_array, end_array};
 ghost use Rattle.json.specs.Json.{object};
@@ -178,7 +178,7 @@ fn take_each_entry<'a>(alloc: Global, tokens: &mut Tokens<'a>) -> Option<Vec<Ent
     Some(shapes)
 }
 
-/// Puts an entry behind the shapes.
+/// Appends an entry to the shapes.
 fn put_entry<'a>(tokens: &mut Tokens<'a>, shapes: &mut Vec<EntryShape<'a>>) -> Option<()>
     ensures { OnSome result ((entry : SpelledEntry)
         × (map spelled_entry shapes.new.items ≡ map spelled_entry shapes.old.items ++ entry ∷ [])

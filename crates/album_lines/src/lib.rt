@@ -13,7 +13,7 @@
 // A text in pieces, and its lines.
 mod lines;
 
-// The JSON value of a line, and what stands where in it.
+// The JSON value of a line, and its parts.
 mod fields;
 mod numbers;
 mod tokens;

@@ -15,7 +15,7 @@ use std::marker::Model;
 #[derive(Debug, PartialEq, Drop)]
 pub enum LineIn {
     Text(Vec<u8>),
-    /// More than `MAX_LINE` bytes, of which none is kept.
+    /// More than `MAX_LINE` bytes. None of them is kept.
     TooLong,
 }
 
@@ -54,7 +54,7 @@ fn are_blank(bytes: &[u8]) -> bool
 }
 
 /// The lines of a text that comes in pieces. A newline ends a line, and no other byte does. Contracts
-/// see what has come of the line that isn't ended, and nothing else is kept.
+/// see the line that isn't ended, as far as it has come, and nothing else is kept.
 #[derive(Drop)]
 pub struct Lines {
     alloc: Global,
@@ -124,7 +124,7 @@ impl Lines {
         }
     }
 
-    /// The lines that end in a text are put behind those that are there, and what has come of the next is given.
+    /// Appends the lines that end in a text to those that are there, and returns the next line as far as it has come.
     fn later_lines(alloc: Global, lines: &mut Vec<LineIn>, text: &[u8]) -> Result<Lines, AllocError>
         ensures { IfOk result (λ next.
             (map said lines.new.items, next)
@@ -141,7 +141,7 @@ impl Lines {
         Ok(next)
     }
 
-    /// The unfinished line goes on, with no newline in the part.
+    /// Extends the unfinished line by the part, which has no newline.
     fn add(&mut self, part: &[u8]) -> Result<(), AllocError>
         ensures ok { OnOk result (self.new ≡ fold longer self.old part.now) }
         ensures short { IfSome self.new (λ bytes. length bytes ≤ MAX_LINE) }
@@ -167,7 +167,7 @@ impl Lines {
     }
 }
 
-/// The text before the first newline, and the text behind it.
+/// The text before the first newline, and the text after it.
 fn first_line(text: &[u8]) -> Option<(&[u8], &[u8])>
     ensures found { IfSome result (λ parts. text.now ≡ parts.0.now ++ 10 ∷ parts.1.now) }
     ensures first { IfSome result (λ parts. IsTrue (has_no_newline parts.0.now)) }
@@ -189,8 +189,8 @@ pub fn any_pieces()
         cut line (a ++ b) ≡ continued (cut line a).0 (cut (cut line a).1 b) }
 {}
 
-/// A law: the lines of a text are the parts between its newlines, each whole where it is not too long,
-/// and behind the last newline only a part that has a byte.
+/// A law: the lines of a text are the parts between its newlines, each whole where it is not too long.
+/// What follows the last newline is a line only where it has a byte.
 pub fn joined_lines()
     ensures { (lines : List (List ℕ)) (rest : List ℕ) →
         IsTrue (list_all has_no_newline lines) → IsTrue (has_no_newline rest) →

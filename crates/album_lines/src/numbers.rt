@@ -34,7 +34,7 @@ fn positive(numeral: &Numeral<'_>) -> Option<Number>
     }
 }
 
-/// What stands behind a minus. `-0` is a float.
+/// The number of a numeral after a minus. `-0` is a float.
 fn negative(numeral: &Numeral<'_>) -> Option<Number>
     ensures { option_map number_view result ≡ number_from true numeral.now }
 {

@@ -17,7 +17,7 @@ use std::simd::prelude::*;
 /// So many digits a number has at most: more don't fit into 64 bits with any digits.
 const MAX_DIGITS: usize = 18;
 
-/// What stands before what is left: a bracket or a colon, a comma, or a value.
+/// What comes before what is left: a bracket or a colon, a comma, or a value.
 #[derive(Clone, Copy, Drop)]
 pub(crate) enum Place {
     Fresh,
@@ -138,7 +138,7 @@ impl<'a> Tokens<'a> {
         }
     }
 
-    /// What stands behind this bracket or brace, where it is next and may close.
+    /// What follows this bracket or brace, where it is next and may close.
     fn behind_closing(&self, byte: u8) -> Option<&'a str>
         ensures { IfSome result (λ more. MayClose self.now (byte ∷ more.now)) }
     {
@@ -148,7 +148,7 @@ impl<'a> Tokens<'a> {
         }
     }
 
-    /// Goes on behind a value.
+    /// Continues with the text, which follows a value.
     fn go_on(&mut self, text: &'a str) -> Option<()>
         ensures { OnSome result (GoesOn text.now self.new) }
     {
@@ -167,7 +167,7 @@ impl<'a> Tokens<'a> {
     }
 }
 
-/// A text in quotes, and what stands behind it.
+/// A text in quotes, and what follows it.
 fn quoted(text: &str) -> Option<(&str, &str)>
     ensures { IfSome result (λ parts.
         lex between text.now ≡ token (string parts.0.now) ∷ lex between parts.1.now) }
@@ -214,7 +214,7 @@ fn plain_end(text: &[u8], from: usize) -> usize
     i
 }
 
-/// A whole number, and what stands behind it.
+/// A whole number, and what follows it.
 fn whole(text: &str) -> Option<(u64, &str)>
     ensures { IfSome result (λ parts. (parts.0 < 2 ^ 64)
         × (lex between text.now ≡ token (number (decimal parts.0)) ∷ lex between parts.1.now)) }
@@ -259,7 +259,7 @@ fn ends_word(text: &str) -> bool
     }
 }
 
-/// Whether a value may end here, with no comma behind it.
+/// Whether a value may end here, with no comma after it.
 fn ends_here(text: &str) -> bool
     ensures { IsTrue result → begins_colon (lex between text.now) ≡ false }
 {
@@ -269,7 +269,7 @@ fn ends_here(text: &str) -> bool
     }
 }
 
-/// What stands behind this byte, where it is next.
+/// What follows this byte, where it is next.
 fn behind(text: &str, byte: u8) -> Option<&str>
     ensures { IfSome result (λ more. text.now ≡ byte ∷ more.now) }
 {
@@ -293,7 +293,7 @@ fn unspaced(text: &str) -> &str
     }
 }
 
-/// Whether a blank may stand at the front. In most lines there is none, so this comes before they are counted.
+/// Whether a blank may be at the front. In most lines there is none, so this comes before they are counted.
 fn may_be_blank(text: &str) -> bool {
     match text.as_bytes().first() {
         Some(byte) => *byte <= b' ',
@@ -301,7 +301,7 @@ fn may_be_blank(text: &str) -> bool {
     }
 }
 
-/// How many blanks stand at the front.
+/// How many blanks are at the front.
 fn blanks_len(text: &[u8]) -> usize
     ensures { result ≡ prefix_len is_blank text.now }
 {

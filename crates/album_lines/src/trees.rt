@@ -15,7 +15,7 @@ use std::str;
 /// How deep the brackets of a line may be nested.
 const DEEPEST: usize = 127;
 
-/// The JSON value of a line. The scratch is room that is kept from line to line, whatever stood in it.
+/// The JSON value of a line. The scratch is room that is kept from line to line, whatever was in it.
 ///
 /// # Errors
 ///

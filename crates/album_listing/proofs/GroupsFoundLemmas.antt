@@ -151,7 +151,7 @@ module _ (who : Principal) (rows : List ReadVersion) where
   turns-fixed zero groups fixed = refl
   turns-fixed (suc n) groups fixed = ap (iterate turn n) (sym fixed) ∙ turns-fixed n groups fixed
 
-  -- the next turn goes on from what one turn kept
+  -- the next turn keeps what one turn kept
   next : (p : ℕ → Bool) (groups : List ℕ) → groups ≡ filter p (groups_read rows) → Goes p (test groups)
       → Goes (has groups) (has (turn groups))
   next p groups is goes n h =

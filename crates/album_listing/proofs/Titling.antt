@@ -1,4 +1,4 @@
--- The rows that are listed are just those that may be shown (`shown-listed`, `listed-shown`), for the law
+-- The rows that are listed are exactly those that may be shown (`shown-listed`, `listed-shown`), for the law
 -- `titles_are_shown_where_granted`.
 use Rattle.std.proofs.Common.{◌≡◌, ◌<◌, ◌==◌, ℕ, zero, suc, length, List, [], ◌∷◌, Bool, true, false, Option, Some, None, Contains, option_map, refl, sym, ap, subst, ◌∙◌, arith, if◌then◌else◌}
 use Rattle.std.specs.List.{filter_map, cons_option, slice_index_or}
@@ -16,9 +16,9 @@ use Rattle.album_listing.specs.Reasons.{is_granted_on}
 use Rattle.album_listing.specs.Showing.{IsTitledIn, MayBeShown}
 use Rattle.album_listing.specs.declared.rows.Row.{Row}
 
--- ---- what stands among what a test gives
+-- ---- the rows that are made of a list of items
 
--- the item of which the row was made
+-- the item that the row was made of
 abbrev MadeOf : (ℕ → Option Row) → List ℕ → Row → Type 0
 MadeOf f xs row = (x : ℕ) × Contains xs x × (f x ≡ Some row)
 

@@ -10,7 +10,7 @@ use Rattle.album_items.specs.declared.values.Value.{Value}
 use Rattle.album_reader.specs.Answers.{ReadVersion}
 use Rattle.album_views.specs.Seen.{seen}
 
--- by which policy it is ruled, for whom, whether that is in a group, and what is seen of each item
+-- the policy and the principal of a ruling, the groups that the principal is in, and what is seen of each item
 pub record Basis : Type 0 where
   pub policy : Policy
   pub principal : Principal

@@ -31,8 +31,8 @@ bare_read rows item = option_map (λ version. bare version.1) (version_read rows
 pub record AreRuledAlike (ask : Ask) (one other : List ReadVersion) : Type 0 where
   pub bared : (item : ℕ) → IsNamed (seen one) ask item → bare_read one item ≡ bare_read other item
 
--- The principal can tell the two apart by nothing that it may read. What is not named differs as it will. Of what is
--- named the stamps differ, and titles, contents and children, wherever these are not granted.
+-- The two are alike in all that the principal may read. What is not named may differ in any way. What is named may
+-- differ only in its stamp, its title, its content and its children, wherever these are not granted.
 pub record AreAlikeFor
     (policy : Policy) (principal : Principal) (ask : Ask) (one other : List ReadVersion)
     : Type 0 where

@@ -1,4 +1,4 @@
--- What a view shows beside the values of items.
+-- What a view shows in addition to the values of items.
 use Rattle.std.specs.Prelude.{ℕ, List, []}
 use Rattle.std.specs.Option.{option_map_or}
 use Rattle.album_lists.specs.declared.lists.Ace.{Ace}

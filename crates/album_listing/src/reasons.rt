@@ -6,7 +6,7 @@ use album_access::Mask;
 use album_eval::Verdict;
 use album_items::ItemId;
 
-/// A mask that may be asked of an object. A need has alternatives, of which one is enough.
+/// A mask that may be asked of an object. A need has alternatives, and one of them is enough.
 #[derive(Clone, Copy, Debug)]
 pub struct Alternative {
     pub object: ItemId,

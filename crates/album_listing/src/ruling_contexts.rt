@@ -15,7 +15,7 @@ use album_views::View;
 use std::alloc::Global;
 use std::collections::BTreeSet;
 
-/// By which policy it is ruled, for whom, the groups that this is in by a view, and what the view shows.
+/// The policy and the principal of a ruling, the groups that the principal is in by a view, and what the view shows.
 #[derive(Debug, Drop)]
 pub struct RulingContext<'a> {
     policy: Policy,

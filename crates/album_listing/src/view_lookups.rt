@@ -8,7 +8,7 @@ use album_stamps::Stamp;
 use album_views::View;
 use std::alloc::Global;
 
-/// A view, with what stands for each item that it does not show, and for each list.
+/// A view, with a missing value for each item that it does not show, and an empty list for each list that it doesn't.
 #[derive(Debug, Drop)]
 pub struct ViewLookup<'a> {
     view: &'a View,

@@ -1,5 +1,5 @@
-//! Lists whose copies may share their memory. They stand here, since this is the lowest crate that has lists to share:
-//! access lists. In crates above, lists of items, of members and of stamps are such lists too.
+//! Lists whose copies may share their memory. They are here, since this is the lowest crate that has lists to share:
+//! access lists. In crates above, lists of items, of members and of stamps are shared lists too.
 ghost use Rattle.std.specs.Prelude.{◌≡◌, ◌⊎◌, List};
 ghost use Rattle.std.specs.List.{AllZip};
 

@@ -25,7 +25,7 @@ pub enum Who {
     OwnerGroup,
     /// `EVERYONE@`
     Everyone,
-    /// `ANONYMOUS@`: who asks without a name
+    /// `ANONYMOUS@`: a requester without authentication
     Anonymous,
     /// `AUTHENTICATED@`: every user
     Authenticated,
@@ -48,7 +48,7 @@ pub fn whos_by_text()
         → (who_of flags text ≡ Some w) ↔ IsWhoText w flags text }
 {}
 
-/// What stands before this end.
+/// What comes before this end.
 fn before<'a>(text: &'a str, end: &str) -> Option<&'a str>
     ensures { option_map (λ front. front.now) result ≡ before end.now text.now }
 {

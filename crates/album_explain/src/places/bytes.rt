@@ -1,5 +1,5 @@
-//! The byte from which on a line is no JSON: the first of the token that can't stand where it stands, or behind the
-//! last byte where more would have to come.
+//! The byte from which on a line is no JSON: the first of the token that can't be where it is, or the one after the
+//! last byte, where more would have to come.
 ghost use Rattle.std.specs.Prelude.{◌≡◌, ◌+◌, take, drop, slice_index, length, IfSome};
 ghost use Rattle.std.specs.List.{prefix_len};
 ghost use Rattle.std.specs.Str.{IsAsciiWhitespaceFrom};
@@ -32,8 +32,8 @@ pub(crate) fn bad_byte(alloc: Global, bytes: &[u8]) -> Result<usize, AllocError>
         Err(error) => return Ok(error.valid_up_to()),
     };
     let at = bad_token(alloc, text)?;
-    // The reader takes a text right behind a number or a word for a part of that, and refuses it as no number and no
-    // word. So what stands before the text is looked at alone: if all of it may stand there, the text may not.
+    // The reader takes a text right after a number or a word for a part of that, and refuses it as no number and no
+    // word. So what comes before the text is looked at alone: if all of that may be there, the text may not.
     match text.split_at_checked(word_end(bytes, at)) {
         Some((before, behind)) if behind.as_bytes().first() == Some(&b'"') => {
             bad_token(alloc, before)
@@ -42,7 +42,7 @@ pub(crate) fn bad_byte(alloc: Global, bytes: &[u8]) -> Result<usize, AllocError>
     }
 }
 
-/// Where the first token of the reader begins that can't stand where it stands, or the text's end where there is none.
+/// Where the reader's first token begins that can't be where it is, or the text's end where there is none.
 fn bad_token(alloc: Global, text: &str) -> Result<usize, AllocError> {
     let mut scratch = Scratch::new(alloc);
     let mut numerals = Scratch::new(alloc);
@@ -58,7 +58,7 @@ fn bad_token(alloc: Global, text: &str) -> Result<usize, AllocError> {
             return Ok(at);
         }
         at = reader.offset();
-        // The reader passes over a comma behind any value, and behind the whole one none may stand.
+        // The reader passes over a comma after any value, and after the whole one there may be none.
         if place.is_whole {
             if let Some(comma) = comma_before(text, at) {
                 return Ok(comma);
@@ -68,7 +68,7 @@ fn bad_token(alloc: Global, text: &str) -> Result<usize, AllocError> {
     Ok(text.len())
 }
 
-/// Whether the token may stand at this place, which goes on behind it.
+/// Whether the token may be at this place, which then moves past it.
 fn may_stand(
     alloc: Global,
     numerals: &mut Scratch,
@@ -78,7 +78,7 @@ fn may_stand(
     Ok(is_in_range(alloc, numerals, token)? && place.take(token)?)
 }
 
-/// Where the comma stands that has nothing but blanks between itself and this byte, if one does.
+/// Where the comma is that has nothing but blanks between itself and this byte, if there is one.
 fn comma_before(text: &str, end: usize) -> Option<usize>
     ensures comma { IfSome result (λ at. slice_index text.now at ≡ 44) }
     ensures blanks { IfSome result (λ at. IsAsciiWhitespaceFrom (take end text.now) (at + 1)) }
@@ -126,7 +126,7 @@ fn is_in_range(
 }
 
 impl Place {
-    /// Goes on behind the token, if it may stand here.
+    /// Moves past the token, if it may be here. Returns whether it may.
     fn take(&mut self, token: &Token<'_>) -> Result<bool, AllocError> {
         let is_in_object = self.objects.last().copied();
         match token {

@@ -1,4 +1,4 @@
-//! Whether what stands under a name has its form, and where it hasn't.
+//! Whether the value under a name has its form, and where it hasn't.
 use crate::places::found_at;
 use crate::places::tables::Form;
 use album_explain::{Found, find_entries_form};

@@ -95,7 +95,7 @@ fn bad_number(value: &Value) -> Option<(&'static str, u64)> {
     }
 }
 
-/// A child whose number is too great, more children than there may be, or one that stands there before.
+/// A child whose number is too great, more children than there may be, or a child that is among those before it.
 fn bad_children(
     alloc: Global,
     line: u64,

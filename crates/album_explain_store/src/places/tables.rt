@@ -1,5 +1,5 @@
-//! What stands in each line: the names of its members, and of those of the objects within it, in the order in which
-//! their forms are tested.
+//! What each line has: the names of its members, and of those of the objects within it, in the order in which their
+//! forms are tested.
 ghost use Rattle.std.specs.Prelude.{◌≡◌};
 ghost use Rattle.album_lines.specs.Trees.{value_data};
 ghost use Rattle.album_explain_store.specs.Tables.{kind_explained};
@@ -9,7 +9,7 @@ use album_items::Kind;
 use album_lines::{field, has, member, text};
 use json::Value;
 
-/// What stands under a name.
+/// The form of the value under a name.
 #[derive(Clone, Copy, Debug)]
 pub(crate) enum Form {
     /// The word of an ask, or another text that nothing more is asked of.
@@ -46,7 +46,7 @@ pub(crate) enum Form {
     Deliver,
 }
 
-/// What stands under a name of a whole line.
+/// What a whole line has under a name.
 #[derive(Clone, Copy, Debug)]
 pub(crate) enum Part {
     Plain(Form),
@@ -112,7 +112,7 @@ const GROUP: Rows = &[
     ("members", Form::Members),
 ];
 
-/// The members of a line, in the order in which their forms are tested. Which line it is, its names say.
+/// The members of a line, in the order in which their forms are tested. Its names say which line it is.
 pub(crate) fn parts_of(table: Table, line: &Value<'_>) -> Parts {
     match table {
         Table::Opening if has(line, "open") => &[("open", Part::Open)],
@@ -137,7 +137,7 @@ pub(crate) fn parts_of(table: Table, line: &Value<'_>) -> Parts {
     }
 }
 
-/// The same, in the order in which their values are tested: who asks comes before what is asked.
+/// The same, in the order in which their values are tested: the principal comes before the ask.
 pub(crate) fn valued_parts_of(table: Table, line: &Value<'_>) -> Parts {
     match table {
         Table::Event if has(line, "ask") => {
@@ -222,8 +222,8 @@ fn value_rows(line: &Value<'_>, value: &Value<'_>) -> Rows {
     }
 }
 
-/// As which kind an item's value is explained. With entries it is a list, with members a group, with children an album,
-/// and with a content a picture. With none of these it is explained as one of its item's kind.
+/// The kind that an item's value is explained as. With entries it is a list, with members a group, with children an
+/// album, and with a content a picture. With none of these it is explained as one of its item's kind.
 fn kind_explained(item: Kind, value: &Value<'_>) -> Kind
     ensures { result ≡ kind_explained item (value_data value.now) }
 {

@@ -140,7 +140,7 @@ fn answer_lines<W: Write>(
     write_text(writer, &text)
 }
 
-/// Puts the answer to a line behind the text; to a blank line there is none.
+/// Appends the answer to a line to the text; a blank line has none.
 fn answer_line(
     alloc: Global,
     scratch: &mut Scratch,

@@ -18,7 +18,7 @@ returns-in-Err-Invalid c =
     let none = c.read.ensures.invalid (c.in-Err-Invalid.is ∙ ap Err c.in-Err-Invalid.field-0-is) in
     λ _. data_refused c.args.bytes.now (λ _. none_read c.args.bytes.now (ap (value max_depth) (sym all) ∙ none))
 
--- more stands behind the value
+-- more follows the value
 pub returns-then-is_some : goal.returns-then-is_some
 returns-then-is_some c =
     let all : c.in_ok-reader.reader ≡ tokens c.args.bytes.now =

@@ -17,7 +17,7 @@ invariant_of-self g c =
           (subst (λ (p : PassState). Extends p.cut cut) c.add-mine.ensures.same c.join.ensures.heard);
     }
 
--- and it stands last
+-- and that is last in the list
 pub invariant_of-result : goal.invariant_of-result
 invariant_of-result g c =
     stands_last c.split-2.result.cut c.split.result c.self.inside.writer c.front-2.result c.number-number.result

@@ -9,7 +9,7 @@ pub returns-then-not-has_pending : goal.returns-then-not-has_pending
 returns-then-not-has_pending g c = λ stamp low.
     subst (λ (k : KeeperState). state_of k.partition.marks stamp ≢ state.Pending) c.self.view_is (c.if-not-has_pending.ensures.none refl stamp)
 
--- a stamp that is pending is one of those of which the least is told
+-- a stamp that is pending is one of those whose least is returned
 pub returns-in-Ok : goal.returns-in-Ok
 returns-in-Ok g c = λ stamp low pending.
     let here : state_of c.self.inside.partition.marks stamp ≡ state.Pending =
