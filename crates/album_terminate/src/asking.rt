@@ -6,7 +6,8 @@ use album_calls::{Body, Message, Node, Request};
 use album_stamps::{Refusal, Stamp};
 use std::alloc::Global;
 
-/// What this partition asks of the others, each of them once and in their order: how the stamp stands there.
+/// The messages by which this partition asks the others, each of them once and in their order, for the stamp's state
+/// there.
 ///
 /// # Errors
 ///
