@@ -13,7 +13,7 @@ use album_stamps::Refusal;
 use album_views::View;
 use std::alloc::Global;
 
-/// A store, the principal, what is asked, and of which item.
+/// A store, the principal, what is asked, and the item that it is asked of.
 pub type Asked = (Store, &'static str, Verb, &'static str);
 
 /// What is ruled on the view.

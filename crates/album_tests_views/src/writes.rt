@@ -160,7 +160,7 @@ fn is_handed_back(refused: Refused<Permit>) -> bool {
     is_back
 }
 
-/// The album has 128 children already, besides the new one.
+/// The album has 128 children already, without the new one.
 #[test]
 fn full_album_gives_the_permit_back(rt: HostRuntime) {
     assert_eq!(rt; full_album(rt.alloc()), Ok(true));
