@@ -6,8 +6,7 @@ use album_calls::{Body, Message, Node, Request};
 use album_stamps::{Refusal, Stamp};
 use std::alloc::Global;
 
-/// The messages by which this partition asks the others, each of them once and in their order, for the stamp's state
-/// there.
+/// The Checks of this partition to the others, one for each and in their order. Each asks for the stamp's state there.
 ///
 /// # Errors
 ///
