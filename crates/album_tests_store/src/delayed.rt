@@ -83,8 +83,8 @@ struct Delayed {
     after: (u64, u64),
 }
 
-/// bo's read: of picture/0; with it list/0 and group/0; with them group/7, which waits. In a plain service each read
-/// has two rounds, in any other one round. amy takes the group off the list, and puts bo into it. Then group/7 comes
+/// bo's read: of picture/0; with it list/0 and group/0; with them group/7, which waits. Each read has two rounds in a
+/// plain service, and one round otherwise. amy takes the group off the list, and puts bo into it. Then group/7 comes
 /// with bo in it, from a time when the list has lost the group. The second round, with 2 messages to partition 0 and 1
 /// to partition 2, shows that the read is overtaken. bo reads the picture anew, and with it the list as it is now,
 /// which lets nobody in.

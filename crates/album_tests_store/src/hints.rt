@@ -1,6 +1,6 @@
-//! Hints that don't fit: one that lacks an object of the ask, or what the ask looks at now; one that names more than
-//! it looks at; and one whose place another object's has taken. Each ask gets the answer that a service without hints
-//! gives (docs/PROTOCOL.md, "Hints" in "A service").
+//! Hints that don't fit. One lacks an object of the ask, or what the ask looks at now. One names more than the ask
+//! looks at. One has lost its place to another object's. Each ask gets the answer that a service without hints gives
+//! (docs/PROTOCOL.md, "Hints" in "A service").
 use crate::asked::Wish::{Delete, List, Read, SetGroup, SetLists};
 use crate::asked::{Row, Wish, told_so};
 use crate::gates::{Counting, Counts};

@@ -1,5 +1,5 @@
-//! Sessions of a running service: the answers to them, how many messages a gate sees for these, and that sessions and
-//! partitions run side by side (docs/PROTOCOL.md, "A view" and "Cuts and passes").
+//! Sessions of a running service: the answers to them, and how many messages a gate sees for these. And that sessions
+//! and partitions run side by side (docs/PROTOCOL.md, "A view" and "Cuts and passes").
 ghost use Rattle.std.specs.Prelude.{◌≡◌, ◌<◌};
 ghost use Rattle.album_threads.specs.Opened.{opened_as};
 

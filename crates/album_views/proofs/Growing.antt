@@ -1,6 +1,6 @@
 -- What the names are: exactly what is named (`named-in`, `grown-named`), none twice (`grown-single`), and in the one
--- order that the rules leave (`same-names`); and how the loop of `named` gets there (`looked-first`, `looked-more`,
--- `looked-all`).
+-- order that the rules leave (`same-names`). The loop of `named` gets there by `looked-first`, `looked-more` and
+-- `looked-all`.
 use Rattle.std.proofs.Common.{◌≡◌, ◌≤◌, ◌<◌, ℕ, ◌+◌, true, ◌==◌, List, [], ◌∷◌, ◌++◌, length, take, get_or, inl, inr, refl, sym, ap, subst, ◌∙◌, arith}
 use Rattle.std.specs.List.{flat_map}
 use Rattle.std.proofs.lemmas.Grind.{flat_map-append, fold-append}

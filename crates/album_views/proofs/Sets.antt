@@ -1,6 +1,6 @@
--- What is among the keys of a set as keys are inserted, for the names (`Growing`, `Turns`): nothing is lost (`all-old`),
--- all is taken (`all-new`), nothing else is (`all-only`), keys go after those that are there (`all-more`), none occurs
--- twice (`all-single`), and they are no more than what is inserted (`all-few`).
+-- What is among the keys of a set as keys are inserted, for the names (`Growing`, `Turns`). Nothing is lost
+-- (`all-old`), all is taken (`all-new`), and nothing else is (`all-only`). Keys go after those that are there
+-- (`all-more`), none occurs twice (`all-single`), and they are no more than what is inserted (`all-few`).
 use Rattle.std.proofs.Common.{◌≡◌, ◌<◌, ◌≤◌, ◌+◌, ℕ, zero, suc, Bool, true, false, not, ◌||◌, ◌==◌, List, [], ◌∷◌, ◌++◌, length, get_or, if◌then◌else◌, Contains, inl, inr, ◌⊎◌, refl, sym, ap, subst, ◌∙◌, arith}
 use Rattle.std.specs.List.{list_any, flat_map}
 use Rattle.std.proofs.lemmas.Bool.{and_parts, and_from, or_parts, or_from, or_left, or_right, not-true, eqb-true, eq-eqb}

@@ -1,4 +1,4 @@
--- What the lines of a connection say: the first one the principal, and each later one what is asked.
+-- What the lines of a connection say: the first names the principal, and each later one says what is asked.
 use Rattle.std.specs.Prelude.{ℕ, List, Result, Ok}
 use Rattle.std.specs.Option.{ok_or}
 use Rattle.album_stamps.specs.declared.refusals.Refusal.{Refusal}
