@@ -41,7 +41,7 @@ module _ (limit : ℕ) (policy : Policy) (admins : Admins) where
 
   -- ---- the engine so far
 
-  -- a session that was so has talked so far, and the talk stands there
+  -- a session that began in the state `begun` has talked so far, and the talk has come to `now`
   abbrev pub HasTalked : SessionState → Talker → ℕ → Line
       → Option (List ℕ) → Option (List ℕ) → Option (List ℕ) → Option (List ℕ) → Type 0
   HasTalked begun now count unfinished a b c d =

@@ -1,5 +1,5 @@
--- The texts of talks. For `answer_lines`, and for the turns of `converse`: any lines can be talked of, and a talk of more
--- lines stands behind that of the first.
+-- The texts of talks. For `answer_lines`, and for the turns of `converse`: any lines have a talk, and the text of a
+-- talk of more lines follows that of the first.
 use Rattle.std.proofs.Common.{◌≡◌, ◌≢◌, ◌⊎◌, ℕ, ◌+◌, ◌<◌, List, [], ◌∷◌, ◌++◌, length, take, drop, map, get_or, Bool, true, false, Option, MatchBool, inr, refl, sym, ap, ◌∙◌, subst, arith, append_assoc, append-nil, length-drop}
 use Rattle.std.proofs.lemmas.List.{length-map}
 use Rattle.std.proofs.KnownBytes.{Appends-nil}

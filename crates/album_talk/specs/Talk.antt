@@ -53,7 +53,7 @@ pub record IsUnprepared (session : SessionState) (part stamp : ℕ) (why : Refus
   pub is : why ≡ NotPrepared
   pub other : state_of (prefix_at session.cut part) stamp ≢ state.Pending
 
--- of a sweep: the stamp is pending at the partition, and the others are asked how it stands
+-- of a sweep: the stamp is pending at the partition, which asks the others for their votes on it
 abbrev pub AnswersSweep : ℕ → ℕ → SessionState → SessionState → Result Unit Refusal → Type 0
 AnswersSweep part stamp old new (Ok done) = state_of (prefix_at new.cut part) stamp ≡ state.Pending
 AnswersSweep part stamp old new (Err why) =
@@ -199,7 +199,7 @@ IsTalk limit policy admins old new lines text =
 abbrev pub IsWrittenIf : List ℕ → Type 0 → List ℕ → Type 0
 IsWrittenIf whole Holds text = IsPrefixOf (λ all. all ≡ whole) text × (text ≢ [] → Holds)
 
--- A talk of some lines, from the first of these talkers to the other, and its text. Behind each answer that has a byte
+-- A talk of some lines, from the first of these talkers to the other, and its text. For each answer that has a byte,
 -- what the session had noted by then is recorded.
 pub data IsRecordedTalk
     (limit : ℕ) (policy : Policy) (admins : Admins) (Recorded : SessionState → Type 0) (old : Talker)
@@ -212,7 +212,7 @@ pub data IsRecordedTalk
       → (answer ≢ [] → Recorded new.session)
       → IsRecordedTalk limit policy admins Recorded old new (text ++ answer)
 
--- a prefix of the text of such a talk
+-- a prefix of the text of a recorded talk
 abbrev pub IsRecordedPart : ℕ → Policy → Admins → (SessionState → Type 0) → Talker → List ℕ → Type 0
 IsRecordedPart limit policy admins Recorded old text =
     IsPrefixOf (λ all. (new : Talker) × IsRecordedTalk limit policy admins Recorded old new all) text

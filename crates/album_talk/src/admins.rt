@@ -106,7 +106,7 @@ fn names_principal(who: &Principal, admin: &Principal) -> bool
     }
 }
 
-/// A law: whoever connects may ask; who may send what else is who is named, and where nobody is named, everyone.
+/// A law: whoever connects may ask. Only those who are named may send the other lines; where nobody is named, everyone.
 pub fn only_admins_are_heard()
     ensures asks { (admins : Admins) (who : Principal) (ask : Ask)
         → permitted admins who (TalkLine.Ask ask) ≡ Ok (TalkLine.Ask ask) }

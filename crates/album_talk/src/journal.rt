@@ -10,7 +10,7 @@ use std::sync::Wait;
 pub trait Journal {
     ghost use Rattle.album_sessions.specs.Sessions.{SessionState};
 
-    /// What the session had noted, as it was so, is written. Only `settle` tells it: of a file no contract can.
+    /// What the session had noted in this state is written. Only `settle` promises it: no contract can speak of a file.
     ghost recorded: { Self → SessionState → Type 0 };
 
     /// Writes what was noted and isn't written yet. An answer of this session is written next: what was noted of its

@@ -35,13 +35,15 @@ pub fn converse<J: ServiceNames, T: Wait + time::Clock, R: Read, W: Write>(
     session: &mut Session<J>,
     turns: u64,
 ) -> Result<(), Fault>
-    // Without a fault the whole input was read, and exactly the lines' talk is written, in which the session went on.
+    // Without a fault the whole input was read, and exactly the lines' talk is written, from the session's old state to
+    // its new one.
     ensures ok { OnOk result (IfSome (R.remaining reader.old) (λ input.
         Writes (IsTalk J.terms.limit J.policy Admins.Anyone session.old session.new (lines_of input))
         (W.contents writer.old) (W.contents writer.new))) }
     ensures whole { OnOk result (IsAtEnd (R.remaining reader.new)) }
 
-    // On a fault, a prefix of such a talk is, by what the session has seen at the end.
+    // On a fault, a prefix of a talk of the lines is written. In that talk the session has seen no more than it has at
+    // the end.
     ensures err { OnErr result (IfSome (R.remaining reader.old) (λ input.
         Writes (IsPrefixOf
         (MayTalk J.terms.limit J.policy Admins.Anyone session.new (stranger session.old) (lines_of input)))
@@ -91,13 +93,15 @@ pub fn converse_with<J: ServiceNames, T: Wait + time::Clock, R: Read, W: Write, 
     journal: &A,
     turns: u64,
 ) -> Result<(), Fault>
-    // Without a fault the whole input was read, and exactly the lines' talk is written, in which the session went on.
+    // Without a fault the whole input was read, and exactly the lines' talk is written, from the session's old state to
+    // its new one.
     ensures ok { OnOk result (IfSome (R.remaining reader.old) (λ input.
         Writes (IsTalk J.terms.limit J.policy admins.now session.old session.new (lines_of input))
         (W.contents writer.old) (W.contents writer.new))) }
     ensures whole { OnOk result (IsAtEnd (R.remaining reader.new)) }
 
-    // On a fault, a prefix of such a talk is, by what the session has seen at the end.
+    // On a fault, a prefix of a talk of the lines is written. In that talk the session has seen no more than it has at
+    // the end.
     ensures err { OnErr result (IfSome (R.remaining reader.old) (λ input.
         Writes (IsPrefixOf
         (MayTalk J.terms.limit J.policy admins.now session.new (stranger session.old) (lines_of input)))

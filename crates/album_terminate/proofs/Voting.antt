@@ -7,7 +7,7 @@ use Rattle.std.proofs.lemmas.Bool.Decides.{Decides-eqb, Decides-by_and, Decides-
 use Rattle.std.proofs.lemmas.List.Elements.{at_from_Contains}
 use Rattle.album_terminate.specs.Deciding.{have_voted}
 
--- a part is found among those that were heard just where it is one of them
+-- a part is found among those that were heard exactly where it is one of them
 has_voted-Decides : (heard : List ℕ) (other : ℕ) → Decides (list_any (λ part. part == other) heard) (Contains heard other)
 has_voted-Decides heard other = Decides-like _ (λ h. (h.0, h.1, h.2 other)) (at_from_Contains heard other) (Decides-by_or (λ part. part == other) (λ part. part ≡ other) (list_any (λ part. part == other)) (λ part. Decides-eqb part other) refl (λ _ _. refl) heard)
 

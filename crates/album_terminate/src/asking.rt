@@ -6,7 +6,7 @@ use album_calls::{Body, Message, Node, Request};
 use album_stamps::{Refusal, Stamp};
 use std::alloc::Global;
 
-/// What this partition asks of the others, each of them once and in their order: how the stamp stands there.
+/// The Checks of this partition to the others, one for each and in their order. Each asks for the stamp's state there.
 ///
 /// # Errors
 ///

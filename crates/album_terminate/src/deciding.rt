@@ -4,7 +4,7 @@ ghost use Rattle.album_terminate.specs.Deciding.{vote_of, have_voted, decision_o
 
 use album_calls::Vote;
 
-/// How a stamp stands at a partition.
+/// The state of a stamp at a partition.
 #[derive(Clone, Copy, Debug, PartialEq, Eq)]
 pub enum StampState {
     /// Nothing is kept of it.

@@ -1,5 +1,5 @@
 //! How a stamp that was left pending is settled. Each partition at which it is prepared asks the others of its
-//! partitions how the stamp stands there, and decides by their votes.
+//! partitions for the stamp's state there, and decides by their votes.
 //!
 //! What comes in: a stamp, the others of its partitions, and their votes. What goes out: a Check to each of these
 //! (`checks`), a partition's own vote (`vote_of`), and what it does with the stamp at a vote (`decide`). Nothing is

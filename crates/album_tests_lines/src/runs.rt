@@ -20,8 +20,8 @@ pub(crate) trait Engine {
 pub(crate) struct Script {
     pub(crate) input: &'static str,
     pub(crate) output: &'static str,
-    /// Where each line of which something is written ends in the input, and how much is written by then. What is
-    /// written of the last line comes with the end of the input alone.
+    /// For each line with an output: where the line ends in the input, and how much is written by then. The output of
+    /// the last line comes with the end of the input alone.
     pub(crate) ends: &'static [(usize, usize)],
     /// The lengths of what is written at once.
     pub(crate) writes: &'static [usize],
@@ -82,7 +82,7 @@ fn run_of<E: Engine>(
     }
 }
 
-/// Whether the run ended with this fault, and wrote just so many bytes of the output.
+/// Whether the run ended with this fault, and wrote exactly so many bytes of the output.
 fn has_ended(end: &Ended, script: &Script, fault: Option<Fault>, len: usize) -> bool {
     end.fault == fault && end.taken.len() == len && script.output.as_bytes().starts_with(&end.taken)
 }
@@ -141,7 +141,7 @@ fn holds_at_each_read<E: Engine>(engine: &mut E, alloc: Global, script: &Script)
     true
 }
 
-/// Whether each write in turn, where it fails so, ends the run with just what was written before.
+/// Whether each write in turn, where it fails in this way, ends the run with exactly what was written before.
 pub(crate) fn stops_at_each_write<E: Engine>(
     engine: &mut E,
     alloc: Global,
@@ -163,7 +163,7 @@ pub(crate) fn stops_at_each_write<E: Engine>(
     true
 }
 
-/// Whether each number of turns, where they run out, ends the run with just the answers to what they read.
+/// Whether each number of turns, where they run out, ends the run with exactly the answers to what they read.
 fn holds_at_each_turn<E: Engine>(engine: &mut E, alloc: Global, script: &Script) -> bool {
     let reads = run_of(engine, alloc, script, 7, NONE).reads;
     for turns in 0..reads {

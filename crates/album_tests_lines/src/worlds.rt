@@ -85,7 +85,7 @@ fn events(alloc: Global) -> Result<Vec<Event>, Refusal> {
     Ok(events)
 }
 
-/// The stamp of the commit that is told, or 0.
+/// The stamp of the commit among the outputs, or 0.
 fn committed_in(outs: &[Out]) -> u64 {
     for out in outs {
         if let Out::Answered(_, Answer::Committed(stamp)) = out {
@@ -95,7 +95,7 @@ fn committed_in(outs: &[Out]) -> u64 {
     0
 }
 
-/// The sum of the stamps whose commit is told, where no event is refused.
+/// The sum of the stamps whose commits are among the outputs, where no event is refused.
 fn committed(results: &[Result<Vec<Out>, Refusal>]) -> Result<u64, Refusal> {
     let mut stamps: u64 = 0;
     for result in results {
@@ -107,7 +107,7 @@ fn committed(results: &[Result<Vec<Out>, Refusal>]) -> Result<u64, Refusal> {
     Ok(stamps)
 }
 
-/// What the events at once tell; once more, where there was no memory for any.
+/// The sum of the stamps that the events at once commit. They run once more, where there was no memory for any.
 fn at_once(world: &mut World, events: &[Event]) -> Result<u64, Refusal> {
     match world.run(events) {
         Ok(results) => committed(&results),
@@ -115,7 +115,7 @@ fn at_once(world: &mut World, events: &[Event]) -> Result<u64, Refusal> {
     }
 }
 
-/// What the event tells; once more, where it was refused.
+/// The stamp that the event commits, or 0. It is stepped once more, where it was refused.
 fn stepped(world: &mut World, event: &Event) -> Result<u64, Refusal> {
     match world.step(event) {
         Ok(outs) => Ok(committed_in(&outs)),
@@ -139,7 +139,7 @@ fn marks(world: &World, number: u16) -> Option<usize> {
     }
 }
 
-/// What the events tell, how many messages were sent, and the marks of partitions 0 and 1.
+/// The sum of the stamps that the events commit, how many messages were sent, and the marks of partitions 0 and 1.
 type Ran = (u64, u64, Option<usize>, Option<usize>);
 
 fn ran(alloc: Global, is_at_once: bool) -> Result<Ran, Refusal> {

@@ -1,4 +1,4 @@
-//! What a session asks, what it is told, and how many messages partitions take for that.
+//! What a session asks, the answers to it, and how many messages partitions take for that.
 use crate::gates::Counts;
 use crate::messages::{item_of, same, stamp_of};
 use crate::scripts::new_lists;
@@ -92,10 +92,10 @@ pub fn member(alloc: Global, who: &str) -> Result<Members, Refusal> {
     Ok(Members::of(members))
 }
 
-/// What is asked, and what is told. Numbers are of partitions 0 and 2: how many messages they take for it.
+/// What is asked, and the answer. Numbers are of partitions 0 and 2: how many messages they take for it.
 pub type Row = (Wish, &'static str, (u64, u64));
 
-/// What the session is told.
+/// The answer to the session.
 pub fn told<J: ServiceNames, R: Wait + time::Clock>(
     rt: &R,
     alloc: Global,
@@ -110,7 +110,7 @@ pub fn told<J: ServiceNames, R: Wait + time::Clock>(
     text
 }
 
-/// The session is told so, and the partitions take so many messages for it.
+/// The session gets these answers, and the partitions take so many messages for each.
 pub fn told_so<J: ServiceNames, R: Wait + time::Clock + Abort>(
     rt: &R,
     alloc: Global,
@@ -157,7 +157,7 @@ fn carried_out<J: ServiceNames, R: Wait + time::Clock>(
     }
 }
 
-/// What comes of the order, or the name of its refusal. It is no message.
+/// Each order has this result, or is refused by this name. An order is no message.
 pub fn ordered_so<J: ServiceNames, R: Wait + time::Clock + Abort>(
     rt: &R,
     alloc: Global,

@@ -17,7 +17,7 @@ use std::test::Fail;
 use std::thread::Threads;
 use std::{thread, time};
 
-/// What amy is told, who asks for a new title.
+/// The answer to amy, who gives a new title.
 fn retitled<J: ServiceNames, R: Wait + time::Clock + Copy>(
     alloc: Global,
     mut amy: OwnedSession<J, R>,
@@ -26,7 +26,7 @@ fn retitled<J: ServiceNames, R: Wait + time::Clock + Copy>(
     told(&rt, alloc, &mut amy.session, Retitle("picture/0", "Bay"))
 }
 
-/// What bo is told, who asks once amy's last read is held.
+/// The answer to bo, who reads once amy's last read is held.
 fn served<J: ServiceNames, R: Wait + time::Clock + Copy>(
     alloc: Global,
     mut bo: OwnedSession<J, R>,
@@ -37,7 +37,7 @@ fn served<J: ServiceNames, R: Wait + time::Clock + Copy>(
     told(&rt, alloc, &mut bo.session, Read("bo@users", "picture/0"))
 }
 
-/// What both are told, each on a thread of its own.
+/// The answers to both, each on a thread of its own.
 #[derive(Drop)]
 struct Both {
     amy: Result<String, Refusal>,

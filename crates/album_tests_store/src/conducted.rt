@@ -17,7 +17,7 @@ use std::sync::{Arc, Wait};
 use std::thread::Threads;
 use std::{thread, time};
 
-/// Makes the move, and waits until what comes of it is seen.
+/// Makes the move. `Take` waits until the messages are done, and `Await` until the next one is at the partition.
 fn make(doors: &Doors, step: Move) {
     match step {
         Move::Ask(who) => {
@@ -40,7 +40,7 @@ fn make_all(doors: &Doors, moves: &[Move]) {
     }
 }
 
-/// The session asks what is wished, and what it is told is added.
+/// The session asks for the wish, and the answer is added.
 fn ask<J: ServiceNames, R: Wait + time::Clock + Copy>(
     alloc: Global,
     guest: &mut OwnedSession<J, R>,
@@ -57,7 +57,7 @@ fn ask<J: ServiceNames, R: Wait + time::Clock + Copy>(
     added
 }
 
-/// What the session is told to all that is wished, each of it once it is time.
+/// The answers to the session for all its wishes. It asks for each once it is time.
 fn ask_all<J: ServiceNames, R: Wait + time::Clock + Copy>(
     alloc: Global,
     mut guest: OwnedSession<J, R>,
@@ -74,7 +74,7 @@ fn ask_all<J: ServiceNames, R: Wait + time::Clock + Copy>(
     Ok(answers)
 }
 
-/// What two sessions are told.
+/// The answers to two sessions.
 #[derive(Drop)]
 struct Both {
     amy: Result<Answers, Refusal>,
@@ -105,7 +105,7 @@ fn both_ask<J: ServiceNames + Send, R: Threads + Wait + time::Clock + Copy + Sen
     )
 }
 
-/// What two new sessions are told.
+/// The answers to two new sessions.
 fn new_ask<J: ServiceNames + Send, R: Threads + Wait + time::Clock + Copy + Send + Sync>(
     rt: &R,
     alloc: Global,
@@ -118,7 +118,7 @@ fn new_ask<J: ServiceNames + Send, R: Threads + Wait + time::Clock + Copy + Send
     Ok(both_ask(rt, alloc, doors, moves, amy, bo)?)
 }
 
-/// What they were told and what the audit book has, where nobody gave up waiting.
+/// The answers to both, and what the audit book has, where nobody gave up waiting.
 fn told_of(both: Both, totals: Totals, doors: &Doors) -> Result<Told, Refusal> {
     let Both { amy, bo } = both;
     let (amy, bo) = (amy?, bo?);
@@ -150,7 +150,7 @@ fn conduct_by<
     told_of(both?, totals, &doors)
 }
 
-/// What two sessions are told by a service in which the moves are made.
+/// The answers to two sessions of a service in which the moves are made, and what its audit book has.
 pub fn conduct<R: Threads + Wait + time::Clock + Copy + Send + Sync + 'static>(
     rt: R,
     alloc: Global,

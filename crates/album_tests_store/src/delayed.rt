@@ -37,8 +37,8 @@ fn group(alloc: Global) -> Result<Value, Refusal> {
     }))
 }
 
-/// Three partitions. picture/0 and the lists 1 and 7 stand at 0; picture/1, album/0, list/2 and group/7 at 1; list/0 at
-/// 2. Group 0, which heads all, is missing and would stand at 0.
+/// Three partitions. picture/0 and the lists 1 and 7 are placed at 0; picture/1, album/0, list/2 and group/7 at 1;
+/// list/0 at 2. Group 0, which heads all, is missing and would be placed at 0.
 fn opening(alloc: Global) -> Result<Opening, Refusal> {
     let mut items = Vec::new(alloc);
     items.push((item_of("picture/0")?, picture(alloc, 0)?))?;
@@ -66,7 +66,7 @@ fn opened(alloc: Global, plain: bool) -> Result<Opened, Refusal> {
     Ok(opened)
 }
 
-/// A session asks, and one of its mails is held on its way to a partition while another session is told something.
+/// A session asks, and one of its mails is held on its way to a partition while another session is answered.
 /// Numbers of messages are of partitions 0 and 2.
 #[derive(Clone, Copy)]
 struct Delayed {
@@ -78,15 +78,16 @@ struct Delayed {
     /// How many messages were taken once the rest of what it sent by then is.
     until: (u64, u64),
     meanwhile: &'static [(Wish, &'static str)],
-    /// What it is told once the mail goes on, and how many messages that takes.
+    /// The answer to it once the mail is passed on, and how many messages that takes.
     told: &'static str,
     after: (u64, u64),
 }
 
-/// bo's read: of picture/0; with it list/0 and group/0; with them group/7, which waits. In a plain service each read
-/// has two rounds, in another one. amy takes the group off the list, and puts bo into it. Then group/7 comes with bo,
-/// of a time when the list has lost the group: by the second round, of which partitions 0 and 2 take 2 and 1, the read
-/// is overtaken. Anew bo reads the picture, and with it the list of now, which lets nobody in.
+/// bo's read: of picture/0; with it list/0 and group/0; with them group/7, which waits. Each read has two rounds in a
+/// plain service, and one round otherwise. amy takes the group off the list, and puts bo into it. Then group/7 comes
+/// with bo in it, from a time when the list has lost the group. The second round, with 2 messages to partition 0 and 1
+/// to partition 2, shows that the read is overtaken. bo reads the picture anew, and with it the list as it is now,
+/// which lets nobody in.
 const NEW_ENEMY: Delayed = Delayed {
     plain: false,
     wish: Read("bo@users", "picture/0"),
@@ -173,7 +174,7 @@ fn pass_on<J: ServiceNames, R: Wait + Copy>(rt: R, relay: Relay<J>, held: u64, h
     unreachable!()
 }
 
-/// What the session is told, which ends then.
+/// The answer to the session, which ends then.
 fn told_late<J: ServiceNames, R: Wait + time::Clock + Copy>(
     alloc: Global,
     mut guest: OwnedSession<J, R>,
@@ -183,7 +184,7 @@ fn told_late<J: ServiceNames, R: Wait + time::Clock + Copy>(
     told(&rt, alloc, &mut guest.session, wish)
 }
 
-/// The other session is told so, and ends.
+/// The other session gets these answers, and ends.
 fn told_meanwhile<J: ServiceNames, R: Wait + time::Clock + Abort + Copy>(
     alloc: Global,
     mut other: OwnedSession<J, R>,
@@ -196,7 +197,8 @@ fn told_meanwhile<J: ServiceNames, R: Wait + time::Clock + Abort + Copy>(
     Ok(())
 }
 
-/// What the session is told whose mail is held, after how many messages, and what the other one is told meanwhile.
+/// The answer to the session whose mail is held, after how many messages, and whether the other one gets its answers
+/// meanwhile.
 struct Both {
     late: Result<String, Refusal>,
     after: (u64, u64),

@@ -108,7 +108,7 @@ impl Entered {
     }
 }
 
-/// Lets partitions 0 and 1 go on from their first messages once both have taken theirs.
+/// Lets partitions 0 and 1 continue with their first messages once both have taken theirs.
 #[derive(Drop)]
 pub struct Together {
     pub entered: Arc<Entered, Global>,
@@ -127,7 +127,7 @@ impl Gate for Together {
     fn leave(&self, _part: u16, _number: u64) {}
 }
 
-/// How far a read and a write have come that go on side by side.
+/// How far a read and a write have come, which run side by side.
 #[derive(Drop)]
 pub struct Overtakes {
     /// 1 once partition 2 has come to the last message of amy's reads.
@@ -202,7 +202,7 @@ impl Gate for Overtaking {
 #[derive(Drop)]
 pub struct Hold {
     pub counts: Counts,
-    /// 1 once it may go on.
+    /// 1 once it may continue.
     released: AtomicU64,
     gave_up: AtomicBool,
 }
@@ -223,7 +223,7 @@ impl Hold {
         }
     }
 
-    /// Lets it go on.
+    /// Lets it continue.
     pub fn release(&self) {
         self.released.store(1, Ordering::SeqCst);
     }

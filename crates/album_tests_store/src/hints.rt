@@ -1,5 +1,5 @@
-//! Hints that don't fit: one that lacks an object of the ask, or what the ask looks at now; one that names more than
-//! it looks at; and one whose place another object's has taken. Each ask is told what a service without hints tells it
+//! Hints that don't fit. One lacks an object of the ask, or what the ask looks at now. One names more than the ask
+//! looks at. One has lost its place to another object's. Each ask gets the answer that a service without hints gives
 //! (docs/PROTOCOL.md, "Hints" in "A service").
 use crate::asked::Wish::{Delete, List, Read, SetGroup, SetLists};
 use crate::asked::{Row, Wish, told_so};
@@ -26,8 +26,8 @@ fn push(
     Ok(())
 }
 
-/// Three pictures of amy's and an album. picture/0 and the lists 1 and 4 stand at partition 0 of three; the others and
-/// list/2 at 1; list/0 at 2. Group 0, which heads all, is missing and would stand at 0.
+/// Three pictures of amy's and an album. picture/0 and the lists 1 and 4 are placed at partition 0 of three; the others
+/// and list/2 at 1; list/0 at 2. Group 0, which heads all, is missing and would be placed at 0.
 fn items(alloc: Global) -> Result<ItemValues, Refusal> {
     let mut items = Vec::new(alloc);
     push(&mut items, "picture/0", picture(alloc, 0))?;
@@ -56,14 +56,14 @@ fn opened(alloc: Global, plain: bool) -> Result<Opened, Refusal> {
     Ok(opened)
 }
 
-/// What is asked, and what is told, with hints and without. The numbers are of messages, with hints; and without, where
+/// What is asked, and the answer, with hints and without. The numbers are of messages, with hints; and without, where
 /// each read begins with the objects and asks in both rounds.
 type Twice = (Wish, &'static str, (u64, u64), (u64, u64));
 
 /// The first read is of picture/0, and then with it of list/0 and group/0; the second is of all three at once, by the
 /// hint. That lacks picture/1, so both lists are set by a read of the objects, and what they look at is the hint from
-/// there on. Of who reads picture/0 it names list/1 too, at partition 0, by which all may read. That is the other
-/// picture's list: bo is denied. At last the hint is just what both lists look at.
+/// there on. For a read of picture/0 it names list/1 too, at partition 0, which lets all read. That is the other
+/// picture's list: bo is denied. At last the hint is exactly what both lists look at.
 const WIDE: &[Twice] = &[
     (Read("bo@users", "picture/0"), "Sea at 0", (3, 1), (6, 2)),
     (Read("bo@users", "picture/0"), "Sea at 0", (2, 1), (6, 2)),
@@ -154,7 +154,7 @@ fn row_of(twice: &Twice, plain: bool) -> Row {
     (wish, told, if plain { unhinted } else { hinted })
 }
 
-/// A visit of one session, while the gate counts, which is told so.
+/// A visit of one session, while the gate counts. The session gets the answers of the rows.
 #[derive(Drop)]
 struct Asking {
     counts: Arc<Counts, Global>,
@@ -199,7 +199,7 @@ fn assert_one<R: Threads + Wait + time::Clock + Abort + Copy + Send + Sync + 'st
     with_opened(rt, alloc, opened, gate, visit)?
 }
 
-/// A session is told so by a service with hints, and the same by a plain one.
+/// A session gets these answers from a service with hints, and the same from a plain one.
 fn assert_told<R: Threads + Wait + time::Clock + Abort + Copy + Send + Sync + 'static>(
     rt: R,
     alloc: Global,

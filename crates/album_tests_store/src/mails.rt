@@ -23,15 +23,15 @@ struct Posted {
 /// What is done to a service, so that the same happens there.
 #[derive(Clone, Copy)]
 pub enum Move {
-    /// Who asks.
+    /// This client asks.
     Ask(Who),
-    /// The partition goes on until it has taken so many messages.
+    /// The partition continues until it has taken so many messages.
     Take(u16, u64),
     /// A message waits at the partition, which has taken so many.
     Await(u16, u64),
 }
 
-/// A world with its mails, the moves so far, and what was told.
+/// A world with its mails, the moves so far, and the answers and notes.
 #[derive(Drop)]
 struct MailWorld {
     alloc: Global,
@@ -47,7 +47,7 @@ struct MailWorld {
     told: Told,
 }
 
-/// What a world told, and the moves by which the same happens in a service.
+/// The answers and notes of a world, and the moves that make the same happen in a service.
 #[derive(Drop)]
 pub struct Followed {
     pub told: Told,
@@ -183,7 +183,7 @@ impl MailWorld {
         self.happen(&Event::Deliver(number))
     }
 
-    /// Who asks what comes next of the wishes.
+    /// This client asks for the next of its wishes.
     fn ask(&mut self, who: Who) -> Result<(), Refusal> {
         let wish = match who {
             Who::Amy => next_of(who.wishes(), &mut self.asked.0)?,
@@ -211,7 +211,7 @@ impl MailWorld {
         self.look()
     }
 
-    /// The partition takes the message that stands here, if it is of the mail.
+    /// The partition takes the message at this index, if it is of the mail.
     fn take_one(&mut self, index: usize, part: u16, mail: u64) -> Result<(), Refusal> {
         let Some(message) = self.posted.get_mut(index) else {
             return Err(Refusal::NoSuchMessage);
@@ -263,7 +263,7 @@ impl MailWorld {
     }
 }
 
-/// What a world tells in which these steps happen.
+/// The answers and notes of a world in which these steps happen, and the moves.
 pub fn follow(alloc: Global, steps: &[Step]) -> Result<Followed, Refusal> {
     let mut world = MailWorld::new(alloc)?;
     for step in steps {

@@ -80,28 +80,28 @@ const BO_FIRST: Script = Script {
         bo: Sea at 0; committed at 131074; committed at 196610; denied picture/0 at the end; audited 4 and 1",
 };
 
-/// Side by side. amy's new title is prepared between the two rounds of bo's read, and committed after it, so he is told
-/// the old one. (So he is where it is committed between them too: between_rounds.rt.) Then both look at one list before
+/// Side by side. amy's new title is prepared between the two rounds of bo's read, and committed after it, so he reads
+/// the old one. (He also does where it is committed between them: between_rounds.rt.) Then both look at one list before
 /// either writes it. bo's stamp is the greater, so his list counts, although amy's comes later. Both see room in the
 /// album, and both add to it.
 const SIDE_BY_SIDE: Script = Script {
     steps: &[
-        // amy looks, but for what partition 1 has to tell at last; bo reads his first rounds
+        // amy looks, but for the last reply of partition 1; bo reads his first rounds
         Ask(Amy),
         Take(&[0, 0, 0, 1, 3, 0, 3]),
         Ask(Bo),
         Take(&[0, 0]),
-        // amy has her view; bo is told the title, then it is prepared, he ends, and it is committed
+        // amy has her view; bo reads the title, then the new one is prepared, he ends, and it is committed
         Take(&[1, 0, 1, 3, 0]),
         Take(&[0, 1, 3, 0]),
-        // amy looks at both, but for what partition 2 has to tell at last; bo looks, and begins to write
+        // amy looks at both, but for the last reply of partition 2; bo looks, and begins to write
         Ask(Amy),
         Take(&[0, 1, 0, 1, 0, 1, 2, 3, 0, 1, 3]),
         Ask(Bo),
         LOOK,
         // amy begins too; bo's list is prepared, then amy's, and bo's is committed first
         Take(&[2, 1, 1, 1, 2, 1, 2]),
-        // amy looks, but for what partition 1 has to tell at last; bo reads his first rounds
+        // amy looks, but for the last reply of partition 1; bo reads his first rounds
         Ask(Amy),
         Take(&[0, 0, 0, 1, 3, 0, 3]),
         Ask(Bo),
@@ -116,7 +116,7 @@ const SIDE_BY_SIDE: Script = Script {
         bo: Sea at 0; committed at 131074; committed at 196610; Bay at 65537; audited 5 and 0",
 };
 
-/// A world and a service are told so, and the same.
+/// A world and a service give the answers of the script, and both exactly the same.
 fn assert_told<R: Threads + Wait + time::Clock + Abort + Copy + Send + Sync + 'static>(
     rt: R,
     alloc: Global,

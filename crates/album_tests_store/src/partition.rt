@@ -142,7 +142,7 @@ const TURNED: Rows = &[("picture/3", Is::Picture(2)), ("picture/0", Is::Picture(
 
 const BOTH_PICTURES: &[&str] = &["picture/0", "picture/3"];
 
-/// The writes of a Prepare stand in any order, each item's once; a repeated Prepare is the same one.
+/// The writes of a Prepare may be in any order, each item's once; a repeated Prepare is the same one.
 const ORDERS: Cases = &[
     (
         Step::Prepare(65537, TURNED, BOTH_PICTURES),
@@ -245,14 +245,14 @@ fn prepared(alloc: Global) -> Result<Partition, Refusal> {
     Ok(partition)
 }
 
-/// How 65537 stands, and how many marks there are.
+/// The state of 65537, and how many marks there are.
 fn standing(alloc: Global, partition: &Partition) -> Result<String, Refusal> {
     let state = partition.state(stamp_of(65537)?);
     let marks = partition.history().len();
     Ok(format!(in alloc; "{state:?} {marks}")?)
 }
 
-/// How 65537 stands, how many marks there are, what is pending, and the latest stamp of the item.
+/// The state of 65537, how many marks there are, what is pending, and the latest stamp of the item.
 fn kept(alloc: Global, partition: &Partition, item: &str) -> Result<String, Refusal> {
     let latest = partition.latest(item_of(item)?).value();
     let standing = standing(alloc, partition)?;
@@ -280,7 +280,7 @@ fn what_is_kept(rt: HostRuntime) -> Result<(), Fail> {
 /// The items of a transaction with one at each of the three partitions.
 const THREE: &[&str] = &["list/0", "list/1", "list/2"];
 
-/// Who votes Prepared on a stamp, and how it stands then.
+/// The partition that votes Prepared on a stamp, and the stamp's state then.
 const VOTES: &[(u16, StampState)] = &[
     (1, StampState::Pending),
     (1, StampState::Pending),
@@ -288,7 +288,7 @@ const VOTES: &[(u16, StampState)] = &[
     (1, StampState::Committed),
 ];
 
-/// How the stamp stands once this partition has voted Prepared on it.
+/// The stamp's state once this partition has voted Prepared on it.
 fn voted(partition: &mut Partition, part: u16, stamp: Stamp) -> Result<StampState, Refusal> {
     let vote = Body::Reply(Reply::Status(stamp, Vote::Prepared));
     let message = Message::new(Node::Part(part), Node::Part(0), 0, vote);

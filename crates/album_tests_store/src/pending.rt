@@ -33,7 +33,7 @@ const PENDING: &[Row] = &[
 /// Once the lists are committed, nothing is pending: one round is enough.
 const COMMITTED: &[Row] = &[(Read("bo@users", "picture/1"), "Bay at 65538", (2, 0))];
 
-/// What amy is told, whose lists are set.
+/// The answer to amy, whose lists are set.
 fn lists_set<J: ServiceNames, R: Wait + time::Clock + Copy>(
     alloc: Global,
     mut amy: OwnedSession<J, R>,
@@ -42,7 +42,7 @@ fn lists_set<J: ServiceNames, R: Wait + time::Clock + Copy>(
     told(&rt, alloc, &mut amy.session, SetLists)
 }
 
-/// What amy is told, and what the other session is told while her lists are pending.
+/// The answer to amy, and whether the other session gets its answers while her lists are pending.
 struct Both {
     amy: Result<String, Refusal>,
     other: Result<(), Fail>,

@@ -1,4 +1,4 @@
-//! Replies to a read that are no answers, words that an item is gone, and how many items a read may have
+//! Replies to a read that are no answers, replies that an item is gone, and how many items a read may have
 //! (docs/PROTOCOL.md, "A read").
 use crate::messages::{Is, item_of, items_of, value_of};
 use crate::refused::{is_as_before, whole_text};
@@ -47,7 +47,7 @@ fn start(
     Reading::start(alloc, items, client, 3, 3)
 }
 
-/// What comes of the reply; once more with the reading that is handed back, where there was no memory.
+/// The next step after the reply; once more with the reading that is handed back, where there was no memory.
 fn replied(alloc: Global, reading: Reading, reply: &Message) -> Result<Step, Refusal> {
     let before = whole_text(alloc, &reading);
     match reading.on_reply(reply) {
@@ -94,7 +94,7 @@ fn copied(alloc: Global) -> Result<Step, Refusal> {
     Ok(Step::Same(reading.copy()?))
 }
 
-/// What a partition tells client 2, under a tag, of an item: the version at the zero stamp, or that it is
+/// What a partition replies to client 2, under a tag, for an item: the version at the zero stamp, or that it is
 /// gone.
 type Told = (u16, u64, &'static str, Option<Is>);
 
@@ -115,7 +115,7 @@ fn message_of(alloc: Global, (part, tag, text, is): Told) -> Result<Message, Ref
     Ok(Message::new(Node::Part(part), to, tag, Body::Reply(reply)))
 }
 
-/// What is told, and how far the reading is then.
+/// What is replied, and how far the reading is then.
 type Replies = &'static [(Told, &'static str)];
 
 fn messages_of(alloc: Global, rows: Replies) -> Result<Vec<(Message, &'static str)>, Refusal> {
@@ -157,13 +157,13 @@ fn replies_that_are_no_answers(rt: HostRuntime) -> Result<(), Fail> {
     comes_so_far(&rt, rt.alloc(), copied(rt.alloc())?, &replies)
 }
 
-/// What both partitions tell in the first round.
+/// What both partitions reply in the first round.
 const FIRST: Replies = &[
     ((0, 3, "picture/0", Some(Is::Picture(1))), "same"),
     ((2, 3, "list/0", Some(Is::List)), "next"),
 ];
 
-/// What comes of the step as it is given one reply after the other.
+/// The step that this one leads to, given one reply after the other.
 fn after(
     alloc: Global,
     mut step: Step,
@@ -188,7 +188,7 @@ fn half_read(alloc: Global) -> Result<Step, Refusal> {
     second(after(alloc, copied(alloc)?, &replies)?)
 }
 
-/// Words that an item is gone, and how far the first round is then.
+/// Replies that an item is gone, and how far the first round is then.
 const GONE_TOO_EARLY: Replies = &[
     ((0, 3, "picture/0", None), "same"),
     ((0, 4, "picture/0", None), "same"),
@@ -205,7 +205,7 @@ const GONE: Replies = &[
     ((2, 4, "list/0", None), "gone"),
 ];
 
-/// SessionMail that an item is gone ends a read, and in its second round alone.
+/// A reply that an item is gone ends a read, and in its second round alone.
 #[test]
 fn a_read_of_what_is_gone(rt: HostRuntime) -> Result<(), Fail> {
     let early = messages_of(rt.alloc(), GONE_TOO_EARLY)?;

@@ -10,7 +10,7 @@ use std::alloc::Global;
 use std::fmt::Debug;
 use std::test::Fail;
 
-/// The text that tells all of a value, or that there was no memory for it.
+/// The text of the whole value, or that there was no memory for it.
 pub fn whole_text<T: Debug>(alloc: Global, value: &T) -> Result<String, Refusal> {
     Ok(format!(in alloc; "{value:?}")?)
 }

@@ -13,7 +13,7 @@ use std::alloc::Global;
 /// How many partitions there are.
 pub const PARTS: u16 = 4;
 
-/// Who asks. amy is client 1 and the owner of all there is, bo is client 2.
+/// One of the two clients. amy is client 1 and the owner of all there is, bo is client 2.
 #[derive(Clone, Copy)]
 pub enum Who {
     Amy,
@@ -117,7 +117,7 @@ fn list(alloc: Global, entries: &[Entry]) -> Result<Value, Refusal> {
 }
 
 /// picture/0 and album/3 at partition 0 with their lists at 1, picture/1 at 1 with its list at 2. Group 0, which heads
-/// all, is missing and would stand at 3.
+/// all, is missing and would be placed at 3.
 fn items(alloc: Global) -> Result<ItemValues, Refusal> {
     let mut items = Vec::new(alloc);
     items.push((item_of("picture/0")?, picture(alloc, 3)?))?;
@@ -157,7 +157,7 @@ pub fn new_lists(
     Ok(NewLists::of(lists))
 }
 
-/// The ask by which it is asked.
+/// The ask for the wish.
 pub fn ask_of(alloc: Global, wish: Wish) -> Result<Ask, Refusal> {
     match wish {
         Wish::Read => Ok(Ask::Read {
@@ -188,15 +188,15 @@ fn added(alloc: Global, title: &str) -> Result<Ask, Refusal> {
 /// What happens next.
 #[derive(Clone, Copy)]
 pub enum Step {
-    /// Who asks what comes next of the wishes.
+    /// This client asks for the next of its wishes.
     Ask(Who),
     /// One after another these partitions take the next mail that lies there.
     Take(&'static [u16]),
 }
 
-/// What happens, and what comes of it.
+/// What happens, and its outcome.
 pub struct Script {
     pub steps: &'static [Step],
-    /// What amy and bo are told, and how many entries have audited what was granted and what was denied.
+    /// The answers to amy and bo, and how many entries have audited what was granted and what was denied.
     pub told: &'static str,
 }

@@ -1,5 +1,5 @@
-//! Sessions of a running service: what they are told, how many messages a gate sees of it, and that sessions and
-//! partitions go on side by side (docs/PROTOCOL.md, "A view" and "Cuts and passes").
+//! Sessions of a running service: the answers to them, and how many messages a gate sees for these. And that sessions
+//! and partitions run side by side (docs/PROTOCOL.md, "A view" and "Cuts and passes").
 ghost use Rattle.std.specs.Prelude.{◌≡◌, ◌<◌};
 ghost use Rattle.album_threads.specs.Opened.{opened_as};
 
@@ -40,8 +40,8 @@ pub(crate) fn list(alloc: Global, entries: &[Entry]) -> Result<Value, Refusal> {
     Ok(Value::List(list_of(alloc, entries)?))
 }
 
-/// amy's pictures at partitions 0 and 1 of three. The list of the first is of these entries and stands at partition 2,
-/// and that of the second at partition 0. Group 0, which heads both, is missing and would stand there too.
+/// amy's pictures at partitions 0 and 1 of three. The list of the first has these entries and is placed at partition 2,
+/// and that of the second at partition 0. Group 0, which heads both, is missing and would be placed there too.
 fn opening(alloc: Global, entries: &[Entry]) -> Result<Opening, Refusal> {
     let mut items = Vec::new(alloc);
     items.push((item_of("picture/0")?, picture(alloc, 0)?))?;
@@ -120,7 +120,7 @@ const ORDERS: &[(Order, &str)] = &[
 /// The other's write has a greater stamp than the one that it read.
 const WRITTEN: &[Row] = &[(Retitle("picture/0", "Cove"), "committed at 131074", (4, 1))];
 
-/// Two sessions are told so, before they meet and then.
+/// Two sessions get these answers, before they meet and after it.
 fn both_told_so<J: ServiceNames, R: Wait + time::Clock + Abort>(
     rt: &R,
     alloc: Global,
@@ -138,7 +138,8 @@ fn both_told_so<J: ServiceNames, R: Wait + time::Clock + Abort>(
     told_so(rt, alloc, two, counts, WRITTEN)
 }
 
-/// A visit of two sessions, while the gate counts. Their numbers are 1 and 2, there is no third, and they are told so.
+/// A visit of two sessions, while the gate counts. Their numbers are 1 and 2, there is no third, and they get the
+/// answers above.
 #[derive(Drop)]
 struct Two {
     counts: Arc<Counts, Global>,
@@ -165,7 +166,7 @@ impl<R: Wait + time::Clock + Abort + Copy> Visit<R> for Two {
     }
 }
 
-/// What one session writes another reads, and each read and write takes just its messages.
+/// What one session writes another reads, and each read and write takes exactly its messages.
 #[test]
 fn two_sessions(rt: HostRuntime) -> Result<(), Fail> {
     let opened = opened(rt.alloc(), READABLE, 2)?;
@@ -184,7 +185,7 @@ fn refused<T: Drop>(given: Result<T, Refusal>) -> u8 {
     }
 }
 
-/// By which refusal bo's ask is refused that names no object.
+/// The refusal of bo's ask that names no object.
 fn refused_without_object<J: ServiceNames, R: Wait + time::Clock>(
     rt: &R,
     alloc: Global,
@@ -195,7 +196,7 @@ fn refused_without_object<J: ServiceNames, R: Wait + time::Clock>(
     Ok(refused(session.ask(rt, &principal, Ask::SetLists { lists })))
 }
 
-/// By which refusals the session's asks are refused, one after another: to read twice, and one without an object.
+/// The refusals of the session's asks, one after another: to read twice, and one without an object.
 fn refused_asks<J: ServiceNames, R: Wait + time::Clock>(
     rt: &R,
     alloc: Global,
@@ -228,7 +229,7 @@ fn refused_all<J: ServiceNames, R: Wait + time::Clock + Copy>(
     Ok((asks, refused_controls(rt, &mut guest.session)?))
 }
 
-/// By which refusals a session is refused, once the service is closed.
+/// The refusals that a session gets once the service is closed.
 fn closed_on<
     J: ServiceNames + Send + 'static,
     R: Threads + Wait + time::Clock + Copy + Send + 'static,
@@ -258,7 +259,7 @@ fn a_closed_service(rt: HostRuntime) {
     assert_eq!(rt; refused, Ok(([21, 21, 3], [23, 21, 21, 21])));
 }
 
-/// A visit of a session in which amy sets both lists; what she is told.
+/// A visit of a session in which amy sets both lists; the answer to her.
 #[derive(Drop)]
 struct SetBoth;
 

@@ -1,4 +1,4 @@
-//! What clients are told, as texts.
+//! The answers to clients, as texts, and what was audited.
 use crate::refused::whole_text;
 use album_eval::Verdict;
 use album_listing::{Reason, Row};
@@ -93,7 +93,7 @@ impl Answers {
     }
 }
 
-/// What amy and bo are told, and how many entries have audited what was granted and what was denied.
+/// The answers to amy and bo, and how many entries have audited what was granted and what was denied.
 #[derive(Drop)]
 pub struct Told {
     pub amy: Answers,
@@ -128,7 +128,7 @@ impl Told {
         Ok(format!(in alloc; "amy: {amy}bo: {bo}audited {granted} and {denied}")?)
     }
 
-    /// Whether the other has just the same answers.
+    /// Whether the other has exactly the same answers.
     pub fn has_answers_of(&self, other: &Told) -> bool {
         self.amy.whole == other.amy.whole && self.bo.whole == other.bo.whole
     }

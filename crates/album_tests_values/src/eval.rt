@@ -61,7 +61,7 @@ fn last_members(alloc: Global) -> Result<Vec<Member>, Refusal> {
     Ok(members)
 }
 
-/// So many groups, of which each lists the next, and the last amy and the first.
+/// So many groups. Each lists the next one, and the last lists amy and the first.
 fn circle(alloc: Global, len: u64) -> Result<BTreeMap<u64, Vec<Member>>, Refusal> {
     let mut groups = BTreeMap::new(alloc);
     for number in 1..len {

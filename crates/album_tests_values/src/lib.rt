@@ -1,4 +1,4 @@
-//! Tests of what stands below partitions and lines: stamps, lists, verdicts, items and versions.
+//! Tests of what lies below partitions and lines: stamps, lists, verdicts, items and versions.
 //!
 //! Read `lists` first, then `items`: they make values for the others.
 #![tactic(auto)]

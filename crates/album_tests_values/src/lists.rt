@@ -38,7 +38,7 @@ fn member_number(text: &str) -> Result<Option<u64>, Refusal> {
     }
 }
 
-/// What is told of texts: the length of a name, the numbers of two whos, and that of a member.
+/// What is read of texts: the length of a name, the numbers of two whos, and that of a member.
 type Told = (usize, Option<u64>, Option<u64>, Option<u64>);
 
 fn told() -> Result<Told, Refusal> {
@@ -92,7 +92,7 @@ fn entries_taken(alloc: Global, len: usize) -> Result<(Option<Refusal>, usize), 
     }
 }
 
-/// How many entries are given, and what comes of it.
+/// How many entries are given, and the outcome.
 const LENGTHS: &[(usize, (Option<Refusal>, usize))] = &[
     (MAX_ENTRIES, (None, 128)),
     (129, (Some(Refusal::ListFull), 129)),

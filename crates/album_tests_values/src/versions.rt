@@ -20,7 +20,7 @@ enum Step {
     Trim,
 }
 
-/// What is done, the stamps that are asked then, and what is told: the latest stamp, the floor and
+/// What is done, the stamps that are asked then, and what is returned: the latest stamp, the floor and
 /// the best of the asked.
 type Row = (&'static [Step], &'static [u64], (u64, u64, Option<u64>));
 
@@ -85,7 +85,7 @@ fn best(
     }
 }
 
-/// What is told after the steps.
+/// What is returned after the steps.
 fn told(alloc: Global, steps: &[Step], asked: &[u64]) -> Result<(u64, u64, Option<u64>), Refusal> {
     let item = ItemId::new(Kind::Picture, 0);
     let mut versions = Versions::new(alloc);

@@ -29,7 +29,7 @@ pub enum Verb {
     Share,
 }
 
-/// The object, and a list by which everyone may read it.
+/// The object, and a list that lets everyone read it.
 fn new_list(alloc: Global, object: ItemId) -> Result<NewList, Refusal> {
     let list = list_of(alloc, &[(ALLOW, "EVERYONE@", 1, 0)])?;
     Ok(NewList { object, list })

@@ -51,19 +51,19 @@ const VERBS: &[Verb] = &[
     Verb::Share,
 ];
 
-/// The text that tells all of an ask.
+/// The text of the whole ask.
 fn told(alloc: Global, ask: &Ask) -> Result<String, Refusal> {
     Ok(format!(in alloc; "{ask:?}")?)
 }
 
-/// Whether the two tell the same.
+/// Whether the texts of the two are the same.
 fn are_same(alloc: Global, ask: &Ask, other: &Ask) -> Result<bool, Refusal> {
     let told_of_ask = told(alloc, ask)?;
     let told_of_other = told(alloc, other)?;
     Ok(told_of_ask == told_of_other)
 }
 
-/// Whether a copy of the ask tells what the ask does.
+/// Whether a copy of the ask has the same text as the ask.
 fn copies(alloc: Global, ask: &Ask) -> Result<bool, Refusal> {
     let copy = ask.copy()?;
     let are_same = are_same(alloc, ask, &copy);

@@ -1,5 +1,5 @@
-//! What is ruled on an ask over a store, and the permit that comes of it. Where a call is refused for want of memory it
-//! is made once more, with what it handed back: so doubt/memory tells whether that is what went in.
+//! The ruling on an ask over a store, and the permit that it gives. Where a call is refused for want of memory it is
+//! made once more, with what it handed back: so doubt/memory shows whether that is what went in.
 ghost use Rattle.std.specs.Prelude.{◌≡◌, None};
 ghost use Rattle.album_views.specs.Checks.{refusal_of};
 
@@ -13,7 +13,7 @@ use album_stamps::Refusal;
 use album_views::View;
 use std::alloc::Global;
 
-/// A store, who asks, and what of which item.
+/// A store, the principal, what is asked, and the item that it is asked of.
 pub type Asked = (Store, &'static str, Verb, &'static str);
 
 /// What is ruled on the view.
@@ -50,7 +50,7 @@ fn rule_again(
     Ok(rule_on(alloc, view, principal, policy)?)
 }
 
-/// The view of what is asked, and who asks.
+/// The view of what is asked, and the principal.
 pub fn seen_by(alloc: Global, asked: Asked) -> Result<(View, Principal), Refusal> {
     let (store, who, verb, text) = asked;
     let principal = Principal::read(who)?;

@@ -132,7 +132,7 @@ fn found(alloc: Global, store: Store, item: ItemId) -> Result<Value, Refusal> {
     }
 }
 
-/// What the one partition answers client 1 of the item.
+/// What the one partition replies to client 1 for the item.
 fn version(alloc: Global, store: Store, tag: u64, item: ItemId) -> Result<Message, Refusal> {
     let client = ClientNo::of(1).ok_or(Refusal::BadRequest)?;
     let value = found(alloc, store, item)?;
@@ -165,7 +165,7 @@ fn started(alloc: Global, items: &Items) -> Result<Reading, Refusal> {
     Ok(reading)
 }
 
-/// What comes of one more reply.
+/// The step after one more reply.
 fn given(step: Step, reply: &Message) -> Result<Step, Refusal> {
     match step {
         Step::Same(reading) => Ok(reading.on_reply(reply)?),
@@ -176,7 +176,7 @@ fn given(step: Step, reply: &Message) -> Result<Step, Refusal> {
     }
 }
 
-/// What comes of the reading as it is given one reply after the other.
+/// The step that the reading leads to, given one reply after the other.
 fn after(reading: Reading, replies: &[Message]) -> Result<Step, Refusal> {
     let mut step = Step::Same(reading);
     for reply in replies {

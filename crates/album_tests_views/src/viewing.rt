@@ -1,4 +1,4 @@
-//! The reads that are made for an ask over a store, and the view that comes of them. A call that is refused is made
+//! The reads that are made for an ask over a store, and the view that they lead to. A call that is refused is made
 //! once more with what it hands back.
 ghost use Rattle.std.specs.Prelude.{◌≡◌, None};
 ghost use Rattle.album_views.specs.Checks.{flaw_of};
@@ -39,7 +39,7 @@ fn started_again(
     Ok(Viewing::start(alloc, ask)?)
 }
 
-/// What comes of the snapshot, for a copy of the viewing.
+/// The step that the snapshot leads to, for a copy of the viewing.
 fn seen(alloc: Global, viewing: &Viewing, snapshot: Snapshot) -> Result<ViewStep, Refusal> {
     match viewing.copy() {
         Ok(copy) => seen_by(alloc, viewing, copy, snapshot),
@@ -79,7 +79,7 @@ fn seen_again(
     Ok(copy.on_snapshot(alloc, snapshot)?)
 }
 
-/// What comes of a read of the items.
+/// The step that a read of the items leads to.
 fn read(alloc: Global, store: Store, viewing: Viewing, items: Items) -> Result<ViewStep, Refusal> {
     let step = match snapshot(alloc, store, &items) {
         Ok(snapshot) => seen(alloc, &viewing, snapshot),

@@ -1,4 +1,4 @@
-//! Writes over three partitions (docs/PROTOCOL.md, "A write"): what comes of the replies, strays among them. amy sets
+//! Writes over three partitions (docs/PROTOCOL.md, "A write"): the outcome of replies, strays among them. amy sets
 //! other lists of her two pictures, so list/0 and list/1 are written: at the partitions 2 and 0.
 ghost use Rattle.std.specs.Prelude.{◌≡◌, Some, IfErr, IfOk, IsTrue};
 ghost use Rattle.album_stamps.specs.Stamps.{client_of};
@@ -32,7 +32,7 @@ const STORE: Store = &[
     ("list/2", Is::List(&[(ALLOW, "EVERYONE@", 2, 0)])),
 ];
 
-/// What a partition tells of a stamp.
+/// What a partition replies about a stamp.
 #[derive(Clone, Copy)]
 enum Tells {
     Prepared,
@@ -45,7 +45,7 @@ enum Tells {
     Gone,
 }
 
-/// A reply: by which partition, to which client, under which tag.
+/// A reply: from this partition, to this client, under this tag.
 #[derive(Clone, Copy)]
 struct Told {
     from: u16,
@@ -160,7 +160,7 @@ fn is_handed_back(refused: Refused<Permit>) -> bool {
     is_back
 }
 
-/// The album has 128 children beside the new one.
+/// The album has 128 children already, without the new one.
 #[test]
 fn full_album_gives_the_permit_back(rt: HostRuntime) {
     assert_eq!(rt; full_album(rt.alloc()), Ok(true));
@@ -267,7 +267,7 @@ fn after(alloc: Global, replies: &[Told]) -> Result<(&'static str, u64), Refusal
 /// Replies, and how far the write is then.
 type Row = (&'static [Told], &'static str);
 
-/// What partitions 0 and 2 tell client 1 of their Prepares of `T`, and of their Commits.
+/// What partitions 0 and 2 reply to client 1 about their Prepares of `T`, and about their Commits.
 const P0: Told = Told {
     from: 0,
     to: 1,
@@ -286,7 +286,7 @@ const C0: Told = Told {
 
 const C2: Told = Told { from: 2, ..C0 };
 
-/// The same of partition 1, which is not concerned.
+/// The same from partition 1, which is no participant.
 const P1: Told = Told { from: 1, ..P0 };
 
 const C1: Told = Told { from: 1, ..C0 };
@@ -299,7 +299,7 @@ const ROWS: &[Row] = &[
     (&[P2, P0], "commits"),
     // A Commit is lost, and the other is answered.
     (&[P0, P2, C0], "commits"),
-    // Partition 2 has committed by a sweep meanwhile, and tells so of its Commit.
+    // Partition 2 has committed by a sweep meanwhile, and replies so to its Commit.
     (&[P0, P2, C2, C0], "committed"),
     // Partition 2 was asked by a sweep of partition 0 before its Prepare came.
     (
@@ -323,7 +323,7 @@ const ROWS: &[Row] = &[
         ],
         "aborted",
     ),
-    // No room at partition 2; and told by one that has prepared.
+    // No room at partition 2; and the same reply from one that has prepared.
     (
         &[Told {
             tells: Tells::Full,
@@ -341,10 +341,10 @@ const ROWS: &[Row] = &[
         ],
         "full",
     ),
-    // One partition tells Prepared twice, and Committed twice.
+    // One partition replies Prepared twice, and Committed twice.
     (&[P0, P0], "prepares"),
     (&[P0, P2, C0, C0], "commits"),
-    // Strays to the Prepares: of another tag, another stamp, a partition that is not concerned, to another client.
+    // Strays to the Prepares: of another tag, another stamp, a partition that is no participant, to another client.
     (&[P0, Told { tag: 6, ..P2 }], "prepares"),
     (&[P0, Told { stamp: LATER, ..P2 }], "prepares"),
     (&[P0, P1], "prepares"),
@@ -492,7 +492,7 @@ fn replies_carry_a_write_on(rt: HostRuntime) {
     }
 }
 
-/// A write is begun with the permit that came back, where it was refused, and goes on.
+/// A write is begun with the permit that came back, where it was refused, and continues.
 #[test]
 fn a_refused_write_begins_again(rt: HostRuntime) {
     assert_eq!(rt; after(rt.alloc(), &[P0, P2]), Ok(("commits", T)));

@@ -1,4 +1,4 @@
-//! What a service starts with, before any type stands for it.
+//! What a service starts with, before any type names it.
 ghost use Rattle.std.specs.Prelude.{◌≡◌, ◌≢◌, ◌<◌, true, false, Some, IfOk, IfErr, OnOk};
 ghost use Rattle.album_eval.specs.Policies.{policy_of};
 ghost use Rattle.album_items.specs.Openings.{is_opening};

@@ -172,8 +172,8 @@ impl<J: ServiceNames + Send + 'static> Service<J> {
 }
 
 impl<J: ServiceNames> Service<J> {
-    /// A new session, with a number of its own, from 1 on, of which nothing is announced yet, and a share of the audit
-    /// book in which nothing counts.
+    /// A new session, with a number of its own, from 1 on, and a share of the audit book in which nothing counts.
+    /// Nothing is announced yet of any stamp of that number.
     ///
     /// # Errors
     ///

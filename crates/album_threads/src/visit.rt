@@ -1,4 +1,4 @@
-//! A service for the time of one visit. Its names are hidden, and it is closed whatever comes of the visit.
+//! A service for the time of one visit. Its names are hidden, and it is closed whatever the visit returns.
 ghost use Rattle.std.specs.Prelude.{◌≡◌};
 ghost use Rattle.album_threads.specs.Opened.{opened_as};
 
@@ -26,7 +26,7 @@ pub trait Visit<R>: Drop {
     ) -> Self::Answer;
 }
 
-/// Opens a service for so many sessions, and at least one, has it visited, and closes it. What comes of the visit is
+/// Opens a service for so many sessions, and at least one, has it visited, and closes it. What the visit returns is
 /// given back, be it an error.
 ///
 /// # Errors

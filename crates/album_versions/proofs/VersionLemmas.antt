@@ -176,7 +176,7 @@ pub unchanged_by : (m : BTreeMap ℕ RowState) (entries : List (ℕ × RowState)
 unchanged_by m entries item o row given new inserted found empty is same =
     same_from _ _ item (rw (← (lent m item o row given found empty is), ← same) (puts_from_insert m.entries entries item new inserted))
 
--- ---- what the item's row tells of it
+-- ---- what the item's row says of it
 pub dropped_nowhere : (m : BTreeMap ℕ RowState) (item stamp : ℕ) → get nat_cmp m item ≡ None → DropsOne (record { rows = m.entries }) (record { rows = m.entries }) item stamp
 dropped_nowhere m item stamp none = drops_nothing _ item stamp (rw none refl)
 

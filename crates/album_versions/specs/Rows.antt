@@ -11,7 +11,7 @@ pub record RowState : Type 0 where
   pub floor : ℕ
   pub versions : List Version
 
--- of an item of which nothing was written
+-- the row of an item that was never written
 abbrev pub empty_row : RowState
 empty_row = record { latest = 0; floor = 0; versions = [] }
 

@@ -38,7 +38,7 @@ impl Model for Row {
 }
 
 impl Row {
-    /// Of an item of which nothing was written.
+    /// The row of an item that was never written.
     pub fn new(alloc: Global) -> Row
         ensures { result ≡ empty_row }
     {
@@ -156,7 +156,7 @@ impl Row {
         drop_below(&mut self.versions, self.floor);
     }
 
-    /// At which index the version at the stamp stands, or would stand.
+    /// The index of the version at the stamp; or else, as the error, the index that it would have.
     fn search(&self, stamp: Stamp) -> Result<usize, usize>
         ensures found { IfOk result (IsAt self.now.versions stamp) }
         ensures absent { IfErr result (IsGapFor self.now.versions stamp) }

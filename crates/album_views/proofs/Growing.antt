@@ -1,6 +1,6 @@
--- What the names are: just what is named (`named-in`, `grown-named`), none twice (`grown-single`), and in the one order
--- that the rules leave (`same-names`); and how the loop of `named` gets there (`looked-first`, `looked-more`,
--- `looked-all`).
+-- What the names are: exactly what is named (`named-in`, `grown-named`), none twice (`grown-single`), and in the one
+-- order that the rules leave (`same-names`). The loop of `named` gets there by `looked-first`, `looked-more` and
+-- `looked-all`.
 use Rattle.std.proofs.Common.{◌≡◌, ◌≤◌, ◌<◌, ℕ, ◌+◌, true, ◌==◌, List, [], ◌∷◌, ◌++◌, length, take, get_or, inl, inr, refl, sym, ap, subst, ◌∙◌, arith}
 use Rattle.std.specs.List.{flat_map}
 use Rattle.std.proofs.lemmas.Grind.{flat_map-append, fold-append}
@@ -127,9 +127,9 @@ module _ (seen : ℕ → Value) (ask : Ask) where
           put item (in-right (first_names seen ask) (flat_map inner names) item
           (flat_map-in inner names group item (go group g) (Contains-has (inner group) item h)))
 
-  -- ---- growing goes behind what is there
+  -- ---- growing adds after what is there
 
-  -- the second list goes on where the first ends
+  -- the second list extends the first
   abbrev pub GoesOn : List ℕ → List ℕ → Type 0
   GoesOn xs ys = (more : List ℕ) × (ys ≡ xs ++ more)
 
@@ -144,8 +144,8 @@ module _ (seen : ℕ → Value) (ask : Ask) where
       let all = all-more (grown seen ask xs) (flat_map inner on.0) in
       (all.0, ap (grown seen ask) on.1 ∙ grown-more xs on.0 ∙ all.1)
 
-  -- Where nothing more grows out of both, one goes on where the other ends, and all of the longer one is named, they
-  -- are one.
+  -- Two lists are one where nothing more grows out of either, one extends the other, and all of the longer one is
+  -- named.
   pub same-names :
       (names all : List ℕ) → names ≡ grown seen ask names → all ≡ grown seen ask all
       → GoesOn names all → AreNamed all → all ≡ names

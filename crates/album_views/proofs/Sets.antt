@@ -1,6 +1,6 @@
--- What is among the keys of a set as keys are inserted, for the names (`Growing`, `Turns`): nothing is lost (`all-old`),
--- all is taken (`all-new`), nothing else is (`all-only`), keys go behind those that are there (`all-more`), none stands
--- twice (`all-single`), and they are no more than what is inserted (`all-few`).
+-- What is among the keys of a set as keys are inserted, for the names (`Growing`, `Turns`). Nothing is lost
+-- (`all-old`), all is taken (`all-new`), and nothing else is (`all-only`). Keys go after those that are there
+-- (`all-more`), none occurs twice (`all-single`), and they are no more than what is inserted (`all-few`).
 use Rattle.std.proofs.Common.{◌≡◌, ◌<◌, ◌≤◌, ◌+◌, ℕ, zero, suc, Bool, true, false, not, ◌||◌, ◌==◌, List, [], ◌∷◌, ◌++◌, length, get_or, if◌then◌else◌, Contains, inl, inr, ◌⊎◌, refl, sym, ap, subst, ◌∙◌, arith}
 use Rattle.std.specs.List.{list_any, flat_map}
 use Rattle.std.proofs.lemmas.Bool.{and_parts, and_from, or_parts, or_from, or_left, or_right, not-true, eqb-true, eq-eqb}
@@ -30,7 +30,7 @@ Contains-has (x ∷ xs) item c = go (Contains-has xs item) c.0 c.1 c.2
     go rest zero l e = or_left (item == x) (has xs item) (eq-eqb item x (sym e))
     go rest (suc k) l e = or_right (item == x) (has xs item) (rest (k, omega (arith, l), e))
 
--- what is in one of the two is true, told apart
+-- where one of the two is true, which of them it is
 pub one-of : (a b : Bool) → (a || b) ≡ true → (a ≡ true) ⊎ (b ≡ true)
 one-of true b e = inl refl
 one-of false b e = inr e
@@ -186,7 +186,7 @@ pub all-few : (keys items : List ℕ) → length (insert_all ◌==◌ keys items
 all-few keys [] = omega arith
 all-few keys (x ∷ xs) = omega (arith, all-few (insert_key ◌==◌ keys x) xs, key-few keys x)
 
--- where none stands twice, what stands behind the others is none of them
+-- where no item occurs twice, an item of the second list is none of the first
 pub single-apart :
     (xs ys : List ℕ) (item : ℕ) → are_distinct (xs ++ ys) ≡ true → has ys item ≡ true → has xs item ≡ false
 single-apart [] ys item single behind = refl

@@ -184,7 +184,7 @@ module _ (rows : List ReadVersion) (ask : Ask) where
   unfolding names_of
   names-named = turns-named (length rows + 1) [] (λ item h. absurd (cc))
 
-  -- what grows no more goes on where any number of turns ends
+  -- a list that grows no more, and extends some names, extends what any number of turns makes of these
   turns-go_on :
       (n : ℕ) (names all : List ℕ) → all ≡ turn all
       → GoesOn (seen rows) ask names all → GoesOn (seen rows) ask (iterate turn n names) all
@@ -194,7 +194,7 @@ module _ (rows : List ReadVersion) (ask : Ask) where
       (subst (λ (ns : List ℕ). GoesOn (seen rows) ask (turn names) ns) (sym fixed)
       (grown-goes_on (seen rows) ask names all on))
 
-  -- items that grow no more, each of which is named, are the names
+  -- items that grow no more, all of them named, are the names
   pub names-one :
       (names : List ℕ) → names ≡ grown (seen rows) ask names → AreNamed (seen rows) ask names → names ≡ names_of rows ask
   unfolding names_of

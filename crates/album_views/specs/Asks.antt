@@ -1,4 +1,5 @@
--- What a client asks: of which items, of what kinds they may be, and whether it lists, writes or makes something.
+-- What a client asks for: which items, which kinds are allowed for them, and whether the ask lists, writes or makes
+-- something.
 use Rattle.std.specs.Prelude.{ℕ, ◌==◌, List, [], ◌∷◌, ◌++◌, Bool, true, false, map}
 use Rattle.indexmap.specs.IndexSet.{insert_all}
 use Rattle.album_items.specs.declared.item_ids.Kind.{Kind}
@@ -8,7 +9,7 @@ use Rattle.album_views.specs.declared.asks.Ask.TheVariants as ask
 use Rattle.album_views.specs.declared.asks.NewList.{NewList}
 use Rattle.album_views.specs.declared.asks.NewMembership.{NewMembership}
 
--- an item that is asked for, and the kinds of which it may be
+-- an item that is asked for, and the kinds that are allowed for it
 pub record Wanted : Type 0 where
   pub object : ℕ
   pub kinds : List Kind
@@ -20,7 +21,7 @@ want kinds object = record { object = object; kinds = kinds }
 abbrev pub headed : List Kind
 headed = Picture ∷ Album ∷ Group ∷ []
 
--- what an ask names, in the order of its fields, each item with the kinds of which it may be
+-- what an ask names, in the order of its fields, each item with the kinds that are allowed for it
 abbrev pub wanted : Ask → List Wanted
 wanted (ask.Read object) = want (Picture ∷ Group ∷ []) object ∷ []
 wanted (ask.List album) = want (Album ∷ []) album ∷ []

@@ -24,7 +24,7 @@ use Rattle.album_views.specs.Asks.{wanted, objects_of, is_adding}
 abbrev pub is_one_of : List Kind → ℕ → Bool
 is_one_of kinds item = list_any (λ kind. code_of kind == kind_of item) kinds
 
--- each item that is named is of a kind of which it may be
+-- each item that is named is of a kind that is allowed for it
 abbrev pub has_kinds : Ask → Bool
 has_kinds ask = list_all (λ wanted. is_one_of wanted.kinds wanted.object) (wanted ask)
 
@@ -91,7 +91,7 @@ holder_of item = if kind_of item == 1 then Folder else Plain
 abbrev pub has_fitting_lists : Ask → Bool
 has_fitting_lists ask = list_all (λ (new : NewList). fits (holder_of new.object) new.list) (new_lists ask)
 
--- the first test that the ask fails, whoever asks
+-- the first test that the ask fails, for any principal
 unfoldable pub flaw_of : Ask → Option Refusal
 flaw_of ask =
     if not (has_kinds ask && has_single_objects ask) then Some BadRequest

@@ -10,8 +10,8 @@ use Rattle.album_views.specs.declared.asks.Ask.TheVariants as ask
 use Rattle.album_views.specs.Asks.{once, objects_of}
 use Rattle.album_views.specs.Seen.{seen}
 
--- what an ask looks at beside its objects: the home of a picture that is deleted or moved, the children of an album
--- that is listed
+-- what an ask looks at in addition to its objects: the home of a picture that is deleted or moved, the children of an
+-- album that is listed
 abbrev pub relatives_of : (ℕ → Value) → Ask → List ℕ
 relatives_of seen (ask.Read object) = []
 relatives_of seen (ask.List album) = children_of (seen album)
@@ -68,7 +68,7 @@ first_names seen ask =
     subjects_of seen ask
     ++ (flat_map (named_by_head seen) (subjects_of seen ask) ++ flat_map (named_by_list seen) (subjects_of seen ask))
 
--- what names lead to: the first names, and behind them the groups among the members of each of the names
+-- what names lead to: the first names, and after them the groups among the members of each of the names
 abbrev pub grown : (ℕ → Value) → Ask → List ℕ → List ℕ
 grown seen ask names = once (first_names seen ask ++ flat_map (λ item. groups_in_group (seen item)) names)
 

@@ -1,4 +1,4 @@
--- What comes of a read that was made for a view.
+-- The step after a read that was made for a view.
 use Rattle.std.specs.Prelude.{◌≢◌, ◌≤◌, ◌+◌, ℕ, List, [], IsTrue, nat_le, nat_lt, length, if◌then◌else◌}
 use Rattle.album_stamps.specs.Distinct.{are_distinct}
 use Rattle.album_stamps.specs.declared.limits.TheConstants.{MAX_READ_ITEMS, MAX_READS}
@@ -15,17 +15,17 @@ again viewing items =
     if nat_le MAX_READS (viewing.reads + 1) then Busy Rounds
     else Again (record viewing { reads = viewing.reads + 1 }) items
 
--- what comes of a snapshot that is not closed
+-- the step after a snapshot that is not closed
 abbrev pub unclosed : ViewingState → List ℕ → ViewStep
 unclosed viewing names = if nat_lt MAX_READ_ITEMS (length names) then Busy Wide else again viewing names
 
--- what comes of a snapshot
+-- the step after a snapshot
 abbrev pub stepped : ViewingState → List ReadVersion → ViewStep
 stepped viewing rows =
     if is_closed viewing.ask rows then Closed (record { ask = viewing.ask; rows = rows })
     else unclosed viewing (names_of rows viewing.ask)
 
--- items that can be read: there are some, not too many, and none stands twice
+-- items that can be read: there are some, not too many, and none occurs twice
 pub record AreReadable (items : List ℕ) : Type 0 where
   pub some : items ≢ []
   pub few : length items ≤ MAX_READ_ITEMS

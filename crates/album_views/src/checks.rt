@@ -20,11 +20,11 @@ impl Ask {
     ///
     /// # Errors
     ///
-    /// By the first test that the ask fails: `BadRequest` where an object is of a kind of which it may not
-    /// be, where there is none, or one stands twice; `TooManyItems` where there are more than
-    /// `MAX_TRANSACTION_ITEMS`; `ListFull` where a group is to have more than `MAX_MEMBERS` members;
-    /// `BadFlags` where a list does not fit its object; `NoOwner` where Anonymous makes a new object. A group that a
-    /// share names for its list and for its members counts as two, and doesn't stand twice.
+    /// The first test that the ask fails decides, in this order. `BadRequest`: an object is of a kind that the ask
+    /// doesn't allow for it, there is no object, or one occurs twice. `TooManyItems`: there are more than
+    /// `MAX_TRANSACTION_ITEMS`. `ListFull`: a group is to have more than `MAX_MEMBERS` members. `BadFlags`: a list does
+    /// not fit its object. `NoOwner`: Anonymous makes a new object. A group that a share names for its list and for its
+    /// members counts as two, but is no object that occurs twice.
     pub fn check(&self, principal: &Principal) -> Result<(), Refusal>
         ensures refusal { MatchResult result
             (λ _. refusal_of self.now principal.now ≡ None)
@@ -40,7 +40,7 @@ impl Ask {
         Ok(())
     }
 
-    /// The same, whoever asks.
+    /// The same, for any principal.
     #[tactic(auto, unfolding(crate::specs::Checks::flaw_of))]
     fn check_for_all(&self) -> Result<(), Refusal>
         ensures { MatchResult result (λ _. flaw_of self.now ≡ None) (λ e. flaw_of self.now ≡ Some e) }
@@ -60,7 +60,7 @@ impl Ask {
         Ok(())
     }
 
-    /// Whether each object is of a kind of which it may be.
+    /// Whether each object is of a kind that the ask allows for it.
     #[tactic(auto, using(crate::proofs::Flaws::kinds_lists, crate::proofs::Flaws::kinds_share))]
     fn has_kinds(&self) -> bool
         ensures { result ≡ has_kinds self.now }
@@ -86,7 +86,7 @@ impl Ask {
         }
     }
 
-    /// Whether there is an object, and none stands twice in one field.
+    /// Whether there is an object, and none occurs twice in one field.
     #[tactic(auto, using(crate::proofs::Flaws::single_lists, crate::proofs::Flaws::single_share))]
     fn has_single_objects(&self) -> bool
         ensures { result ≡ has_single_objects self.now }
@@ -195,7 +195,7 @@ fn has_single_in_fields(lists: &[NewList], members: &[NewMembership]) -> bool
     have_single_objects(lists) && have_single_groups(members)
 }
 
-/// Whether no object stands twice.
+/// Whether no object occurs twice.
 fn have_single_objects(lists: &[NewList]) -> bool
     ensures { result ≡ no_two same_object lists.now }
 {
@@ -214,7 +214,7 @@ fn names_object_of(lists: &[NewList], new: &NewList) -> bool
     lists.iter().any(|other| new.object.is(other.object))
 }
 
-/// Whether no group stands twice.
+/// Whether no group occurs twice.
 fn have_single_groups(members: &[NewMembership]) -> bool
     ensures { result ≡ no_two same_group members.now }
 {

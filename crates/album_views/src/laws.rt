@@ -15,8 +15,8 @@ ghost use Rattle.album_views.specs.Views.{ViewingState, ViewState, IsClosed, is_
 
 use album_stamps::{MAX_READ_ITEMS, MAX_READS, MAX_TRANSACTION_ITEMS};
 
-/// A law: an ask that is refused to nobody for its own sake has 1 to `MAX_TRANSACTION_ITEMS` objects, none
-/// of them twice, each of a kind of which it may be. One that is refused to somebody else at most is such an ask.
+/// A law: an ask without a flaw of its own has 1 to `MAX_TRANSACTION_ITEMS` objects, none of them twice, each of a kind
+/// that the ask allows for it. An ask that passes its check for any one principal has no flaw of its own.
 pub fn asks_without_flaw()
     ensures some { (ask : Ask) → flaw_of ask ≡ None → 1 ≤ length (objects_of ask) }
     ensures few { (ask : Ask) → flaw_of ask ≡ None → length (objects_of ask) ≤ MAX_TRANSACTION_ITEMS }
@@ -26,9 +26,9 @@ pub fn asks_without_flaw()
     ensures taken { (ask : Ask) (principal : Principal) → refusal_of ask principal ≡ None → flaw_of ask ≡ None }
 {}
 
-/// A law: the read set has exactly the items that are named, each once. They are in the order of
-/// the rules: the first names, and after them the groups among the members of each name in turn, also of
-/// one that stands there for that reason; and no other list is.
+/// A law: the read set has exactly the items that are named, each once. They are in the order of the rules: the first
+/// names, then the groups among the members of each name in turn, also of each name that this adds. No other list of
+/// named items is in this order.
 pub fn names_are_what_is_named()
     ensures named { (rows : List ReadVersion) (ask : Ask) (item : ℕ)
         → Contains (names_of rows ask) item ↔ IsNamed (seen rows) ask item }

@@ -27,14 +27,14 @@ use Rattle.album_lines.proofs.Entries.{members_spelled, members_parts}
 use Rattle.album_wire.proofs.Forms.{step_then, on_test, IsString, string_form, names_taken, names_then, member_as, member_parts, list_taken, list_then, known_taken, known_then, string_taken, whole_taken, whole_then}
 use Rattle.album_wire.proofs.ItemSpelling.{ReadsItems, owner_form, owner_parts, title_form, title_then, title_valid, content_form, content_parts, entries_form, entries_parts, item_form, read_item, item_taken, item_then}
 
--- the word under `do`, told by a test
+-- the word under `do`, found by a test
 said : (word does : List ℕ) (d : Data)
     → get (codes "do") d ≡ Some (string word)
     → bytes_eq word does ≡ true
     → get (codes "do") d ≡ Some (string does)
 said word does d at e = at ∙ ap (λ (t : List ℕ). Some (string t)) ((bytes_eq-Decides word does).0 e)
 
--- the shape of the ask that a word tells
+-- the shape of the ask that a word names
 by_word : (does : List ℕ) (s : SpelledAsk) (d : Data)
     → get (codes "do") d ≡ Some (string does)
     → shape_by_word does d ≡ Ok s

@@ -148,7 +148,7 @@ member_parts name d read Is More parts is =
     let part = parts value.0 value.2 in
     (part.0, there (get name d) value.0 (λ e. read e ≡ Ok part.0) value.1 part.1, part.2)
 
--- such a member, and then the rest
+-- a member by what is read of it, and then the rest
 pub known_taken : {A B : Type 0} (name : List ℕ) (d : Data) (read : Data → Result A Refusal)
     (f : A → Result B Refusal) (b : B)
     → ((field_of name d >>= read) >>= f) ≡ Ok b
@@ -179,7 +179,7 @@ pub whole_then : {B : Type 0} (name : List ℕ) (d : Data) (n : ℕ) (f : ℕ �
     → ((field_of name d >>= whole_of) >>= f) ≡ Ok b
 whole_then name d n f b is h = member_then name d whole_of (IsWhole n) n (read_whole n) f b is h
 
--- a member that is a list, each item of which has its form
+-- a member that is a list whose items each have their form
 pub list_taken : {A B : Type 0} (name : List ℕ) (d : Data) (read : Data → Result A Refusal) (Is : A → Data → Type 0)
     → ((a : A) (e : Data) → read e ≡ Ok a → Is a e)
     → (f : List A → Result B Refusal) (b : B)
@@ -244,7 +244,7 @@ is_out names name d is other = go (get name d) refl
 
 -- ---- lines
 
--- a line of which the object is read in two steps, its shape and then its values
+-- a line whose object is read in two steps, its shape and then its values
 pub line_by : {A B : Type 0} (shape : Data → Result B Refusal) (read : B → Result A Refusal) (Is : A → Data → Type 0)
     → ((a : A) (b : B) (d : Data) → shape d ≡ Ok b → read b ≡ Ok a → Is a d)
     → ((a : A) (d : Data) → Is a d → (b : B) × (shape d ≡ Ok b) × (read b ≡ Ok a))

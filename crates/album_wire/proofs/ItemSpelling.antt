@@ -330,7 +330,7 @@ picture_value_parts picture d is =
     (on_false (has (codes "children") d) _ _ s (is_out picture_keys (codes "children") d is.names refl) shape)) in
     (s, which, read)
 
--- ---- what tells of items
+-- ---- what is read of items
 
 -- the law of items: what is read of a text is the item that it spells
 abbrev pub ReadsItems : Type 0

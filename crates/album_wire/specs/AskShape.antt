@@ -1,4 +1,4 @@
--- The shape of an ask in a line: which ask its word tells, and its fields, each of its form, or a bad request.
+-- The shape of an ask in a line: which ask it is by its word, and its fields, each of its form, or a bad request.
 use Rattle.std.specs.Prelude.{ℕ, List, [], ◌∷◌, codes, bytes_eq, if◌then◌else◌, Result, Ok, Err, map}
 use Rattle.serde_json.specs.Data.{Data}
 use Rattle.album_stamps.specs.declared.refusals.Refusal.{Refusal}
@@ -60,7 +60,7 @@ spelled_ask (shape.SetMembers object members) = SetMembers object (map (λ text.
 spelled_ask (shape.Share lists members) =
     Share (map spelled_new_list lists.items) (map spelled_new_membership members.items)
 
--- ---- each ask: the names beside `do`, and what stands under each
+-- ---- each ask: the names next to `do`, and what is under each
 
 -- {object}
 unfoldable pub read_shape_of : Data → Result SpelledAsk Refusal
@@ -177,7 +177,7 @@ share_shape_of d = do
   members ← field_of (codes "members") d >>= list_of >>= each new_membership_shape_of
   Ok (Share lists members)
 
--- ---- which ask it is, the word under `do` tells
+-- ---- the word under `do` says which ask it is
 
 abbrev pub shape_by_word : List ℕ → Data → Result SpelledAsk Refusal
 shape_by_word word d =

@@ -1,4 +1,4 @@
--- How asks are spelled in JSON: the word under `do`, and the members beside it.
+-- How asks are spelled in JSON: the word under `do`, and the other members.
 use Rattle.std.specs.Prelude.{◌≡◌, ℕ, List, [], ◌∷◌, codes, Some}
 use Rattle.serde_json.specs.Data.{Data, string}
 use Rattle.serde_json.specs.Find.{get}
@@ -10,7 +10,7 @@ use Rattle.album_lines.specs.Spelling.{HasOnly, IsList, AreMembers, list_data}
 use Rattle.album_wire.specs.ObjectSpelling.{IsWhole, HasMember}
 use Rattle.album_wire.specs.ItemSpelling.{IsItem, IsOwner, IsTitle, IsContent, IsEntries}
 
--- an object that has this word under `do`, and no other members than these beside it
+-- an object that has this word under `do`, and no other members than these
 pub record IsDo (word : List ℕ) (beside : List (List ℕ)) (d : Data) : Type 0 where
   pub does : get (codes "do") d ≡ Some (string word)
   pub names : HasOnly (codes "do" ∷ beside) d
@@ -31,7 +31,7 @@ pub record IsNewMembership (new : NewMembership) (d : Data) : Type 0 where
   pub object : IsItem new.object object_data
   pub members : AreMembers new.members members_data
 
--- each ask by its word, and the form of each member beside it
+-- each ask by its word, and the form of each other member
 abbrev pub IsAsk : Ask → Data → Type 0
 IsAsk (ask.Read object) d =
     IsDo (codes "read") (codes "object" ∷ []) d

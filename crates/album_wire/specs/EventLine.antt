@@ -14,7 +14,7 @@ use Rattle.album_wire.specs.EventShape.{SpelledEvent, Asked, Whole, event_shape_
 use Rattle.album_wire.specs.declared.event_shape.Spelled.{Spelled}
 use Rattle.album_wire.specs.declared.event_shape.Spelled.TheVariants as spelled
 
--- who asks, and then the ask
+-- the principal, and then the ask
 unfoldable pub event_read : SpelledEvent → Result Spelled Refusal
 event_read (Asked client who ask) = do
   who ← ok_or (principal_of who) BadWho

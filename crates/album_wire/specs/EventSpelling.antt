@@ -17,7 +17,7 @@ use Rattle.album_wire.specs.declared.event_shape.TheConstants.{MAX_DELIVERIES, M
 
 -- ---- who and what an event names
 
--- who asks
+-- a principal, by its text
 abbrev pub IsPrincipal : Principal → Data → Type 0
 IsPrincipal who = IsText (IsPrincipalText who)
 
@@ -47,13 +47,13 @@ pub record IsRange (first last : ℕ) (d : Data) : Type 0 where
   pub items : d ≡ list_data (whole_data first ∷ whole_data last ∷ [])
   pub few : last < first + MAX_DELIVERIES
 
--- a partition that is to ask how a stamp stands, and the stamp
+-- a partition that is to ask the others for a stamp's state, and the stamp
 pub record IsSweep (part stamp : ℕ) (d : Data) : Type 0 where
   pub names : HasOnly (codes "part" ∷ codes "stamp" ∷ []) d
   pub part_there : HasMember (codes "part") (IsPart part) d
   pub stamp_there : HasMember (codes "stamp") (IsStamp stamp) d
 
--- an item of which old versions are to be let go, and the partition
+-- an item whose old versions are to be let go, and the partition
 pub record IsTrim (part item : ℕ) (d : Data) : Type 0 where
   pub names : HasOnly (codes "item" ∷ codes "part" ∷ []) d
   pub item_there : HasMember (codes "item") (IsItem item) d

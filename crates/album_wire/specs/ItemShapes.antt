@@ -1,4 +1,4 @@
--- The shapes of items and of their values in a line: what stands where, before any of it is tested further.
+-- The shapes of items and of their values in a line: their parts, before any of these is tested further.
 use Rattle.std.specs.Prelude.{ℕ, List, [], ◌∷◌, codes, Bool, ◌||◌, ◌==◌, if◌then◌else◌, Option, Some, None, Result, Ok, map}
 use Rattle.std.specs.Option.{ok_or}
 use Rattle.serde_json.specs.Data.{Data}
@@ -114,7 +114,7 @@ group_shape_of d = do
   members ← field_of (codes "members") d >>= texts_of
   Ok (Group head members)
 
--- Whose value it is, its names tell: only a list has entries, only a group members, only an album children.
+-- The names say whose value it is: only a list has entries, only a group members, only an album children.
 abbrev pub value_shape_of : Data → Result SpelledValue Refusal
 value_shape_of d =
     if has (codes "entries") d then list_shape_of d

@@ -38,7 +38,7 @@ IsOwner name = IsText (IsUserText name)
 abbrev pub IsTitle : List ℕ → Data → Type 0
 IsTitle title d = (d ≡ string title) × IsTrue (is_title title)
 
--- two digits of sixteen, each in either case, the first of which counts sixteen times
+-- a byte as two hexadecimal digits, each in either case: the first counts sixteen times
 pub record AreDigits (byte first second : ℕ) : Type 0 where
   pub high : ℕ
   pub low : ℕ

@@ -17,7 +17,7 @@ use Rattle.album_lines.specs.Spelling.{whole_data, list_data}
 use Rattle.album_wire.specs.ValueJson.{object_data, item_json, item_list_json, value_json}
 use Rattle.album_wire.specs.declared.message_json.Envelope.{Envelope}
 
--- ---- what stands in it
+-- ---- what is in it
 
 -- `p` and the number of a partition, `c` and that of a client
 abbrev pub node_text : Node → List ℕ
@@ -39,7 +39,7 @@ write_json row = list_data (item_json row.0 ∷ value_json row.1 ∷ [])
 abbrev pub writes_json : List (ℕ × Value) → Data
 writes_json rows = list_data (map write_json rows)
 
--- what every line of a message has beside what the message says
+-- what every line of a message has in addition to what the message says
 abbrev pub envelope_of : ℕ → Message → Envelope
 envelope_of number message = record { from = message.from; number = number; tag = message.tag; to = message.to }
 

@@ -9,12 +9,12 @@ use Rattle.album_lines.specs.Spelling.{whole_data}
 use Rattle.album_lines.specs.Output.{line_text}
 use Rattle.album_wire.specs.ValueJson.{object_data, item_json, owner_text}
 
--- who asks, as it is spelled
+-- the principal, as it is spelled
 abbrev pub principal_text : Principal → List ℕ
 principal_text principal.Anonymous = codes "ANONYMOUS@"
 principal_text (principal.User name) = owner_text name
 
--- a note as a replay tells it, and who asked; the index is that of the entry that takes note
+-- a note as a replay writes it, and the principal; the index is that of the entry that takes note
 abbrev pub record_json : ℕ → Principal → Note → Data
 record_json client who note = object_data (
     (codes "alarm", boolean note.alarm)

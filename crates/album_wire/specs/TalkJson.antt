@@ -1,4 +1,4 @@
--- The lines that a service writes beside the answers to asks.
+-- The lines that a service writes in addition to the answers to asks.
 use Rattle.std.specs.Prelude.{ℕ, List, [], ◌∷◌, codes}
 use Rattle.serde_json.specs.Data.{Data, string}
 use Rattle.album_lines.specs.Spelling.{whole_data, list_data}

@@ -1,4 +1,4 @@
--- What the lines of a connection say: the first who asks, and each behind it what is asked.
+-- What the lines of a connection say: the first names the principal, and each later one says what is asked.
 use Rattle.std.specs.Prelude.{ℕ, List, Result, Ok}
 use Rattle.std.specs.Option.{ok_or}
 use Rattle.album_stamps.specs.declared.refusals.Refusal.{Refusal}
@@ -12,7 +12,7 @@ use Rattle.album_wire.specs.TalkShape.{SpelledTalk, Asked, Pending, Swept, Trimm
 use Rattle.album_wire.specs.declared.talk_line.TalkLine.{TalkLine}
 use Rattle.album_wire.specs.declared.talk_line.TalkLine.TheVariants as line
 
--- who asks, by the bytes of the first line, or the first test that they fail
+-- the principal, by the bytes of the first line, or the first test that they fail
 unfoldable pub hello_line_of : List ℕ → Result Principal Refusal
 hello_line_of bytes = do
   who ← data_of bytes >>= hello_shape_of

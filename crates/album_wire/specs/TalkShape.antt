@@ -9,7 +9,7 @@ use Rattle.album_wire.specs.EventShape.{part_named, sweep_of, trim_of}
 use Rattle.album_wire.specs.declared.talk_shape.TalkShape.{TalkShape}
 use Rattle.album_wire.specs.declared.talk_shape.TalkShape.TheVariants as shape
 
--- a line behind the first, as it is spelled
+-- a line after the first, as it is spelled
 pub data SpelledTalk : Type 0 where
   Asked : SpelledAsk → SpelledTalk
   Pending : (part : ℕ) → SpelledTalk
@@ -56,7 +56,7 @@ talk_trim_shape_of d = do
   trim ← field_of (codes "trim") d >>= trim_of
   Ok (Trimmed trim.0 trim.1)
 
--- which of those behind it a line is, its names tell
+-- a line after the first: its names say which it is
 abbrev pub talk_shape_of : Data → Result SpelledTalk Refusal
 talk_shape_of d =
     if has (codes "ask") d then talk_ask_shape_of d

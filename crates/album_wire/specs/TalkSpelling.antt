@@ -9,7 +9,7 @@ use Rattle.album_wire.specs.EventSpelling.{IsPrincipal, IsPart, IsSweep, IsTrim}
 use Rattle.album_wire.specs.declared.talk_line.TalkLine.{TalkLine}
 use Rattle.album_wire.specs.declared.talk_line.TalkLine.TheVariants as line
 
--- the object of the first line: who asks
+-- the object of the first line: the principal
 abbrev pub IsHello : Principal → Data → Type 0
 IsHello who = HasJust (codes "who") (IsPrincipal who)
 

@@ -83,7 +83,7 @@ pub(crate) enum AskShape<'a> {
     },
 }
 
-/// The fields of an ask, each of its shape, or `BadRequest`. Which ask it is, the word under `do` tells.
+/// The fields of an ask, each of its shape, or `BadRequest`. The word under `do` says which ask it is.
 pub(crate) fn ask_shape<'a>(alloc: Global, value: &Value<'a>) -> Result<AskShape<'a>, Refusal>
     ensures { Gives spelled_ask result (ask_shape_of (value_data value.now)) }
 {

@@ -19,7 +19,7 @@ use json::Scratch;
 use std::alloc::Global;
 
 /// Reads the line of an event, and gives the events that it spells. The scratch is room that is kept from line to line,
-/// whatever stood in it.
+/// whatever was in it.
 ///
 /// # Errors
 ///
@@ -90,7 +90,7 @@ pub fn worked_events()
         ≡ Err Refusal.BadText }
 {}
 
-/// Who asks, and then the fields of the ask, in their order.
+/// The principal, and then the fields of the ask, in their order.
 #[tactic(auto, unfolding(crate::specs::EventLine::event_read))]
 fn events_of(alloc: Global, shape: EventShape) -> Result<Spelled, Refusal>
     ensures { Gives (λ events. events) result (event_read (spelled_event shape.entry)) }

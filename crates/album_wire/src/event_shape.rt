@@ -43,7 +43,7 @@ pub(crate) enum EventShape<'a> {
     Whole(Spelled),
 }
 
-/// The fields of an event's line, each of its shape, or `BadRequest`. Which event it is, its names tell.
+/// The fields of an event's line, each of its shape, or `BadRequest`. Its names say which event it is.
 pub(crate) fn event_shape<'a>(alloc: Global, value: &Value<'a>) -> Result<EventShape<'a>, Refusal>
     ensures { Gives spelled_event result (event_shape_of (value_data value.now)) }
 {

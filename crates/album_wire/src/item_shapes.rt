@@ -61,7 +61,7 @@ pub(crate) fn item_under(value: &Value<'_>, name: &str) -> Result<ItemId, Refusa
     item_named(field(value, name)?)
 }
 
-/// A value. Whose it is, its names tell: only a list has entries, only a group members, only an album children.
+/// A value. Its names say whose it is: only a list has entries, only a group members, only an album children.
 pub(crate) fn value_shape<'a>(alloc: Global, value: &Value<'a>) -> Result<ValueShape<'a>, Refusal>
     ensures { Gives spelled_value result (value_shape_of (value_data value.now)) }
 {

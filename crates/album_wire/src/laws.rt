@@ -1,5 +1,5 @@
-//! Laws of lines: what is read of one is what its bytes spell, and of a line that spells nothing, nothing is. That of
-//! judge lines stands beside them.
+//! Laws of lines: what is read of one is what its bytes spell, and nothing is read of a line that spells nothing. The
+//! law of judge lines, `questions_by_line`, is in `album_lines`.
 ghost use Rattle.std.specs.Prelude.{◌≡◌, ◌↔◌, List, ℕ, Ok};
 ghost use Rattle.album_eval.specs.declared.facts.Principal.{Principal};
 ghost use Rattle.album_wire.specs.EventLine.{event_line_of};
@@ -14,7 +14,7 @@ ghost use Rattle.album_wire.specs.declared.talk_line.TalkLine.{TalkLine};
 
 use album_items::items_by_text;
 
-/// A law: what is read of a line of an opening is what it spells, and of a line that spells nothing, nothing is.
+/// A law: what is read of a line of an opening is what it spells, and nothing is read of a line that spells nothing.
 pub fn openings_by_line()
     ensures { (line : OpeningLine) (bytes : List ℕ) → (opening_line_of bytes ≡ Ok line) ↔ IsOpeningLine line bytes }
 {
@@ -28,7 +28,7 @@ pub fn events_by_line()
     items_by_text();
 }
 
-/// A law: so it is with the first line of a connection, and with who it says that asks.
+/// A law: so it is with the first line of a connection, and with the principal that it names.
 pub fn hellos_by_line()
     ensures { (who : Principal) (bytes : List ℕ) → (hello_line_of bytes ≡ Ok who) ↔ IsHelloLine who bytes }
 {}

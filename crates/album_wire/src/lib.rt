@@ -5,11 +5,11 @@
 //!
 //! Read `opening_line` first: the shape of a line (`opening_shape`, `item_shapes`), then its values (`item_texts`).
 //! `event_line` goes the same way, by `event_shape`; `talk_line`, what a connection says, by `talk_shape`. What both
-//! may ask is in `ask_shape` and `asks`. That what is read is exactly what the bytes spell, `laws` says. What is written is
-//! in `out_json` and `talk_json`, which make a JSON value first, by `value_json` and `message_json`, but for the most
-//! frequent answers (`object_text`). For those who run a service, `record_json` has the lines of an audit file, and
-//! `figures_json` those of its figures. How lines are cut out of a text, and what stands where in one, is in
-//! `album_lines`, whose public names are passed on here.
+//! may ask is in `ask_shape` and `asks`. `laws` says that what is read is exactly what the bytes spell. What is written
+//! is in `out_json` and `talk_json`, which make a JSON value first, by `value_json` and `message_json`. The most
+//! frequent answers are made without one (`object_text`). For those who run a service, `record_json` has the lines of
+//! an audit file, and `figures_json` those of its figures. How lines are cut out of a text, and how the parts of one
+//! are read, is in `album_lines`, whose public names are passed on here.
 #![tactic(auto)]
 
 // An opening: its items, and its lines.

@@ -15,7 +15,7 @@ use album_stamps::Stamp;
 use serde_json::{Map, Value, json, put};
 use std::alloc::{AllocError, Global};
 
-/// What every line of a message has beside what the message says.
+/// What every line of a message has in addition to what the message says.
 #[derive(Clone, Copy)]
 struct Envelope {
     from: Node,

@@ -1,5 +1,5 @@
-//! The line of a JSON object, written member by member: for those lines of which a service writes many. No JSON value
-//! is made of them.
+//! The line of a JSON object, written member by member: for those lines that a service writes most. No JSON value is
+//! made of them.
 ghost use Rattle.std.specs.Prelude.{◌≡◌, ◌++◌, ◌∷◌, [], codes, decimal, IfOk, OnOk};
 ghost use Rattle.json.specs.Print.{print};
 ghost use Rattle.json.specs.Token.{begin_object, end_object, key, string, number};

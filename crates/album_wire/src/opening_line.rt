@@ -27,7 +27,7 @@ pub enum OpeningLine {
     Begin,
 }
 
-/// Reads a line of an opening. The scratch is room that is kept from line to line, whatever stood in it.
+/// Reads a line of an opening. The scratch is room that is kept from line to line, whatever was in it.
 ///
 /// # Errors
 ///

@@ -12,14 +12,14 @@ use album_stamps::Refusal;
 use json::Value;
 use std::alloc::Global;
 
-/// For how many marks the history of a partition has room, where the opening doesn't say it.
+/// How many marks the history of a partition has room for, where the opening doesn't say it.
 pub const DEFAULT_LIMIT: u64 = 100_000;
 
-/// By which policy lists are judged, where the opening doesn't say it.
+/// The policy that lists are judged by, where the opening doesn't say it.
 pub const DEFAULT_POLICY: u64 = 1;
 
-/// How the store is to be opened: how many partitions there are, for how many marks the history of each has
-/// room, by which policy lists are judged, and whether each message that is sent is to be written.
+/// How the store is to be opened: how many partitions there are, how many marks the history of each has room for, and
+/// the policy that lists are judged by. `trace` says whether each message that is sent is to be written.
 #[derive(Clone, Copy, Debug, PartialEq, Eq)]
 pub struct Header {
     pub parts: u64,
@@ -36,7 +36,7 @@ pub(crate) enum OpeningShape<'a> {
     Begin,
 }
 
-/// The fields of a line of an opening, each of its shape, or `BadRequest`. Which line it is, its names tell.
+/// The fields of a line of an opening, each of its shape, or `BadRequest`. Its names say which line it is.
 pub(crate) fn opening_shape<'a>(
     alloc: Global,
     value: &Value<'a>,

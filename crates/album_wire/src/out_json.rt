@@ -272,7 +272,7 @@ fn listed_json(
     Ok(Value::Object(fields))
 }
 
-/// What an answer begins with, and of which object it is, as of which stamp.
+/// What an answer begins with, and the object and the stamp that it is of.
 fn answer_about(
     alloc: Global,
     word: &str,

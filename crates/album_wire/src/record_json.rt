@@ -1,4 +1,4 @@
-//! The lines of an audit file: each is a note as a replay tells it, and who asked.
+//! The lines of an audit file: each is a note as a replay writes it, and the principal.
 ghost use Rattle.std.specs.Prelude.{◌≡◌, ◌++◌, true, false, codes, string_bytes, IfOk, IsOkUnless};
 ghost use Rattle.serde_json.specs.View.{view};
 ghost use Rattle.album_items.specs.ItemIds.{picture};

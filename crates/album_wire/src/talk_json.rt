@@ -1,4 +1,4 @@
-//! The lines that a service writes beside the answers to asks.
+//! The lines that a service writes in addition to the answers to asks.
 ghost use Rattle.std.specs.Prelude.{◌≡◌, ◌++◌, ◌∷◌, [], codes, IfOk, IsOkUnless};
 ghost use Rattle.serde_json.specs.View.{view, members_view};
 ghost use Rattle.album_lines.specs.Output.{line_text};
@@ -18,7 +18,7 @@ pub struct Counted {
     pub failed: u64,
 }
 
-/// What a service says beside the answers to asks.
+/// What a service says in addition to the answers to asks.
 #[derive(Debug, Drop)]
 pub enum TalkOut {
     /// Who speaks is the client of this number.

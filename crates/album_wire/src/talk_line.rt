@@ -1,4 +1,4 @@
-//! Lines of connections, the first and those behind it: what has its shape, with the values of its fields.
+//! Lines of connections, the first and those after it: what has its shape, with the values of its fields.
 ghost use Rattle.std.specs.Prelude.{◌≡◌, Ok, Err, codes};
 ghost use Rattle.album_stamps.specs.Outcome.{Gives};
 ghost use Rattle.album_items.specs.ItemIds.{picture};
@@ -15,7 +15,7 @@ use album_views::Ask;
 use json::Scratch;
 use std::alloc::Global;
 
-/// What a line of a connection says, once it is said who asks.
+/// What a line of a connection says, once the principal is known.
 #[derive(Debug, Drop)]
 pub enum TalkLine {
     Ask(Ask),
@@ -42,7 +42,7 @@ pub fn read_hello(alloc: Global, scratch: &mut Scratch, bytes: &[u8]) -> Result<
     Principal::read(who)
 }
 
-/// Reads a later line of a connection. The scratch is room that is kept from line to line, whatever stood in it.
+/// Reads a later line of a connection. The scratch is room that is kept from line to line, whatever was in it.
 ///
 /// # Errors
 ///
@@ -63,12 +63,12 @@ pub fn worked_talks()
     ensures hello { hello_line_of (codes "{\"who\":\"amy@users\"}") ≡ Ok (Principal.User (codes "amy")) }
     ensures anonymous { hello_line_of (codes "{\"who\":\"ANONYMOUS@\"}") ≡ Ok Principal.Anonymous }
     ensures nobody { hello_line_of (codes "{\"who\":\"amy\"}") ≡ Err Refusal.BadWho }
-    // Nothing is asked before it is said who asks.
+    // Nothing is asked before the principal is named.
     ensures asked_first { hello_line_of (codes "{\"pending\":0}") ≡ Err Refusal.BadRequest }
     ensures asked_at_once { hello_line_of
         (codes "{\"ask\":{\"do\":\"read\",\"object\":\"picture/0\"},\"who\":\"amy@users\"}")
         ≡ Err Refusal.BadRequest }
-    // That is said once.
+    // The principal is named once.
     ensures who_again { talk_line_of (codes "{\"who\":\"bo@users\"}") ≡ Err Refusal.BadRequest }
     ensures nobody_again { talk_line_of (codes "{\"who\":\"bo\"}") ≡ Err Refusal.BadRequest }
     ensures asked { talk_line_of (codes "{\"ask\":{\"do\":\"read\",\"object\":\"picture/0\"}}")

@@ -1,5 +1,5 @@
 //! The shapes of the lines of a connection: {who} of the first; {ask: {..}}, {pending = part}, {sweep: {part, stamp}}
-//! or {trim: {item, part}} of those behind it.
+//! or {trim: {item, part}} of those after it.
 ghost use Rattle.album_stamps.specs.Outcome.{Gives};
 ghost use Rattle.album_wire.specs.TalkShape.{spelled_talk, hello_shape_of, talk_ask_shape_of, pending_shape_of, talk_sweep_shape_of, talk_trim_shape_of, talk_shape_of};
 ghost use Rattle.album_lines.specs.Trees.{value_data};
@@ -21,7 +21,7 @@ pub(crate) enum TalkShape<'a> {
     Trim { part: u16, item: ItemId },
 }
 
-/// Who asks, as it is spelled, or `BadRequest`.
+/// The principal, as it is spelled, or `BadRequest`.
 #[tactic(auto, unfolding(crate::specs::TalkShape::hello_shape_of))]
 pub(crate) fn hello_shape<'a>(value: &Value<'a>) -> Result<&'a str, Refusal>
     ensures { Gives (λ who. who.now) result (hello_shape_of (value_data value.now)) }
@@ -30,7 +30,7 @@ pub(crate) fn hello_shape<'a>(value: &Value<'a>) -> Result<&'a str, Refusal>
     text_under(value, "who")
 }
 
-/// The fields of a later line, each of its shape, or `BadRequest`. Which line it is, its names tell.
+/// The fields of a later line, each of its shape, or `BadRequest`. Its names say which line it is.
 pub(crate) fn talk_shape<'a>(alloc: Global, value: &Value<'a>) -> Result<TalkShape<'a>, Refusal>
     ensures { Gives spelled_talk result (talk_shape_of (value_data value.now)) }
 {

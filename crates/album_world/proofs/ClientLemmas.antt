@@ -30,7 +30,7 @@ use Rattle.album_world.specs.State.{client_at, with_client}
 use Rattle.album_world.proofs.ListLemmas.{In, and_left, and_right, and_both, in_uncons, in_nil, in_any, in_map, none_some, some_same}
 use Rattle.album_world.proofs.ListLemmas.In.{here, there}
 
--- ---- a client where it stands
+-- ---- a client, looked up by its number
 
 pub client_same : (cs : List Client) (x : Client) (c : ℕ) → x.number ≡ c → client_at (with_client x cs) c ≡ x
 client_same [] x c e = rw (eq-eqb x.number c e) refl

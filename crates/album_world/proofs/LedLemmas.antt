@@ -529,7 +529,7 @@ module _ (o : Opening) (w : World) (k : IsKept o w) (b : IsBooked (terms_of o) w
   abbrev committing : WritingState → Client
   committing z = record x { phase = phase.Commits z }
 
-  -- the round goes on with the same write
+  -- the round continues with the same write
   same_write : (z y : WritingState) (T S : Transaction → Type 0) → y.stamp ≡ z.stamp → places_in y ≡ places_in z
       → y.client ≡ z.client → ((r : Transaction) → T r → S r) → IsWriteOn t w c z T → IsWriteOn t w c y S
   same_write z y T S stamp places client more h = record {

@@ -266,7 +266,7 @@ writes_none (phase.Commits writing) w = refl
 pub reads_none : (f : Phase) (pending_ask : PendingAsk) (round : RoundState) → phase.Reads pending_ask round ≡ f → idle_tag f ≡ None
 reads_none f pending_ask round e = sym (ap idle_tag e)
 
--- what it goes on from does what the client did
+-- a transition from the phase that was taken out of the client is the client's own
 pub moved_so : (terms : Terms) (x y : Client) (d f : Phase) (message : Message) (transition : Transition)
     → y ≡ record x { phase = d } → f ≡ x.phase → IsMoved (transition_of terms y message f) transition
     → IsMoved (transition_of terms x message x.phase) transition
@@ -287,7 +287,7 @@ taken_done before terms x new message sent outs busy turned = go x.phase busy tu
     go (phase.Prepares writing) e is = (refl, is)
     go (phase.Commits writing) e is = (refl, is)
 
--- a message that ends no round, where nothing comes of it but that this is done
+-- a message that ends no round, where nothing changes but the client's phase
 pub waits_done : (terms : Terms) (before : ℕ) (x : Client) (new : Phase) (message : Message)
     → is_waiting x.phase message ≡ true → IsTakenBy x.phase message new
     → IsChangedBy before x (client_takes_by terms x.number x message x.phase) (record x { phase = new }) [] []

@@ -1,4 +1,4 @@
--- Clients in the order of their first asks, for `Clients`: a client stands where its number does, or nowhere.
+-- Clients in the order of their first asks, for `Clients`: a client is at the index of its number, or nowhere.
 use Rattle.std.proofs.Common.{◌≡◌, ℕ, zero, suc, ◌+◌, ◌<◌, Bool, true, false, cond, not, ◌||◌, ◌==◌, ltb, List, [], ◌∷◌, ◌++◌, map, length, set, get_or, Option, Some, None, position, Result, Ok, Err, IsOk, IsOkAnd, IfOk, OnErr, IfSome, refl, sym, ap, ◌∙◌, subst, arith}
 use Rattle.std.specs.List.{list_any, position_or_len}
 use Rattle.std.proofs.lemmas.Bool.{eqb-true, ltb-true}
@@ -18,7 +18,7 @@ use Rattle.album_world.specs.Changes.Change.{Nothing, AtPart, AtClient, Stops}
 use Rattle.album_world.specs.Moves.{IsChangedBy, IsInstalled}
 use Rattle.album_world.specs.Registers.{AreChangedBy, StandsAt, asks_of, has_number, numbers_of, takes_of}
 
--- where the number stands
+-- the index of the number
 abbrev index_in : ℕ → List Client → ℕ
 index_in n cs = position_or_len (λ m. n == m) (numbers_of cs)
 
@@ -217,7 +217,7 @@ module _ (before n : ℕ) (cs : List Client) (x : Client) (new : has_number cs n
       subst (λ (c : Client). IsOkAnd (asks_of terms n c principal ask) (λ change. AreChangedBy before cs change (cs ++ x ∷ []) sent outs))
       (sym (new_client cs n new)) (first_by (refusal_of ask principal) h)
 
--- where the number stands, if it does
+-- the index of the number, if it is there
 pub stands_if : (cs : List Client) (keys : List ℕ) (n : ℕ) (r : Option ℕ) → keys ≡ numbers_of cs
     → r ≡ position (λ m. n == m) keys → IfSome r (StandsAt cs n)
 stands_if cs keys n None same e = tt
@@ -243,7 +243,7 @@ keys_push cs keys n x same new own =
     ap (λ (b : Bool). cond b keys (keys ++ n ∷ [])) (ap (list_any (λ m. n == m)) same ∙ new)
     ∙ ap (λ (ks : List ℕ). ks ++ n ∷ []) same ∙ ap (λ (m : ℕ). numbers_of cs ++ m ∷ []) (sym own) ∙ sym (numbers_push cs x)
 
--- what may be asked by the number may be asked by the client that stands there
+-- what may be asked by the number may be asked by the client at that index
 pub may_there : (n i : ℕ) (cs : List Client) (old : Client) (terms : Terms) (p : Principal) (a : Ask) → StandsAt cs n i
     → old ≡ get_or cs i old → IsOk (asks_of terms n (client_at cs n) p a) → IsOk (asks_of terms old.number old p a)
 may_there n i cs old terms p a at is h =

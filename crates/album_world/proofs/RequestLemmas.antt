@@ -1,4 +1,4 @@
--- What is true of each request: what has come of it came of it alone. Each turn of a client keeps that.
+-- What is true of each request: its reads, its write and its answer are for it alone. Each turn of a client keeps that.
 use Rattle.std.proofs.Common.{◌≡◌, ℕ, ◌≤◌, Bool, true, false, eqb, List, [], ◌∷◌, ◌++◌, length, Option, Some, None, option_to_list, option_map, ◌⊎◌, inl, inr, ⊎_elim, sym, ap, ◌∙◌, subst, refl, arith, eqb-true, append-nil, if◌then◌else◌}
 use Rattle.album_items.specs.declared.openings.Opening.{Opening}
 use Rattle.album_writer.specs.Writing.{WritingState}
@@ -39,7 +39,7 @@ pub record IsAnswerOf (w : World) (a : Asked) (x : Answer) : Type 0 where
   pub last : last_read a.reads a.client ≡ None → ⊥
   pub begun : HasBegun a.writes x
 
--- what has come of a request
+-- the reads, writes and answers of a request are for it alone; there is at most one write and at most one answer
 pub record IsAlone (w : World) (a : Asked) : Type 0 where
   pub reads : (f : Read) → In f a.reads → IsReadOf w a f
   pub writes : (r : Transaction) → In r a.writes → IsWriteOf w a r
@@ -107,7 +107,7 @@ pub record IsRequested (w : World) : Type 0 where
   pub turns : AreInTurn w.past.asked
   pub at : (c : ℕ) → IsUnder w c (client_at w.now.clients c).phase
 
--- ---- the last request, and that it goes on
+-- ---- the last request, and how it continues
 
 pub last_in : (xs : List Asked) (c : ℕ) (a : Asked) → last_asked xs c ≡ Some a → In a xs × (a.client ≡ c)
 last_in [] c a e = none_some e
@@ -162,7 +162,7 @@ module _ (begun : Begun) (c : ℕ) (t : TransitionState) where
       go false q (inl e) rest = inl (subst (λ (z : Asked). In z (b ∷ after xs)) (sym e) here)
       go false q (inr i) rest = ⊎_elim (λ j. inl (there j)) inr (rest i)
 
-  -- and each was there, or is the last one with what has come of it now
+  -- and each was there, or is the last one with what this turn adds to it
   pub was_or_on : (xs : List Asked) (a b : Asked) → last_asked xs c ≡ Some b → In a (after xs) → In a xs ⊎ (a ≡ on b)
   was_or_on [] a b e h = in_nil h
   was_or_on (d ∷ xs) a b e h = go (eqb d.client c) refl e h (was_or_on xs a b)

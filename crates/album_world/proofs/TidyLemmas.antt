@@ -73,7 +73,7 @@ module _ (terms : Terms) (now : Now) (c : ℕ) where
   abbrev x : Client
   x = client_at now.clients c
 
-  -- a client that goes on from another clock
+  -- a client that continues from another clock
   module _ (y : Client) (number : y.number ≡ x.number) (own : y.clock.client ≡ x.clock.client)
       (rises : x.clock.counter ≤ y.clock.counter) (tag : ℕ) (permit : PermitState) where
     ends_steady : (a : Answer) → IsSteady x (ask_ends y tag a)

@@ -60,7 +60,7 @@ open_list =
     ∷ record { sort = sort.Allowed; who = who.Everyone; mask = record { 0 = 1 }; flags = record { 0 = 0 } }
     ∷ []
 
--- a picture in an album, each with such a list, over 3 partitions
+-- a picture in an album, each with the open list, over 3 partitions
 abbrev opening : ℕ → Opening
 opening limit =
     record {

@@ -1,4 +1,4 @@
--- What a transaction wrote, and that a promise against it is never beside a commit.
+-- What a transaction wrote, and that there is no promise against it where it is prepared for each of its items.
 use Rattle.std.proofs.Common.{◌≡◌, ℕ, List, Some, sym, ap, ◌∙◌, subst}
 use Rattle.album_items.specs.ItemIds.{place_of}
 use Rattle.album_items.specs.Openings.{Row}
@@ -41,7 +41,7 @@ module _ (o : Opening) (w : World) (k : IsKept o w) where
       ∙ ap (λ (z : List Row). value_in z i) s.writes ∙ value_placed o.parts s.of.writes i
       ∙ subst (λ (z : Transaction). value_in z.writes i ≡ Some v) (sym q) e
 
-  -- what is against it is never beside a commit
+  -- where the partition of each item has prepared the stamp, none of them has discarded it unprepared
   pub apart : (t : ℕ) → IsAgainst o w t → IsSettled o w t → ⊥
   apart t a s =
       let e : s.of ≡ a.of = k.unique s.of a.of s.begun a.begun (s.stamp ∙ sym a.stamp) in

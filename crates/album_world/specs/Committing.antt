@@ -1,4 +1,4 @@
--- How a transaction stands at the partitions.
+-- The state of a transaction at the partitions.
 use Rattle.std.specs.Prelude.{◌≡◌, ℕ, true, List, Contains}
 use Rattle.std.specs.List.{list_any}
 use Rattle.album_items.specs.Places.{places_of}

@@ -1,4 +1,4 @@
--- Outcomes are true: a write stands at the partitions as it was answered, for good.
+-- Outcomes are true: what was answered about a write is its state at the partitions, for good.
 use Rattle.std.specs.Prelude.{◌≡◌, ℕ, ◌≤◌, ◌⊎◌, true, List, Some, Contains}
 use Rattle.album_stamps.specs.declared.limits.TheConstants.{MAX_COUNTER}
 use Rattle.album_stamps.specs.declared.refusals.Refusal.{Refusal}
@@ -63,7 +63,7 @@ abbrev pub IsRefusedFor : World → ℕ → Refusal → PermitState → Type 0
 IsRefusedFor world client why permit =
     ((why ≡ AlbumFull) × IsAlbumFull world client permit) ⊎ ((why ≡ StampsSpent) × IsSpent world client)
 
--- the answer says how the write stands
+-- what the answer says about the write is true
 abbrev pub IsTrueOutcome : Terms → World → PastAnswer → Answer → Type 0
 IsTrueOutcome terms world given (answer.Served served) = Unit {0}
 IsTrueOutcome terms world given (answer.Denied reasons) = Unit {0}
@@ -78,7 +78,7 @@ IsTrueOutcome terms world given (answer.Unsettled stamp why) =
 IsTrueOutcome terms world given (answer.Refused why) =
     IsAnsweredOnView terms world given (IsRefusedFor world given.client why)
 
--- each answer that was ever given says how its write stands, whatever has happened since
+-- what each answer that was ever given says about its write is true, whatever has happened since
 abbrev pub OutcomesAreTrue : Terms → World → Type 0
 OutcomesAreTrue terms world =
     (given : PastAnswer) → Contains world.past.answers given → IsTrueOutcome terms world given given.answer

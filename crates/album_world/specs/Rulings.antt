@@ -61,7 +61,7 @@ IsNotedFor world given (answer.Unsettled stamp why) = HasNotes world given
 IsNotedFor world given (answer.Refused why) = HasNotes world given
 
 -- Each answer that was ever given follows from the ruling on its view, whose notes are in the past (there may be none).
--- All notes that were ever made are those of such a view.
+-- All notes that were ever made are those of the ruling on a view.
 pub record RulingsHold (terms : Terms) (world : World) : Type 0 where
   pub answers : (given : PastAnswer) → Contains world.past.answers given → IsRuledBy terms world given given.answer
   pub noted : (given : PastAnswer) → Contains world.past.answers given → IsNotedFor world given given.answer

@@ -93,7 +93,7 @@ second-replied x =
     ap (λ (z : List ℕ). let a : WritingState = record (commit_round x) { outstanding = z } in a)
     (filter_all (λ place. true) (λ n. refl) (places_in x))
 
--- ---- what comes of a message
+-- ---- the step after a message
 
 module _ (x : WritingState) (given : List Message) (m : Message) where
   abbrev with : List ℕ → WritingState

@@ -19,8 +19,8 @@ impl Preparing {
     /// permit's ask writes at the stamp. The Commits are made here too, with all room, so nothing later wants memory.
     ///
     /// This begins PUT_ALL of RAMP-Small (Bailis et al., SIGMOD 2014, Algorithm 2): a Prepare to each participant, and
-    /// a Commit to each once all have prepared. It differs in three ways. A Prepare has the items of the whole write,
-    /// by which a partition finds the others if the client stops. A participant may reply Full where it has no room.
+    /// a Commit to each once all have prepared. It differs in three ways. A Prepare has the items of the whole write:
+    /// by these a partition finds the others if the client stops. A participant may reply Full where it has no room.
     /// It may reply Discarded, where it has voted against the stamp meanwhile: then nothing is committed anywhere.
     ///
     /// # Errors

@@ -6,7 +6,7 @@ use Rattle.album_world.specs.Moves.{IsChangedBy}
 use Rattle.album_world.proofs.MoveLemmas.{waits_done}
 use Rattle.album_world.proofs.client_events.continue_read.Goals as goal
 
--- nothing comes of the message but that the client does this now
+-- the message changes nothing but the client's phase
 pub returns-clause-done : goal.returns-clause-done
 returns-clause-done c = λ terms before.
     let m = c.args.message.now in

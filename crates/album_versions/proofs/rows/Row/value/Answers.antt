@@ -2,7 +2,7 @@ use Rattle.std.proofs.Common.{sym}
 use Rattle.album_versions.proofs.RowLemmas.{version_in-at, version_in-gap}
 use Rattle.album_versions.proofs.rows.Row.value.Goals as goal
 
--- the version stands at the index
+-- the version is at the index
 pub returns-in-Ok : goal.returns-in-Ok
 returns-in-Ok c =
     let at = rw (← c.self.view_is) at c.in-Ok.ensures.found in

@@ -2,7 +2,7 @@ use Rattle.std.proofs.Common.{ℕ, ◌==◌, ap, ◌∙◌, rules, position}
 use Rattle.album_world.proofs.RegisterLemmas.{stands_if}
 use Rattle.album_world.proofs.clients.Clients.index_of.Goals as goal
 
--- where the number stands, the client does
+-- the client is at the index of its number
 pub returns-clause-found : goal.returns-clause-found
 returns-clause-found c =
     let found = stands_if c.self.inside.clients.items c.self.inside.numbers.keys c.args.number c.get_index_of.result c.self.invariant

@@ -7,7 +7,7 @@ use Rattle.album_world.specs.Seen.{IsChanged}
 use Rattle.album_world.proofs.StateLemmas.{client_changed, message_is}
 use Rattle.album_world.proofs.state.State.deliver_to_client.Goals as goal
 
--- the client takes the message, and what it sends goes behind the others
+-- the client takes the message, and what it sends goes after the other messages
 pub returns-clause-changed : goal.returns-clause-changed
 returns-clause-changed c = λ message there.
     let now : Now = c.args.self.now in

@@ -5,7 +5,7 @@ use Rattle.album_world.specs.Runs.{sent_after}
 use Rattle.album_world.proofs.StateLemmas.{part_is, swept_done}
 use Rattle.album_world.proofs.state.State.sweep.Goals as goal
 
--- what the partition sends goes behind the others
+-- what the partition sends goes after the other messages
 pub returns-clause-done : goal.returns-clause-done
 returns-clause-done c =
     let now : Now = c.args.self.now in

@@ -2,7 +2,7 @@ use Rattle.std.proofs.Common.{◌≡◌, ◌≤◌, length, take, vec_len, vec_c
 use Rattle.album_world.specs.Seen.{AreStepped}
 use Rattle.album_world.proofs.world.World.run.Given as goal
 
--- what came of the events so far, with room for what comes of the others
+-- the results of the events so far, with room for those of the others
 abbrev pub invariant-loop-event : goal.invariant-loop-event
 invariant-loop-event l = record {
   count : vec_len l.results ≡ l.event-index;

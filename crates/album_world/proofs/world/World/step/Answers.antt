@@ -7,7 +7,7 @@ use Rattle.album_world.specs.Changes.{change_of}
 use Rattle.album_world.proofs.StoryLemmas.{reached_if, extended_if}
 use Rattle.album_world.proofs.world.World.step.Goals as goal
 
--- the past goes on with the event, or stays
+-- the past is extended by the event, or stays
 pub invariant_of-self : goal.invariant_of-self
 invariant_of-self c =
     let old : WorldState = record { terms = c.self.inside.terms; kept = c.self.inside.state } in
