@@ -346,7 +346,7 @@ counts-is_gone round message item second about answers lacking =
     (ap (λ (o : Option ℕ). option_map_or (λ item. is_answer round.asker message item && lacks round item) o false) about
     ∙ and_from _ _ answers lacking)
 
--- a word that an item is gone, and the read goes on
+-- a reply that an item is gone, where the read continues
 other-gone :
     (round : RoundState) (message : Message) (item : ℕ)
     → message.body ≡ body.Reply (reply.Gone item) → is_gone round message ≡ false
