@@ -1,6 +1,6 @@
 -- What is kept of each stamp stays so as one mark more is made, and the pending stamps are listed from it.
--- `History::add` needs `made`, `History::after` the lemmas that begin with `after_` and `count_`, and
--- `History::pending` `pending_listed`.
+-- `History::push_with` needs `made`, `History::push` needs `pushed_of_none`, and `History::pending` `pending_listed`.
+-- `History::change` and `History::pending_without` need the lemmas that begin with `after_` and `count_`.
 use Rattle.std.proofs.Common.{◌≡◌, ◌≢◌, ◌↔◌, ℕ, zero, suc, ◌<◌, ◌≤◌, ◌+◌, ◌-◌, ◌^◌, ◌⊎◌, ⊎_elim, Bool, true, false, ◌==◌, ◌||◌, cond, List, [], ◌∷◌, ◌++◌, length, Option, Some, None, refl, sym, ap, ◌∙◌, subst, arith, Equal}
 use Rattle.std.specs.BTreeMap.{is_at}
 use Rattle.std.specs.List.{list_any, find, slice_get}
