@@ -127,7 +127,7 @@ impl<J: ServiceNames> Session<J> {
         }
     }
 
-    /// Has the partition ask the others of the stamp's items how it stands at their side.
+    /// Has the partition ask the other participants of the stamp's write for their votes.
     ///
     /// # Errors
     ///
