@@ -7,7 +7,7 @@ use std::alloc::{AllocError, Global};
 use std::collections::{BTreeMap, BTreeSet};
 use std::marker::Model;
 
-/// The state of a stamp that occurs in a mark. Of a pending or committed stamp also the index of the mark that
+/// The state of a stamp that occurs in a mark. A pending or committed stamp also has the index of the mark that
 /// prepared it.
 #[derive(Clone, Copy, Debug)]
 pub enum Standing {
@@ -16,8 +16,8 @@ pub enum Standing {
     Discarded,
 }
 
-/// The state of each stamp that occurs in a mark. The pending stamps are also kept in a set of their own: to list them
-/// costs as much as there are of them, however many were decided. Contracts see the states.
+/// The state of each stamp that occurs in a mark. The pending stamps are also kept in a set of their own, so that
+/// listing them takes time for these alone, however many were decided. Contracts see the states.
 #[derive(Debug, Drop)]
 pub struct Standings {
     all: BTreeMap<Stamp, Standing>,
