@@ -58,8 +58,8 @@ objects_changed seen ask =
     map (λ (a : Alternative). a.object)
     (filter (λ (a : Alternative). is_of_change a.mask) (flat_map (λ need. need) (needs_of seen ask)))
 
--- What an ask may write at a stamp: the new picture or album with its list, if it makes one; an object on which it
--- needs more than a right to read; and the list of that object.
+-- What an ask may write at a stamp: the new picture or album with its list, if it makes one. Also an object on which it
+-- needs more than a right to read, and the list of that object.
 pub data MayWrite (seen : ℕ → Value) (stamp : ℕ) (ask : Ask) : ℕ → Type 0 where
   New :
       (item : ℕ) → IsTrue (is_adding ask) → Contains (picture stamp ∷ album stamp ∷ list stamp ∷ []) item
