@@ -243,7 +243,7 @@ new_answer-other round message other = (is_nothing round message other).0
 pub not_gone-other : (round : RoundState) (message : Message) → IsOther round message → is_gone round message ≡ false
 not_gone-other round message other = (is_nothing round message other).1
 
--- then nothing comes of it
+-- then the round stays as it is
 pub stepped-other : (round : RoundState) (message : Message) → IsOther round message → stepped round message ≡ Same round
 stepped-other round message other =
     let nothing = is_nothing round message other in
