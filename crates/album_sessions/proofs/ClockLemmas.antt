@@ -1,5 +1,5 @@
--- The clock of a session's client: no transition puts it back (`moved_clock`), it has seen what was read (`rows_seen`),
--- and what it draws is the client's own and new (`number_own`, `number_counter`, `number_above`).
+-- The clock of a session's client. No transition puts it back (`moved_clock`), and it has seen what was read
+-- (`rows_seen`). What it draws is the client's own and new (`number_own`, `number_counter`, `number_above`).
 use Rattle.std.proofs.Common.{◌≡◌, ℕ, ◌+◌, ◌<◌, ◌≤◌, Bool, true, false, IsTrue, List, [], ◌∷◌, Option, Some, None, Result, Ok, Err, nat_lt, if◌then◌else◌, refl, sym, ap, ◌∙◌, subst, arith, le_refl, le_trans, le_of_eq}
 use Rattle.std.proofs.lemmas.Bool.Decides.{nat_tests}
 use Rattle.std.proofs.lemmas.List.Elements.{All-nil, All-cons}

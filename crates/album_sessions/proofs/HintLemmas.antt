@@ -1,5 +1,5 @@
--- The outcome of a read that is overtaken, and of a hint that is tried: where they are in vain nothing was taken over
--- (`tried_so`, `given_led`), and else the hint has led to a view (`view_by`). `Session::go_on` cites these, and
+-- The outcome of a read that is overtaken, and of a hint that is tried. Where they are in vain nothing was taken over
+-- (`tried_so`, `given_led`); else the hint has led to a view (`view_by`). `Session::go_on` cites these, and
 -- `asked_readable` for the hint that it keeps.
 use Rattle.std.proofs.Common.{◌≡◌, ℕ, Bool, true, false, ◌&&◌, List, [], ◌∷◌, Option, Result, Ok, Err, IfOk, refl, sym, ap, ◌∙◌, subst}
 use Rattle.std.specs.Prelude.{IfSome, IfNone}

@@ -1,4 +1,4 @@
--- What a reply has led to, once what was noted of it is in the share: the ask continues (`goes_plain`, `goes_sent`),
+-- What a reply has led to, once what was noted of it is in the share. The ask continues (`goes_plain`, `goes_sent`),
 -- and where nothing was noted the session is as it was (`heard_same`).
 use Rattle.std.proofs.Common.{◌≡◌, ℕ, ◌+◌, List, [], All, Some, None, Err, sym, ap, ◌∙◌, subst, arith}
 use Rattle.album_calls.specs.declared.messages.Message.{Message}

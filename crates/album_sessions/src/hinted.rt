@@ -1,5 +1,5 @@
 //! Hinted reads: an ask whose first read has the items of an earlier view. Where what is read is closed, it is the
-//! view. Where it isn't, nothing has come of it, and the ask begins with its objects.
+//! view. Where it isn't, it is dropped, and the ask begins with its objects.
 ghost use Rattle.std.specs.Prelude.{◌≡◌, ◌==◌, ◌&&◌, false, true, None, Ok, Err, IfOk, IfErr, IfSome, IfNone, OnErr};
 ghost use Rattle.std.specs.List.{list_any};
 ghost use Rattle.album_stamps.specs.declared.refusals.Refusal.{Refusal};

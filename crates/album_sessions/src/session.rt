@@ -228,9 +228,9 @@ impl<J: ServiceNames> Session<J> {
     }
 
     /// Has the session send to the partition by this mailbox from now on, and gives the one that it had, or `None`
-    /// where there is no partition of this number. Who takes the mails passes them on by that one, in their order: so a
-    /// mail can be held on its way, as in a network. No promise rests on what becomes of them. One that is lost leaves
-    /// the session waiting.
+    /// where there is no partition of this number. Whoever takes the mails passes them on by that one, in their order:
+    /// so a mail can be held on its way, as in a network. No promise rests on what becomes of them. One that is lost
+    /// leaves the session waiting.
     pub fn relay(
         &mut self,
         part: u16,

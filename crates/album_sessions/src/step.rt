@@ -274,7 +274,7 @@ fn is_spent_at_its_end(clock: Clock)
     let _ = clock.next();
 }
 
-/// What the client has come to. Who has answered does nothing more.
+/// What the client has come to. A client that has answered does nothing more.
 fn by_answer(phase: Phase, sent: Vec<Message>, answer: Option<Answer>) -> Reaction
     ensures { IsReaction phase sent.items answer result }
 {
