@@ -1,6 +1,6 @@
 -- What is kept of each stamp stays so as one mark more is made, and the pending stamps are listed from it.
--- `History::add` needs `made`, `History::after` the lemmas that begin with `after_` and `count_`, and
--- `History::pending` `pending_listed`.
+-- `History::push_with` needs `made`, `History::push` needs `pushed_of_none`, and `History::pending` `pending_listed`.
+-- `History::change` and `History::pending_without` need the lemmas that begin with `after_` and `count_`.
 use Rattle.std.proofs.Common.{◌≡◌, ◌≢◌, ◌↔◌, ℕ, zero, suc, ◌<◌, ◌≤◌, ◌+◌, ◌-◌, ◌^◌, ◌⊎◌, ⊎_elim, Bool, true, false, ◌==◌, ◌||◌, cond, List, [], ◌∷◌, ◌++◌, length, Option, Some, None, refl, sym, ap, ◌∙◌, subst, arith, Equal}
 use Rattle.std.specs.BTreeMap.{is_at}
 use Rattle.std.specs.List.{list_any, find, slice_get}
@@ -84,7 +84,7 @@ stands_discarded marks t uncommitted = discarded_is_discarded marks t uncommitte
 
 -- ---- the whole index
 
--- a test of a key tells whether it is the stamp
+-- a key's test shows whether the key is the stamp
 pub key_tells : (s t : ℕ) → is_at (nat_cmp s) t ≡ (s == t)
 key_tells s t =
     same_from_decides (is_eq (nat_cmp s t)) (s == t)
@@ -136,7 +136,7 @@ pushed_of_none marks later mark index count h may none made =
 pub index_is : (marks : List Mark) (t n : ℕ) (found : Option Standing) → Stands marks t found → found ≡ Some (standing.Pending n) → IsAt marks t n
 index_is marks t n found stands is = (subst (Stands marks t) is stands).1
 
--- a pending stamp is told as one
+-- what is kept of a pending stamp says that it is pending
 pub not_discarded : (marks : List Mark) (t : ℕ) (found : Option Standing) {X : Type 0} → Stands marks t found → found ≡ Some standing.Discarded → state_of marks t ≡ state.Pending → X
 not_discarded marks t found stands is pending = absurd (let h = subst (Stands marks t) is stands in cc)
 
@@ -218,7 +218,7 @@ made marks items mark change index later count h may will updated same =
 
 -- ---- all that are pending
 
--- a stamp stands as pending just where the marks say so
+-- what is kept of a stamp says pending exactly where the marks do
 pending_stands : (marks : List Mark) (t : ℕ) (found : Option Standing) → Stands marks t found
     → (stands_pending found ≡ true) ↔ (state_of marks t ≡ state.Pending)
 pending_stands marks t None stands = (λ e. absurd (cc), λ e. absurd (cc))

@@ -292,7 +292,7 @@ never_is_a_promise p m t unknown f = promised_by p m.from m.body (action_of p m)
 
 -- ---- where there is no room
 
--- a mark may be made with such a reply
+-- a message that gets this reply may also make a mark
 abbrev ComesWithMark : Reply → Type 0
 ComesWithMark (reply.Prepared t) = Unit {0}
 ComesWithMark (reply.Committed t) = Unit {0}

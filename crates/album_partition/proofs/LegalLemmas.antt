@@ -134,7 +134,7 @@ follows_after seen (m ∷ before) later mark h =
 pub follows : (before later : List Mark) (mark : Mark) → is_legal (before ++ mark ∷ later) ≡ true → may_follow before mark ≡ true
 follows before later mark h = follows_after [] before later mark h
 
--- ---- what may follow just once stands at most once
+-- ---- what may follow only once occurs at most once
 
 none_kept : (test : Mark → Bool) (marks : List Mark) → list_any test marks ≡ false → filter test marks ≡ []
 none_kept test [] e = refl

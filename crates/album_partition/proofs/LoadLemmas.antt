@@ -14,7 +14,7 @@ use Rattle.album_partition.proofs.LegalLemmas.{times, times_none, times_once}
 use Rattle.album_partition.proofs.ListLemmas.{turned}
 use Rattle.album_partition.proofs.StateLemmas.{state_push_other, unknown_tells, pending_tells, prepared_is_pending, committed_is_committed, discarded_is_discarded}
 
--- two tests that tell all numbers but one alike, and that one is among the numbers so many times
+-- two tests agree on all numbers but one, which passes only the first: the counts differ by how often that one occurs
 filter_but : (p q : ℕ → Bool) (t : ℕ) → p t ≡ true → q t ≡ false → ((s : ℕ) → (s == t) ≡ false → p s ≡ q s) → (xs : List ℕ) → length (filter p xs) ≡ length (filter q xs) + times t xs
 filter_but p q t there gone alike [] = refl
 filter_but p q t there gone alike (x ∷ xs) = go (x == t) refl (filter_but p q t there gone alike xs)

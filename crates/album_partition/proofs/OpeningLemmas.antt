@@ -106,7 +106,7 @@ may_be_opened o part is =
     (picked_all test has_own_value o.items (own_values o.items rows)) (all_picked test o.items))
     (picked_apart test same_item o.items single))
 
--- such a partition opens
+-- each partition of an opening that passes its check opens
 pub opened_so : (o : Opening) (part : ℕ) → is_opening o ≡ true → part < o.parts
     → opened part o.parts (rows_placed_at part o.parts o.items) o.limit ≡ Ok (first_partition o.parts o.limit o.items part)
 opened_so o part is here =

@@ -89,7 +89,7 @@ fits_trim p i placed room =
     let same : length (pending_stamps (p.marks ++ Trimmed i ∷ [])) ≡ length (pending_stamps p.marks) = trimmed_counts p.marks i in
     record { follows = refl; room = omega arith; proper = placed }
 
--- a partition that makes such a mark is one still
+-- a partition that makes a mark that fits is still a partition
 stays_with : (p : PartitionState) (mark : Mark) → IsPartition p → Fits p mark
     → IsPartition (record p { marks = p.marks ++ mark ∷ []; votes = votes_left (decided (Some mark)) p.votes })
 stays_with p mark h fits =
@@ -104,7 +104,7 @@ stays_with p mark h fits =
       votes = votes_with_mark p.number p.parts p.marks p.votes mark fits.follows h.votes;
     }
 
--- and it can be stored
+-- and the mark can be stored
 can_store : (p : PartitionState) (mark : Mark) → IsPartition p → Fits p mark → CanFollow p.marks mark
 can_store p mark h fits =
     let limit : p.limit ≤ MAX_MARKS = h.limit in

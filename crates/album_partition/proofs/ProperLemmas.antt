@@ -1,4 +1,4 @@
--- Rows that are of just some items, each once. `are_rows_of_placed` in proper.rt needs `rows_counted`: it is enough to
+-- Rows of exactly some items, one of each. `are_rows_of_placed` in proper.rt needs `rows_counted`: it is enough to
 -- count them. The law `proper_writes_are_those_placed_here` needs `proper_placed` and `proper_in_any_order`.
 use Rattle.std.proofs.Common.{◌≡◌, ◌↔◌, nat_le, Contains, IsTrue, is_some, Some, ℕ, ◌≤◌, ◌+◌, Bool, true, false, ◌==◌, ◌&&◌, ◌||◌, not, cond, List, [], ◌∷◌, map, filter, length, refl, sym, ap, ◌∙◌, subst, arith, if◌then◌else◌}
 use Rattle.std.specs.List.{list_any, list_all}
@@ -16,7 +16,7 @@ use Rattle.album_items.specs.Transactions.{are_items, has_right_kind}
 use Rattle.album_partition.specs.Proper.{has_row, is_among, are_rows_of, are_own_writes, is_proper}
 use Rattle.album_partition.proofs.ListLemmas.{same_or_not, turned, list_all-any, any_from_contains, contains_from_any, kept_in, kept_out}
 
--- ---- numbers that stand once, among others
+-- ---- distinct numbers, among others
 
 abbrev among : List ℕ → ℕ → Bool
 among ys x = list_any (λ y. y == x) ys
@@ -24,7 +24,7 @@ among ys x = list_any (λ y. y == x) ys
 abbrev all_among : List ℕ → List ℕ → Bool
 all_among ys xs = list_all (among ys) xs
 
--- the list without the first that is so
+-- the list without the first occurrence of a number
 abbrev without : ℕ → List ℕ → List ℕ
 without x [] = []
 without x (y ∷ ys) = if y == x then ys else y ∷ without x ys
@@ -86,7 +86,7 @@ back x xs (y ∷ ys) all = go (y == x) refl all (back x xs ys)
         let parts = and_parts (among xs y) (all_among xs (without x ys)) all in
         and_from (among (x ∷ xs) y) (all_among (x ∷ xs) ys) (more y parts.0) (h parts.1)
 
--- a number that stands nowhere in the rest
+-- a number that is not in the rest, and is not the one left out, is not in the list
 none-without : (x z : ℕ) (ys : List ℕ) → list_any (λ w. z == w) (without x ys) ≡ false → (z == x) ≡ false → list_any (λ w. z == w) ys ≡ false
 none-without x z [] e other = refl
 none-without x z (y ∷ ys) e other = go (y == x) refl e (λ (f : list_any (λ w. z == w) (without x ys) ≡ false). none-without x z ys f other)
@@ -101,7 +101,7 @@ none-without x z (y ∷ ys) e other = go (y == x) refl e (λ (f : list_any (λ w
         let parts = or_parts (z == y) (list_any (λ w. z == w) (without x ys)) e in
         none parts.0 (h parts.1)
 
--- what stands once without a number that then is gone stood once with it
+-- a list is distinct if the rest is, and if the number left out is not in the rest
 single-without : (x : ℕ) (ys : List ℕ) → are_distinct (without x ys) ≡ true → among (without x ys) x ≡ false → are_distinct ys ≡ true
 single-without x [] e gone = refl
 single-without x (y ∷ ys) e gone = go (y == x) refl e gone (single-without x ys)
@@ -123,7 +123,7 @@ single-without x (y ∷ ys) e gone = go (y == x) refl e gone (single-without x y
         (ap not (none-without x y ys (not-true (list_any (λ w. y == w) (without x ys)) parts.0) f))
         (h parts.1 g.1)
 
--- what stands nowhere in a list, nothing that is all in the list tells
+-- a number that is not in one list is not in another whose numbers are all in the first
 gone : (x : ℕ) (xs ys : List ℕ) → list_any (λ w. x == w) xs ≡ false → all_among xs ys ≡ true → among ys x ≡ false
 gone x xs [] none all = refl
 gone x xs (y ∷ ys) none all =
@@ -140,8 +140,8 @@ gone x xs (y ∷ ys) none all =
     other false e h = refl
     other true e h = absurd (let f : among xs x ≡ true = subst (λ (w : ℕ). among xs w ≡ true) ((Decides-eqb y x).0 e) h in let g = nowhere xs none in cc)
 
--- Numbers that stand once and are all among others are at most as many; if they are as many, the others stand once
--- too, and are all among them.
+-- Distinct numbers that are all among others are at most as many. If they are as many, the others are distinct too,
+-- and are all among them.
 counted : (xs ys : List ℕ) → are_distinct xs ≡ true → all_among ys xs ≡ true
     → (length xs ≤ length ys) × (length ys ≡ length xs → (are_distinct ys ≡ true) × (all_among xs ys ≡ true))
 counted [] [] single all = (omega arith, λ same. (refl, refl))
@@ -196,7 +196,7 @@ none_chosen test pass (n ∷ ns) e =
     go true e h = rw (e, h) refl
     go false e h = h
 
--- those that are chosen of numbers that stand once stand once
+-- numbers that are chosen from distinct ones are distinct
 single_chosen : (pass : ℕ → Bool) (ns : List ℕ) → are_distinct ns ≡ true → are_distinct (filter pass ns) ≡ true
 single_chosen pass [] e = refl
 single_chosen pass (n ∷ ns) e =
@@ -254,7 +254,7 @@ has_value (row ∷ rows) item = go (row.0 == item) (has_value rows item)
     go true h = refl
     go false h = h
 
--- what each of a list passes, one of them does
+-- a test that all of a list pass is passed by each of them
 all_at : (p : ℕ → Bool) (xs : List ℕ) (x : ℕ) → list_all p xs ≡ true → Contains xs x → p x ≡ true
 all_at p xs x all in_it =
     let found = list_all-any p (λ y. y == x) xs all (any_from_contains xs x in_it) in

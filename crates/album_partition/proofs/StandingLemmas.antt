@@ -1,4 +1,4 @@
--- The set of pending stamps goes with how each stamp stands.
+-- The set of pending stamps agrees with the state of each stamp.
 use Rattle.std.proofs.Common.{◌≡◌, ℕ, Bool, true, false, not, cond, List, Some, refl, sym, ap, ◌∙◌, subst, Contains}
 use Rattle.std.specs.BTreeMap.{is_at}
 use Rattle.std.specs.BTreeSet.{BTreeSet, contains}
@@ -44,7 +44,7 @@ pub was_new : (b : Bool) → true ≡ not b → b ≡ false
 was_new true e = absurd (cc)
 was_new false e = refl
 
--- the keys of the set are the stamps that stand as pending
+-- the keys of the set are the pending stamps
 pub listed : (standings : List (ℕ × Standing)) (set : BTreeSet ℕ) (stamps : List ℕ)
     → AreInSet standings set → IsStrictlySortedBy nat_cmp set.keys → stamps ≡ set.keys → ArePendingIn standings stamps
 listed standings set stamps h ordered same = record {

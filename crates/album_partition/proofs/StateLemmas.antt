@@ -1,4 +1,4 @@
--- How each stamp stands, and which mark prepared it, as one mark more is made.
+-- The state of each stamp, and the mark that prepared it, as one mark more is made.
 use Rattle.std.proofs.Common.{◌≡◌, ℕ, Bool, true, false, ◌==◌, ◌||◌, cond, List, [], ◌∷◌, ◌++◌, Option, Some, None, refl, ap, ◌∙◌}
 use Rattle.std.specs.List.{list_any, find}
 use Rattle.std.specs.Option.{option_or}
@@ -42,7 +42,7 @@ discards_no (Committed s) t apart = refl
 discards_no (Discarded s) t apart = apart
 discards_no (Trimmed i) t apart = refl
 
--- it is of just its own stamp
+-- a mark is of its own stamp only
 pub own_mark : (mark : Mark) (t s : ℕ) → mark_stamp mark ≡ Some t → is_mark_of s mark ≡ (t == s)
 own_mark (Prepared u ws is) t s e = let same : u ≡ t = cc in ap (λ (v : ℕ). v == s) same
 own_mark (Committed u) t s e = let same : u ≡ t = cc in ap (λ (v : ℕ). v == s) same
@@ -67,7 +67,7 @@ pub state_push_other : (marks : List Mark) (mark : Mark) (t : ℕ) → is_mark_o
 state_push_other marks mark t apart =
     state_by_same (any_push_no (commits t) marks mark (commits_no mark t apart)) (any_push_no (discards t) marks mark (discards_no mark t apart)) (any_push_no (prepares t) marks mark (prepares_no mark t apart))
 
--- ---- what a state tells
+-- ---- what a state shows
 
 pub unknown_tells : (a b c : Bool) → state_by a b c ≡ state.Unknown → (a ≡ false) × (b ≡ false) × (c ≡ false)
 unknown_tells false false false e = (refl, refl, refl)

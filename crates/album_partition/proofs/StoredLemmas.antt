@@ -238,7 +238,7 @@ added_only old mid t rows h i some =
     go true e = e
     go false e = absurd (cc)
 
--- also of the mark that was to tell of them
+-- the same of the rows of the mark that prepares them
 pub given_only : (old mid : VersionsState) (t : ℕ) (ws : List Row) (is : List ℕ) (mark : Mark) (rows : List Row) → HasAdded old mid t ws
     → mark ≡ Prepared t ws is → rows ≡ mark_writes (Some mark) → (i : ℕ) → is_some (version_at mid i t) ≡ true → is_some (value_in rows i) ≡ true
 given_only old mid t ws is mark rows h given told i some =

@@ -34,7 +34,7 @@ best_of-push passes (m ∷ ns) n = go (passes m) (passes n) (best_of-push passes
     go false true h = h
     go false false h = h
 
--- two tests that tell all numbers but one alike, and that one is not among the numbers
+-- two tests agree on all numbers but one, and that one is not among the numbers
 best_of-but : (p q : ℕ → Bool) (t : ℕ) → ((s : ℕ) → (s == t) ≡ false → p s ≡ q s) → (ns : List ℕ) → list_any (λ s. s == t) ns ≡ false → best_of p ns ≡ best_of q ns
 best_of-but p q t alike [] none = refl
 best_of-but p q t alike (n ∷ ns) none = go (n == t) refl none (best_of-but p q t alike ns)

@@ -53,7 +53,7 @@ abbrev pub is_same : List Mark → ℕ → List Row → List ℕ → Bool
 is_same marks stamp writes items =
     same_rows writes (writes_at marks stamp) && same_numbers items (items_at marks stamp)
 
--- by whether the partition is full, whether it prepared the same already, and how the stamp stands
+-- what a Prepare does, by whether the partition is full, whether it prepared the same already, and the stamp's state
 abbrev pub prepare_by : Bool → Bool → StampState → ℕ → List Row → List ℕ → Action
 prepare_by full same state.Unknown stamp writes items =
     if full then says (reply.Full stamp)
@@ -119,7 +119,7 @@ on_get partition item stamps =
 
 -- ---- a vote on a stamp that is pending here
 
--- the mark by which it is decided
+-- the mark that decides the stamp: none where the decision is to wait
 abbrev pub mark_by : Decision → ℕ → Option Mark
 mark_by decision.Wait stamp = None
 mark_by decision.Commit stamp = Some (mark.Committed stamp)

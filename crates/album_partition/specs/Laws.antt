@@ -23,8 +23,8 @@ use Rattle.album_partition.specs.Votes.{heard}
 
 -- ---- what a reply means
 
--- The stamp stands as the reply says, and an item that is gone was trimmed. (Of a version and of a Clash this says
--- nothing.)
+-- The stamp has the state that the reply says, and an item that is gone was trimmed. (Of a version and of a Clash this
+-- says nothing.)
 abbrev pub IsTrueOf : List Mark → Reply → Type 0
 IsTrueOf marks (reply.Prepared stamp) =
     (state_of marks stamp ≡ state.Pending) ⊎ (state_of marks stamp ≡ state.Committed)
@@ -88,7 +88,7 @@ pub record IsReadOf
   pub stamp_is : IsReadAt partition.marks item stamps stamp
   pub value_is : IsValueOf partition item stamp value
 
--- the message asks for the item with stamps, at none of which a version is kept, and the item was trimmed
+-- the message asks for the item with stamps, no version of it is kept at any of them, and the item was trimmed
 pub record IsGoneFor (marks : List Mark) (message : Message) (item : ℕ) : Type 0 where
   pub stamps : List ℕ
   pub asked : message.body ≡ body.Request (Get item stamps)

@@ -70,14 +70,14 @@ trims item (Trimmed other) = other == item
 
 -- ---- a stamp
 
--- how it stands, by whether it is committed, discarded and prepared
+-- its state, by whether it is committed, discarded and prepared
 abbrev pub state_by : Bool → Bool → Bool → StampState
 state_by true discarded prepared = state.Committed
 state_by false true prepared = state.Discarded
 state_by false false true = state.Pending
 state_by false false false = state.Unknown
 
--- how it stands
+-- its state
 abbrev pub state_of : List Mark → ℕ → StampState
 state_of marks stamp =
     state_by (list_any (commits stamp) marks) (list_any (discards stamp) marks) (list_any (prepares stamp) marks)
@@ -94,7 +94,7 @@ is_pending state.Pending = true
 is_pending state.Committed = false
 is_pending state.Discarded = false
 
--- what a mark prepared, and of which items its transaction is
+-- what a mark prepared, and the items of its transaction
 abbrev pub mark_writes : Option Mark → List Row
 mark_writes None = []
 mark_writes (Some (Prepared stamp writes items)) = writes

@@ -49,8 +49,8 @@ is_due parts marks vote = lies_at vote.part parts (items_at marks vote.stamp)
 abbrev pub is_on_pending : List Mark → NotedVote → Bool
 is_on_pending marks vote = is_pending (state_of marks vote.stamp)
 
--- None stands twice, each is due and on a pending stamp, and none would have settled its stamp: of the others one was
--- not heard yet. So there is at most one of each partition on each pending stamp.
+-- No vote occurs twice, each is due and on a pending stamp, and none would have settled its stamp: one of the others
+-- was not heard yet. So there is at most one of each partition on each pending stamp.
 pub record AreVotes (number parts : ℕ) (marks : List Mark) (votes : List NotedVote) : Type 0 where
   pub once : no_two same_vote votes ≡ true
   pub due : list_all (is_due parts marks) votes ≡ true

@@ -14,8 +14,8 @@ use album_terminate::StampState;
 use std::alloc::{AllocError, AllocFailed, Global};
 use std::marker::Model;
 
-/// What a mark changes beside the list: how its stamp stands once it is made, and how many are
-/// pending then.
+/// What a mark changes in addition to the list: the state of its stamp once the mark is made, and how
+/// many stamps are pending then.
 #[derive(Clone, Copy)]
 pub struct Change {
     pub stamp: Stamp,
@@ -23,12 +23,12 @@ pub struct Change {
     pub pending: usize,
 }
 
-/// The marks, and beside them how each stamp stands and how many are pending. Contracts see the
+/// The marks, with the state of each stamp and the number of pending stamps. Contracts see the
 /// marks.
 #[derive(Debug, Drop)]
 pub struct History {
     marks: Vec<Mark>,
-    /// Of each stamp that a mark is of, how it stands.
+    /// The current state of every stamp that occurs in a mark.
     standings: Standings,
     /// How many stamps are pending.
     pending: usize,
@@ -66,7 +66,7 @@ impl History {
         self.marks.as_slice()
     }
 
-    /// How the stamp stands.
+    /// The state of the stamp.
     pub fn state(&self, stamp: Stamp) -> StampState
         ensures { result ≡ state_of self.now stamp }
     {
@@ -153,7 +153,7 @@ impl History {
         }
     }
 
-    /// Makes a mark that changes how no stamp stands.
+    /// Makes a mark that changes no stamp's state.
     fn push(&mut self, mark: Mark) -> Result<(), AllocFailed<Mark>>
         requires follows { may_follow self.old mark ≡ true }
         requires change { WillStand self.old mark None }
@@ -168,7 +168,7 @@ impl History {
         Ok(())
     }
 
-    /// Makes a mark that changes how its stamp stands.
+    /// Makes a mark that changes the state of its stamp.
     fn push_with(&mut self, mark: Mark, change: Change) -> Result<(), AllocFailed<Mark>>
         requires follows { may_follow self.old mark ≡ true }
         requires change { WillStand self.old mark (Some change) }
@@ -176,7 +176,7 @@ impl History {
         ensures err { OnErr result (self.new ≡ self.old) }
         ensures given { IfErr result (λ failed. failed.value ≡ mark) }
     {
-        // Room first: once the stamp stands as after the mark, nothing may fail.
+        // Room first: once the stamp's new state is set, nothing may fail.
         if self.marks.reserve(1).is_err() {
             return Err(AllocFailed { value: mark });
         }
@@ -188,7 +188,7 @@ impl History {
         Ok(())
     }
 
-    /// What the mark will change. A trim changes how no stamp stands.
+    /// What the mark will change. A trim changes no stamp's state.
     fn change(&self, mark: &Mark) -> Option<Change>
         requires follows { may_follow self.now mark.now ≡ true }
         requires room { length self.now < MAX_MARKS }

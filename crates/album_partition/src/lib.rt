@@ -7,10 +7,10 @@
 //! `pending` the caller may send what `sweep` gives. Nobody does so unasked: in a world an event
 //! asks for it, and in a service a session, as by a line of an admin.
 //!
-//! Read `marks` first, and specs/Marks.antt beside it; then `partition` and the table in
-//! `partition/answers`. Which Prepares are well-formed, `proper` says, and `votes` are those noted
-//! on pending stamps. Then read what these stand on, `stored` and `history`, and `laws` last.
-//! `figures` tells how much a partition holds.
+//! Read `marks` first, together with specs/Marks.antt; then `partition` and the table in
+//! `partition/answers`. `proper` says which Prepares are well-formed, and `votes` holds the votes
+//! noted on pending stamps. Then read `stored` and `history`, which these build on, and `laws` last.
+//! `figures` says how much a partition holds.
 #![tactic(auto)]
 
 mod figures;

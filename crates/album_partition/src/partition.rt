@@ -76,8 +76,8 @@ impl Partition {
     /// # Errors
     ///
     /// `NoSuchPart` where there are not as many partitions. Else `BadOpening` where there are not 1
-    /// to 16 partitions, where the limit is not 2 to 1,000,000 marks, or where an item stands
-    /// twice, is placed elsewhere, or has a value that is missing or of another kind. Else
+    /// to 16 partitions, or the limit is not 2 to 1,000,000 marks. It is also `BadOpening` where an
+    /// item occurs twice, is placed elsewhere, or has a value that is missing or of another kind. Else
     /// `OutOfMemory`. The items are handed back.
     pub fn new(
         alloc: Global,
@@ -206,7 +206,7 @@ impl Partition {
         self.stored.latest(item)
     }
 
-    /// How the stamp stands here.
+    /// The state of the stamp here.
     pub fn state(&self, stamp: Stamp) -> StampState
         ensures { result ≡ state_of self.now.marks stamp }
     {

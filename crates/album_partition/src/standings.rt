@@ -1,4 +1,4 @@
-//! How each stamp stands.
+//! The state of each stamp that occurs in a mark.
 ghost use Rattle.std.specs.Prelude.{◌≡◌, false, Some, None, IfOk, OnOk, OnErr};
 ghost use Rattle.album_partition.specs.Standings.{ArePendingIn, IsSetTo, standing_in, stands_pending};
 
@@ -7,7 +7,8 @@ use std::alloc::{AllocError, Global};
 use std::collections::{BTreeMap, BTreeSet};
 use std::marker::Model;
 
-/// How a stamp stands, and at which index of the marks it was prepared.
+/// The state of a stamp that occurs in a mark. A pending or committed stamp also has the index of the mark that
+/// prepared it.
 #[derive(Clone, Copy, Debug)]
 pub enum Standing {
     Pending(usize),
@@ -15,8 +16,8 @@ pub enum Standing {
     Discarded,
 }
 
-/// How each stamp stands that a mark is of. The pending ones are kept beside that, so that to list them costs what they
-/// are, however many were decided. Contracts see the first.
+/// The state of each stamp that occurs in a mark. The pending stamps are also kept in a set of their own, so that
+/// listing them takes time for these alone, however many were decided. Contracts see the states.
 #[derive(Debug, Drop)]
 pub struct Standings {
     all: BTreeMap<Stamp, Standing>,
@@ -36,7 +37,7 @@ impl Model for Standings {
 }
 
 impl Standings {
-    /// Of no stamp.
+    /// The state of no stamp.
     pub fn new(alloc: Global) -> Standings
         ensures { (stamp : _) → standing_in result stamp ≡ None }
     {
@@ -46,14 +47,14 @@ impl Standings {
         }
     }
 
-    /// How the stamp stands, where a mark is of it.
+    /// The state of the stamp, if it occurs in a mark.
     pub fn get(&self, stamp: Stamp) -> Option<Standing>
         ensures { result ≡ standing_in self.now stamp }
     {
         self.all.get(&stamp).copied()
     }
 
-    /// The stamp stands so from now on. Only a stamp that is new, or that comes to be pending, takes memory.
+    /// Sets the state of the stamp. Only a stamp that is new, or that becomes pending, takes memory.
     pub fn set(&mut self, stamp: Stamp, standing: Standing) -> Result<(), AllocError>
         ensures ok { OnOk result (IsSetTo stamp standing self.old self.new) }
         ensures err { OnErr result (self.new ≡ self.old) }

@@ -19,7 +19,7 @@ use album_versions::Versions;
 use std::alloc::{AllocError, Global};
 use std::marker::Model;
 
-/// The marks, and beside them the versions that they make. Contracts see the marks.
+/// The marks, and the versions that they make. Contracts see the marks.
 #[derive(Debug, Drop)]
 pub struct Stored {
     alloc: Global,
@@ -59,7 +59,7 @@ impl Stored {
         self.history.marks()
     }
 
-    /// How the stamp stands.
+    /// The state of the stamp.
     pub fn state(&self, stamp: Stamp) -> StampState
         ensures { result ≡ state_of self.now stamp }
     {

@@ -1,5 +1,5 @@
--- What is announced of stamps, and what these depend on, looked up: in two lists one behind the other, and with one entry
--- more.
+-- What is announced of stamps, and what these depend on, looked up: in two lists one after the other, and with one
+-- entry more.
 use Rattle.std.proofs.Common.{◌≡◌, ◌≢◌, ℕ, Bool, true, false, ◌⊎◌, inl, inr, ◌==◌, cond, List, [], ◌∷◌, ◌++◌, Some, None, Option, is_some, refl, ap, sym, ◌∙◌, subst, eq-eqb, ne_eqb}
 use Rattle.std.specs.Map.{lookup}
 use Rattle.std.specs.Option.{option_or}
@@ -18,7 +18,7 @@ pub listed-append : (xs ys : List Announcement) (t : ℕ) → listed (xs ++ ys) 
 listed-append [] ys t = refl
 listed-append (x ∷ xs) ys t = step (x.0 == t) (listed xs t) (listed (xs ++ ys) t) (listed ys t) x.1 (listed-append xs ys t)
 
--- what holds of each entry of two lists holds of each entry of both, one behind the other
+-- what holds of each entry of two lists holds of each entry of both, one after the other
 pub listed_each : (P : ℕ → List ℕ → Type 0) (xs ys : List Announcement)
     → ((t : ℕ) (is : List ℕ) → listed xs t ≡ Some is → P t is)
     → ((t : ℕ) (is : List ℕ) → listed ys t ≡ Some is → P t is)

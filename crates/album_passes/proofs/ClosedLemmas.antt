@@ -1,4 +1,4 @@
--- What a closed cut has of each stamp, and the least cut that goes on from two. The laws of closed cuts cite the
+-- What a closed cut has of each stamp, and the least cut that extends two. The laws of closed cuts cite the
 -- lemmas that are `pub`.
 use Rattle.std.proofs.Common.{rules, ◌≡◌, ℕ, zero, suc, ◌<◌, ◌+◌, Bool, true, false, not, ◌&&◌, ◌||◌, cond, List, [], ◌∷◌, length, get_or, All, Contains, IsSome, Some, None, Option, refl, ap, sym, ◌∙◌, subst, ⊎_elim, arith, ne_eqb}
 use Rattle.std.specs.List.{list_any, list_all, find, range_with_len}
@@ -115,7 +115,7 @@ never_discarded c p q t s done = go (list_any (discards t) (prefix_at c q)) refl
         let none = promised_unprepared (prefix_for c r.item) t (s.legal (place_of c.parts r.item)) r.promised in
         absurd (cc (had, none))
 
--- ---- by what a mark is backed
+-- ---- what backs a mark
 
 -- a row of one of the items that are placed at a partition is of one of the items
 among_placed : (number parts : ℕ) (is : List ℕ) (w : Row) → is_among (placed_at number parts is) w ≡ true → is_among is w ≡ true
@@ -188,7 +188,7 @@ votes_back c p t s inside own others =
         All-contains (λ (y : ℕ). list_any (prepares t) (prefix_at c y) ≡ true) (others_of p c.parts is) q had
         (kept_out (is_other p c.parts is) (range_with_len 0 c.parts) q other ranged))
 
--- ---- the least cut that goes on from two
+-- ---- the least cut that extends two
 
 pub merged_least : (a b c : Cut) → Extends a c → Extends b c → Extends (merged a b) c
 merged_least a b c x y = record {

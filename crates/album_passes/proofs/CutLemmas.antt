@@ -16,7 +16,7 @@ use Rattle.album_passes.specs.Changes.{longer, longer_each, lengths_in, merged, 
 use Rattle.album_passes.proofs.PrefixLemmas.{prefix_self, prefix_trans, prefix_length, any_more, promised_more, longer_cases}
 use Rattle.album_passes.proofs.AnnouncedLemmas.{listed-append, listed_each, both_some, also_some, none_too, announced_here, announced_else, announced_more}
 
--- ---- a cut that goes on from another
+-- ---- a cut that extends another
 
 pub extends_self : (c : Cut) → Extends c c
 extends_self c = record { opening = refl; parts = refl; prefixes = λ p. prefix_self (prefix_at c p); announced = λ t is e. e; depended = λ t ls e. e }
@@ -150,7 +150,7 @@ backed_marked c p m b = backed_more c (marked_cut c p m) (extends_marked_any c p
 
 -- ---- one list more
 
--- nothing is known of what a stamp depends on for which nothing is announced
+-- where nothing is announced for a stamp, nothing is known of what it depends on
 undepended : (c : Cut) (t : ℕ) → announced_for c t ≡ None → IsSound c → dependencies_of c t ≡ None
 undepended c t none x = none_too (dependencies_of c t) (announced_for c t) (x.depends t) none
 

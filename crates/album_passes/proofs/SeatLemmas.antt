@@ -79,7 +79,7 @@ given_still holder (Some m) id n e = either (n == m)
     either true = refl
     either false = e
 
--- ---- a run of which something else has changed
+-- ---- a run where something else has changed
 
 pub same_cut : (key : Terms) (r : Run) (drawn : ℕ) (owner holder : ℕ → ℕ) (c : Cut) → IsCutOf key r c
     → IsCutOf key (record r { drawn = drawn; owner = owner; holder = holder }) c

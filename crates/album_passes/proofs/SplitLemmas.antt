@@ -1,5 +1,5 @@
 -- Splits and joins of seats keep the rule. What `Holding` does with two seats cites these; the main ones are `joins` and
--- `merges`, by which two closed cuts of one run become one.
+-- `merges`: two closed cuts of one run become one.
 use Rattle.std.proofs.Common.{◌≡◌, ◌≢◌, ℕ, ◌<◌, ◌≤◌, ◌==◌, Bool, List, [], ◌∷◌, ◌++◌, length, get_or, set, if◌then◌else◌, Some, None, refl, ap, sym, ◌∙◌, subst, ⊎_elim, arith, eq-eqb, ne_eqb}
 use Rattle.std.specs.Option.{option_or}
 use mathlib.Core.Option.{some, none}

@@ -59,7 +59,7 @@ HasReached lengths cut = (part : ℕ) → slice_index lengths part ≤ length (p
 abbrev pub IsPreparedFor : Cut → ℕ → ℕ → Type 0
 IsPreparedFor cut stamp item = list_any (prepares stamp) (prefix_for cut item) ≡ true
 
--- a list is announced for the stamp, and it is this one, on which each written item stands
+-- a list is announced for the stamp; it is this one, and each written item is on it
 pub record IsNamed (cut : Cut) (stamp : ℕ) (writes : List Row) (items : List ℕ) : Type 0 where
   pub announced : announced_for cut stamp ≡ Some items
   pub within : list_all (is_among items) writes ≡ true
@@ -78,14 +78,14 @@ pub record IsPromisedSomewhere (cut : Cut) (stamp : ℕ) : Type 0 where
   pub listed : Contains items item
   pub promised : IsPromisedAgainst (prefix_for cut item) stamp
 
--- what the cut has to have beside a mark: nothing beside a trim
+-- what the cut has to have so that a mark is backed: nothing for a trim
 abbrev pub IsBacked : Cut → Mark → Type 0
 IsBacked cut (Prepared stamp writes items) = IsNamed cut stamp writes items
 IsBacked cut (Committed stamp) = IsPreparedThroughout cut stamp
 IsBacked cut (Discarded stamp) = IsPromisedSomewhere cut stamp
 IsBacked cut (Trimmed item) = Unit {0}
 
--- it has that beside each mark: the cut is consistent
+-- each of its marks is backed: the cut is consistent
 abbrev pub IsClosedCut : Cut → Type 0
 IsClosedCut cut = (part : ℕ) → All (IsBacked cut) (prefix_at cut part)
 
@@ -98,14 +98,14 @@ pub record IsSound (cut : Cut) : Type 0 where
   pub depends : (stamp : ℕ) → is_some (dependencies_of cut stamp) ≡ is_some (announced_for cut stamp)
   pub causal : (stamp : ℕ) (lengths : List ℕ) → dependencies_of cut stamp ≡ Some lengths → HasReached lengths cut
 
--- ---- how a cut goes on from another
+-- ---- how a cut extends another
 
 -- the marks are the first ones of a history
 abbrev pub IsPrefix : List Mark → List Mark → Type 0
 IsPrefix marks history = (later : List Mark) × (marks ++ later ≡ history)
 
--- the new cut has all that the old one has: it is of one opening, each prefix goes on, and what was announced is so,
--- with what it depends on
+-- the new cut has all that the old one has: it is of the same opening, extends each prefix, and has what was announced,
+-- with what that depends on
 pub record Extends (old new : Cut) : Type 0 where
   pub opening : new.opening ≡ old.opening
   pub parts : new.parts ≡ old.parts

@@ -5,7 +5,7 @@ use Rattle.atomic_table.specs.Seated.{TableId}
 use Rattle.album_passes.specs.Cuts.{Cut, prefix_at, IsSound}
 use Rattle.album_passes.specs.Knowledge.{Knowledge, known}
 
--- of which table the seat is, and what it knows
+-- the table that the seat is at, and what the seat knows
 pub record Held : Type 0 where
   pub table : TableId
   pub seat : Knowledge

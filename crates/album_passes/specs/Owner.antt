@@ -6,8 +6,8 @@ use Rattle.album_passes.specs.Knowledge.{known}
 use Rattle.album_passes.specs.Holding.{Held}
 use Rattle.album_passes.specs.Pass.{PassState}
 
--- Of which desk's table it is; which partition's; its cut, which has all of that partition's history; and that so
--- many numbers at least were drawn at the desk.
+-- The table of its desk; its partition; its cut, which has all of that partition's history; and how many numbers at
+-- least were drawn at the desk.
 pub record OwnerState : Type 0 where
   pub table : TableId
   pub part : ℕ

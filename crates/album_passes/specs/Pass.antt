@@ -5,8 +5,8 @@ use Rattle.album_passes.specs.Cuts.{Cut}
 use Rattle.album_passes.specs.Knowledge.{known}
 use Rattle.album_passes.specs.Holding.{Held}
 
--- Of which desk's table it is; its cut; the client's number that it holds, if it drew one; and that so many numbers
--- at least were drawn at the desk.
+-- The table of its desk; its cut; the client's number that it holds, if it drew one; and how many numbers at least were
+-- drawn at the desk.
 pub record PassState : Type 0 where
   pub table : TableId
   pub cut : Cut

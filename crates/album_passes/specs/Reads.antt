@@ -55,9 +55,9 @@ pub record IsAnsweredBetween (old new : Cut) (stamps : List ℕ) (answer : ReadV
   pub written : answer.stamp ≢ 0 → version marks answer.item answer.stamp ≡ Some answer.value
   pub first : answer.stamp ≡ 0 → answer.value ≡ first_value old.opening answer.item
 
--- The first round was answered without stamps, between the cuts `begun` and `middle`, the second with exactly the
--- stamps of the first round's answers, between `middle` and `ended`; each item of the second was answered in the first.
--- The three cuts are sound, and each goes on from the one before.
+-- The first round was answered without stamps, between the cuts `begun` and `middle`. The second was answered with
+-- exactly the stamps of the first round's answers, between `middle` and `ended`. Each item of the second was answered
+-- in the first. The three cuts are sound, and each extends the one before.
 pub record IsReadInTwoRounds
     (begun middle ended : Cut) (firsts : List ReadVersion) (stamps : List ℕ) (answers : List ReadVersion) : Type 0 where
   pub begun_sound : IsSound begun

@@ -60,8 +60,8 @@ with_drawn seat drawn = record seat { drawn = drawn }
 abbrev pub KeepsOwned : Knowledge → Cut → Cut → Type 0
 KeepsOwned seat old new = (part : ℕ) → seat.low ≤ part → part < seat.high → prefix_at new part ≡ prefix_at old part
 
--- What a seat with two cuts comes to know as they are merged: the merged cut goes on from both, has nothing new of
--- the partitions that the seat owns, nor of the stamps of its client and of its guest, and these two differ.
+-- What a seat with two cuts comes to know as they are merged. The merged cut extends both. It has nothing new of the
+-- partitions that the seat owns, nor of the stamps of its client and of its guest, and these two differ.
 pub record IsMerged (seat : Knowledge) (one other cut : Cut) : Type 0 where
   pub one_on : Extends one cut
   pub other_on : Extends other cut

@@ -33,10 +33,10 @@ pub fn what_closed_cuts_have()
         → list_any (discards stamp) (prefix_at cut other) ≡ false }
 {}
 
-/// A law: by what a mark is backed that a partition makes. A Prepared that could be followed, by
-/// the list that is announced; a Committed, where the stamp is prepared at each of the others of its
-/// items' partitions; a Discarded of a stamp that was unknown, by itself, where an item of the list
-/// is placed here; each mark by what the cut has already; and a trim by nothing.
+/// A law: what backs each mark that a partition makes. The announced list backs a Prepared that could
+/// be followed. A Committed is backed where the stamp is prepared here and at each other partition of
+/// its items. A Discarded of a stamp that was unknown backs itself, where an item of the list is
+/// placed here. What backs a mark already does so once the mark is made; nothing has to back a trim.
 pub fn marks_are_backed()
     ensures prepared { (cut : Cut) (number parts stamp : ℕ) (writes : List Row) (items : List ℕ)
         → announced_for cut stamp ≡ Some items → is_proper number parts stamp writes items ≡ true
@@ -55,8 +55,8 @@ pub fn marks_are_backed()
     ensures trimmed { (cut : Cut) (item : ℕ) → IsBacked cut (Made.Trimmed item) }
 {}
 
-/// A law: how cuts go on from each other. What is backed stays so, and the merged cut of two is the
-/// least that goes on from both, if there is one.
+/// A law: how cuts extend each other. What is backed stays so, and the merged cut of two is the
+/// least that extends both, if there is one.
 pub fn cuts_only_grow()
     ensures itself { (cut : Cut) → Extends cut cut }
     ensures along { (first second third : Cut)
@@ -66,8 +66,8 @@ pub fn cuts_only_grow()
         → Extends first cut → Extends second cut → Extends (merged first second) cut }
 {}
 
-/// A law: what a committed stamp ever writes to an item, a sound cut in which it is committed has
-/// already, at whatever partition.
+/// A law: a sound cut in which a stamp is committed, at whatever partition, has already what the
+/// stamp ever writes to an item.
 pub fn what_is_committed_is_there()
     ensures { (old new : Cut) (item stamp : ℕ) → IsSound old → IsSound new → Extends old new
         → IsCommitted old stamp → written_value new item stamp ≡ written_value old item stamp }

@@ -13,8 +13,8 @@
 //! prefixes: a version vector. What the threads share is then a word for each partition, and one
 //! for the numbers.
 //!
-//! Read `pass` and `owner` first, and specs/Cuts.antt beside them; then `desk`. Then read what they
-//! stand on: `holding` with its `lengths`, and the rule of the words in `rule`. `laws` comes last.
+//! Read `pass` and `owner` first, together with specs/Cuts.antt; then `desk`. Then read what they
+//! build on: `holding` with its `lengths`, and the rule of the words in `rule`. `laws` comes last.
 #![tactic(auto)]
 
 mod desk;

@@ -39,8 +39,8 @@ impl Owner {
         Owner { holding, part }
     }
 
-    /// Appends a mark to the history, which it may follow and where the cut has what has to be
-    /// beside it.
+    /// Appends a mark to the history. The mark must be allowed to follow the history, and the cut with
+    /// this mark must have what backs it.
     ///
     /// # Errors
     ///

@@ -2,8 +2,8 @@
 //! runs.
 //!
 //! The desk's words and the seats at it are a `Table` of `atomic_table`, which keeps a rule between
-//! any two steps. The rule is `OneRun`: there is one history of each partition, whose marks a word
-//! counts, and of which each seat knows a prefix. What was drawn and announced is one for all, too.
+//! any two steps. The rule is `OneRun`: there is one history of each partition. A word counts its
+//! marks, and each seat knows a prefix of it. What was drawn and announced is one for all, too.
 //! Each kind of step is a type. It says how a seat is split, how two become one, or what a seat knows
 //! after a step on a word. `holding` makes the steps.
 use album_items::Opening;

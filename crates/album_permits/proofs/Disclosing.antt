@@ -154,7 +154,7 @@ noted-alike policy me asked one other b c alike l m =
     (basis-bared policy me other c m)
     ∙ sym (notes-bared policy me asked other c m)
 
--- ---- two snapshots that are alike for who asks
+-- ---- two snapshots that are alike for the principal
 
 pub granted-alike :
     (policy : Policy) (me : Principal) (asked : Ask) (one other : List ReadVersion)

@@ -1,4 +1,4 @@
--- What is true of each element of a list, and what stands among what is kept, for `NoteVerdicts` and `Granting`.
+-- What is true of each element of a list, and what is among what is kept, for `NoteVerdicts` and `Granting`.
 use Rattle.std.proofs.Common.{◌≡◌, ◌<◌, ◌++◌, ◌==◌, ℕ, zero, suc, length, List, [], ◌∷◌, Bool, true, false, Contains, map, filter, fold, take, refl, ap, subst, sym, ◌∙◌, arith, if◌then◌else◌, cond}
 use Rattle.std.specs.List.{slice_index_or}
 use Rattle.album_items.specs.declared.values.Value.{Value}

@@ -1,4 +1,4 @@
--- A need is found granted just where it is met (`need-met`), and so are needs (`needs-met`, `granted-met`), for
+-- A need is found granted exactly where it is met (`need-met`), and so are needs (`needs-met`, `granted-met`), for
 -- the law `granted_where_each_need_is_met`.
 use Rattle.std.proofs.Common.{◌≡◌, ◌↔◌, ◌&&◌, ◌||◌, ℕ, List, [], ◌∷◌, Bool, true, false, not, Option, Some, None, IsTrue, is_none, option_map, refl, sym, ap, ◌∙◌, if◌then◌else◌}
 use Rattle.std.specs.List.{list_all, list_any, cons_option}

@@ -1,4 +1,4 @@
--- What is written stands among what an ask may write (`written-may`, `effect-may`), for the law
+-- What is written is among what an ask may write (`written-may`, `effect-may`), for the law
 -- `what_is_written_is_needed`.
 use Rattle.std.proofs.Common.{◌≡◌, ◌<◌, ◌==◌, ℕ, zero, suc, List, [], ◌∷◌, ◌++◌, Bool, true, false, Contains, map, filter, fold, length, refl, sym, ap, subst, ◌∙◌, arith, if◌then◌else◌}
 use Rattle.std.specs.List.{flat_map, slice_index_or}
@@ -83,7 +83,7 @@ homes-changed (h ∷ homes) more home c = go (λ d. homes-changed homes more hom
     go rest zero below same = (0, omega arith, same)
     go rest (suc k) below same = let c = rest (k, omega (arith, below), same) in (suc c.0, omega (arith, c.1), c.2)
 
--- what stands behind them
+-- what follows them
 behind-homes :
     (homes : List ℕ) (more : List Alternative) (object : ℕ) → Contains (changed more) object
     → Contains (changed (map (λ h. on h DELETE_CHILD) homes ++ more)) object

@@ -28,7 +28,7 @@ use Rattle.album_permits.proofs.Meeting.{granted-met}
 -- ---- one need
 
 module _ (basis : Basis) (good : Alternative → Type 0) where
-  -- a reason that says what is granted of a good alternative, and such a note
+  -- a reason that says of a good alternative whether it is granted, and a note that says so
   abbrev IsRight : Reason → Type 0
   IsRight reason =
       (is_grant reason.verdict ≡ is_granted_on basis reason.object reason.mask) × good (on reason.object reason.mask)

@@ -65,7 +65,7 @@ members_written seen new = (new.object, with_members new.members (seen new.objec
 
 -- ---- the table
 
--- what an ask writes at a stamp, in order; an item may stand twice
+-- what an ask writes at a stamp, in order; an item may occur twice
 abbrev pub written : (ℕ → Value) → Principal → ℕ → Ask → List Write
 written seen principal stamp (ask.Read object) = []
 written seen principal stamp (ask.List album) = []
@@ -122,7 +122,7 @@ effect_of permit stamp = merged (written (seen permit.view.rows) permit.principa
 
 -- ---- room
 
--- the album has 128 children beside this one
+-- the album has 128 children other than this one
 abbrev pub has_most_others : ℕ → Value → Bool
 has_most_others child value = nat_le MAX_CHILDREN (count_by (λ other. not (child == other)) (children_of value))
 

@@ -22,7 +22,7 @@ use Rattle.album_permits.specs.declared.notes.Note.{Note}
 
 -- ---- what is ruled
 
--- of a view, who asks, and the policy, as they would stand in a permit: the written policy finds this
+-- The written policy finds this. The case is a view, a principal and a policy, as a permit would hold them.
 pub record Finds (case : PermitState) (finding : Finding) : Type 0 where
   pub basis : Basis
   pub based : IsBasis case.policy case.principal case.view.rows basis
@@ -52,14 +52,14 @@ has_needs_met basis ask = list_all (is_need_met basis) (needs_of basis.seen ask)
 abbrev pub is_of_change : Mask → Bool
 is_of_change mask = not (mask.0 == READ_DATA.0) && not (mask.0 == READ_ATTRIBUTES.0) && not (mask.0 == READ_ACL.0)
 
--- the objects of which an ask needs more than to read them
+-- the objects on which an ask needs more than a right to read
 abbrev pub objects_changed : (ℕ → Value) → Ask → List ℕ
 objects_changed seen ask =
     map (λ (a : Alternative). a.object)
     (filter (λ (a : Alternative). is_of_change a.mask) (flat_map (λ need. need) (needs_of seen ask)))
 
--- What an ask may write at a stamp: the new picture or album with its list, if it makes one; an object of which it
--- needs more than to read it; and the list of such an object.
+-- What an ask may write at a stamp: the new picture or album with its list, if it makes one. Also an object on which it
+-- needs more than a right to read, and the list of that object.
 pub data MayWrite (seen : ℕ → Value) (stamp : ℕ) (ask : Ask) : ℕ → Type 0 where
   New :
       (item : ℕ) → IsTrue (is_adding ask) → Contains (picture stamp ∷ album stamp ∷ list stamp ∷ []) item

@@ -10,7 +10,7 @@ pub record IsNeeded (needs : List (List Alternative)) (alternative : Alternative
   pub among : Contains needs need
   pub one : Contains need alternative
 
--- an alternative of one of the needs, of which another alternative is granted
+-- an alternative of one of the needs, where another alternative of that need is granted
 pub record IsSpared (basis : Basis) (needs : List (List Alternative)) (alternative : Alternative) : Type 0 where
   pub need : List Alternative
   pub among : Contains needs need

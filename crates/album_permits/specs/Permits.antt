@@ -10,7 +10,7 @@ use Rattle.album_listing.specs.Basis.{Basis, IsBasis}
 use Rattle.album_permits.specs.Findings.{ruling_of}
 use Rattle.album_permits.specs.declared.findings.Finding.TheVariants.{Granted}
 
--- a view, for whom its ask is granted, and by which policy
+-- a view, the principal for whom its ask is granted, and the policy that grants it
 pub record PermitState : Type 0 where
   pub view : ViewState
   pub principal : Principal

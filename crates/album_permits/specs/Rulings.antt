@@ -26,7 +26,7 @@ finding_in (ruling.Granted permit) = finding.Granted
 finding_in (ruling.Denied denial view) = finding.Denied denial
 finding_in (ruling.Missing object view) = finding.Missing object
 
--- what went in is in the ruling: in the permit, or beside its finding
+-- what went in is in the ruling: all of it in the permit, or the view next to the finding
 abbrev pub Keeps : Policy → Principal → ViewState → Ruling → Type 0
 Keeps policy principal view (ruling.Granted permit) =
     permit ≡ record { view = view; principal = principal; policy = policy }

@@ -8,7 +8,7 @@ ghost use Rattle.album_permits.specs.Kinds.{shows_right_kinds};
 ghost use Rattle.album_permits.specs.Permits.{PermitState, IsPermit};
 
 /// A law: what the ask of a permit writes is what one transaction may write, at whatever stamp. There are items, at
-/// most 16, and none stands twice; and where each value in the view is of its item's kind, so is each that is written.
+/// most 16, and none occurs twice; and where each value in the view is of its item's kind, so is each that is written.
 pub fn an_effect_is_one_transaction()
     ensures items { (permit : PermitState) (stamp : ℕ) → IsPermit permit → IsTrue (is_write permit.view.ask)
         → IsTrue (are_items (items_written (effect_of permit stamp))) }

@@ -86,7 +86,7 @@ fn is_album_full(lookup: &ViewLookup, stamp: Stamp, ask: &Ask) -> bool
     }
 }
 
-/// Whether the album has the most children beside this one.
+/// Whether the album has `MAX_CHILDREN` children other than this one.
 fn has_most_others(child: ItemId, album: &Value) -> bool
     ensures { result ≡ has_most_others child album.now }
 {
@@ -110,7 +110,7 @@ fn effect_of(alloc: Global, permit: &Permit, stamp: Stamp) -> Result<ItemValues,
     Ok(ItemValues::of(writes))
 }
 
-/// What the ask of the permit writes at the stamp, in order; an item may stand twice. Merged, that is what one
+/// What the ask of the permit writes at the stamp, in order; an item may occur twice. Merged, that is what one
 /// transaction may write.
 #[tactic(auto, using(crate::proofs::Transacting::effect_items))]
 fn written_by(alloc: Global, permit: &Permit, stamp: Stamp) -> Result<Vec<(ItemId, Value)>, Refusal>
@@ -130,7 +130,7 @@ fn written_by(alloc: Global, permit: &Permit, stamp: Stamp) -> Result<Vec<(ItemI
     )
 }
 
-/// What the ask writes at the stamp, in order; an item may stand twice.
+/// What the ask writes at the stamp, in order; an item may occur twice.
 fn written(
     alloc: Global,
     lookup: &ViewLookup,

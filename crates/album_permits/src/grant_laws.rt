@@ -19,7 +19,7 @@ pub fn granted_where_each_need_is_met()
     ensures { (basis : Basis) (ask : Ask) → (ruling_of basis ask ≡ Granted) ↔ IsTrue (has_needs_met basis ask) }
 {}
 
-/// A law: an ask writes nothing but what it makes, the objects of which it needs more than to read them, and their
+/// A law: an ask writes nothing but what it makes, the objects on which it needs more than a right to read, and their
 /// lists.
 pub fn what_is_written_is_needed()
     ensures { (permit : PermitState) (stamp : ℕ) (write : Write) → Contains (effect_of permit stamp) write

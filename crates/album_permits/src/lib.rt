@@ -4,8 +4,8 @@
 //! what it writes; or why it is denied; or which object is missing.
 //!
 //! Read `needs` and `findings` first, then `permits` with what they are spent on: `serving`, and `effects` where the
-//! ask writes. Tables of what is needed, found, noted, served and written stand in specs/, a definition for each.
-//! `rights` and `disclosure` have laws alone. `Event`, `Answer` and `Out` are a store's inputs and outputs: they stand
+//! ask writes. Tables of what is needed, found, noted, served and written are in specs/, a definition for each.
+//! `rights` and `disclosure` have laws alone. `Event`, `Answer` and `Out` are a store's inputs and outputs: they are
 //! here, below the crates that carry them out and the crate that writes their lines.
 #![tactic(auto)]
 

@@ -1,4 +1,4 @@
-//! Writes of which no two are of one item.
+//! Merges writes, so that no two are of one item.
 ghost use Rattle.std.specs.Prelude.{◌≡◌, ◌==◌, IfOk, OnOk, position};
 ghost use Rattle.album_permits.specs.Effects.{put, merged};
 

@@ -11,7 +11,7 @@ use album_views::{Ask, NewList, NewMembership};
 use std::alloc::{AllocError, Global};
 use std::marker::Model;
 
-/// Alternatives, one of which has to be granted. Contracts see them in order.
+/// Alternatives: one of them has to be granted. Contracts see them in order.
 #[derive(Debug, Drop)]
 pub(crate) struct Need {
     alternatives: Vec<Alternative>,
@@ -36,7 +36,7 @@ impl Need {
 }
 
 /// What the ask needs, in order: each need a bit of an object's mask (RFC 7530, section 6.2.1.3.1). Where the bit has
-/// another name for an album, that stands above it.
+/// another name for an album, that name is written above it.
 pub(crate) fn needs(alloc: Global, lookup: &ViewLookup, ask: &Ask) -> Result<Vec<Need>, AllocError>
     ensures { IfOk result (λ needs. needs.items ≡ needs_of (seen lookup.now.view.now.rows) ask.now) }
 {

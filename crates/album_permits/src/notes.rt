@@ -13,8 +13,9 @@ use album_lists::Ace;
 use album_stamps::Refusal;
 use std::alloc::{AllocError, Global};
 
-/// An AUDIT or ALARM entry takes note: of which object's list it is, what was asked of the object, the
-/// entry's index, whether it is an alarm, and whether what was asked was granted.
+/// The note of an AUDIT or ALARM entry: the object whose list has the entry, what was asked of the
+/// object, and whether that was granted. It also says the entry's index, and whether the entry is an
+/// alarm.
 #[derive(Clone, Copy, Debug)]
 pub struct Note {
     pub object: ItemId,

@@ -60,7 +60,7 @@ IsFresh-free round message fresh lasts carries own e free =
           (lacks-free round fresh.version.item fresh.index lasts e empty);
     }
 
--- a round is at its end just where each answer is there
+-- a round is at its end exactly where each answer is there
 end-outcome : (round : RoundState) → is_end (outcome round) ≡ are_there round.answers
 end-outcome round = go (are_there round.answers)
   where
@@ -74,7 +74,7 @@ end-outcome round = go (are_there round.answers)
     go true = ended round.stamps _
     go false = refl
 
--- with an answer at the index, each is there just where each other one is
+-- with an answer at the index, each is there exactly where each other one is
 are_there-set :
     (answers : List (Option ReadVersion)) (index : ℕ) (answer : ReadVersion) → index < length answers
     → are_there (set answers index (Some answer)) ≡ (are_there (take index answers) && are_there (drop (suc index) answers))
@@ -136,7 +136,7 @@ on_err_then (Err e) p = p
 
 -- ---- a message that doesn't end the round
 
--- where the step is no end, the round goes on as it is
+-- where the step is no end, the round waits
 pub waits_same : (old new : RoundState) (message : Message) (end : Option End) → is_end (stepped old message) ≡ false
     → step_by new end ≡ taken old message → stepped old message ≡ Same new
 waits_same old new message end goes step =

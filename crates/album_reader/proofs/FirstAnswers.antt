@@ -302,7 +302,7 @@ module _ (round : RoundState) (replies : List Message) (message : Message) where
       (not_whole round.asker replies message answer carries round.items asked free)
       )
 
-  -- what comes of a version is what comes of all the replies with it
+  -- the step by a version is the step by all the replies with it
   taken-after_replies : taken (after_replies round replies) message ≡ taken_after round replies message
   taken-after_replies = go (answer_in round.asker message) refl
     where
@@ -327,7 +327,7 @@ module _ (round : RoundState) (replies : List Message) (message : Message) where
           here true f false g = new_after answer e f g
           here false f c g = same_after (map-absent round.asker replies message answer e round.items f)
 
-  -- what comes of a message is what comes of all the replies with it
+  -- the step by a message is the step by all the replies with it
   pub stepped-after_replies : stepped (after_replies round replies) message ≡ step_after round replies message
   stepped-after_replies =
       ap (λ (step : Step). if is_gone (after_replies round replies) message then Gone round.items else step)
@@ -402,7 +402,7 @@ whole-goes round (message ∷ more) replies there =
     (whole-goes round more (replies ++ message ∷ [])
     (ap are_there (map-stays round.asker replies (message ∷ []) round.items there) ∙ there))
 
--- what comes of replies one after another is what comes of all together
+-- the step by replies one after another is the step by all together
 pub stepped_all-after_replies :
     (round : RoundState) (more replies : List Message)
     → all_answers round.asker replies round.items ≡ None
@@ -467,7 +467,7 @@ stepped_all-after_replies round (message ∷ more) replies none =
     by true later = refl
     by false later = go (whole next.answers) refl later
 
--- what comes of a message in a round that is not over, once these replies were given in it
+-- the step by a message in a round that is not over, once these replies were given in it
 pub stepped-lacking :
     (round : RoundState) (message : Message) (replies : List Message)
     → are_there round.answers ≡ false → round ≡ after_replies round replies

@@ -243,7 +243,7 @@ new_answer-other round message other = (is_nothing round message other).0
 pub not_gone-other : (round : RoundState) (message : Message) → IsOther round message → is_gone round message ≡ false
 not_gone-other round message other = (is_nothing round message other).1
 
--- then nothing comes of it
+-- then the round stays as it is
 pub stepped-other : (round : RoundState) (message : Message) → IsOther round message → stepped round message ≡ Same round
 stepped-other round message other =
     let nothing = is_nothing round message other in
@@ -346,7 +346,7 @@ counts-is_gone round message item second about answers lacking =
     (ap (λ (o : Option ℕ). option_map_or (λ item. is_answer round.asker message item && lacks round item) o false) about
     ∙ and_from _ _ answers lacking)
 
--- a word that an item is gone, and the read goes on
+-- a reply that an item is gone, where the read continues
 other-gone :
     (round : RoundState) (message : Message) (item : ℕ)
     → message.body ≡ body.Reply (reply.Gone item) → is_gone round message ≡ false

@@ -239,7 +239,7 @@ module _ (round : RoundState) (item index : ℕ)
       and_from _ _ (has_item-at round.items index item here.0 here.1)
       (ap not (free-index round.items round.answers index item lasts.single lasts.in_order index-inside here.1 free))
 
-  -- it is lacking just where it has none
+  -- it is lacking exactly where it has none
   pub lacks-is : not (is_some (get_or round.answers index None)) ≡ lacks round item
   lacks-is = go (get_or round.answers index None) refl
     where
@@ -341,7 +341,7 @@ stepped-open round message lasts = by (is_gone round message)
     by true = tt
     by false = go (new_answer round message)
 
--- where no item is gone, what comes of a message is what comes of its version
+-- where no item is gone, the step by a message is the step by its version
 pub taken-stepped :
     (round : RoundState) (message : Message)
     → is_gone round message ≡ false → taken round message ≡ stepped round message

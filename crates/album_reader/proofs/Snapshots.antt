@@ -1,5 +1,5 @@
--- An item's index in a snapshot is that of its answer, for `Snapshot::at` (`read-at`, `read-absent`), and items that stand
--- once are the set of themselves, for `Round::snapshot` (`insert_all-single`).
+-- An item's index in a snapshot is that of its answer, for `Snapshot::at` (`read-at`, `read-absent`), and distinct
+-- items are the set of themselves, for `Round::snapshot` (`insert_all-single`).
 use Rattle.std.proofs.Common.{◌≡◌, ◌<◌, ◌≤◌, ℕ, suc, ◌+◌, Bool, true, false, not, ◌==◌, cond, List, [], ◌∷◌, ◌++◌, length, Option, Some, None, get_or, find, position, nat_lt, if◌then◌else◌, refl, sym, ap, ◌∙◌, arith}
 use Rattle.std.specs.List.{position_or_len, slice_get, list_any}
 use Rattle.std.proofs.lemmas.Bool.{and_parts, or_parts, or_from, not-true, eqb-true, eqb-false, ltb-false}
@@ -40,7 +40,7 @@ pub length-items : (answers : List ReadVersion) → length (items_read answers) 
 length-items [] = refl
 length-items (answer ∷ answers) = ap suc (length-items answers)
 
--- the answer of the item stands at the item's index
+-- the answer of the item is at the item's index
 pub read-at :
     (item : ℕ) (answers : List ReadVersion) (i : ℕ) (d : ReadVersion)
     → position (λ other. item == other) (items_read answers) ≡ Some i
@@ -91,7 +91,7 @@ read-absent item answers e =
 abbrev AreNew : List ℕ → List ℕ → Type 0
 AreNew keys items = list_any (λ item. list_any (λ key. item == key) keys) items ≡ false
 
--- what is new, and no item that is put behind the keys, is new then
+-- items that are new are still new once another item is put after the keys
 still-new :
     (keys : List ℕ) (item : ℕ) (items : List ℕ)
     → AreNew keys items → list_any (λ other. item == other) items ≡ false → AreNew (keys ++ item ∷ []) items
@@ -118,6 +118,6 @@ insert_all-new keys (item ∷ items) new single =
     ∙ insert_all-new (keys ++ item ∷ []) items (still-new keys item items rest (not-true _ parts.0)) parts.1
     ∙ append_assoc keys (item ∷ []) items
 
--- items that stand once are the keys of the set of them
+-- distinct items are the keys of the set of them
 pub insert_all-single : (items : List ℕ) → are_distinct items ≡ true → insert_all ◌==◌ [] items ≡ items
 insert_all-single items single = insert_all-new [] items (all-new items) single

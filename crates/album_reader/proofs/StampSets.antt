@@ -26,7 +26,7 @@ with_stamp-there stamp (first ∷ stamps) (suc index) inside here before =
     with_stamp-there stamp stamps index (omega arith) here (λ k h. before (suc k) (omega arith)) in
     grind (arith, nat_tests, below, later)
 
--- it comes behind the smaller ones and before the greater ones
+-- it comes after the smaller ones and before the greater ones
 pub with_stamp-insert :
     (stamp : ℕ) (stamps : List ℕ) (index : ℕ)
     → index ≤ length stamps → ((k : ℕ) → k < index → get_or stamps k 0 < stamp)

@@ -12,7 +12,7 @@ use Rattle.album_reader.specs.Rounds.Step.{Same, Next, Done, Gone}
 use Rattle.album_reader.proofs.FirstAnswers.{stepped-after_replies}
 use Rattle.album_reader.proofs.Others.{new_answer-other, is_gone-early}
 
--- what is true of the round as it is, and of its end, is true of what comes of a version
+-- what is true of the round as it is, and of its end, is true of the step by a version
 taken-cases :
     (P : Step → Type 0) (round : RoundState) (message : Message) → P (Same round)
     → ((answer : ReadVersion) → P (Same (with_answer round answer)))
@@ -30,7 +30,7 @@ taken-cases P round message same put last = go (new_answer round message)
         here None = put answer
         here (Some answers) = last answer answers
 
--- and of the step, where it is true of an item that is gone
+-- and of the step by a message, where it is true of an item that is gone
 step-cases :
     (P : Step → Type 0) (round : RoundState) (message : Message) → P (Gone round.items) → P (Same round)
     → ((answer : ReadVersion) → P (Same (with_answer round answer)))
@@ -103,7 +103,7 @@ second-asks_no_more round next stamps message gets second e =
     subst AsksNoMore e (step-cases AsksNoMore round message tt tt (λ a. tt)
     (λ a all. subst (λ (o : Option (List ℕ)). AsksNoMore (end_by o (with_answer round a) all)) (sym second) tt))
 
--- what comes of the last reply, where it is no waiting
+-- the step by the last reply is the outcome, where the round doesn't wait and no item is gone
 ended :
     (round : RoundState) (replies : List Message) (message : Message) (step : Step)
     → ((next : RoundState) → step ≢ Same next) → ((items : List ℕ) → step ≢ Gone items)

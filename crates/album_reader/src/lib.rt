@@ -1,10 +1,10 @@
 //! A read of items in two rounds, as in RAMP-Small (Bailis and others, SIGMOD 2014).
 //!
 //! What comes in: a client's items, and then the messages that reach it. What goes out: the first
-//! round's messages, which ask each item's partition for its latest version. With the last answer
+//! round's messages, which ask each item's partition for its latest version. After the last answer
 //! to these the second round's go out, which ask each again with the stamps of all the answers.
-//! With the last answer to those goes out what was read. If one of the items is gone, they come
-//! back.
+//! After the last answer to those what was read goes out. If one of the items is gone, the items
+//! come back.
 //!
 //! Read `reading` first, then `round`, which does its work on what `asker`, `versions` and `answers` say.
 //! What a message does is defined in specs/Rounds.antt, over specs/Answers.antt.

@@ -139,7 +139,7 @@ impl Reading {
         }
     }
 
-    /// Takes the message in place, unless it ends the round, and tells whether the read waits for more. Where the
+    /// Takes the message in place, unless it ends the round, and says whether the read waits for more. Where the
     /// result is true, the message is taken. Where it is false, nothing has changed, and the message is `on_reply`'s.
     ///
     /// # Errors

@@ -12,7 +12,7 @@ use std::marker::Model;
 /// are. Contracts see these answers, in the order in which the items were asked.
 #[derive(Debug, Drop)]
 pub struct Snapshot {
-    // At the index of its item stands each answer.
+    // Each answer is at the index of its item.
     items: IndexSet<ItemId>,
     answers: Vec<ReadVersion>,
 }

@@ -9,7 +9,7 @@ use album_items::{ItemId, SharedValue};
 use album_stamps::Stamp;
 use std::alloc::AllocError;
 
-/// The version of an item, as it stands in a message.
+/// The version of an item, as a message has it.
 #[derive(Clone, Copy)]
 pub struct VersionIn<'a> {
     pub item: ItemId,

@@ -34,7 +34,7 @@ pub leads_may : (Goes : World → World → List ℕ → Type 0) (old new : Worl
     → MayLead Goes old past text
 leads_may Goes old new past text h = (with_past new h.0, h.1)
 
--- such a text is written, or a part of it
+-- where one world leads to another, the text of that is written, or a part of it
 pub leads_writes : (Goes : World → World → List ℕ → Type 0) (old new : WorldState) (past : Past) (whole : List ℕ)
     → Leads Goes old new past whole
     → (a b : Option (List ℕ)) → Appends a b whole → Writes (Leads Goes old new past) a b
@@ -115,7 +115,7 @@ memory_or_not Closed = inr (λ same. cc)
 memory_or_not BadOpening = inr (λ same. cc)
 memory_or_not NoSuchPart = inr (λ same. cc)
 
--- of an event such a text is written, or a part of it
+-- the same of an event: its text is written, or a part of it
 pub event_written : (text_of : Bool → Now → Result Change Refusal → List ℕ)
     → (terms : Terms) (trace : Bool) (event : Event) (old new : WorldState) (past : Past) (whole : List ℕ)
     → Leads (λ before. Happens text_of terms trace before event) old new past whole
@@ -243,7 +243,7 @@ pub one_delivery : (terms : Terms) (trace : Bool) (world next : World) (event : 
 one_delivery terms trace world next event text h =
     (next, text, [], h, (refl, refl), sym (append-nil text))
 
--- one delivery, and any that may come behind it
+-- one delivery, and any that may come after it
 pub begun_range : (terms : Terms) (trace : Bool) (world next : World) (event : Event) (events : List Event) (text : List ℕ)
     → Happens delivery_text terms trace world event next text
     → IsPrefixOf (λ whole. (last : World) × Delivers terms trace world (event ∷ events) last whole) text

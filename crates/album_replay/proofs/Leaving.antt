@@ -32,7 +32,7 @@ leaves_weaker P Q so Reading text h = absurd h
 leaves_weaker P Q so Writing text h = (h.0, h.1, so (text ++ h.0) h.2)
 leaves_weaker P Q so Memory text h = (h.0, so (text ++ h.0) h.1)
 
--- something whole stands before it
+-- something whole comes before it
 pub leaves_behind : (P Q : List ℕ → Type 0) (front : List ℕ) → ((text : List ℕ) → P text → Q (front ++ text))
     → (fault : Fault) (text : List ℕ) → LeavesOf fault P text → LeavesOf fault Q (front ++ text)
 leaves_behind P Q front so Reading text h = absurd h
@@ -41,7 +41,7 @@ leaves_behind P Q front so Writing text h =
 leaves_behind P Q front so Memory text h =
     (h.0, subst Q (sym (append_assoc front text h.0)) (so (text ++ h.0) h.1))
 
--- something more would come behind it
+-- something more would come after it
 pub leaves_before : (P Q : List ℕ → Type 0) → ((text : List ℕ) → P text → IsPrefixOf Q text)
     → (fault : Fault) (text : List ℕ) → LeavesOf fault P text → LeavesOf fault Q text
 leaves_before P Q so Reading text h = absurd h

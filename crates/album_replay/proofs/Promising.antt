@@ -62,7 +62,7 @@ among_one some all e h = one_after e h
 
 -- ---- parts of a text
 
--- the text is that of parts, each of which is right by the input
+-- the text is that of parts, and each of them is right by the input
 pub record Parts (input : List Line) (text : List ℕ) : Type 0 where
   pub parts : List Printed
   pub whole : text ≡ flat_map text_of parts
@@ -142,7 +142,7 @@ module _ (input lines later first others : List Line) (before : input ≡ lines 
             });
       }
 
-  -- one event, of which so much is known before
+  -- what is known once an event has happened: the world runs by some of the events, and the text is that of parts
   pub record Goes (es all : List Event) (next : World) (text : List ℕ) : Type 0 where
     pub some : List Event
     pub now : next ≡ run_of o some
@@ -224,7 +224,7 @@ spelled_more lines l b e =
     ∙ ap (λ (z : List Event). events_spelled lines ++ z)
     (append-nil (if is_blank l then [] else events_read (event_line_read l)) ∙ ap (λ (f : Bool). events_on f l) e)
 
--- ---- where a replay stands
+-- ---- the stage of a replay
 
 -- the lines that were read spell the world
 pub record RunsIt (done : List Line) (terms : Terms) (world : World) : Type 0 where
@@ -240,7 +240,7 @@ StandsBy done (BeingOpened header rows) = opening_said done ≡ Ok (line.Open he
 StandsBy done (Running terms trace world) = RunsIt done terms world
 StandsBy done Over = Unit {0}
 
--- a line is taken: what is printed of it, and where the replay stands then
+-- a line is taken: what is printed of it, and the stage of the replay then
 pub record IsTaken (input done : List Line) (step : Step) : Type 0 where
   pub stands : StandsBy done step.next
   pub parts : Parts input step.text
@@ -350,7 +350,7 @@ module _ (input done : List Line) (l : Line) (later : List Line) (before : input
       split_now : now_done ≡ s.first ++ others_now
       split_now = ap (λ (z : List Line). z ++ l ∷ []) s.split ∙ append_assoc s.first s.others (l ∷ [])
 
-      -- where it stands once some of the line's events have happened
+      -- the stage once some of the line's events have happened
       stands_now : (terms : Terms) → terms ≡ terms_of o → (line_events : List Event)
           → events_spelled others_now ≡ events_spelled s.others ++ line_events → (next : World) (text : List ℕ)
           → Goes input now_done later s.first others_now before split_now o s.opens es (events_spelled s.others ++ line_events)

@@ -82,7 +82,7 @@ last_of X S Q T none is both a b e c d f h k w =
 
 -- ---- the text of more lines
 
--- lines are taken, and behind them these end
+-- lines are taken, and after them others end the text
 ends_of : (stage between : Stage) (lines more : List Line) (front text : List ℕ)
     → Replays stage lines between front
     → Ends between more text
@@ -115,7 +115,7 @@ stops_of stage between lines ends later front text taken h = record {
   whole = ap (λ t. front ++ t) h.whole ∙ sym (append_assoc front h.front h.part);
 }
 
--- there is a text behind any that is there
+-- from any stage, there is a text of the lines up to the end
 some_end : (stage : Stage) (lines : List Line) → (text : List ℕ) × Ends stage lines text
 some_end stage lines = (
   (replayed stage lines).1 ++ end_text (replayed stage lines).0,

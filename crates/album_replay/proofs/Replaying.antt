@@ -1,5 +1,5 @@
--- The text of a replay: there is one of each input, and one of more lines stands behind that of the first. For the laws
--- of `replays`.
+-- The text of a replay: there is one of each input, and one of more lines follows that of the first. For the laws of
+-- `replays`.
 use Rattle.std.proofs.Common.{◌≡◌, ℕ, List, [], ◌∷◌, ◌++◌, Bool, true, false, cond, Result, Ok, Err, inl, refl, sym, ap, ◌∙◌, subst, append_assoc}
 use Rattle.std.specs.Bool.{MatchBool}
 use Rattle.album_stamps.specs.declared.refusals.Refusal.{Refusal}

@@ -1,4 +1,4 @@
--- What a line makes of where a replay stands. For the methods of `Stage`, and for `take_lines` and `finish`.
+-- What a line makes of the stage of a replay. For the methods of `Stage`, and for `take_lines` and `finish`.
 use Rattle.std.proofs.Common.{◌≡◌, ◌≢◌, ◌⊎◌, ◌+◌, ◌<◌, ℕ, List, [], ◌∷◌, ◌++◌, length, map, take, drop, get_or, Bool, true, false, Option, Result, Ok, Err, OnErr, IfErr, inl, inr, refl, sym, ap, ◌∙◌, subst, append_assoc, append-nil, if◌then◌else◌}
 use Rattle.std.specs.Bool.{MatchBool}
 use Rattle.std.specs.Io.KnownBytes.{Appends}
@@ -115,7 +115,7 @@ pub one_step : (stage next : Stage) (line : Line) (text : List ℕ)
     → Replays stage (line ∷ []) next text
 one_step stage next line text h = (step_from next text, [], h, (refl, refl), sym (append-nil text))
 
--- whatever is printed of a line, there is a text of the lines behind it
+-- whatever is printed of a line, there is a text of the lines after it
 pub goes_on_printing : (stage : Stage) (line : Line) (later : List Line) (text : List ℕ)
     → Prints stage line text
     → IsPrefixOf (λ whole. (last : Stage) × Replays stage (line ∷ later) last whole) text
@@ -208,7 +208,7 @@ pub blank_taken : (kept : Kept) (past : Past) (line : Line) (a : Option (List �
     → Writes (Steps kept past line kept) a a
 blank_taken kept past line a is = ([], (past, skipped (stage_of kept past) line is), Appends-nil a)
 
--- a line of the opening, by which it goes on or is refused
+-- a line of the opening: the opening continues, or is refused
 module _ (old : Stage) (line : Line) (says : Step) (opening : (step : Step) → IsOpened says step → Takes old line step)
     (is : is_blank line ≡ false) (result : Result Kept Refusal) (opens : Opens says result) where
   pub opening_taken : (new : Kept) (a b : Option (List ℕ))

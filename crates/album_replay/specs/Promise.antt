@@ -38,7 +38,7 @@ use Rattle.album_replay.specs.Replay.{event_line_read, opening_line_read, openin
 
 -- ---- what lines spell
 
--- what the lines of an opening say, of which blank ones count for nothing
+-- what the lines of an opening say; blank ones count for nothing
 abbrev pub opening_said : List Line → List (Result OpeningLine Refusal)
 opening_said lines = map opening_line_read (filter (λ line. not (is_blank line)) lines)
 

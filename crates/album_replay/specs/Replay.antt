@@ -1,4 +1,4 @@
--- The text of a replay: what is printed of the lines of an opening, and of the events that the lines behind it spell.
+-- The text of a replay: what is printed of the lines of an opening, and of the events that the lines after it spell.
 use Rattle.std.specs.Prelude.{◌≡◌, ◌≢◌, ◌⊎◌, List, [], ◌∷◌, ◌++◌, ℕ, Bool, true, false, if◌then◌else◌, MatchBool, Option, Some, None, Result, Ok, Err}
 use Rattle.std.specs.List.{flat_map}
 use Rattle.album_stamps.specs.declared.refusals.Refusal.{Refusal}
@@ -28,15 +28,15 @@ use Rattle.album_judge.specs.declared.fault.Fault.{Fault}
 use Rattle.album_judge.specs.declared.fault.Fault.TheVariants.{Reading, Writing, Memory}
 use Rattle.album_judge.specs.Writes.{IsPrefixOf, IsCutShort}
 
--- Where a replay stands between two lines: nothing is opened yet; it is being opened, with these items so far; the
--- world runs, in a trace or not; or the opening was refused, and nothing more is printed.
+-- The stage of a replay between two lines. Nothing is opened yet; it is being opened, with these items so far; the
+-- world runs, in a trace or not; or the opening was refused. Then nothing more is printed.
 pub data Stage : Type 0 where
   Unopened : Stage
   BeingOpened : Header → List Row → Stage
   Running : Terms → (trace : Bool) → World → Stage
   Over : Stage
 
--- where it stands once a line is taken, and what is printed of the line
+-- the stage once a line is taken, and what is printed of the line
 pub record Step : Type 0 where
   pub next : Stage
   pub text : List ℕ
@@ -132,7 +132,7 @@ Runs terms trace world (Err refusal) next text = (next ≡ world) × (text ≡ r
 
 -- ---- a line
 
--- the opening's line, of which nothing is read where it is too long
+-- what a line of the opening says; nothing is read of a line that is too long
 abbrev pub opening_line_read : Line → Result OpeningLine Refusal
 opening_line_read None = Err BadLine
 opening_line_read (Some bytes) = opening_line_of bytes
@@ -157,7 +157,7 @@ pub record IsRun (terms : Terms) (trace : Bool) (world : World) (line : Line) (s
   pub runs : step.next ≡ Running terms trace world_then
   pub printed : IsPrinted terms trace line world world_then step.text
 
--- what comes of a line that isn't blank
+-- the step by a line that isn't blank
 abbrev pub Takes : Stage → Line → Step → Type 0
 Takes Unopened line step = IsOpened (opened_by first_line (opening_line_read line)) step
 Takes (BeingOpened header rows) line step = IsOpened (opened_by (later_line header rows) (opening_line_read line)) step
@@ -170,7 +170,7 @@ IsStep stage line step = MatchBool (is_blank line) (step ≡ silently stage) (Ta
 
 -- ---- the whole text
 
--- the lines are taken one after another, up to where it stands then, and this is printed of them
+-- the lines are taken one after another, up to the last stage, and this is printed of them
 abbrev pub Replays : Stage → List Line → Stage → List ℕ → Type 0
 Replays stage [] last text = (last ≡ stage) × (text ≡ [])
 Replays stage (line ∷ lines) last text =
@@ -264,7 +264,7 @@ taken Over line = silently Over
 abbrev pub step_of : Stage → Line → Step
 step_of stage line = if is_blank line then silently stage else taken stage line
 
--- where a replay stands once the lines are taken, and what is printed of them
+-- the stage of a replay once the lines are taken, and what is printed of them
 abbrev pub replayed : Stage → List Line → Stage × List ℕ
 replayed stage [] = (stage, [])
 replayed stage (line ∷ lines) = (

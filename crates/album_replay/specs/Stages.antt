@@ -1,5 +1,5 @@
--- Where the engine of replays stands, as the definition of what is printed sees it: the past that this knows, no code
--- keeps.
+-- The stage of the engine of replays, as the definition of what is printed sees it. That definition also knows the
+-- past, which no code keeps.
 use Rattle.std.specs.Prelude.{◌≡◌, ◌≢◌, ◌⊎◌, ◌++◌, ℕ, List, [], Bool, true, false, Result, Ok, Err}
 use Rattle.album_stamps.specs.declared.refusals.Refusal.{Refusal}
 use Rattle.album_stamps.specs.declared.refusals.Refusal.TheVariants.{OutOfMemory}
@@ -19,18 +19,18 @@ use Rattle.album_judge.specs.Writes.{IsCutShort}
 abbrev pub with_past : WorldState → Past → World
 with_past world past = record { now = world.kept; past = past }
 
--- where the engine stands
+-- the stage of the engine
 abbrev pub stage_of : Kept → Past → Stage
 stage_of kept.Unopened past = Unopened
 stage_of (kept.BeingOpened header rows) past = BeingOpened header rows.items
 stage_of (kept.Running trace world) past = Running world.terms trace (with_past world past)
 stage_of kept.Over past = Over
 
--- whatever had happened to the world, what is kept now goes on from it, and this is printed
+-- the world that was kept, with this past, leads to the one that is kept now, and this is printed
 abbrev pub Leads : (World → World → List ℕ → Type 0) → WorldState → WorldState → Past → List ℕ → Type 0
 Leads Goes old new past text = (after : Past) × Goes (with_past old past) (with_past new after) text
 
--- some world goes on from it
+-- it leads to some world, and this is printed
 abbrev pub MayLead : (World → World → List ℕ → Type 0) → WorldState → Past → List ℕ → Type 0
 MayLead Goes old past text = (next : World) × Goes (with_past old past) next text
 
@@ -45,17 +45,17 @@ abbrev pub step_to : SoFar → Step
 step_to (so_far.More header rows) = silently (BeingOpened header rows.items)
 step_to (so_far.Whole header rows) = begun (opening_of header rows.items) header.trace
 
--- A step of the opening: its lines go on, or it is refused for the reason that it says, or for memory.
+-- A step of the opening: its lines continue, or it is refused for the reason that the step says, or for memory.
 abbrev pub GoesOn : Step → Result SoFar Refusal → Type 0
 GoesOn says (Ok so_far) = says ≡ step_to so_far
 GoesOn says (Err refusal) = refusal ≢ OutOfMemory → says ≡ refused refusal
 
--- A step of the opening: it goes on without a text, or is refused for the reason that it says, or for memory.
+-- A step of the opening: it continues without a text, or is refused for the reason that the step says, or for memory.
 abbrev pub Opens : Step → Result Kept Refusal → Type 0
 Opens says (Ok next) = says ≡ silently (stage_of next no_past)
 Opens says (Err refusal) = refusal ≢ OutOfMemory → says ≡ refused refusal
 
--- what comes of that, as a step
+-- the result of that, as a step
 abbrev pub step_by : Result Kept Refusal → Step
 step_by (Ok next) = silently (stage_of next no_past)
 step_by (Err refusal) = refused refusal

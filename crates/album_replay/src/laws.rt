@@ -13,9 +13,9 @@ pub fn replays_are_computed()
     ensures { (input : List ℕ) → IsReplay input (replay_text input) }
 {}
 
-/// A law: what was printed stays, whatever comes behind it.
+/// A law: what was printed stays, whatever comes after it.
 pub fn replays_go_on()
-    // The text of lines and of more lines behind them is their texts, one behind the other.
+    // The text of lines and of more lines after them is their texts, one after the other.
     ensures more { (stage between last : Stage) (lines more : List Line) (text others : List ℕ)
         → Replays stage lines between text → Replays between more last others
         → Replays stage (lines ++ more) last (text ++ others) }
@@ -91,7 +91,7 @@ pub fn worked_replays()
         ≡ codes "{\"name\":\"NoOwner\",\"refused\":9}\n"
         ++ codes "{\"name\":\"NoSuchMessage\",\"refused\":14}\n" }
 
-    // Who reads is noted.
+    // A read is noted.
     ensures noted { replay_text
         (trip_opened (codes "false") (codes "[\"audit\",\"bo@users\",1,48]")
         ++ codes "{\"ask\":{\"do\":\"read\",\"object\":\"picture/0\"},\"client\":2,\"who\":\"bo@users\"}\n"

@@ -1,11 +1,11 @@
 //! The engine that replays a script, from a reader of lines to a writer of what its events bring about.
 //!
 //! What comes in: a reader and a writer, whatever they are. What goes out: the text that the lines read bring about; or
-//! a fault, before which a prefix of such a text was written. No thread is needed, and no connection.
+//! a fault, and before it a prefix of a text that they bring about. No thread is needed, and no connection.
 //!
 //! Read `engines/replay` first: `Stage` takes a line (`replay/stages`), and a line's events run (`replay/events`).
 //! specs/Replay.antt has the text of a replay, specs/Promise.antt what is promised of it, and `laws` what holds of
-//! both. What the lines of an opening say (`openings`) a service needs too.
+//! both. A service, too, needs what the lines of an opening say (`openings`).
 #![tactic(auto)]
 
 // What the lines of an opening say. Both a replay and a service begin with them.

@@ -1,4 +1,4 @@
-//! An opening, line by line: the header comes first, behind it the items, and then that these are all.
+//! An opening, line by line: the header comes first, then the items, and then a line that says that these are all.
 ghost use Rattle.std.specs.Prelude.{◌≡◌};
 ghost use Rattle.album_stamps.specs.Outcome.{Gives};
 ghost use Rattle.album_lines.specs.Lines.{said};
@@ -15,7 +15,7 @@ use std::alloc::Global;
 /// What the lines of an opening have said so far.
 #[derive(Drop)]
 pub enum SoFar {
-    /// This header, and behind it these items.
+    /// This header, and after it these items.
     More(Header, Vec<(ItemId, Value)>),
     /// The same, and that these are all.
     Whole(Header, Vec<(ItemId, Value)>),
@@ -36,7 +36,7 @@ pub fn first_line(alloc: Global, scratch: &mut Scratch, line: &LineIn) -> Result
     }
 }
 
-/// Behind it come the items, and then that these are all.
+/// After it come the items, and then the line that says that these are all.
 ///
 /// # Errors
 ///

@@ -1,6 +1,6 @@
-//! What stands around a replay's script: a reader that asks for a trace, and a watch for the first refused line.
+//! What is put around a replay's script: a reader that asks for a trace, and a watch for the first refused line.
 //!
-//! What comes in: a script's reader, and the writer of what is told. What goes out, by `traced`: a reader of the same
+//! What comes in: a script's reader, and the writer of the outputs. What goes out, by `traced`: a reader of the same
 //! script but for its first line. What goes out, by `strict`: a reader and a writer that go together, and know which
 //! line was refused. Nothing is promised of what they give but that they are safe and end: rows show the rest.
 //!

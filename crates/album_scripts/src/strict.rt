@@ -1,5 +1,5 @@
-//! A replay that ends at the first line that is refused. Its reader gives one line at a time, so what is told in
-//! between is told of that line; its writer looks for a refusal, and then the reader is at its end.
+//! A replay that ends at the first line that is refused. Its reader gives one line at a time, so the output in between
+//! is that line's; its writer looks for a refusal, and then the reader is at its end.
 use std::cell::Cell;
 use std::io;
 use std::io::{Read, Write};
@@ -108,7 +108,7 @@ pub struct Told<'a, W> {
 }
 
 impl<'a, W: Write> Told<'a, W> {
-    /// What is told to this writer.
+    /// Passes the output on to this writer.
     pub fn new(watch: &'a Watch, writer: &'a mut W) -> Told<'a, W> {
         Told {
             watch,

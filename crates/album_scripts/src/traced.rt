@@ -1,5 +1,5 @@
 //! A script whose opening asks for a trace, whatever it says of one: of two equal keys the last counts, so one more is
-//! put behind the others.
+//! put after the others.
 ghost use Rattle.std.specs.Prelude.{◌≤◌, length};
 
 use album_lines::{data, member};
@@ -127,7 +127,7 @@ fn brace(line: &[u8]) -> Option<usize> {
     before(line, outer).iter().rposition(|byte| *byte == b'}')
 }
 
-/// Whether nothing stands between a brace and the one before.
+/// Whether there is nothing between a brace and the one before.
 fn is_first(line: &[u8], brace: usize) -> bool {
     let front = before(line, brace);
     matches!(

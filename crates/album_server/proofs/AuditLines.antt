@@ -1,4 +1,4 @@
--- The lines of records: one more stands behind those before it. For `Log::append_all`.
+-- The lines of records: one more follows those before it. For `Log::append_all`.
 use Rattle.std.proofs.Common.{◌≡◌, ◌<◌, ◌+◌, ℕ, List, [], ◌∷◌, ◌++◌, Option, length, take, get_or, sym, ap, ◌∙◌, subst, append-nil}
 use Rattle.std.proofs.KnownBytes.{Appends-trans}
 use Rattle.std.proofs.lemmas.Grind.{flat_map-append}

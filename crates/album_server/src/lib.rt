@@ -20,7 +20,7 @@ pub use album_replay::{
 pub use album_stamps::Refusal;
 pub use album_talk::{Admins, Journal, NoJournal, converse, converse_with, only_admins_are_heard};
 
-// What a program of one's own needs beside, to open a store and ask (album_first is one).
+// What a program of one's own also needs, to open a store and ask (album_first is one).
 pub use album_eval::Principal;
 pub use album_items::{Opening, read_item};
 pub use album_permits::{Answer, Out};

@@ -153,7 +153,7 @@ pub fn serve_for<T: Host, R: Read, W: Write>(
     serve_begun(rt, alloc, begun, writer, setup)
 }
 
-/// Serves as `serve_for` does, to the end of the input behind the opening: then no connection begins any more, and each
+/// Serves as `serve_for` does, to the end of the input after the opening: then no connection begins any more, and each
 /// line that has come is answered still. Connections beyond the last that counts are answered `Closed` until then.
 ///
 /// # Errors
@@ -176,7 +176,7 @@ pub fn serve_until<T: Host, R: Read + Send + Drop, W: Write>(
     serve_begun(rt, alloc, begun, writer, setup)
 }
 
-/// Serves as `serve_until` does, where the opening is read by itself, and the input beside it has nothing but its end.
+/// Serves as `serve_until` does, where the opening is read by itself, and of the other input only the end counts.
 ///
 /// # Errors
 ///
@@ -199,7 +199,8 @@ pub fn serve_beside<T: Host, O: Read, R: Read + Send + Drop, W: Write>(
     serve_begun(rt, alloc, begun, writer, setup)
 }
 
-/// What a service is run with, beside its opening: the input behind that, if it is read, and the audit file.
+/// What a service is run with, in addition to its opening: the input after that, if it is read, its port and limits,
+/// and the audit file.
 #[derive(Drop)]
 struct Setup<R: Drop> {
     input: Option<R>,

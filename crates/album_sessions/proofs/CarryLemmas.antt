@@ -1,4 +1,4 @@
--- What comes of a reply in a write: `prepared_on` and `committed_on`.
+-- What a reply in a write leads to: `prepared_on` and `committed_on`.
 use Rattle.std.proofs.Common.{◌≡◌, ℕ, List, [], All, Some, None, refl, sym, ap, ◌∙◌, subst, arith}
 use Rattle.album_calls.specs.declared.messages.Message.{Message}
 use Rattle.album_client.specs.Clients.{Client}
@@ -61,7 +61,7 @@ module _ (limit : ℕ) (policy : Policy) (o : Outset) (now next noted : SessionS
       same : noted ≡ next
       same = heard_same o now next noted transition N none clock
 
-      -- the answer tells how it ended
+      -- the answer says how it ended
       ends : (out : Outcome) → IsEndOf limit d begun out → transition.answer ≡ Some (answer_of out) → After
       ends out e is =
           Told (answer_of out) is

@@ -1,5 +1,5 @@
--- The clock of a session's client: it goes no way back at a turn (`moved_clock`), has seen what was read (`rows_seen`),
--- and what it draws is the client's own and new (`number_own`, `number_counter`, `number_above`).
+-- The clock of a session's client. No transition puts it back (`moved_clock`), and it has seen what was read
+-- (`rows_seen`). What it draws is the client's own and new (`number_own`, `number_counter`, `number_above`).
 use Rattle.std.proofs.Common.{◌≡◌, ℕ, ◌+◌, ◌<◌, ◌≤◌, Bool, true, false, IsTrue, List, [], ◌∷◌, Option, Some, None, Result, Ok, Err, nat_lt, if◌then◌else◌, refl, sym, ap, ◌∙◌, subst, arith, le_refl, le_trans, le_of_eq}
 use Rattle.std.proofs.lemmas.Bool.Decides.{nat_tests}
 use Rattle.std.proofs.lemmas.List.Elements.{All-nil, All-cons}
@@ -49,7 +49,7 @@ rows_rise k (row ∷ rows) =
     let l : k.counter ≤ (clock_after_see k row.stamp).counter = omega arith in
     le_trans l (rows_rise (clock_after_see k row.stamp) rows)
 
--- it stands at the greatest counter that it had or saw
+-- it is at the greatest counter that it had or saw
 pub rows_counter : (k : ClockState) (rows : List ReadVersion) → (clock_after_rows k rows).counter ≡ counter_after k.counter rows
 rows_counter k [] = refl
 rows_counter k (row ∷ rows) = rows_counter (clock_after_see k row.stamp) rows
@@ -72,7 +72,7 @@ number_counter c n is = grind (arith, nat_tests)
 pub number_above : (c n t : ℕ) → counter_of t ≤ c → t < stamp_number (c + 1) n
 number_above c n t low = omega arith
 
--- ---- what a turn does to it
+-- ---- what a transition does to it
 
 -- it is of the same client, and at no lower counter
 record IsClockOn (old : ClockState) (turn : TransitionState) : Type 0 where

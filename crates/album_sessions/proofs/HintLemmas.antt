@@ -1,5 +1,6 @@
--- What comes of a read that is overtaken, and of a hint that is tried: where they are in vain nothing was taken over
--- (`tried_so`, `given_led`), and else a view has come of the hint (`view_by`). `Session::goes_on` cites these, and `asked_readable` for the hint that it keeps.
+-- The outcome of a read that is overtaken, and of a hint that is tried. Where they are in vain nothing was taken over
+-- (`tried_so`, `given_led`); else the hint has led to a view (`view_by`). `Session::go_on` cites these, and
+-- `asked_readable` for the hint that it keeps.
 use Rattle.std.proofs.Common.{◌≡◌, ℕ, Bool, true, false, ◌&&◌, List, [], ◌∷◌, Option, Result, Ok, Err, IfOk, refl, sym, ap, ◌∙◌, subst}
 use Rattle.std.specs.Prelude.{IfSome, IfNone}
 use Rattle.std.proofs.lemmas.Bool.{and_from, and_parts, true≢false}
@@ -78,7 +79,7 @@ module _ (policy : Policy) (o : Outset) where
 
 -- ---- not in vain
 
--- a view has come of a hint that is tried
+-- a hint that is tried has led to a view
 pub view_by : (o : Outset) (hinted reads tries vain : Bool) (d : Phase) (transition : Transition) → o.hinted ≡ hinted
     → reads ≡ is_reading d → tries ≡ (hinted && reads)
     → vain ≡ (tries && is_without_view transition.sent.items transition.answer) → vain ≡ false

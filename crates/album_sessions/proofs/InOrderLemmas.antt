@@ -1,5 +1,5 @@
 -- What a session's answer rests on, it rests on too from before the session had listened. `Session::ask_in_order` cites
--- `rests_still`, and the law `acknowledged_is_visible` cites `order_visible`.
+-- `rests_still`.
 use Rattle.std.proofs.Common.{◌≡◌, ℕ, ◌+◌, List, refl, sym, ap, ◌∙◌, subst, arith, inl, inr, ⊎_elim}
 use Rattle.album_audit.specs.Books.{ShareState}
 use Rattle.album_eval.specs.declared.facts.Principal.{Principal}

@@ -1,5 +1,5 @@
--- What comes of a reply in a read: `read_on`. And how an ask begins, with a read of its objects or of what a hint names:
--- `reads_begin` and `started_way`, whose messages ask with no stamps (`shown_first`).
+-- What a reply in a read leads to: `read_on`. And how an ask begins, with a read of its objects or of what a hint
+-- names: `reads_begin` and `started_way`, whose messages ask with no stamps (`shown_first`).
 use Rattle.std.proofs.Common.{◌≡◌, ◌≢◌, ℕ, ◌+◌, Bool, true, false, List, [], ◌∷◌, map, length, get_or, Option, Some, None, is_some, All, refl, sym, ap, ◌∙◌, subst, arith, nat_lt, nat_le, if◌then◌else◌}
 use Rattle.std.specs.Option.{unwrap_or}
 use Rattle.std.proofs.lemmas.List.Elements.{All-contains, Contains-get_or}
@@ -140,7 +140,7 @@ reading_first hinted principal ask old now terms x tag pending_ask items of whom
   on = extends_self now;
 }
 
--- ---- what is shown beside a round
+-- ---- what holds of the stamps of a round
 
 -- what is settled is committed somewhere
 settled_somewhere : (c : Cut) (xs : List ReadVersion) → AreSettled c xs → AreCommitted c (stamps_of xs)
@@ -237,7 +237,7 @@ hint_for old now ask principal items taken among readable s = record {
   sound = s;
 }
 
--- ---- what comes of a reply
+-- ---- what a reply leads to
 
 module _ (limit : ℕ) (policy : Policy) (o : Outset) (now next noted : SessionState) (at : Cut) (sent : List Message)
     (transition : Transition)

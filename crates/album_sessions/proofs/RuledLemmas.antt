@@ -1,4 +1,4 @@
--- What comes of a view: `ruled_on`. What is granted and isn't served is written, at a stamp that is drawn for it.
+-- What a view leads to: `ruled_on`. What is granted and isn't served is written, at a stamp that is drawn for it.
 use Rattle.std.proofs.Common.{◌≡◌, ◌≢◌, ℕ, ◌+◌, ◌<◌, ◌≤◌, Bool, true, false, inl, inr, IsTrue, List, [], All, Option, Some, None, Result, Ok, Err, nat_lt, if◌then◌else◌, get_or, refl, sym, ap, ◌∙◌, subst, arith}
 use Rattle.album_calls.specs.declared.messages.Message.{Message}
 use Rattle.album_client.specs.Clients.{Client}
@@ -114,7 +114,7 @@ module _ (limit : ℕ) (policy : Policy) (o : Outset) (now next noted : SessionS
   clock_seen =
       rows_counter (client_step_in next).clock rows ∙ ap (λ (n : ℕ). counter_after n rows) only.drawn.counter
 
-  -- and where it draws nothing, it stands there
+  -- and where it draws nothing, it stays there
   seen_only : transition.client.clock.counter ≡ k.counter → HasSeen o.session noted case
   seen_only kept = N.counter ∙ kept ∙ clock_seen
 
@@ -282,7 +282,7 @@ module _ (limit : ℕ) (policy : Policy) (o : Outset) (now next noted : SessionS
 
     -- ---- by what is drawn
 
-    -- the client that has drawn, and the turn, by whether a stamp is left
+    -- the client that has drawn, and the transition, by whether a stamp is left
     abbrev drawn_if : Bool → Client
     drawn_if b = record y { clock = (if b then record k { counter = k.counter + 1 } else k) }
 

@@ -1,5 +1,5 @@
--- What comes of a reply to a session's client, by the phase that it is in: `moved_on`. `Session::goes_on` cites what
--- follows of it. `Session::gives` cites `taken_so`.
+-- What a reply to a session's client leads to, by the phase that the client is in: `moved_on`. `Session::go_on` cites
+-- what follows of it. `Session::give` cites `taken_so`.
 use Rattle.std.proofs.Common.{◌≡◌, ℕ, ◌≤◌, true, false, List, [], Option, Some, None, Result, Ok, Err, IfOk, refl, sym, ◌∙◌, subst, arith}
 use Rattle.std.specs.Option.{unwrap_or}
 use Rattle.std.specs.Prelude.{IsOkAnd, IfSome, IfNone, OnErr}
@@ -69,7 +69,7 @@ taken_so limit at now sent terms x d (Err why) transition replied is = absurd is
 module _ (limit : ℕ) (policy : Policy) (o : Outset) (now next noted : SessionState) (at : Cut) (sent : List Message) (d : Phase) (transition : Transition)
     (h : IsHeard now next) (t : IsTaken limit at next.cut sent (terms_in policy next) (client_step_in next) d transition)
     (client : noted.client ≡ next.client) (cut : noted.cut ≡ next.cut) (counter : noted.counter ≡ transition.client.clock.counter) where
-  -- the ask is answered, or goes on
+  -- the ask is answered, or continues
   pub led_on : IsUnderWay policy o now at sent d → IsProper transition.client.phase
       → AreShared next.client next.share noted.share transition.notes.items
       → (next_of transition.client.clock ≡ Err StampsSpent → transition.client.clock.counter ≡ MAX_COUNTER)
@@ -180,7 +180,7 @@ module _ (limit : ℕ) (policy : Policy) (o : Outset) where
   unbegun_sent new at sent d (Ok way) w none = tt
   unbegun_sent new at sent d (Err why) w none = unbegun_now new at sent d w none
 
-  -- ---- where it is sent, it goes on
+  -- ---- where the messages are sent, the ask continues
 
   pub all_led : (asked : Asked) (d : Phase) (messages : List Message) (new : SessionState)
       → IsUnderWay policy o new (sent_at asked.begun.cut new.cut messages) (sent_last asked.sent.items messages) d

@@ -1,5 +1,5 @@
--- What a reply has led to, once what was noted of it is in the share: `goes_plain` and `goes_sent` go on, and where
--- nothing was noted the session is as it was (`heard_same`).
+-- What a reply has led to, once what was noted of it is in the share. The ask continues (`goes_plain`, `goes_sent`),
+-- and where nothing was noted the session is as it was (`heard_same`).
 use Rattle.std.proofs.Common.{◌≡◌, ℕ, ◌+◌, List, [], All, Some, None, Err, sym, ap, ◌∙◌, subst, arith}
 use Rattle.album_calls.specs.declared.messages.Message.{Message}
 use Rattle.album_client.specs.Clients.{IsProper}
@@ -22,7 +22,7 @@ use Rattle.album_sessions.proofs.SendLemmas.{last_sent, last_at}
 use Rattle.album_views.specs.Checks.{refusal_of}
 use Rattle.album_permits.specs.declared.answers.Answer.{Answer}
 
--- An ask was under way of a session; then a reply was heard, by which its client has transition, and that is noted.
+-- An ask of a session was under way. Then a reply was heard, which led its client to this transition; that is noted.
 pub record IsNoted (o : Outset) (now next noted : SessionState) (transition : Transition) : Type 0 where
   pub taken : refusal_of o.ask o.principal ≡ None
   pub on : IsOn o.session now
@@ -35,7 +35,7 @@ pub record IsNoted (o : Outset) (now next noted : SessionState) (transition : Tr
   pub shared : AreShared next.client next.share noted.share transition.notes.items
   pub spent : next_of transition.client.clock ≡ Err StampsSpent → transition.client.clock.counter ≡ MAX_COUNTER
 
--- the ask is answered, or goes on, once the messages are sent
+-- the ask is answered, or continues once the messages are sent
 pub data IsMovedOn
     (limit : ℕ) (policy : Policy) (o : Outset) (noted : SessionState) (at : Cut) (sent : List Message) (transition : Transition)
     : Type 0 where
@@ -99,7 +99,7 @@ heard_same o now next noted transition n none same = λ i. record {
 module _ (limit : ℕ) (policy : Policy) (o : Outset) (noted : SessionState) (at : Cut) (sent : List Message)
     (transition : Transition)
     (quiet : transition.answer ≡ None) where
-  -- these are sent, none of which prepares anything
+  -- these are sent, and none of them prepares anything
   pub goes_plain : (messages : List Message) → transition.sent.items ≡ messages → prepared_first messages ≡ None
       → All (Shows noted.cut) messages
       → IsUnderWay policy o noted (sent_at at noted.cut messages) (sent_last sent messages) transition.client.phase

@@ -1,5 +1,5 @@
 -- A reply that ends no round of a read is taken in place, and the ask is under way as before: `waits_on`, for
--- `Session::waits_once`.
+-- `Session::wait_once`.
 use Rattle.std.proofs.Common.{◌≡◌, ℕ, true, not, List, Option, Some, None, Result, Ok, Err, IfOk, ap, subst}
 use Rattle.std.specs.Prelude.{IsOkAnd, IfSome, IfNone}
 use Rattle.album_calls.specs.declared.messages.Message.{Message}

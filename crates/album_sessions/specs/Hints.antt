@@ -1,4 +1,4 @@
--- What a hinted read asks for, and what comes of it.
+-- What a hinted read asks for, and whether it leads to a view.
 use Rattle.std.specs.Prelude.{◌==◌, ◌||◌, ℕ, Bool, true, false, List, map, Option, Some, None}
 use Rattle.std.specs.List.{list_all, list_any}
 use Rattle.album_calls.specs.declared.messages.Body.{Body}
@@ -31,7 +31,7 @@ item_asked (body.Reply reply) = 0
 abbrev pub items_asked : List Message → List ℕ
 items_asked messages = map (λ message. item_asked message.body) messages
 
--- ---- what comes of a read
+-- ---- what a read leads to
 
 -- the ask is answered that it is busy
 abbrev pub is_busy : Option Answer → Bool

@@ -25,7 +25,7 @@ abbrev pub AnnouncesNothing : SessionState → SessionState → Type 0
 AnnouncesNothing old new = (stamp : ℕ) → client_number stamp ≡ old.client
     → announced_for new.cut stamp ≡ announced_for old.cut stamp
 
--- its clock stands where it stood, and nothing is announced
+-- its clock is where it was, and nothing is announced
 pub record DrawsNothing (old new : SessionState) : Type 0 where
   pub counter : new.counter ≡ old.counter
   pub silent : AnnouncesNothing old new

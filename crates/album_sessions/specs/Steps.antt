@@ -1,4 +1,4 @@
--- What comes of one reply to a session's client, step by step.
+-- What one reply to a session's client leads to, step by step.
 use Rattle.std.specs.Prelude.{◌≡◌, ℕ, Bool, true, List, Option, Some, None}
 use Rattle.album_calls.specs.declared.messages.Message.{Message}
 use Rattle.album_client.specs.Clients.{Client, IsProper, stamp_at_work}

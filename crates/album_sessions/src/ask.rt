@@ -262,7 +262,7 @@ impl<J: ServiceNames> Session<J> {
         }
     }
 
-    /// Goes on by what was heard. Once a write has begun, what cuts it off is its answer. A read that is overtaken
+    /// Continues with what was heard. Once a write has begun, what cuts it off is its answer. A read that is overtaken
     /// comes to no view. While a hint is tried (`course` says whether one is), a read that comes to no view leaves the
     /// session as it was, and the ask isn't refused for it.
     ///

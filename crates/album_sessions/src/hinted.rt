@@ -1,5 +1,5 @@
 //! Hinted reads: an ask whose first read has the items of an earlier view. Where what is read is closed, it is the
-//! view. Where it isn't, nothing has come of it, and the ask begins with its objects.
+//! view. Where it isn't, it is dropped, and the ask begins with its objects.
 ghost use Rattle.std.specs.Prelude.{◌≡◌, ◌==◌, ◌&&◌, false, true, None, Ok, Err, IfOk, IfErr, IfSome, IfNone, OnErr};
 ghost use Rattle.std.specs.List.{list_any};
 ghost use Rattle.album_stamps.specs.declared.refusals.Refusal.{Refusal};
@@ -29,7 +29,7 @@ use std::alloc::{AllocError, Global};
 use std::sync::Wait;
 use std::time;
 
-/// How an ask goes: by a hint, or else by its objects, and of which topic it is.
+/// How an ask goes, by a hint or else by its objects; and its topic.
 #[derive(Clone, Copy)]
 pub(crate) struct Course {
     pub(crate) hinted: bool,
@@ -132,7 +132,7 @@ impl<J: ServiceNames> Session<J> {
             .ok()
     }
 
-    /// Keeps the items of a read as a hint, where a view has come of it.
+    /// Keeps the items of a read as a hint, where the read has led to a view.
     pub(crate) fn remember(
         &self,
         course: &Course,
@@ -170,7 +170,7 @@ fn viewing_of(alloc: Global, ask: &Ask, items: &[ItemId]) -> Option<Viewing>
     }
 }
 
-/// What comes of an ask that hears no more. A hint that is tried is let go, and so is a read that is overtaken.
+/// The outcome of an ask that hears no more. A hint that is tried is let go, and so is a read that is overtaken.
 pub(crate) fn given_up(tries: bool, stamp: Option<Stamp>, why: NoReply) -> Result<Way, Refusal>
     ensures tried { tries ≡ true → result ≡ Ok Way.InVain }
     ensures overtaken { why ≡ NoReply.Overtaken → result ≡ Ok Way.InVain }

@@ -49,7 +49,7 @@ impl Topic {
         same_object && self.relatives == other.relatives
     }
 
-    /// Where its hint stands: below `MAX_HINTS`, far apart for numbers that follow each other.
+    /// The index of its hint: below `MAX_HINTS`, far apart for numbers that follow each other.
     fn slot(&self) -> usize {
         let Some(object) = self.object else {
             return 0;
@@ -64,7 +64,7 @@ impl Topic {
     }
 }
 
-/// The items of a view, and of which topic its ask was.
+/// The items of a view, and the topic of its ask.
 #[derive(Drop)]
 pub(crate) struct Hint {
     topic: Topic,
@@ -133,7 +133,7 @@ impl Hints {
         }
     }
 
-    /// Keeps the hint, in place of one that stood there.
+    /// Keeps the hint, in place of one that was there.
     pub(crate) fn keep(&self, hint: Hint) {
         let Some(slot) = self.slots.get(hint.topic.slot()) else {
             return;

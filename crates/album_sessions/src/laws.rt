@@ -10,8 +10,8 @@ use crate::in_order::Acknowledged;
 use crate::service_names::ServiceNames;
 use album_board::what_was_published_is_seen;
 
-/// A law: what was acknowledged is visible. Take two requests of one service, by whichever sessions, of which the
-/// second listened to a number above the one under which the first was published. Then the cut with which the second
+/// A law: what was acknowledged is visible. Take two requests of one service, by whichever sessions. Let the second
+/// have listened to a number above the one under which the first was published. Then the cut with which the second
 /// began extends the one with which the first ended. Nothing is computed.
 pub fn acknowledged_is_visible<J: ServiceNames>(first: &Acknowledged<J>, second: &Acknowledged<J>)
     ensures visible { (who other : Principal) (ask later : declared.Ask) (old ended start new : SessionState)

@@ -3,8 +3,8 @@ use album_audit::Books;
 use album_keepers::DeskNames;
 use std::marker::Brand;
 
-/// Names the policy of one service, beside the ledgers of its audit book, the list of its board, and the table and the
-/// terms of its desk. Whoever opens a service picks the names by passing `Brand`.
+/// Names the policy of one service, in addition to the ledgers of its audit book, the list of its board, and the table
+/// and the terms of its desk. Whoever opens a service picks the names by passing `Brand`.
 pub trait ServiceNames: Books + DeskNames {
     ghost use Rattle.album_eval.specs.declared.policies.Policy.{Policy};
 

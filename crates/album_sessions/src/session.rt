@@ -127,7 +127,7 @@ impl<J: ServiceNames> Session<J> {
         }
     }
 
-    /// Has the partition ask the others of the stamp's items how it stands at their side.
+    /// Has the partition ask the other participants of the stamp's write for their votes.
     ///
     /// # Errors
     ///
@@ -228,9 +228,9 @@ impl<J: ServiceNames> Session<J> {
     }
 
     /// Has the session send to the partition by this mailbox from now on, and gives the one that it had, or `None`
-    /// where there is no partition of this number. Who takes the mails passes them on by that one, in their order: so a
-    /// mail can be held on its way, as in a network. No promise rests on what becomes of them. One that is lost leaves
-    /// the session waiting.
+    /// where there is no partition of this number. Whoever takes the mails passes them on by that one, in their order:
+    /// so a mail can be held on its way, as in a network. No promise rests on what becomes of them. One that is lost
+    /// leaves the session waiting.
     pub fn relay(
         &mut self,
         part: u16,

@@ -1,4 +1,4 @@
-//! Turns: a session takes a reply, and does what its client has come to.
+//! Transitions: a session takes a reply, and does what its client has come to.
 ghost use Rattle.std.specs.Prelude.{◌≡◌, ◌≢◌, ◌≤◌, [], true, Some, None, Ok, Err, All, IfOk, IfErr, IfSome, IfNone, OnOk, OnErr, IsOkAnd, IsOkUnless};
 ghost use Rattle.album_client.specs.Clients.{is_reading, stamp_at_work, IsProper};
 ghost use Rattle.album_client.specs.Transitions.{client_of, IsMoved};
@@ -238,7 +238,7 @@ fn waited(phase: &mut Phase, heard: Result<Message, NoReply>) -> Option<Result<M
     }
 }
 
-/// What comes of the reply, which is let go.
+/// The transition that the reply makes. The reply is let go.
 fn taken(
     client_step: ClientStep,
     phase: Phase,
@@ -266,7 +266,7 @@ fn let_go(reaction: Reaction) {
     drop(reaction);
 }
 
-/// Says what is so of each clock: one that is spent stands at the greatest counter.
+/// Says what is so of each clock: one that is spent is at the greatest counter.
 fn is_spent_at_its_end(clock: Clock)
     ensures { next_of clock ≡ Err Refusal.StampsSpent → clock.counter ≡ MAX_COUNTER }
 {
@@ -274,7 +274,7 @@ fn is_spent_at_its_end(clock: Clock)
     let _ = clock.next();
 }
 
-/// What the client has come to. Who has answered does nothing more.
+/// What the client has come to. A client that has answered does nothing more.
 fn by_answer(phase: Phase, sent: Vec<Message>, answer: Option<Answer>) -> Reaction
     ensures { IsReaction phase sent.items answer result }
 {
@@ -296,7 +296,8 @@ fn stamp_of(phase: Phase) -> Option<Stamp>
     stamp
 }
 
-/// What comes of an ask that goes no further: that is the answer to it, where a write of this stamp has begun.
+/// The outcome of an ask that is cut off: where a write of this stamp has begun, the answer `Unsettled`, and else the
+/// refusal.
 pub(crate) fn cut_off(stamp: Option<Stamp>, why: Refusal) -> Result<Way, Refusal>
     ensures begun { IfSome stamp (λ t. result ≡ Ok (Way.Answered (Answer.Unsettled t why))) }
     ensures before { IfNone stamp (result ≡ Err why) }

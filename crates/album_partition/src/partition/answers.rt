@@ -302,7 +302,7 @@ impl Partition {
     }
 }
 
-/// A Commit of a stamp that stands so.
+/// What a Commit does, by the state of its stamp.
 fn commit_by(state: StampState, stamp: Stamp) -> Action
     ensures { result ≡ commit_by state stamp }
 {
@@ -316,8 +316,8 @@ fn commit_by(state: StampState, stamp: Stamp) -> Action
     }
 }
 
-/// A Check of a stamp that stands so. A stamp that is unknown is discarded, so that it never is
-/// prepared here after this vote.
+/// What a Check does, by the state of its stamp. Where there is room, an unknown stamp is discarded,
+/// so that it is never prepared here after this vote.
 fn check_by(full: bool, state: StampState, stamp: Stamp) -> Action
     ensures { result ≡ check_by full state stamp }
 {
@@ -343,7 +343,7 @@ fn clone_or(value: Option<&SharedValue>, other: &SharedValue) -> Result<SharedVa
     }
 }
 
-/// The mark by which the stamp is decided.
+/// The mark that decides the stamp: none where the decision is to wait.
 fn mark_by(decision: Decision, stamp: Stamp) -> Option<Mark>
     ensures { result ≡ mark_by decision stamp }
 {

@@ -18,8 +18,8 @@ use json::Scratch;
 use std::alloc::Global;
 use std::io::{Read, Write};
 
-/// Opens a world by the first lines that are read, lets the events of the others happen in it, and writes what comes of
-/// each line. Once an opening is refused, nothing more is read.
+/// Opens a world by the first lines that are read, lets the events of the others happen in it, and writes the outputs
+/// or the refusal of each line. Once an opening is refused, nothing more is read.
 ///
 /// # Errors
 ///
@@ -42,7 +42,7 @@ pub fn replay<R: Read, W: Write>(
     ensures whole { OnOk result (IsAtEnd (R.remaining reader.new) ⊎ Exchanges IsOverBy
         (R.remaining reader.old) (R.remaining reader.new) (W.contents writer.old) (W.contents writer.new)) }
 
-    // On a fault, a prefix of such a text is.
+    // On a fault, a prefix of a text of the whole input is written.
     ensures err { OnErr result (IfSome (R.remaining reader.old) (λ input.
         Writes (IsPrefixOf (IsReplay input)) (W.contents writer.old) (W.contents writer.new))) }
 

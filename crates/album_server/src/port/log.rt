@@ -1,4 +1,4 @@
-//! What a service writes to its audit file: a line for each record, with who asked.
+//! What a service writes to its audit file: a line for each record, with the principal that asked.
 ghost use Rattle.std.specs.Prelude.{◌≡◌, ◌≢◌, ℕ, None, Some, OnOk, IfSome};
 ghost use Rattle.std.specs.Io.KnownBytes.{Appends};
 ghost use Rattle.album_wire.specs.RecordJson.{record_text};
@@ -13,7 +13,7 @@ use std::collections::BTreeMap;
 use std::io;
 use std::io::Write;
 
-/// A writer of lines, and who talks over each connection.
+/// A writer of lines, and the principal that talks over each connection.
 #[derive(Drop)]
 pub(crate) struct Log<W> {
     pub to: W,
@@ -40,7 +40,8 @@ impl<W: Write> Log<W> {
         }
     }
 
-    /// Writes the records, in their order, each with who asked. The client is this principal from its first line on.
+    /// Writes the records, in their order, each with the principal that asked. The client is this principal from its
+    /// first line on.
     ///
     /// # Errors
     ///
@@ -95,7 +96,7 @@ impl<W: Write> Log<W> {
         ensures named { self.new.named ≡ self.old.named }
     {
         let Record { client, note } = of;
-        // Who has asked has said before who it is, and that was answered.
+        // A client that has asked has named its principal before, and that was answered.
         let who = self
             .named
             .get(&client.number())

@@ -6,8 +6,8 @@ use std::io::{ErrorKind, Read};
 use std::net::TcpStream;
 use std::sync::{Arc, Wait};
 
-/// A stream of which an interrupted read is made again. Under Linux a read that has a time limit is interrupted where
-/// the process was stopped and goes on, and the connection has lost nothing by that.
+/// A stream that makes an interrupted read again. Under Linux a read that has a time limit is interrupted where the
+/// process was stopped and continues, and the connection has lost nothing by that.
 #[derive(Drop)]
 pub(crate) struct Resumed<T> {
     pub rt: T,

@@ -13,7 +13,7 @@ different m n other = go (m == n) refl
     go true e = absurd (other ((Decides-eqb m n).0 e))
     go false e = e
 
--- where there are as many, to look for each item's row is the whole test
+-- where there are as many rows as items, it is enough to look for each item's row
 pub returns-then-rows-placed_count : goal.returns-then-rows-placed_count
 returns-then-rows-placed_count c =
     let placed = placed_at c.args.seat.number c.args.seat.parts c.args.items.now in
@@ -22,7 +22,7 @@ returns-then-rows-placed_count c =
     ∙ sym (ap (λ (b : Bool). b && list_all (has_row c.args.rows.now) placed) many)
     ∙ rows_counted c.args.seat.number c.args.seat.parts c.args.items.now c.args.rows.now c.requires
 
--- where there are not, they are not of just those items
+-- where there are not as many, the rows are not of exactly those items
 pub returns-else-rows-placed_count : goal.returns-else-rows-placed_count
 returns-else-rows-placed_count c =
     let placed = placed_at c.args.seat.number c.args.seat.parts c.args.items.now in

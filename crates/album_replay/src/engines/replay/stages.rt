@@ -1,4 +1,4 @@
-//! Where a replay stands between two lines, and what a line makes of that.
+//! The stage of a replay between two lines, and what a line makes of it.
 //!
 //! `replay` keeps one `Stage`, and gives it each line. The lines of the opening are gathered (`openings`), until one
 //! says that the items are all there: then the world opens. From then on the events of a line run in it (`events`). A
@@ -24,7 +24,7 @@ use std::alloc::Global;
 use std::io::Write;
 use std::mem;
 
-/// Where a replay stands between two lines.
+/// The stage of a replay between two lines.
 #[derive(Drop)]
 pub(crate) enum Stage {
     /// Nothing is opened yet.
@@ -38,7 +38,7 @@ pub(crate) enum Stage {
 }
 
 impl Stage {
-    /// Takes a line, and writes what comes of it. A blank line is skipped.
+    /// Takes a line, and writes its outputs or its refusal. A blank line is skipped.
     pub fn take<W: Write>(
         &mut self,
         alloc: Global,
@@ -70,7 +70,7 @@ impl Stage {
         }
     }
 
-    /// The opening goes on, or its refusal is written.
+    /// The opening continues, or its refusal is written.
     fn go_on<W: Write>(
         &mut self,
         alloc: Global,
@@ -120,7 +120,7 @@ impl Stage {
     }
 }
 
-/// Where a replay stands then: the world opens once the opening is whole.
+/// The stage after a line of the opening: the world opens once the opening is whole.
 fn stage_after(alloc: Global, so_far: Result<SoFar, Refusal>) -> Result<Stage, Refusal>
     ensures { (says : Step) → GoesOn says so_far → Opens says result }
 {

@@ -9,7 +9,7 @@ invariant_of-self-in-Ok c =
     set_with c.self.inside.all.entries c.insert-2.new.self.entries c.self.inside.pending c.insert.new.self c.args.stamp _
     c.self.invariant c.in_ok-is_new.ensures.updates.0 c.in-Ok.ensures.updates.0
 
--- there was no memory for the standing, and the set is as it was
+-- there was no memory for the stamp's state, and the set is as it was
 pub invariant_of-self-then-is_new : goal.invariant_of-self-then-is_new
 invariant_of-self-then-is_new c =
     let new = was_new _ (sym c.if-is_new.true ∙ c.in_ok-is_new.ensures.added) in

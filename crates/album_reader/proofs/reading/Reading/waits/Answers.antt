@@ -2,7 +2,7 @@ use Rattle.std.proofs.Common.{sym, ◌∙◌}
 use Rattle.album_reader.proofs.Ends.{waits_open}
 use Rattle.album_reader.proofs.reading.Reading.waits.Goals as goal
 
--- the round goes on
+-- the round continues
 pub invariant_of-self-2 : goal.invariant_of-self-2
 invariant_of-self-2 c =
     let ended = rw (← c.self.view_is) at c.is_ended_by.ensures in

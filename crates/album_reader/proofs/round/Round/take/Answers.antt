@@ -6,7 +6,7 @@ use Rattle.album_reader.proofs.Rounds.{set_back}
 use Rattle.album_reader.proofs.Ends.{in_order-fresh, outcome-fresh, on_err_then}
 use Rattle.album_reader.proofs.round.Round.take.Goals as goal
 
--- the answer stands at its own item
+-- the answer is at its own item
 pub end-last-requires-clause-in_order : goal.end-last-requires-clause-in_order
 end-last-requires-clause-in_order c =
     let fresh = rw (c.in-Some.field-0-is, ← c.self.view_is) at c.in-Some.ensures in
@@ -24,7 +24,7 @@ returns-then-is_err-clause-unchanged c =
     ∙ set_back _ _ _ fresh.empty in
     rw back (on_err_then c.end-last.result c.self.view_is)
 
--- the round goes on with the answer
+-- the round continues with the answer
 pub returns-else-is_err-clause-step : goal.returns-else-is_err-clause-step
 returns-else-is_err-clause-step c =
     let fresh = rw (c.in-Some.field-0-is, ← c.self.view_is) at c.in-Some.ensures in

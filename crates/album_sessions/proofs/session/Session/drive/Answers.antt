@@ -12,7 +12,7 @@ loop-init g c = record {
   on = on_self c.args.self.now (subst (λ (s : SessionState). IsSound s.cut) c.self.view_is c.is_sound.ensures);
 }
 
--- it goes on
+-- it continues
 pub loop-preserved : goal.loop-preserved
 loop-preserved g c = record {
   way = λ outset by w. subst (IsLed g.J.DeskNames.terms.limit g.J.ServiceNames.policy outset c.go_on.new.self) c.in-Awaits.is

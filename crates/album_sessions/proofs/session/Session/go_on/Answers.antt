@@ -79,7 +79,7 @@ returns-in-Answers-clause-on g c =
     c.args.phase c.in-Ok.transition c.in-Ok.ensures.taken c.take_over.ensures.client c.take_over.ensures.cut o.counter
     (subst (λ (s : SessionState). IsSound s.cut) c.self.view_is c.is_sound.ensures)
 
--- it goes on
+-- it continues
 pub send-requires : goal.send-requires
 send-requires g c =
     let w = c.requires.way.2 in
