@@ -1,0 +1,5 @@
+pub mod AsAsked
+pub mod Denials
+pub mod Judged
+pub mod Generations
+pub mod LowNumbers

@@ -1,0 +1,32 @@
+//! Laws that test definitions: what a user would say of them, in other words than theirs.
+//!
+//! What comes in: the definitions that the contracts of the judge and of the store cite. What goes out: laws alone, so
+//! that a wrong definition is refused, with the code that follows it. They are apart from those definitions, and no
+//! crate of the program waits for them.
+//!
+//! Read `writing` first: what each ask writes. Then read `serving` and `judging`. The others are of what is inherited,
+//! of the names of bits, and of openings.
+#![tactic(auto)]
+
+// What asks write, and what they are served.
+mod serving;
+mod writing;
+
+// What is judged, and by what.
+mod judging;
+
+// What is inherited, what bits are called, and what an opening may name.
+mod inheriting;
+mod naming;
+mod opening;
+
+pub use inheriting::inheritance_goes_down;
+pub use judging::{denials_name_what_denies, the_store_judges_as_the_judge_does};
+pub use naming::bits_have_their_names;
+pub use opening::what_is_drawn_is_named_by_no_opening;
+pub use serving::what_is_served_has_its_stamp;
+pub use writing::{
+    a_deletion_is_as_asked, a_move_is_as_asked, additions_are_as_asked, contents_are_as_asked,
+    lists_are_as_asked, members_are_as_asked, owners_are_as_asked, shares_are_as_asked,
+    titles_are_as_asked,
+};
