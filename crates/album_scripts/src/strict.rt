@@ -1,11 +1,9 @@
 //! A replay that ends at the first line that is refused. Its reader gives one line at a time, so the output in between
 //! is that line's; its writer looks for a refusal, and then the reader is at its end.
+use crate::by_line::ByLine;
 use std::cell::Cell;
 use std::io;
 use std::io::{Read, Write};
-
-/// How many bytes a read may give.
-const PIECE: usize = 4096;
 
 /// How the text of a refusal begins, and of no other output.
 const REFUSAL: &[u8] = b"{\"name\":";
@@ -41,12 +39,11 @@ impl Watch {
 #[derive(Drop)]
 pub struct Asked<'a, R> {
     watch: &'a Watch,
-    reader: &'a mut R,
-    piece: [u8; PIECE],
-    given: usize,
-    len: usize,
-    /// Whether the next byte begins a line.
-    is_new: bool,
+    lines: ByLine<'a, R>,
+    /// The number of the line that comes next.
+    next: u64,
+    /// Whether a part of that line was given.
+    is_unfinished: bool,
 }
 
 impl<'a, R: Read> Asked<'a, R> {
@@ -54,47 +51,32 @@ impl<'a, R: Read> Asked<'a, R> {
     pub fn new(watch: &'a Watch, reader: &'a mut R) -> Asked<'a, R> {
         Asked {
             watch,
-            reader,
-            piece: [0; PIECE],
-            given: 0,
-            len: 0,
-            is_new: true,
+            lines: ByLine::new(reader),
+            next: 1,
+            is_unfinished: false,
         }
     }
 }
 
 impl<R: Read> Read for Asked<'_, R> {
     fn read(&mut self, buf: &mut [u8]) -> io::Result<usize> {
-        if self.watch.has_refused.get() {
+        if buf.is_empty() || self.watch.has_refused.get() {
             return Ok(0);
         }
-        if self.given >= self.len {
-            self.len = self.reader.read(&mut self.piece)?;
-            self.given = 0;
+        // (past the last line its number is one more)
+        self.watch.line.set(self.next);
+        let mut len = self.lines.read(buf)?;
+        if len == 0 && self.is_unfinished {
+            // The last line gets its newline, so that it is judged before the end is.
+            buf[0] = b'\n';
+            len = 1;
         }
-        if self.is_new {
-            // (past the last line its number is one more)
-            self.watch.line.set(self.watch.line.get().saturating_add(1));
-            self.is_new = false;
+        let has_ended = buf[..len].ends_with(b"\n");
+        self.is_unfinished = len > 0 && !has_ended;
+        if has_ended {
+            self.next = self.next.saturating_add(1);
         }
-        let rest = part(&self.piece, self.given, self.len);
-        let line = match rest.iter().position(|byte| *byte == b'\n') {
-            Some(at) => part(rest, 0, at.saturating_add(1)),
-            None => rest,
-        };
-        let len = line.len().min(buf.len());
-        buf[..len].copy_from_slice(&line[..len]);
-        self.is_new = len > 0 && line[len - 1] == b'\n';
-        self.given = self.given.saturating_add(len);
         Ok(len)
-    }
-}
-
-/// The bytes from an index to another, as far as there are.
-fn part(text: &[u8], start: usize, end: usize) -> &[u8] {
-    match text.get(start..end) {
-        Some(part) => part,
-        None => &[],
     }
 }
 

@@ -1,26 +1,26 @@
-//! A script whose opening asks for a trace, whatever it says of one: of two equal keys the last counts, so one more is
-//! put after the others.
-ghost use Rattle.std.specs.Prelude.{◌≤◌, length};
-
-use album_lines::{data, member};
-use album_stamps::MAX_LINE;
-use json::{Scratch, Value};
+//! A script whose header asks for a trace, whatever it says of one. The header is spelled anew from its values, so it
+//! is never longer than a line may be. A first line that is no header stays as it is, and so does its refusal.
+use crate::by_line::ByLine;
+use album_lines::{data, field, member, only, whole};
+use album_stamps::{MAX_LINE, Refusal};
+use json::{Scratch, Writer};
 use std::alloc::{AllocError, Global};
 use std::io;
 use std::io::Read;
 
-/// How many bytes a read of the first line may give.
+/// How many bytes of a line a read may give.
 const PIECE: usize = 4096;
 
 /// A reader of a script, with a trace in its first line that isn't blank.
 #[derive(Drop)]
 pub struct Traced<'a, R> {
     alloc: Global,
-    reader: &'a mut R,
-    /// What was read up to the first line's end, with the trace.
+    lines: ByLine<'a, R>,
+    /// The line that is given on: a blank one, or the first other one with a trace.
     front: Vec<u8>,
     /// How much of it was given on.
     given: usize,
+    /// Whether that line isn't blank: what follows it is given on as it is.
     has_begun: bool,
 }
 
@@ -29,25 +29,36 @@ impl<'a, R: Read> Traced<'a, R> {
     pub fn new(alloc: Global, reader: &'a mut R) -> Traced<'a, R> {
         Traced {
             alloc,
-            reader,
+            lines: ByLine::new(reader),
             front: Vec::new(alloc),
             given: 0,
             has_begun: false,
         }
     }
+
+    /// Takes the next line.
+    fn take_line(&mut self) -> io::Result<()> {
+        let line = next_line(self.alloc, &mut self.lines)?;
+        self.has_begun = !line.iter().all(|byte| is_blank(*byte));
+        self.front = if self.has_begun {
+            with_trace(self.alloc, line)?
+        } else {
+            line
+        };
+        self.given = 0;
+        Ok(())
+    }
 }
 
 impl<R: Read> Read for Traced<'_, R> {
     fn read(&mut self, buf: &mut [u8]) -> io::Result<usize> {
-        if !self.has_begun {
-            self.has_begun = true;
-            let text = first_line(self.alloc, self.reader)?;
-            self.front = with_trace(self.alloc, &text)?;
+        if self.given >= self.front.len() {
+            if self.has_begun {
+                return self.lines.read(buf);
+            }
+            self.take_line()?;
         }
         let rest = behind(&self.front, self.given);
-        if rest.is_empty() {
-            return self.reader.read(buf);
-        }
         let len = rest.len().min(buf.len());
         buf[..len].copy_from_slice(&rest[..len]);
         self.given = self.given.saturating_add(len);
@@ -55,25 +66,18 @@ impl<R: Read> Read for Traced<'_, R> {
     }
 }
 
-/// What is read until a line has ended that isn't blank, or to the end. Of a line that is too long no end is wanted.
-fn first_line<R: Read>(alloc: Global, reader: &mut R) -> io::Result<Vec<u8>> {
-    let mut text = Vec::new(alloc);
+/// The next line with its newline, or what the text ends in. Of a line that is too long no end is wanted.
+fn next_line<R: Read>(alloc: Global, lines: &mut ByLine<'_, R>) -> io::Result<Vec<u8>> {
+    let mut line = Vec::new(alloc);
     let mut piece = [0u8; PIECE];
     for _ in 0..u64::MAX {
-        let len = reader.read(&mut piece)?;
-        text.extend_from_slice(&piece[..len])?;
-        if len == 0 || line_end(&text).is_some() || text.len() > 2 * MAX_LINE {
+        let len = lines.read(&mut piece)?;
+        line.extend_from_slice(&piece[..len])?;
+        if len == 0 || line.ends_with(b"\n") || line.len() > MAX_LINE {
             break;
         }
     }
-    Ok(text)
-}
-
-/// Where the first line that isn't blank ends.
-fn line_end(text: &[u8]) -> Option<usize> {
-    let start = text.iter().position(|byte| !is_blank(*byte))?;
-    let len = behind(text, start).iter().position(|byte| *byte == b'\n')?;
-    Some(start.saturating_add(len))
+    Ok(line)
 }
 
 fn is_blank(byte: u8) -> bool {
@@ -88,50 +92,47 @@ fn behind(text: &[u8], at: usize) -> &[u8] {
     }
 }
 
-/// The text with a trace in its first line, if that is an opening's.
-fn with_trace(alloc: Global, text: &[u8]) -> Result<Vec<u8>, AllocError> {
-    let end = line_end(text).unwrap_or(text.len());
-    let line = before(text, end);
-    let mut traced = Vec::new(alloc);
-    match brace(line) {
-        Some(at) if is_opening(alloc, line) => {
-            let comma: &[u8] = if is_first(line, at) { b"" } else { b"," };
-            traced.extend_from_slice(before(text, at))?;
-            traced.extend_from_slice(comma)?;
-            traced.extend_from_slice(b"\"trace\":true")?;
-            traced.extend_from_slice(behind(text, at))?;
-        }
-        _ => traced.extend_from_slice(text)?,
-    }
-    Ok(traced)
-}
-
-fn before(text: &[u8], at: usize) -> &[u8] {
-    match text.get(..at) {
-        Some(front) => front,
-        None => text,
+/// The line with a trace, if it is a header. Any other is the same.
+fn with_trace(alloc: Global, line: Vec<u8>) -> Result<Vec<u8>, AllocError> {
+    match traced_header(alloc, &line) {
+        Ok(header) => Ok(header),
+        Err(Refusal::OutOfMemory) => Err(AllocError),
+        Err(_) => Ok(line),
     }
 }
 
-fn is_opening(alloc: Global, line: &[u8]) -> bool {
+/// The header that a line says, with a trace. It has the keys of `open` in docs/FORMATS.md, each at most once, and no
+/// blanks, so it is short.
+///
+/// # Errors
+///
+/// `BadLine` or `BadRequest`, where the line is no header: whoever reads it refuses it too. `OutOfMemory`.
+fn traced_header(alloc: Global, line: &[u8]) -> Result<Vec<u8>, Refusal> {
+    let text = line.strip_suffix(b"\n").unwrap_or(line);
+    if text.len() > MAX_LINE {
+        return Err(Refusal::BadLine);
+    }
     let mut scratch = Scratch::new(alloc);
-    match data(alloc, &mut scratch, line) {
-        Ok(value) => matches!(member(&value, "open"), Some(Value::Object(_))),
-        Err(_) => false,
+    let value = data(alloc, &mut scratch, text)?;
+    only(&value, &["open"])?;
+    let open = field(&value, "open")?;
+    only(open, &["limit", "parts", "policy", "trace"])?;
+
+    let mut writer = Writer::new(Vec::new(alloc));
+    writer.begin_object()?;
+    writer.key("open")?;
+    writer.begin_object()?;
+    for name in ["limit", "parts", "policy"] {
+        if let Some(number) = member(open, name) {
+            writer.key(name)?;
+            writer.u64(whole(number)?)?;
+        }
     }
-}
-
-/// The index of the line's last brace but one: that of the object that it opens with.
-fn brace(line: &[u8]) -> Option<usize> {
-    let outer = line.iter().rposition(|byte| *byte == b'}')?;
-    before(line, outer).iter().rposition(|byte| *byte == b'}')
-}
-
-/// Whether there is nothing between a brace and the one before.
-fn is_first(line: &[u8], brace: usize) -> bool {
-    let front = before(line, brace);
-    matches!(
-        front.iter().rev().find(|byte| !is_blank(**byte)),
-        Some(b'{')
-    )
+    writer.key("trace")?;
+    writer.boolean(true)?;
+    writer.end_object()?;
+    writer.end_object()?;
+    let mut header = writer.into_inner();
+    header.push(b'\n')?;
+    Ok(header)
 }
