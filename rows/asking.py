@@ -63,6 +63,55 @@ def spelled_answers(program):
         service.end(NOTHING_NOTED, [b""])
 
 
+def spelled_bits_and_contents(program):
+    """Each flag has its name, with commas between. A content that isn't UTF-8 stays hexadecimal, and one of no byte is
+    an empty text."""
+    flags = {1: "FILE_INHERIT", 2: "DIRECTORY_INHERIT", 4: "NO_PROPAGATE_INHERIT", 9: "FILE_INHERIT,INHERIT_ONLY",
+             16: "SUCCESSFUL_ACCESS", 32: "FAILED_ACCESS", 64: "IDENTIFIER_GROUP"}
+    given = [["allow", "OWNER@", 393216, 3]]
+    told = [["allow", "OWNER@", "READ_ACL,WRITE_ACL", "FILE_INHERIT,DIRECTORY_INHERIT"]]
+    for number, name in flags.items():
+        who = "7@groups" if number == 64 else "bo@users"
+        given.append(["deny", who, 65600, number])
+        told.append(["deny", who, "DELETE_CHILD,DELETE", name])
+    first, second = 65537, 131073  # counters 1 and 2 of client 1
+    read = {"answer": "served", "client": 1, "object": "picture/0", "stamp": first, "text": "", "title": "Sea"}
+    with Service(program, OPENING.replace(b"736561", b"ff"), 1) as service:
+        requests = [
+            (READ, {**SERVED, "content": "ff"}),
+            ({"content": "", "do": "replace", "object": "picture/0"},
+             {"answer": "committed", "client": 1, "stamp": first}),
+            (READ, read),
+            ({"do": "set_lists", "lists": [["album/0", given]]},
+             {"answer": "committed", "client": 1, "stamp": second}),
+            ({"do": "get_list", "object": "album/0"},
+             {"answer": "served", "client": 1, "entries": told, "object": "album/0", "stamp": second})]
+        text, wanted = (b"".join(compact(row[n]) for row in requests) for n in (0, 1))
+        want((0, wanted, b""), asked(program, service.port, ["--as", "amy@users", "--text"], text), "the run")
+        service.end(NOTHING_NOTED, [b""])
+
+
+def spelled_new_objects(program):
+    """The commit of a new picture or album names it, whichever way the ask was sent; another commit, and a denial, name
+    nothing."""
+    adds = [{**NEW, "content": ""}, {"album": "album/0", "do": "add_album", "title": "Inner"}]
+    adds += [{"ask": add} for add in adds]
+    retitle = {"do": "retitle", "object": "picture/0", "title": "Cape"}
+    with Service(program, OPENING, 2) as service:
+        text = b"".join(compact(line) for line in (*adds, retitle, {"ask": retitle}))
+        made = (("picture", 65537), ("album", 131073), ("picture", 196609), ("album", 262145))
+        wanted = b"".join(compact({"answer": "committed", "client": 1, "object": f"{kind}/{stamp}", "stamp": stamp})
+                          for kind, stamp in made)
+        wanted += b"".join(compact({"answer": "committed", "client": 1, "stamp": stamp}) for stamp in (327681, 393217))
+        want((0, wanted, b""), asked(program, service.port, ["--as", "amy@users", "--text"], text), "the run of amy")
+
+        text = compact({"ask": {"do": "retitle", "object": "album/0", "title": ""}}) + compact({"ask": {"do": "sing"}})
+        wanted = compact({"answer": "denied", "client": 2, "reasons": [["album/0", "WRITE_ATTRIBUTES", "end"]]})
+        wanted += compact({"name": "BadRequest", "refused": 3})
+        want((0, wanted, b""), asked(program, service.port, ["--as", "bo@users", "--text"], text), "the run of bo")
+        service.end(NOTHING_NOTED, [b""])
+
+
 def nobody_is_there(program):
     """No service, and a who that is none: each says so, with status 1."""
     status, out, err = asked(program, free_port(), ["--as", "bo@users"], compact(READ))
@@ -101,6 +150,8 @@ def on_a_terminal(program):
 FACTS = {
     "requests and lines": requests_and_lines,
     "answers spelled out": spelled_answers,
+    "bits and contents spelled out": spelled_bits_and_contents,
+    "new objects spelled out": spelled_new_objects,
     "nobody is there": nobody_is_there,
     "on a terminal": on_a_terminal,
 }

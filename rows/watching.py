@@ -6,12 +6,16 @@ import tempfile
 import time
 
 from options import READ, opening, talker
-from serving import SECONDS, Service, free_port, want, wrong_of
+from serving import SECONDS, Service, free_port, joined, want, wrong_of
 
 # Reads are audited, and those of eve's, which are denied, raise an alarm too.
 AUDITED = opening([["deny", "eve@users", 1, 0], ["allow", "EVERYONE@", 257, 0], ["audit", "EVERYONE@", 1, 48],
                    ["alarm", "eve@users", 1, 32]])
 OWNED = [["allow", "OWNER@", 2032127, 0]]
+# A read is audited once where it is granted, and raises three alarms; where it is denied it is two and four.
+COUNTED = [["deny", "eve@users", 1, 0], ["allow", "EVERYONE@", 1, 0], ["audit", "EVERYONE@", 1, 16],
+           *[["alarm", "EVERYONE@", 1, 16]] * 3, *[["audit", "EVERYONE@", 1, 32]] * 2,
+           *[["alarm", "EVERYONE@", 1, 32]] * 4]
 
 
 def note(client, who, entry, success, alarm=False):
@@ -125,6 +129,67 @@ def warnings(program, _folder):
         amy.finish()
 
 
+def opening_of_two(entries, limit):
+    """Two partitions: amy's picture and its list are at 0, her album and its list at 1."""
+    return joined([
+        json.dumps({"open": {"limit": limit, "parts": 2}}),
+        '{"item":"picture/0","value":{"content":"","group":0,"home":0,"list":0,"owner":"amy@users","title":"Sea"}}',
+        '{"item":"album/0","value":{"children":[],"group":0,"home":null,"list":1,"owner":"amy@users","title":"Trip"}}',
+        json.dumps({"item": "list/0", "value": {"entries": OWNED + entries}}),
+        json.dumps({"item": "list/1", "value": {"entries": OWNED}}),
+        '{"begin":true}',
+    ])
+
+
+def retitles(connection, item, count):
+    """Each makes two marks at the item's partition, and a version."""
+    for turn in range(count):
+        asked = {"ask": {"do": "retitle", "object": item, "title": str(turn)}}
+        want("committed", connection.ask(asked)["answer"], "a retitle")
+
+
+def leaves_one_pending(connection):
+    """Both lists are to be written, and partition 0 has no room: at partition 1 the stamp is prepared, and stays so."""
+    lists = [["picture/0", OWNED], ["album/0", OWNED]]
+    answer = connection.ask({"ask": {"do": "set_lists", "lists": lists}})
+    want(("unsettled", "Full"), (answer["answer"], answer.get("name")), "a write that finds no room")
+
+
+def each_figure(program, _folder):
+    """Each figure has a number of its own, also of what is open or pending still. Limits below a hundred aren't warned
+    of."""
+    with Service(program, opening_of_two(COUNTED, 4), 9, "--stats", "1") as service:
+        amy, bo, eve, dan = (talker(service, f"{name}@users") for name in ("amy", "bo", "eve", "dan"))
+        want("served", bo.ask(READ)["answer"], "what bo is answered")
+        want("denied", eve.ask(READ)["answer"], "what eve is answered")
+        dan.finish()
+        retitles(amy, "picture/0", 2)
+        leaves_one_pending(amy)
+        lines = said_by(service, '{"alarms":[3,4],"audits":[1,2],"connections":[3,4,9],"marks":[[4,4],[1,4]],'
+                                 '"pending":[0,1],"versions":[2,1]}')
+        want([], [line for line in lines if line.startswith("album")], "the warnings")
+        for connection in (amy, bo, eve):
+            connection.finish()
+
+
+def warnings_without_figures(program, _folder):
+    """It warns within ten seconds, of connections and of marks. Those that pending stamps will take count too: at
+    partition 1 retitles have made 88, one more is Prepared, and one will say how that is decided."""
+    with Service(program, opening_of_two([], 100), 100) as service:
+        amy = talker(service, "amy@users")
+        retitles(amy, "album/0", 44)
+        retitles(amy, "picture/0", 50)
+        leaves_one_pending(amy)
+        for _ in range(89):
+            talker(service, "bo@users").finish()
+        said_by(service, "album: partition 1: 90 of 100 marks")
+        lines = said_by(service, "album: 90 of 100 connections")
+        others = [line for line in lines if line[:19] != "album: partition 0:"]
+        want(["album: partition 1: 90 of 100 marks", "album: 90 of 100 connections"], others, "the other warnings")
+        want(3, len(lines), "how many warnings there are")
+        amy.finish()
+
+
 FACTS = {
     "notes in a file": notes_in_a_file,
     "notes of many connections": notes_of_many,
@@ -132,6 +197,8 @@ FACTS = {
     "an audit file that can't be had": an_audit_file_that_cannot_be_had,
     "figures each second": figures,
     "a warning before the marks are spent": warnings,
+    "each figure by itself": each_figure,
+    "warnings without figures": warnings_without_figures,
 }
 
 
