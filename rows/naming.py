@@ -16,7 +16,7 @@ FLAGS = {
     "SUCCESSFUL_ACCESS": 0x10, "FAILED_ACCESS": 0x20, "IDENTIFIER_GROUP": 0x40}
 
 
-def told(program, *words):
+def printed(program, *words):
     """What a run prints, which ends well and says nothing."""
     done = subprocess.run([program, *words], stdin=subprocess.DEVNULL, capture_output=True, timeout=SECONDS)
     want((0, b""), (done.returncode, done.stderr), f"the end of {words}")
@@ -24,13 +24,13 @@ def told(program, *words):
 
 
 def names_and_numbers(program, subcommand, table):
-    """Of two names of one bit the first is told."""
+    """Of two names of one bit the first is printed."""
     names = {}
     for name, number in table.items():
         names.setdefault(number, name)
-        want({subcommand: number}, told(program, subcommand, name), f"what is told of {name}")
+        want({subcommand: number}, printed(program, subcommand, name), f"what is printed for {name}")
     for number, name in names.items():
-        want({subcommand: number, "names": [name]}, told(program, subcommand, str(number)), f"what is told of {number}")
+        want({subcommand: number, "names": [name]}, printed(program, subcommand, str(number)), f"what is printed for {number}")
 
 
 def held(program, row):

@@ -112,7 +112,7 @@ def explained_files(program, folder):
         done = subprocess.run([program, "explain", kind, *(os.path.join(folder, name) for name in names)],
                               stdin=subprocess.DEVNULL, capture_output=True, timeout=SECONDS)
         want((status, joined(line for name in names for line in wanted[name]), b""),
-             (done.returncode, done.stdout, done.stderr), f"what is told of {kind} {names}")
+             (done.returncode, done.stdout, done.stderr), f"what is explained of {kind} {names}")
 
 
 def replayed(program, *words, text=b""):
@@ -133,8 +133,8 @@ def but_messages(lines):
     return [line for line in lines if not line.startswith(b'{"from":')]
 
 
-def traces_behind_any_opening(program, _folder):
-    """With --trace a message is printed behind blank lines of any number, and a header of each length that a line may
+def traces_after_any_opening(program, _folder):
+    """With --trace a message is printed after blank lines of any number, and a header of each length that a line may
     have. One byte more is refused."""
     header = b'{"open":{"parts":1}}'
     repeated = b'{"open":{' + b'"parts":1,' * 6_551 + b'"parts":1}}'  # 65,530 bytes
@@ -145,11 +145,11 @@ def traces_behind_any_opening(program, _folder):
             ("a blank line too long", b" " * (MAX_LINE + 1) + b"\n" + header, BAD_LINE),
             ("blanks before a header", header.rjust(MAX_LINE), MESSAGE),
             ("a blank too many before a header", header.rjust(MAX_LINE + 1), BAD_LINE),
-            ("blanks behind a header", header.ljust(MAX_LINE), MESSAGE),
-            ("a blank too many behind a header", header.ljust(MAX_LINE + 1), BAD_LINE),
+            ("blanks after a header", header.ljust(MAX_LINE), MESSAGE),
+            ("a blank too many after a header", header.ljust(MAX_LINE + 1), BAD_LINE),
             ("a key that is repeated", repeated.ljust(MAX_LINE), MESSAGE),
             ("a key that is repeated too often", repeated.ljust(MAX_LINE + 1), BAD_LINE)):
-        want((0, [wanted]), replayed(program, "--trace", text=opened + rest), f"what is printed behind {name}")
+        want((0, [wanted]), replayed(program, "--trace", text=opened + rest), f"what is printed after {name}")
 
 
 def only_admins(program, _folder):
@@ -185,7 +185,7 @@ FACTS = {
     "lines in files": lines_in_files,
     "explanations of several files": explained_files,
     "traces of any script": traces_of_any_script,
-    "traces behind any opening": traces_behind_any_opening,
+    "traces after any opening": traces_after_any_opening,
     "admins alone sweep, trim and ask what is pending": only_admins,
     "admins on the command line": admins_on_the_command_line,
 }
