@@ -4,16 +4,17 @@
 //! that a wrong definition is refused, with the code that follows it. They are apart from those definitions, and no
 //! crate of the program waits for them.
 //!
-//! Read `writing` first: what each ask writes. Then read `serving` and `judging`. The others are of what is inherited,
-//! of the names of bits, and of openings.
+//! Read `writing` first: what each ask writes. Then read `serving`, `judging` and `needing`. The others are of what is
+//! inherited, of the names of bits, and of openings.
 #![tactic(auto)]
 
 // What asks write, and what they are served.
 mod serving;
 mod writing;
 
-// What is judged, and by what.
+// What is judged, and by what, and which right an ask needs.
 mod judging;
+mod needing;
 
 // What is inherited, what bits are called, and what an opening may name.
 mod inheriting;
@@ -23,6 +24,9 @@ mod opening;
 pub use inheriting::inheritance_goes_down;
 pub use judging::{denials_name_what_denies, the_store_judges_as_the_judge_does};
 pub use naming::bits_have_their_names;
+pub use needing::{
+    a_deletion_needs_one_of_two_rights, a_share_needs_each_right, an_ask_needs_its_right,
+};
 pub use opening::what_is_drawn_is_named_by_no_opening;
 pub use serving::what_is_served_has_its_stamp;
 pub use writing::{
