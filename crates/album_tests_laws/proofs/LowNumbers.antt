@@ -18,7 +18,7 @@ use Rattle.album_items.specs.declared.values.Value.{Value}
 use Rattle.album_items.specs.declared.values.Value.TheVariants as value
 
 -- what all of a list pass, each of them passes
-one-passes : {X : Type 0} (p : X → Bool) (xs : List X) (x : X) → list_all p xs ≡ true → Contains xs x → p x ≡ true
+pub one-passes : {X : Type 0} (p : X → Bool) (xs : List X) (x : X) → list_all p xs ≡ true → Contains xs x → p x ≡ true
 one-passes p [] x h c = absurd (omega (arith, c.1))
 one-passes {X} p (y ∷ xs) x h c = go c.0 c.1 c.2 (λ d. one-passes p xs x (and_parts (p y) (list_all p xs) h).1 d)
   where

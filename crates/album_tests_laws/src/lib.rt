@@ -4,11 +4,13 @@
 //! that a wrong definition is refused, with the code that follows it. They are apart from those definitions, and no
 //! crate of the program waits for them.
 //!
-//! Read `writing` first: what each ask writes. Then read `serving`, `judging` and `needing`. The others are of what is
-//! inherited, of the names of bits, and of openings.
+//! Read `writing` first: what each ask writes. Then read `serving`, `judging` and `needing`. `checking` and `filling` are
+//! of limits, and the others of what is inherited, of the names of bits, and of openings.
 #![tactic(auto)]
 
-// What asks write, and what they are served.
+// What asks pass, what they write, and what they are served.
+mod checking;
+mod filling;
 mod serving;
 mod writing;
 
@@ -21,6 +23,8 @@ mod inheriting;
 mod naming;
 mod opening;
 
+pub use checking::what_passes_fits;
+pub use filling::albums_keep_to_their_limit;
 pub use inheriting::inheritance_goes_down;
 pub use judging::{denials_name_what_denies, the_store_judges_as_the_judge_does};
 pub use naming::bits_have_their_names;
