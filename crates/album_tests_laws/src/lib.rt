@@ -4,8 +4,8 @@
 //! that a wrong definition is refused, with the code that follows it. They are apart from those definitions, and no
 //! crate of the program waits for them.
 //!
-//! Read `writing` first: what each ask writes. Then read `serving`, `judging` and `needing`. `checking` and `filling` are
-//! of limits, and the others of what is inherited, of the names of bits, and of openings.
+//! Read `writing` first: what each ask writes. Then read `serving`, `judging` and `needing`. `checking` and `filling`
+//! are of limits, and the others of what is inherited, of the names of bits, and of openings.
 #![tactic(auto)]
 
 // What asks pass, what they write, and what they are served.
