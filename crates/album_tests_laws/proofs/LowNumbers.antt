@@ -1,7 +1,8 @@
 -- The numbers that an opening names are below each stamp that is drawn, for the law of `opening`.
-use Rattle.std.proofs.Common.{◌≡◌, ◌<◌, ◌≤◌, ◌+◌, ◌*◌, ℕ, zero, suc, List, [], ◌∷◌, Bool, true, false, ◌&&◌, Contains, Result, Ok, Err, Option, Some, None, length, refl, ap, subst, arith, cond, nat_lt}
-use Rattle.std.specs.List.{list_all, slice_index_or}
+use Rattle.std.proofs.Common.{◌≡◌, ◌<◌, ◌≤◌, ◌+◌, ◌*◌, ℕ, List, [], ◌∷◌, Bool, true, false, ◌&&◌, Contains, Result, Ok, Err, Option, Some, None, refl, ap, subst, arith, cond, nat_lt}
+use Rattle.std.specs.List.{list_all}
 use Rattle.std.specs.Option.{option_map_or}
+use Rattle.std.proofs.lemmas.List.Sums.{AllPass-from_list_all}
 use Rattle.std.proofs.lemmas.Bool.{and_parts, leb-true}
 use Rattle.album_stamps.specs.Clocks.{ClockState, next_of}
 use Rattle.album_stamps.specs.Stamps.{stamp_number}
@@ -19,12 +20,7 @@ use Rattle.album_items.specs.declared.values.Value.TheVariants as value
 
 -- what all of a list pass, each of them passes
 pub one-passes : {X : Type 0} (p : X → Bool) (xs : List X) (x : X) → list_all p xs ≡ true → Contains xs x → p x ≡ true
-one-passes p [] x h c = absurd (omega (arith, c.1))
-one-passes {X} p (y ∷ xs) x h c = go c.0 c.1 c.2 (λ d. one-passes p xs x (and_parts (p y) (list_all p xs) h).1 d)
-  where
-    go : (k : ℕ) → k < suc (length xs) → slice_index_or (y ∷ xs) k x ≡ x → (Contains xs x → p x ≡ true) → p x ≡ true
-    go zero below same rest = subst (λ (z : X). p z ≡ true) same (and_parts (p y) (list_all p xs) h).0
-    go (suc k) below same rest = rest (k, omega (arith, below), same)
+one-passes {X} p xs x h c = subst (λ (z : X). p z ≡ true) c.2 (AllPass-from_list_all p xs h c.0 x c.1)
 
 -- a stamp that is drawn is 65,536 or more
 abbrev ok-or : Result ℕ Refusal → ℕ → ℕ

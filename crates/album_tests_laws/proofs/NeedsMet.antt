@@ -1,7 +1,8 @@
 -- Where each need is met, for the laws of `needing`.
-use Rattle.std.proofs.Common.{◌≡◌, ◌↔◌, ◌++◌, ◌&&◌, ◌||◌, ℕ, List, [], ◌∷◌, Bool, true, false, Option, Some, None, IsTrue, map, refl, sym, ap, ◌∙◌, not, is_none}
+use Rattle.std.proofs.Common.{◌≡◌, ◌↔◌, ◌&&◌, ◌||◌, ℕ, List, [], ◌∷◌, Bool, true, false, Option, Some, None, IsTrue, map, refl, sym, ap, ◌∙◌, not, is_none}
 use Rattle.std.specs.List.{list_all}
 use Rattle.std.specs.Option.{option_map, option_map_or}
+use Rattle.std.proofs.Math.Bool.{and-true, or-false}
 use Rattle.std.proofs.lemmas.List.Folds.{list_all-append}
 use Rattle.album_access.specs.declared.masks.Mask.{Mask}
 use Rattle.album_items.specs.ItemIds.{album}
@@ -16,13 +17,12 @@ use Rattle.album_views.specs.declared.asks.NewList.{NewList}
 use Rattle.album_views.specs.declared.asks.NewMembership.{NewMembership}
 use Rattle.album_listing.specs.Basis.{Basis}
 use Rattle.album_listing.specs.Masks.{WRITE_DATA, ADD_FILE, DELETE_CHILD, DELETE, WRITE_ACL}
-use Rattle.album_listing.specs.Reasons.{on, verdict_on, with_verdict, reason_of, is_grant, is_granted_on}
-use Rattle.album_listing.specs.declared.reasons.Alternative.{Alternative}
+use Rattle.album_listing.specs.Reasons.{on, verdict_on, with_verdict, is_grant, is_granted_on}
 use Rattle.album_listing.specs.declared.reasons.Reason.{Reason}
 use Rattle.album_permits.proofs.Meeting.{granted-met}
 use Rattle.album_permits.specs.Findings.{is_missing, ruling_of}
 use Rattle.album_permits.specs.Meaning.{is_need_met, has_needs_met}
-use Rattle.album_permits.specs.Needs.{just, deletion, needs_of}
+use Rattle.album_permits.specs.Needs.{just, deletion}
 use Rattle.album_permits.specs.declared.findings.Finding.TheVariants.{Granted}
 
 -- where all needs are met is where this is true
@@ -32,14 +32,6 @@ pub granted-where :
 granted-where basis a right same =
     let met = granted-met basis a in
     (λ e. sym same ∙ met.0 e, λ e. met.1 (same ∙ e))
-
-pub and-true : (b : Bool) → (b && true) ≡ b
-and-true true = refl
-and-true false = refl
-
-or-false : (b : Bool) → (b || false) ≡ b
-or-false true = refl
-or-false false = refl
 
 -- one right to one object
 pub one-met : (basis : Basis) (object : ℕ) (mask : Mask) → is_need_met basis (just object mask) ≡ is_granted_on basis object mask

@@ -1,5 +1,5 @@
 -- What passes the check of an ask, test by test, for the law of `checking`.
-use Rattle.std.proofs.Common.{◌≡◌, ◌≢◌, ◌≤◌, ◌==◌, ℕ, List, Bool, true, false, not, Contains, Option, Some, None, cond, length, nat_lt, refl, sym, ap, subst, ◌∙◌, if◌then◌else◌, ◌&&◌}
+use Rattle.std.proofs.Common.{◌≡◌, ◌≢◌, ◌≤◌, List, Bool, true, false, not, Contains, Some, None, cond, length, nat_lt, refl, ap, subst, ◌&&◌}
 use Rattle.std.specs.Int.RustNames.{bit_and}
 use Rattle.std.specs.List.{list_all}
 use Rattle.std.proofs.lemmas.Bool.{leb-true, eqb-true, ne_eqb}

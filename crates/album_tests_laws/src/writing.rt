@@ -20,7 +20,7 @@ ghost use Rattle.album_views.specs.declared.asks.NewList.{NewList};
 ghost use Rattle.album_views.specs.declared.asks.NewMembership.{NewMembership};
 ghost use Rattle.album_permits.specs.Effects.{effect_of};
 ghost use Rattle.album_permits.specs.Permits.{PermitState};
-ghost use Rattle.album_tests_laws.specs.Asked.{IsListAsked, IsMembershipAsked};
+ghost use Rattle.album_tests_laws.specs.Asked.{handed_over, IsListAsked, IsMembershipAsked};
 
 /// A law: what is retitled has the title that is asked, and is otherwise as it was. Nothing else is written.
 pub fn titles_are_as_asked()
@@ -159,35 +159,17 @@ pub fn owners_are_as_asked()
         → permit.view.ask ≡ ask.SetOwner object owner number
         → seen permit.view.rows object ≡ value.Picture was
         → effect_of permit stamp
-        ≡ (
-          object,
-          value.Picture (record was {
-            head = record { owner = owner; group = number; list = was.head.list };
-          }),
-        )
-        ∷ [] }
+        ≡ (object, value.Picture (record was { head = handed_over owner number was.head })) ∷ [] }
     ensures album { (permit : PermitState) (stamp object number : ℕ) (owner : List ℕ) (was : Album)
         → permit.view.ask ≡ ask.SetOwner object owner number
         → seen permit.view.rows object ≡ value.Album was
         → effect_of permit stamp
-        ≡ (
-          object,
-          value.Album (record was {
-            head = record { owner = owner; group = number; list = was.head.list };
-          }),
-        )
-        ∷ [] }
+        ≡ (object, value.Album (record was { head = handed_over owner number was.head })) ∷ [] }
     ensures group { (permit : PermitState) (stamp object number : ℕ) (owner : List ℕ) (was : Group)
         → permit.view.ask ≡ ask.SetOwner object owner number
         → seen permit.view.rows object ≡ value.Group was
         → effect_of permit stamp
-        ≡ (
-          object,
-          value.Group (record was {
-            head = record { owner = owner; group = number; list = was.head.list };
-          }),
-        )
-        ∷ [] }
+        ≡ (object, value.Group (record was { head = handed_over owner number was.head })) ∷ [] }
 {}
 
 /// A law: a group whose members are set has the members that are asked, and is otherwise as it was.
