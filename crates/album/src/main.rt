@@ -6,8 +6,8 @@
 mod serving;
 
 use crate::serving::serve;
-use album_commands::{parse, refuse, refuse_words, run, status};
-use album_server::Fault;
+use album_commands::{let_go, parse, refuse, refuse_words, run, status};
+use album_judge::Fault;
 use std::env;
 use std::io::IsTerminal;
 use std::process::ExitCode;
@@ -25,16 +25,19 @@ fn main(rt: HostRuntime) -> ExitCode {
         Err(error) => return refuse(&rt, &error),
     };
     let (mut input, mut output) = (rt.stdin(), rt.stdout());
-    if matches.subcommand_name() == Some("serve") {
-        return serve(rt, rt.alloc(), input, &mut output, &matches);
-    }
-    let has_prompt = input.is_terminal() && output.is_terminal();
-    run(
-        &rt,
-        rt.alloc(),
-        &mut input,
-        &mut output,
-        &matches,
-        has_prompt,
-    )
+    let status = if matches.subcommand_name() == Some("serve") {
+        serve(rt, rt.alloc(), input, &mut output, &matches)
+    } else {
+        let has_prompt = input.is_terminal() && output.is_terminal();
+        run(
+            &rt,
+            rt.alloc(),
+            &mut input,
+            &mut output,
+            &matches,
+            has_prompt,
+        )
+    };
+    let_go(matches);
+    status
 }

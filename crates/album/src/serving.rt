@@ -1,9 +1,10 @@
 //! The subcommand `serve`: a service of the port that the command line names.
 
 use album_commands::{TURNS, open, status};
-use album_server::{
-    Admins, AuditFile, Fault, Host, Refusal, Served, Serving, serve_beside, serve_for, serve_until,
-};
+use album_judge::Fault;
+use album_port::{AuditFile, Host, Served, Serving, serve_beside, serve_until};
+use album_stamps::Refusal;
+use album_talk::Admins;
 use clap::ArgMatches;
 use std::alloc::Global;
 use std::fs::{File, OpenOptions};
@@ -66,15 +67,14 @@ fn serve_port<T: Host + Files, R: Read + Send + Drop, W: Write>(
         None => serve_input(rt, alloc, reader, writer, serving, audit, until_eof),
         Some(path) => {
             let mut opening = open(&rt, path)?;
-            if until_eof {
-                return serve_beside(rt, alloc, &mut opening, reader, writer, serving, audit);
-            }
-            serve_for(rt, alloc, &mut opening, writer, serving, audit)
+            let input = until_eof.then_some(reader);
+            serve_beside(rt, alloc, &mut opening, input, writer, serving, audit)
         }
     }
 }
 
-/// The same, where the input has the opening.
+/// The same, where the input has the opening. It calls `serve_beside` with no other input, and not `serve_for`: a call
+/// with the same types as above isn't proved once more.
 fn serve_input<T: Host, R: Read + Send + Drop, W: Write>(
     rt: T,
     alloc: Global,
@@ -87,7 +87,7 @@ fn serve_input<T: Host, R: Read + Send + Drop, W: Write>(
     if until_eof {
         return serve_until(rt, alloc, reader, writer, serving, audit);
     }
-    serve_for(rt, alloc, &mut reader, writer, serving, audit)
+    serve_beside(rt, alloc, &mut reader, None::<R>, writer, serving, audit)
 }
 
 /// What the command line says of the service.

@@ -361,13 +361,7 @@ impl<J: DeskNames> PartitionChannel<J> {
         ensures later { IsLater self.old self.new }
     {
         let tag = self.next_tag()?;
-        let pass = self.split();
-        let request = ControlRequest::new(self.client, tag, *control, pass);
-        self.send(
-            rt,
-            part,
-            PartitionMail::ControlRequest(Box::new(self.alloc, request)?),
-        )?;
+        self.send_control(rt, part, tag, control)?;
         for _ in rt.forever() {
             if let Some(answer) = self.hear_control_reply(rt, part, tag, control)? {
                 return Ok(answer);
@@ -375,6 +369,23 @@ impl<J: DeskNames> PartitionChannel<J> {
         }
         // `forever` has no end.
         unreachable!()
+    }
+
+    /// Sends the control request to the partition under the tag.
+    fn send_control<R: Wait>(
+        &mut self,
+        rt: &R,
+        part: u16,
+        tag: u64,
+        control: &Control,
+    ) -> Result<(), Refusal>
+        ensures refused { IfErr result IsClosedOrOutOfMemory }
+        ensures same { self.new ≡ self.old }
+    {
+        let pass = self.split();
+        let request = ControlRequest::new(self.client, tag, *control, pass);
+        let request = Box::new(self.alloc, request)?;
+        self.send(rt, part, PartitionMail::ControlRequest(request))
     }
 
     /// Takes the session's next mail, and gives the answer, where it is one to this request.

@@ -12,6 +12,7 @@ use crate::reads::begins_read;
 use crate::sightings::sighting_of;
 use album_calls::{Body, Message, Request};
 use album_keepers::{DeskNames, PartitionMail, ReplyEnvelope, RequestEnvelope};
+use album_passes::Pass;
 use album_stamps::Refusal;
 use std::sync::Wait;
 use std::time;
@@ -213,24 +214,36 @@ impl<J: DeskNames> PartitionChannel<J> {
         let (overtaken, below) = (envelope.is_overtaken(), envelope.settled_below());
         let (request, reply, pass) = envelope.open();
         let Some(found) = asked.find(&request, self.found) else {
+            let_go(request, reply, pass);
             return Ok(None);
         };
         if !asked.is_before(&reply, &pass) {
+            let_go(request, reply, pass);
             return Ok(None);
         }
         self.found = found;
         if overtaken {
             if !self.is_new_enough(asked, found, &reply) {
+                let_go(request, reply, pass);
                 return ends_read(reads);
             }
+            drop(request);
             self.join(pass);
             return Ok(Some(reply));
         }
         let sighting = sighting_of::<J>(&request, &reply, below, &pass);
+        drop(request);
         self.join(pass);
         self.keep(found, sighting);
         Ok(Some(reply))
     }
+}
+
+/// An envelope that doesn't count is let go. The prover looks at its parts once here, and not at each way out.
+fn let_go(request: Message, reply: Message, pass: Pass) {
+    drop(request);
+    drop(reply);
+    drop(pass);
 }
 
 /// What an overtaken reply leads to: only a read asks for versions.

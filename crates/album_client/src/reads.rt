@@ -1,9 +1,10 @@
 //! What a client does in a read.
 ghost use Rattle.std.specs.Prelude.{◌≡◌, ◌+◌, ◌<◌, ◌^◌, None, IfOk, IsOkUnless};
 ghost use Rattle.album_reader.specs.Rounds.{stepped};
+ghost use Rattle.album_reader.specs.Steps.{step_of};
 ghost use Rattle.album_views.specs.Asks.{objects_of};
 ghost use Rattle.album_views.specs.Checks.{refusal_of};
-ghost use Rattle.album_views.specs.Steps.{AreReadable, AsksReadable};
+ghost use Rattle.album_views.specs.Steps.{AreReadable, AsksReadable, stepped as viewed};
 ghost use Rattle.album_client.specs.Transitions.{client_of, IsMoved, IsTakenOf};
 ghost use Rattle.album_client.specs.Steps.{read_begins, read_transition, transition_of, views_by};
 
@@ -14,8 +15,8 @@ use album_calls::Message;
 use album_eval::Principal;
 use album_items::Items;
 use album_permits::Answer;
-use album_reader::{Reading, Step};
-use album_stamps::Refusal;
+use album_reader::{Reading, Snapshot, Step};
+use album_stamps::{Refusal, Refused};
 use album_views::{Ask, ViewStep, Viewing};
 
 impl ClientStep {
@@ -69,8 +70,14 @@ impl ClientStep {
         ensures memory { IsOkUnless result Refusal.OutOfMemory }
     {
         let parts = self.terms.parts();
-        let (reading, gets) = Reading::start(self.alloc, items, self.number, tag + 1, parts)?;
-        Ok(self.with(Phase::Reads(pending_ask, reading), gets, None))
+        match Reading::start(self.alloc, items, self.number, tag + 1, parts) {
+            Ok((reading, gets)) => Ok(self.with(Phase::Reads(pending_ask, reading), gets, None)),
+            Err(Refused { refusal, given }) => {
+                drop(pending_ask);
+                drop(given);
+                Err(refusal)
+            }
+        }
     }
 
     /// Takes a message to a client in this phase. Where memory runs out the phase is lost. So a caller that continues
@@ -103,8 +110,7 @@ impl ClientStep {
         ensures memory { IsOkUnless result Refusal.OutOfMemory }
     {
         let tag = reading.tag();
-        check_tag(tag)?;
-        match reading.on_reply(message)? {
+        match replied(reading, message)? {
             Step::Same(reading) => {
                 Ok(self.with(
                     Phase::Reads(pending_ask, reading),
@@ -117,16 +123,29 @@ impl ClientStep {
                 gets,
                 None,
             )),
-            Step::Done(snapshot) => {
-                let (viewing, principal) = pending_ask.into_parts();
-                let step = viewing.on_snapshot(self.alloc, snapshot)?;
-                self.end_read(tag, principal, step)
-            }
+            Step::Done(snapshot) => self.see(tag, pending_ask, snapshot),
             Step::Gone(items) => {
                 let (viewing, principal) = pending_ask.into_parts();
                 self.end_read(tag, principal, viewing.on_gone(items))
             }
         }
+    }
+
+    /// The transition of a read that is done, by what its ask views in the snapshot.
+    fn see(
+        self,
+        tag: u64,
+        pending_ask: PendingAsk,
+        snapshot: Snapshot,
+    ) -> Result<Transition, Refusal>
+        requires fits { tag + 2 < 2 ^ 64 }
+        ensures transition { IfOk result (IsMoved (views_by self.terms (client_of self) tag pending_ask.principal
+            (viewed pending_ask.viewing snapshot))) }
+        ensures memory { IsOkUnless result Refusal.OutOfMemory }
+    {
+        let (viewing, principal) = pending_ask.into_parts();
+        let step = viewing.on_snapshot(self.alloc, snapshot)?;
+        self.end_read(tag, principal, step)
     }
 
     /// The transition at the end of a read for the principal's ask: another read, a ruling, or no view.
@@ -145,6 +164,16 @@ impl ClientStep {
             ViewStep::Busy(why) => Ok(self.end_ask(tag, Answer::Busy(why))),
         }
     }
+}
+
+/// The step of a reading at a message, where two more rounds fit after its tag.
+fn replied(reading: Reading, message: &Message) -> Result<Step, Refusal>
+    ensures step { IfOk result (λ step. step_of step ≡ stepped reading message.now) }
+    ensures fits { IfOk result (λ _. reading.asker.tag + 2 < 2 ^ 64) }
+    ensures memory { IsOkUnless result Refusal.OutOfMemory }
+{
+    check_tag(reading.tag())?;
+    Ok(reading.on_reply(message)?)
 }
 
 /// Two more rounds fit after the tag. Where tags near their end, it is said that memory ran out: each round

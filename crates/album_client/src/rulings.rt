@@ -72,8 +72,14 @@ impl ClientStep {
     {
         match ruling {
             Ruling::Granted(permit) => self.grant(tag, permit),
-            Ruling::Denied(denial, _view) => Ok(self.end_ask(tag, Answer::Denied(denial))),
-            Ruling::Missing(object, _view) => Ok(self.end_ask(tag, Answer::Missing(object))),
+            Ruling::Denied(denial, view) => {
+                drop(view);
+                Ok(self.end_ask(tag, Answer::Denied(denial)))
+            }
+            Ruling::Missing(object, view) => {
+                drop(view);
+                Ok(self.end_ask(tag, Answer::Missing(object)))
+            }
         }
     }
 

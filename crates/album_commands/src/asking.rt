@@ -16,23 +16,29 @@ use std::process::ExitCode;
 ///
 /// `AllocError`, where there is no memory for it.
 pub(crate) fn ask_command<'a>(alloc: Global) -> Result<Command<'a>, AllocError> {
-    let who = Arg::new(alloc, "as")
-        .long("as")
-        .value_name("WHO")
-        .help("Who asks: name@users or ANONYMOUS@")
-        .required(true);
-    let text = Arg::new(alloc, "text")
-        .long("text")
-        .help(
-            "Spells answers out: contents as text, masks and flags by name, and a new object by its name",
-        )
-        .action(ArgAction::SetTrue);
     Command::new(alloc, "ask")
         .about(ASK_ABOUT)
         .after_help(ASK_HELP)
         .arg(port_arg(alloc))?
-        .arg(who)?
-        .arg(text)
+        .arg(as_arg(alloc))?
+        .arg(text_arg(alloc))
+}
+
+fn as_arg<'a>(alloc: Global) -> Arg<'a> {
+    Arg::new(alloc, "as")
+        .long("as")
+        .value_name("WHO")
+        .help("Who asks: name@users or ANONYMOUS@")
+        .required(true)
+}
+
+fn text_arg<'a>(alloc: Global) -> Arg<'a> {
+    Arg::new(alloc, "text")
+        .long("text")
+        .help(
+            "Spells answers out: contents as text, masks and flags by name, and a new object by its name",
+        )
+        .action(ArgAction::SetTrue)
 }
 
 /// Asks the service at the port what the reader has, line by line. The status is 1 where it isn't there, refuses the

@@ -69,6 +69,12 @@ where
     }
 }
 
+/// Lets the matches go. Matches hold matches, so the prover looks at all of them at once. It does so here, and not in
+/// the program, while other crates are proved.
+pub fn let_go(matches: ArgMatches<'_>) {
+    drop(matches);
+}
+
 /// Prints the help that was asked for, or why the command line is refused.
 pub fn refuse<T: Print + Eprint>(rt: &T, error: &Error) -> ExitCode {
     if error.kind() == ErrorKind::OutOfMemory {

@@ -19,5 +19,5 @@ mod serving;
 mod running;
 mod texts;
 
-pub use command_line::{parse, refuse, refuse_words, run};
+pub use command_line::{let_go, parse, refuse, refuse_words, run};
 pub use running::{TURNS, open, status};

@@ -17,23 +17,30 @@ use std::rt::Files;
 ///
 /// `AllocError`, where there is no memory for it.
 pub(crate) fn replay_command<'a>(alloc: Global) -> Result<Command<'a>, AllocError> {
-    let trace = Arg::new(alloc, "trace")
-        .long("trace")
-        .help("Prints each message that is sent, as if the opening said so")
-        .action(ArgAction::SetTrue);
-    let strict = Arg::new(alloc, "strict")
-        .long("strict")
-        .help("Ends at the first line that is refused, with status 1")
-        .action(ArgAction::SetTrue);
-    let script = Arg::new(alloc, "FILE").help(
-        "A file with the script, in the place of standard input",
-    );
     Command::new(alloc, "replay")
         .about(REPLAY_ABOUT)
         .after_help(REPLAY_HELP)
-        .arg(trace)?
-        .arg(strict)?
-        .arg(script)
+        .arg(trace_arg(alloc))?
+        .arg(strict_arg(alloc))?
+        .arg(script_arg(alloc))
+}
+
+fn trace_arg<'a>(alloc: Global) -> Arg<'a> {
+    Arg::new(alloc, "trace")
+        .long("trace")
+        .help("Prints each message that is sent, as if the opening said so")
+        .action(ArgAction::SetTrue)
+}
+
+fn strict_arg<'a>(alloc: Global) -> Arg<'a> {
+    Arg::new(alloc, "strict")
+        .long("strict")
+        .help("Ends at the first line that is refused, with status 1")
+        .action(ArgAction::SetTrue)
+}
+
+fn script_arg<'a>(alloc: Global) -> Arg<'a> {
+    Arg::new(alloc, "FILE").help("A file with the script, in the place of standard input")
 }
 
 /// Replays the lines of the file that is named, or else those of the reader, to their end or to the refusal of their

@@ -1,8 +1,8 @@
--- What is settled before a Get is answered. `PartitionKeeper::settle` cites `settled_push`, `settled_none`, `none_left` and
--- `none_there`; `settle_one` cites `committed_shown`; RoundLemmas cites `read_committed`, and RepeatLemmas `version_state`.
-use Rattle.std.proofs.Common.{◌≡◌, ◌≢◌, ℕ, Bool, true, false, ◌==◌, not, List, [], ◌∷◌, ◌++◌, get_or, is_some, if◌then◌else◌, Option, None, Result, Ok, Err, refl, sym, ap, ◌∙◌, subst}
+-- What is settled before a Get is answered. `PartitionKeeper::settle` cites `settled_push`, `settled_none`, `none_left`
+-- and `none_there`; `take_own_commit` cites `committed_shown`; RoundLemmas cites `read_committed`, and RepeatLemmas
+-- `version_state`.
+use Rattle.std.proofs.Common.{◌≡◌, ◌≢◌, ℕ, Bool, true, false, ◌==◌, not, List, [], ◌∷◌, ◌++◌, get_or, is_some, if◌then◌else◌, Option, None, refl, sym, ap, ◌∙◌, subst}
 use Rattle.std.specs.List.{list_any}
-use Rattle.std.specs.Prelude.{OnErr}
 use Rattle.std.proofs.lemmas.Bool.{eq-eqb, and_parts}
 use Rattle.std.proofs.lemmas.Bool.Decides.{Decides-eqb}
 use Rattle.std.proofs.lemmas.List.Elements.{All-nil, All-cons, All-contains}
@@ -121,11 +121,6 @@ none_there p ts none = λ k d l nz. none (get_or ts k d)
 
 pub none_asked : (ms : List Mark) → AreSettledIn ms []
 none_asked ms = All-nil _
-
--- what is so in any case is so on a refusal
-pub on_err : {A E : Type 0} (X : Type 0) (r : Result A E) → X → OnErr r X
-on_err X (Ok a) x = tt
-on_err X (Err e) x = x
 
 -- ---- what is shown about the Commit
 

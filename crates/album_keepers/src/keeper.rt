@@ -89,16 +89,66 @@ impl<J: DeskNames> PartitionKeeper<J> {
         ensures memory { IsOkUnless result Refusal.OutOfMemory }
     {
         let (message, pass) = envelope.open();
-        self.take_in(desk, &message, pass)?;
-        match self.take(desk, &message)? {
-            None => Ok(None),
-            Some(reply) => {
-                let overtaken = self.has_newer(&reply);
-                let below = self.settled_below();
-                let pass = self.owner.split(desk);
-                Ok(Some(ReplyEnvelope::new(message, reply, overtaken, below, pass)))
+        match self.reply_to(desk, &message, pass) {
+            Ok(Some(reply)) => Ok(Some(self.envelope_of(desk, message, reply))),
+            Ok(None) => {
+                drop(message);
+                Ok(None)
+            }
+            Err(refusal) => {
+                drop(message);
+                Err(refusal)
             }
         }
+    }
+
+    /// The reply to the message, if there is one, once all that its pass has seen is taken in, the stamps of a Get are
+    /// settled, and what the message asks is done.
+    ///
+    /// # Errors
+    ///
+    /// `OutOfMemory`. What is settled by then stays so.
+    fn reply_to(
+        &mut self,
+        desk: &Desk,
+        message: &Message,
+        pass: Pass,
+    ) -> Result<Option<Message>, Refusal>
+        requires table { desk.now.table ≡ J.table }
+        requires terms { desk.now.terms ≡ J.terms }
+        requires of { pass.table ≡ J.table }
+        requires unnumbered { pass.number ≡ None }
+        requires shown { Shows pass.cut message.now }
+        ensures changed { OnOk result (self.new.partition
+            ≡ after (settled self.old.partition (stamps_in message.now.body)) message.now) }
+        ensures answered { IfOk result (λ reply. reply
+            ≡ answer (settled self.old.partition (stamps_in message.now.body)) message.now) }
+        ensures replied { IfOk result (λ reply. IfSome reply
+            (IsAnswered J.terms.limit self.new.owner.cut message.now)) }
+        ensures grown { Extends self.old.owner.cut self.new.owner.cut }
+        ensures heard { Extends pass.cut self.new.owner.cut }
+        ensures unchanged { OnErr result ((count : ℕ)
+            × (self.new.partition ≡ settled self.old.partition (take count (stamps_in message.now.body)))) }
+        ensures memory { IsOkUnless result Refusal.OutOfMemory }
+    {
+        self.take_in(desk, message, pass)?;
+        self.take(desk, message)
+    }
+
+    /// The reply to the message as an envelope, with a pass of the owner's.
+    fn envelope_of(&mut self, desk: &Desk, message: Message, reply: Message) -> ReplyEnvelope<J>
+        requires table { desk.now.table ≡ J.table }
+        requires answered { IsAnswered J.terms.limit self.old.owner.cut message reply }
+        requires sender { reply.from ≡ Node.Part self.old.partition.number }
+        ensures reply { result.reply ≡ reply }
+        ensures request { result.request ≡ message }
+        ensures point { result.pass.cut ≡ self.new.owner.cut }
+        ensures same { self.new ≡ self.old }
+    {
+        let overtaken = self.has_newer(&reply);
+        let below = self.settled_below();
+        let pass = self.owner.split(desk);
+        ReplyEnvelope::new(message, reply, overtaken, below, pass)
     }
 
     /// How much the partition has.
@@ -234,9 +284,32 @@ impl<J: DeskNames> PartitionKeeper<J> {
         if !self.is_unsettled(stamp) {
             return Ok(());
         }
-        self.take(desk, &own_commit(self.part, stamp))?;
+        drop(self.take_own_commit(desk, stamp)?);
         self.owner.is_sound();
         Ok(())
+    }
+
+    /// Takes a Commit of the stamp from the partition itself, and gives the reply, if there is one.
+    ///
+    /// # Errors
+    ///
+    /// `OutOfMemory`. Nothing changes then.
+    fn take_own_commit(&mut self, desk: &Desk, stamp: Stamp) -> Result<Option<Message>, Refusal>
+        requires table { desk.now.table ≡ J.table }
+        requires terms { desk.now.terms ≡ J.terms }
+        requires sound { IsSound self.old.owner.cut }
+        requires inside { self.old.owner.part < self.old.owner.cut.parts }
+        requires committed { IsCommitted self.old.owner.cut stamp }
+        ensures changed { OnOk result
+            (self.new.partition ≡ after self.old.partition (own_commit self.old.partition stamp)) }
+        ensures unchanged { OnErr result (self.new ≡ self.old) }
+        ensures memory { IsOkUnless result Refusal.OutOfMemory }
+        ensures grown { Extends self.old.owner.cut self.new.owner.cut }
+    {
+        let commit = own_commit(self.part, stamp);
+        let taken = self.take(desk, &commit);
+        drop(commit);
+        taken
     }
 
     /// Whether the stamp is a write's, and pending here.
@@ -263,9 +336,13 @@ impl<J: DeskNames> PartitionKeeper<J> {
         ensures memory { IsOkUnless result Refusal.OutOfMemory }
     {
         let before = self.partition.history().len();
-        let reply = self.partition.receive(message)?;
-        append_next(&mut self.owner, desk, &self.partition, before);
-        Ok(reply)
+        match self.partition.receive(message) {
+            Err(refusal) => Err(refusal),
+            Ok(reply) => {
+                append_next(&mut self.owner, desk, &self.partition, before);
+                Ok(reply)
+            }
+        }
     }
 }
 

@@ -95,8 +95,15 @@ fn start_last<
     // Room first: a thread that runs is kept.
     threads.reserve(1)?;
     let shared = Shared::<J, G>::copied(alloc, desk, gate, breakage, mailboxes)?;
-    let keeper = last_keeper::<J>(part, owners, partitions)?;
-    let mails = mails.pop().ok_or(AllocError)?;
+    let Ok(keeper) = last_keeper::<J>(part, owners, partitions) else {
+        drop(shared);
+        return Err(AllocError);
+    };
+    let Some(mails) = mails.pop() else {
+        drop(keeper);
+        drop(shared);
+        return Err(AllocError);
+    };
     threads.push_reserved(start(rt, alloc, part, keeper, shared, mails)?);
     Ok(())
 }
@@ -177,12 +184,8 @@ fn start<
     shared: Shared<J, G>,
     mails: Receiver<PartitionMail<J>>,
 ) -> Result<JoinHandle<()>, AllocError> {
-    let Ok(thread) = spawn(&rt, move || {
-        run_alone(rt, alloc, part, keeper, shared, mails)
-    }) else {
-        return Err(AllocError);
-    };
-    Ok(thread)
+    let body = move || run_alone(rt, alloc, part, keeper, shared, mails);
+    spawn(&rt, body).ok().ok_or(AllocError)
 }
 
 /// The body of the thread, which owns all it needs.
@@ -201,5 +204,10 @@ fn run_alone<J: DeskNames, R: Wait + time::Clock + Copy, G: Gate + Drop>(
         outbox,
     } = shared;
     let mut post = PartitionLoop::new(part, keeper, outbox, breakage);
-    post.run(&rt, alloc, &desk, &*gate, &mut Inbox::new(mails));
+    let mut inbox = Inbox::new(mails);
+    post.run(&rt, alloc, &desk, &*gate, &mut inbox);
+    drop(inbox);
+    drop(post);
+    drop(gate);
+    drop(desk);
 }

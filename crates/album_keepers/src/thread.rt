@@ -69,16 +69,21 @@ impl<J: DeskNames> Outbox<J> {
         }
     }
 
+    /// The mailbox of the partition that the node is.
+    fn mailbox_of(&self, node: Node) -> Option<&Sender<PartitionMail<J>>> {
+        match node {
+            Node::Part(part) => self.parts.get(usize::from(part)),
+            Node::Client(_) => None,
+        }
+    }
+
     /// Sends an envelope to its partition.
     fn post<R: Wait>(&self, rt: &R, envelope: RequestEnvelope<J>) -> Result<(), AllocError> {
-        let Node::Part(part) = envelope.message().to() else {
+        let Some(end) = self.mailbox_of(envelope.message().to()) else {
+            drop(envelope);
             return Ok(());
         };
-        let Some(end) = self.parts.get(usize::from(part)) else {
-            return Ok(());
-        };
-        let mut envelopes = Vec::new(self.alloc);
-        envelopes.push(envelope)?;
+        let envelopes = one(self.alloc, envelope)?;
         taken(end.send(rt, PartitionMail::Envelopes(envelopes)))
     }
 
@@ -108,6 +113,13 @@ impl<J: DeskNames> Outbox<J> {
         let reply = Box::new(self.alloc, reply)?;
         self.send_to(rt, client, SessionMail::ControlReply(reply))
     }
+}
+
+/// A list of this item alone.
+fn one<T: Drop>(alloc: Global, item: T) -> Result<Vec<T>, AllocError> {
+    let mut items = Vec::new(alloc);
+    items.push(item)?;
+    Ok(items)
 }
 
 /// Whether there was memory for what was sent. Who is gone needs none.
@@ -289,7 +301,10 @@ impl<J: DeskNames> PartitionLoop<J> {
         let mut envelopes = Vec::new(alloc);
         let reply = self.keeper.inquire(alloc, desk, request, &mut envelopes);
         for envelope in envelopes {
-            self.outbox.post(rt, envelope)?;
+            let Ok(()) = self.outbox.post(rt, envelope) else {
+                drop(reply);
+                return Err(AllocError);
+            };
         }
         self.outbox.notify(rt, client, reply)
     }

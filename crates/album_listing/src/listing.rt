@@ -30,13 +30,14 @@ pub fn list(alloc: Global, view: &View, principal: &Principal) -> Result<Rows, R
     ensures rows { IfOk result (λ rows. IsListing view.now principal.now rows) }
     ensures memory { IsOkUnless result Refusal.OutOfMemory }
 {
-    let context = RulingContext::of(alloc, view, principal, Policy::One)?;
     let Ask::List { album } = view.ask() else {
         // The ask is a List: the caller has to see to that.
         unreachable!();
     };
-    let rows = listed(alloc, &context, *album)?;
-    Ok(Rows::of(rows))
+    let context = RulingContext::of(alloc, view, principal, Policy::One)?;
+    let rows = listed(alloc, &context, *album);
+    drop(context);
+    Ok(Rows::of(rows?))
 }
 
 /// The rows of the children that have one.

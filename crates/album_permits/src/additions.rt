@@ -62,12 +62,21 @@ fn new_picture(
     }) }
     ensures memory { IsOkUnless result Refusal.OutOfMemory }
 {
-    Ok(Picture {
-        title: title.copy()?,
-        content: content.copy()?,
-        head: new_head(lookup, principal, stamp, into)?,
-        home: into.number(),
-    })
+    let head = new_head(lookup, principal, stamp, into)?;
+    let title = title.copy()?;
+    match content.copy() {
+        Ok(content) => Ok(Picture {
+            title,
+            content,
+            head,
+            home: into.number(),
+        }),
+        Err(refusal) => {
+            drop(title);
+            drop(head);
+            Err(refusal)
+        }
+    }
 }
 
 /// A new album of this title in the album, with its list; and the album with it.

@@ -1,5 +1,5 @@
 //! Values with one thing changed.
-ghost use Rattle.std.specs.Prelude.{◌≡◌, ◌++◌, ◌∷◌, [], IfOk, IsOkUnless};
+ghost use Rattle.std.specs.Prelude.{◌≡◌, ◌++◌, ◌∷◌, [], IfOk, OnOk, IsOkUnless};
 ghost use Rattle.album_permits.specs.Changes.{with_title, with_content, with_home, owned, with_owner, with_members, with_children, others, without_child, with_child};
 
 use album_items::{Content, Head, ItemId, Items, Members, Title, Value};
@@ -12,19 +12,27 @@ pub(crate) fn with_title(value: &Value, title: &Title) -> Result<Value, Refusal>
     ensures value { IfOk result (λ new. new ≡ with_title title.now value.now) }
     ensures memory { IsOkUnless result Refusal.OutOfMemory }
 {
-    match value {
-        Value::Picture(picture) => {
-            let mut picture = picture.clone()?;
-            picture.title = title.copy()?;
-            Ok(Value::Picture(picture))
+    let mut new = value.copy()?;
+    match set_title(&mut new, title) {
+        Ok(()) => Ok(new),
+        Err(refusal) => {
+            drop(new);
+            Err(refusal)
         }
-        Value::Album(album) => {
-            let mut album = album.clone()?;
-            album.title = title.copy()?;
-            Ok(Value::Album(album))
-        }
-        Value::Missing | Value::List(_) | Value::Group(_) => value.copy(),
     }
+}
+
+/// The value gets another title.
+fn set_title(value: &mut Value, title: &Title) -> Result<(), Refusal>
+    ensures value { OnOk result (value.new ≡ with_title title.now value.old) }
+    ensures memory { IsOkUnless result Refusal.OutOfMemory }
+{
+    match value {
+        Value::Picture(picture) => picture.title = title.copy()?,
+        Value::Album(album) => album.title = title.copy()?,
+        Value::Missing | Value::List(_) | Value::Group(_) => {}
+    }
+    Ok(())
 }
 
 /// The picture with another content.
@@ -62,24 +70,28 @@ pub(crate) fn with_owner(value: &Value, owner: &Name, group: u64) -> Result<Valu
     ensures value { IfOk result (λ new. new ≡ with_owner owner.now group value.now) }
     ensures memory { IsOkUnless result Refusal.OutOfMemory }
 {
-    match value {
-        Value::Picture(picture) => {
-            let mut picture = picture.clone()?;
-            picture.head = owned(&picture.head, owner, group)?;
-            Ok(Value::Picture(picture))
+    let mut new = value.copy()?;
+    match set_owner(&mut new, owner, group) {
+        Ok(()) => Ok(new),
+        Err(refusal) => {
+            drop(new);
+            Err(refusal)
         }
-        Value::Album(album) => {
-            let mut album = album.clone()?;
-            album.head = owned(&album.head, owner, group)?;
-            Ok(Value::Album(album))
-        }
-        Value::Group(other) => {
-            let mut other = other.clone()?;
-            other.head = owned(&other.head, owner, group)?;
-            Ok(Value::Group(other))
-        }
-        Value::Missing | Value::List(_) => value.copy(),
     }
+}
+
+/// The value gets another owner and another head group.
+fn set_owner(value: &mut Value, owner: &Name, group: u64) -> Result<(), Refusal>
+    ensures value { OnOk result (value.new ≡ with_owner owner.now group value.old) }
+    ensures memory { IsOkUnless result Refusal.OutOfMemory }
+{
+    match value {
+        Value::Picture(picture) => picture.head = owned(&picture.head, owner, group)?,
+        Value::Album(album) => album.head = owned(&album.head, owner, group)?,
+        Value::Group(other) => other.head = owned(&other.head, owner, group)?,
+        Value::Missing | Value::List(_) => {}
+    }
+    Ok(())
 }
 
 /// The head with another owner and another group.

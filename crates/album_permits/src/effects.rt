@@ -68,7 +68,9 @@ fn is_full_for(alloc: Global, permit: &Permit, stamp: Stamp) -> bool
     ensures { result ≡ is_full_for permit.now stamp }
 {
     let lookup = ViewLookup::of(alloc, permit.view());
-    is_album_full(&lookup, stamp, permit.view().ask())
+    let full = is_album_full(&lookup, stamp, permit.view().ask());
+    drop(lookup);
+    full
 }
 
 /// Whether the album that gets a child by the ask is full.
@@ -121,13 +123,15 @@ fn written_by(alloc: Global, permit: &Permit, stamp: Stamp) -> Result<Vec<(ItemI
     ensures memory { IsOkUnless result Refusal.OutOfMemory }
 {
     let lookup = ViewLookup::of(alloc, permit.view());
-    written(
+    let written = written(
         alloc,
         &lookup,
         permit.principal(),
         stamp,
         permit.view().ask(),
-    )
+    );
+    drop(lookup);
+    written
 }
 
 /// What the ask writes at the stamp, in order; an item may occur twice.

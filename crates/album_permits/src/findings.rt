@@ -1,5 +1,5 @@
 //! What is found of the needs of an ask.
-ghost use Rattle.std.specs.Prelude.{◌≡◌, IfOk, IsOkUnless, is_none};
+ghost use Rattle.std.specs.Prelude.{◌≡◌, ◌++◌, IfOk, OnOk, IsOkUnless, is_none};
 ghost use Rattle.album_listing.specs.RulingContexts.{basis_of};
 ghost use Rattle.album_permits.specs.Findings.{is_missing, missing_in, reasons_of, is_met, need_found, needs_found, ruling_of};
 ghost use Rattle.album_permits.specs.Notes.{need_notes, needs_noted, notes_of};
@@ -73,31 +73,32 @@ fn find_all(alloc: Global, context: &RulingContext, needs: &[Need]) -> Result<Fo
 {
     let mut notes = Vec::new(alloc);
     for need in needs {
-        let Found {
-            finding,
-            notes: more,
-        } = find_one(alloc, context, need.as_slice())?;
-        notes.extend_from_slice(more.as_slice())?;
+        let finding = add_found(alloc, &mut notes, context, need.as_slice())?;
         match finding {
             Finding::Granted => {}
-            Finding::Denied(denial) => {
-                return Ok(Found {
-                    finding: Finding::Denied(denial),
-                    notes,
-                });
-            }
-            Finding::Missing(object) => {
-                return Ok(Found {
-                    finding: Finding::Missing(object),
-                    notes,
-                });
-            }
+            Finding::Denied(_) | Finding::Missing(_) => return Ok(Found { finding, notes }),
         }
     }
     Ok(Found {
         finding: Finding::Granted,
         notes,
     })
+}
+
+/// What is found of one need, whose notes are added.
+fn add_found(
+    alloc: Global,
+    notes: &mut Vec<Note>,
+    context: &RulingContext,
+    need: &[Alternative],
+) -> Result<Finding, Refusal>
+    ensures finding { IfOk result (λ finding. finding ≡ need_found (basis_of context.now) need.now) }
+    ensures notes { OnOk result (notes.new.items ≡ notes.old.items ++ need_notes (basis_of context.now) need.now) }
+    ensures memory { IsOkUnless result Refusal.OutOfMemory }
+{
+    let found = find_one(alloc, context, need)?;
+    notes.extend_from_slice(found.notes.as_slice())?;
+    Ok(found.finding)
 }
 
 /// What is found of one need.

@@ -69,7 +69,9 @@ fn find_on(
     ensures memory { IsOkUnless result Refusal.OutOfMemory }
 {
     let context = RulingContext::of(alloc, view, principal, policy)?;
-    find_of(alloc, &context, view.ask())
+    let found = find_of(alloc, &context, view.ask());
+    drop(context);
+    found
 }
 
 /// The ruling by what is found.

@@ -91,7 +91,9 @@ fn object_served(alloc: Global, permit: &Permit, object: ItemId) -> Result<Serve
     ensures memory { IsOkUnless result Refusal.OutOfMemory }
 {
     let lookup = ViewLookup::of(alloc, permit.view());
-    read(alloc, object, lookup.stamp(object), lookup.value(object))
+    let served = read(alloc, object, lookup.stamp(object), lookup.value(object));
+    drop(lookup);
+    served
 }
 
 /// The rows of the permit's listing, with the album's stamp.
@@ -100,13 +102,11 @@ fn rows_served(alloc: Global, permit: &Permit, album: ItemId) -> Result<Served, 
     ensures served { IfOk result (λ served. IsServedFor permit.now served (Ask.List album)) }
     ensures memory { IsOkUnless result Refusal.OutOfMemory }
 {
-    let rows = list(alloc, permit.view(), permit.principal())?;
     let lookup = ViewLookup::of(alloc, permit.view());
-    Ok(Served::Listed {
-        album,
-        stamp: lookup.stamp(album),
-        rows,
-    })
+    let stamp = lookup.stamp(album);
+    drop(lookup);
+    let rows = list(alloc, permit.view(), permit.principal())?;
+    Ok(Served::Listed { album, stamp, rows })
 }
 
 /// The list of the object, with its own stamp.
@@ -114,11 +114,13 @@ fn list_served(alloc: Global, permit: &Permit, object: ItemId) -> Result<Served,
     ensures served { IfOk result (λ served. IsServedFor permit.now served (Ask.GetList object)) }
     ensures memory { IsOkUnless result Refusal.OutOfMemory }
 {
-    let list = list_of(alloc, permit, object)?;
     let lookup = ViewLookup::of(alloc, permit.view());
+    let stamp = lookup.stamp_of_list(object);
+    drop(lookup);
+    let list = list_of(alloc, permit, object)?;
     Ok(Served::Entries {
         object,
-        stamp: lookup.stamp_of_list(object),
+        stamp,
         list,
     })
 }
@@ -129,7 +131,9 @@ fn list_of(alloc: Global, permit: &Permit, object: ItemId) -> Result<AccessList,
     ensures memory { IsOkUnless result Refusal.OutOfMemory }
 {
     let lookup = ViewLookup::of(alloc, permit.view());
-    Ok(lookup.list_of(object).copy()?)
+    let list = lookup.list_of(object).copy();
+    drop(lookup);
+    list
 }
 
 /// The title and the content of a picture, or the members of a group.

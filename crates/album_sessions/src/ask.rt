@@ -329,7 +329,14 @@ fn first_step(
         (record { viewing = record { ask = ask.now; reads = 0 }; principal = principal.now }) (objects_of ask.now))) }
     ensures memory { IsOkUnless result Refusal.OutOfMemory }
 {
-    client_step.ask(tag, principal.copy()?, ask.copy()?)
+    let principal = principal.copy()?;
+    match ask.copy() {
+        Ok(ask) => client_step.ask(tag, principal, ask),
+        Err(why) => {
+            drop(principal);
+            Err(why)
+        }
+    }
 }
 
 /// What the client does from then on, and what it sends.
@@ -339,10 +346,12 @@ fn work_of(transition: Transition) -> (Phase, Vec<Message>)
 {
     let Transition {
         client,
-        notes: _,
+        notes,
         sent,
-        answer: _,
+        answer,
     } = transition;
+    drop(notes);
+    drop(answer);
     let Client {
         number: _,
         clock: _,

@@ -27,6 +27,20 @@ pub struct Acknowledged<J: ServiceNames> {
     pub published: Published<J>,
 }
 
+impl<J: ServiceNames> Acknowledged<J> {
+    /// The answer. What was listened to and published is let go.
+    pub fn into_answer(self) -> Answer
+        ensures { result ≡ self.answer }
+    {
+        let Acknowledged {
+            answer,
+            listened: _,
+            published: _,
+        } = self;
+        answer
+    }
+}
+
 impl<J: ServiceNames> Session<J> {
     /// As `ask`, in the order of the service's board. The request begins with a cut that has all that was published
     /// before, by whichever session of the service; and what it has seen is published before its answer is given.

@@ -12,7 +12,7 @@ use album_eval::Principal;
 use album_items::ItemId;
 use album_lines::{LineIn, write_refusal};
 use album_permits::Answer;
-use album_sessions::{Acknowledged, ServiceNames, Session};
+use album_sessions::{ServiceNames, Session};
 use album_stamps::{Refusal, Stamp};
 use album_views::Ask;
 use album_wire::{TalkLine, TalkOut, read_hello, read_talk, write_answer, write_talk};
@@ -164,21 +164,9 @@ fn asked<J: ServiceNames, T: Wait + time::Clock>(
     ensures on { IsOn session.old session.new }
 {
     match session.ask_in_order(rt, principal, ask) {
-        Ok(given) => Ok(answer_of(given)),
+        Ok(given) => Ok(given.into_answer()),
         Err(refusal) => Err(refusal),
     }
-}
-
-/// The answer. What was listened to and published is let go.
-fn answer_of<J: ServiceNames>(given: Acknowledged<J>) -> Answer
-    ensures { result ≡ given.answer }
-{
-    let Acknowledged {
-        answer,
-        listened: _,
-        published: _,
-    } = given;
-    answer
 }
 
 #[tactic(auto, unfolding(album_wire::specs::TalkJson::talk_text))]

@@ -7,7 +7,7 @@
 //!
 //! Read `talk` first, the engine: `converse_with` reads, and `answer_lines` writes. `answers` asks the session for each
 //! line. specs/Talk.antt says what a talk is, in the order of the answers, their texts, a line and the whole. Who opens
-//! the session and accepts the connection is not known here: `album_server` does both.
+//! the session and accepts the connection is not known here: `album_port` does both.
 #![tactic(auto)]
 
 // Who may say what over a connection.

@@ -2,7 +2,7 @@
 use crate::runs::{Engine, Script, assert_kept, assert_read, stops_at_each_write};
 use crate::streams::{Pieces, Taking};
 use album_judge::{Fault, judge};
-use album_server::replay;
+use album_replay::replay;
 use std::alloc::Global;
 
 #[derive(Drop)]

@@ -130,8 +130,14 @@ fn read_transition(
         (Phase.Reads pending_ask.now reading.now))) }
     ensures memory { IsOkUnless result Refusal.OutOfMemory }
 {
-    let phase = Phase::Reads(pending_ask.copy()?, reading.copy()?);
-    client_step.take(phase, message)
+    let pending_ask = pending_ask.copy()?;
+    match reading.copy() {
+        Ok(reading) => client_step.take(Phase::Reads(pending_ask, reading), message),
+        Err(refusal) => {
+            drop(pending_ask);
+            Err(refusal)
+        }
+    }
 }
 
 /// The tag of the client's last round, if it is idle.
@@ -161,16 +167,24 @@ fn install(
 {
     let number = client.number;
     let count = transition.sent.len();
-    let mut outs = noted(alloc, number, &transition.notes, count + 1)?;
-    let Transition {
-        client: next,
-        notes: _,
-        sent,
-        answer,
-    } = transition;
-    replace_client(client, next);
-    push_outputs(&mut outs, before, number, count, answer);
-    Ok((sent, outs))
+    match noted(alloc, number, &transition.notes, count + 1) {
+        Ok(mut outs) => {
+            let Transition {
+                client: next,
+                notes,
+                sent,
+                answer,
+            } = transition;
+            drop(notes);
+            replace_client(client, next);
+            push_outputs(&mut outs, before, number, count, answer);
+            Ok((sent, outs))
+        }
+        Err(_) => {
+            drop(transition);
+            Err(Refusal::OutOfMemory)
+        }
+    }
 }
 
 fn replace_client(client: &mut Client, next: Client)

@@ -137,9 +137,19 @@ impl Clients {
         ensures unchanged { OnErr result (self.new ≡ self.old) }
     {
         let mut client = Client::new(number);
-        let done = client_events::ask(&mut client, alloc, terms, principal, ask, before)?;
-        self.put(client)?;
-        Ok(done)
+        match client_events::ask(&mut client, alloc, terms, principal, ask, before) {
+            Ok(done) => match self.put(client) {
+                Ok(()) => Ok(done),
+                Err(_) => {
+                    drop(done);
+                    Err(Refusal::OutOfMemory)
+                }
+            },
+            Err(refusal) => {
+                drop(client);
+                Err(refusal)
+            }
+        }
     }
 
     /// Puts a client after the others. None of them has its number.
@@ -149,9 +159,16 @@ impl Clients {
         ensures ok { OnOk result (self.new ≡ self.old ++ client ∷ []) }
         ensures unchanged { OnErr result (self.new ≡ self.old) }
     {
-        add_number(&mut self.numbers, &mut self.clients, client.number.number())?;
-        self.clients.push_reserved(client);
-        Ok(())
+        match add_number(&mut self.numbers, &mut self.clients, client.number.number()) {
+            Ok(()) => {
+                self.clients.push_reserved(client);
+                Ok(())
+            }
+            Err(error) => {
+                drop(client);
+                Err(error)
+            }
+        }
     }
 
     /// The client takes a message. `before` messages were sent before.

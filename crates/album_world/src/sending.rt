@@ -1,9 +1,10 @@
 //! Messages that are sent, and the outputs with their numbers.
-ghost use Rattle.std.specs.Prelude.{◌≡◌, ◌+◌, ◌<◌, ◌≤◌, ◌^◌, ◌++◌, length, option_to_list, vec_len, vec_capacity, []};
+ghost use Rattle.std.specs.Prelude.{◌≡◌, ◌+◌, ◌<◌, ◌≤◌, ◌^◌, ◌++◌, length, option_to_list, vec_len, vec_capacity, [], IfOk, OnOk, OnErr};
 ghost use Rattle.album_world.specs.Runs.{numbers_after, sent_after};
 
 use album_calls::Message;
 use album_permits::Out;
+use std::alloc::{AllocError, Global};
 
 /// Adds outputs with the numbers of so many messages, which follow the messages that were sent before. There is room.
 pub(crate) fn push_sent(outs: &mut Vec<Out>, before: u64, count: usize)
@@ -16,6 +17,44 @@ pub(crate) fn push_sent(outs: &mut Vec<Out>, before: u64, count: usize)
     for index in 0..count {
         outs.push_reserved(Out::Sent(before + index as u64 + 1));
     }
+}
+
+/// The messages are sent once there is room for all of them, and their numbers are the outputs.
+pub(crate) fn send_all(
+    messages: &mut Vec<Message>,
+    alloc: Global,
+    sent: Vec<Message>,
+) -> Result<Vec<Out>, AllocError>
+    ensures messages { OnOk result (messages.new.items ≡ messages.old.items ++ sent.items) }
+    ensures outs { IfOk result (λ outs. outs.items ≡ sent_after (length messages.old.items) sent.items) }
+    ensures unchanged { OnErr result (messages.new.items ≡ messages.old.items) }
+{
+    match room_for(messages, alloc, sent.len()) {
+        Ok(mut outs) => {
+            push_sent(&mut outs, messages.len() as u64, sent.len());
+            send(messages, sent);
+            Ok(outs)
+        }
+        Err(error) => {
+            drop(sent);
+            Err(error)
+        }
+    }
+}
+
+/// Room for so many messages more, and for their outputs.
+fn room_for(
+    messages: &mut Vec<Message>,
+    alloc: Global,
+    count: usize,
+) -> Result<Vec<Out>, AllocError>
+    ensures room { OnOk result (vec_len messages.new + count ≤ vec_capacity messages.new) }
+    ensures space { IfOk result (λ outs. count ≤ vec_capacity outs) }
+    ensures none { IfOk result (λ outs. outs.items ≡ []) }
+    ensures unchanged { messages.new.items ≡ messages.old.items }
+{
+    messages.reserve(count)?;
+    Vec::with_capacity(alloc, count)
 }
 
 /// Sends the messages, for which there is room.

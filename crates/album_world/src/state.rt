@@ -6,7 +6,7 @@ ghost use Rattle.album_world.specs.Seen.{IsChanged, IsMade};
 ghost use Rattle.album_world.specs.State.{message_of, client_at};
 
 use crate::clients::Clients;
-use crate::sending::{push_sent, send, send_reply};
+use crate::sending::{send, send_all, send_reply};
 use crate::stopped::Stopped;
 use album_calls::{Message, Node};
 use album_client::Terms;
@@ -163,8 +163,13 @@ impl State {
         // Room first: once the partition has received the message, nothing may fail.
         self.messages.reserve(1)?;
         let outs = Vec::with_capacity(alloc, 1)?;
-        let reply = self.partitions[part].receive(&self.messages[index])?;
-        Ok(send_reply(&mut self.messages, outs, reply))
+        match self.partitions[part].receive(&self.messages[index]) {
+            Ok(reply) => Ok(send_reply(&mut self.messages, outs, reply)),
+            Err(refusal) => {
+                drop(outs);
+                Err(refusal)
+            }
+        }
     }
 
     /// The message at this index is delivered to a client. A stopped one takes nothing.
@@ -212,10 +217,7 @@ impl State {
             return Err(Refusal::NoSuchPart);
         }
         let sent = self.partitions[part].sweep(stamp)?;
-        self.messages.reserve(sent.len())?;
-        let mut outs = Vec::with_capacity(alloc, sent.len())?;
-        push_sent(&mut outs, self.messages.len() as u64, sent.len());
-        send(&mut self.messages, sent);
+        let outs = send_all(&mut self.messages, alloc, sent)?;
         Ok(outs)
     }
 

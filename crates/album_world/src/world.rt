@@ -56,12 +56,13 @@ impl World {
     {
         opening.check()?;
         let terms = terms_of(opening);
+        let stopped = Stopped::new(alloc)?;
         let partitions = Partition::all_of(alloc, opening)?;
         let state = State {
             partitions,
             messages: Vec::new(alloc),
             clients: Clients::new(alloc),
-            stopped: Stopped::new(alloc)?,
+            stopped,
         };
         Ok(World {
             alloc,

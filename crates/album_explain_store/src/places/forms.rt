@@ -170,15 +170,33 @@ fn bad_pair(
     if sized_list(pair, 2).is_err() {
         return found_item(alloc, name, index, pair);
     }
-    if let Ok(object) = item(pair, 0) {
-        if item_in(object).is_none() {
-            let at = format!(in alloc; "{name}[{index}].object")?;
-            return Ok(Some(Found {
-                at,
-                value: whole(object).ok(),
-            }));
-        }
+    match item(pair, 0) {
+        Ok(object) if item_in(object).is_none() => found_object(alloc, name, index, object),
+        _ => bad_second(alloc, name, form, index, pair),
     }
+}
+
+fn found_object(
+    alloc: Global,
+    name: &str,
+    index: usize,
+    object: &Value<'_>,
+) -> Result<Option<Found>, AllocError> {
+    let at = format!(in alloc; "{name}[{index}].object")?;
+    Ok(Some(Found {
+        at,
+        value: whole(object).ok(),
+    }))
+}
+
+/// The entries of the pair, or its members.
+fn bad_second(
+    alloc: Global,
+    name: &str,
+    form: Form,
+    index: usize,
+    pair: &Value<'_>,
+) -> Result<Option<Found>, AllocError> {
     let Ok(part) = item(pair, 1) else {
         return Ok(None);
     };

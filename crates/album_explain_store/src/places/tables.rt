@@ -112,6 +112,62 @@ const GROUP: Rows = &[
     ("members", Form::Members),
 ];
 
+const OF_OBJECT: Rows = &[("do", Form::Word), ("object", Form::Item)];
+
+const OF_ALBUM: Rows = &[("do", Form::Word), ("album", Form::Item)];
+
+const ADD_PICTURE: Rows = &[
+    ("do", Form::Word),
+    ("album", Form::Item),
+    ("title", Form::Title),
+    ("content", Form::Content),
+];
+
+const ADD_ALBUM: Rows = &[
+    ("do", Form::Word),
+    ("album", Form::Item),
+    ("title", Form::Title),
+];
+
+const RETITLE: Rows = &[
+    ("do", Form::Word),
+    ("object", Form::Item),
+    ("title", Form::Title),
+];
+
+const REPLACE: Rows = &[
+    ("do", Form::Word),
+    ("object", Form::Item),
+    ("content", Form::Content),
+];
+
+const MOVE: Rows = &[
+    ("do", Form::Word),
+    ("object", Form::Item),
+    ("to", Form::Item),
+];
+
+const SET_LISTS: Rows = &[("do", Form::Word), ("lists", Form::Lists)];
+
+const SHARE: Rows = &[
+    ("do", Form::Word),
+    ("lists", Form::Lists),
+    ("members", Form::Memberships),
+];
+
+const SET_OWNER: Rows = &[
+    ("do", Form::Word),
+    ("object", Form::Item),
+    ("owner", Form::Owner),
+    ("group", Form::Whole),
+];
+
+const SET_MEMBERS: Rows = &[
+    ("do", Form::Word),
+    ("object", Form::Item),
+    ("members", Form::Members),
+];
+
 /// The members of a line, in the order in which their forms are tested. Its names say which line it is.
 pub(crate) fn parts_of(table: Table, line: &Value<'_>) -> Parts {
     match table {
@@ -163,51 +219,17 @@ pub(crate) fn rows_of(line: &Value<'_>, part: Part, value: &Value<'_>) -> Option
 fn ask_rows(ask: &Value<'_>) -> Option<Rows> {
     let word = text(field(ask, "do").ok()?).ok()?;
     match word {
-        "read" | "get_list" | "delete" => Some(&[("do", Form::Word), ("object", Form::Item)]),
-        "list" => Some(&[("do", Form::Word), ("album", Form::Item)]),
-        "add_picture" => Some(&[
-            ("do", Form::Word),
-            ("album", Form::Item),
-            ("title", Form::Title),
-            ("content", Form::Content),
-        ]),
-        "add_album" => Some(&[
-            ("do", Form::Word),
-            ("album", Form::Item),
-            ("title", Form::Title),
-        ]),
-        "retitle" => Some(&[
-            ("do", Form::Word),
-            ("object", Form::Item),
-            ("title", Form::Title),
-        ]),
-        "replace" => Some(&[
-            ("do", Form::Word),
-            ("object", Form::Item),
-            ("content", Form::Content),
-        ]),
-        "move" => Some(&[
-            ("do", Form::Word),
-            ("object", Form::Item),
-            ("to", Form::Item),
-        ]),
-        "set_lists" => Some(&[("do", Form::Word), ("lists", Form::Lists)]),
-        "share" => Some(&[
-            ("do", Form::Word),
-            ("lists", Form::Lists),
-            ("members", Form::Memberships),
-        ]),
-        "set_owner" => Some(&[
-            ("do", Form::Word),
-            ("object", Form::Item),
-            ("owner", Form::Owner),
-            ("group", Form::Whole),
-        ]),
-        "set_members" => Some(&[
-            ("do", Form::Word),
-            ("object", Form::Item),
-            ("members", Form::Members),
-        ]),
+        "read" | "get_list" | "delete" => Some(OF_OBJECT),
+        "list" => Some(OF_ALBUM),
+        "add_picture" => Some(ADD_PICTURE),
+        "add_album" => Some(ADD_ALBUM),
+        "retitle" => Some(RETITLE),
+        "replace" => Some(REPLACE),
+        "move" => Some(MOVE),
+        "set_lists" => Some(SET_LISTS),
+        "share" => Some(SHARE),
+        "set_owner" => Some(SET_OWNER),
+        "set_members" => Some(SET_MEMBERS),
         _ => None,
     }
 }

@@ -1,8 +1,16 @@
-use Rattle.std.proofs.Common.{◌≡◌, ◌+◌, length, ap, ◌∙◌, arith, rules, Some}
+use Rattle.std.proofs.Common.{◌≡◌, ◌+◌, length, ap, sym, ◌∙◌, arith, rules, Some}
 use Rattle.album_passes.specs.Desk.{first_owner}
-use Rattle.album_partition.specs.Partition.{first_partition}
+use Rattle.album_partition.specs.Partition.{PartitionState, first_partition}
 use Rattle.album_keepers.proofs.StartLemmas.{first_keeper, last_of}
 use Rattle.album_keepers.proofs.start.last_keeper.Goals as goal
+
+pub new-requires-clause-number : goal.new-requires-clause-number
+new-requires-clause-number g c =
+    let partitions = first_partition g.J.DeskNames.terms.parts g.J.DeskNames.terms.limit g.J.DeskNames.terms.opening in
+    let p = last_of partitions (c.args.part + 1) c.args.partitions.now.items c.pop-2.new.self.items c.pop-2.result c.in_ok-partition.partition
+    c.requires.partitions.count_is c.requires.partitions.each c.pop-2.ensures.items (search rules) in
+    let at_p : c.args.part ≡ length c.pop-2.new.self.items = (let one = p.0 in omega arith) in
+    at_p ∙ sym (ap (λ (q : PartitionState). q.number) p.1)
 
 pub new-requires-clause-is : goal.new-requires-clause-is
 new-requires-clause-is g c =

@@ -9,9 +9,9 @@ with-requires-in-Next c =
     few_next c.args.reading c.in-Next.reading c.args.message.now c.in-Next.gets.items c.tag-tag.ensures.open (sym step)
 
 -- what was read can be read again
-pub end_read-requires-in-Gone-clause-readable : goal.end_read-requires-in-Gone-clause-readable
-end_read-requires-in-Gone-clause-readable c =
+pub end_read-requires-clause-readable : goal.end_read-requires-clause-readable
+end_read-requires-clause-readable c =
     let step = rw c.in-Gone.is at c.in_ok-reading.ensures.step in
     rw c.on_gone.ensures
-    (readable_gone c.into_parts-viewing-in-Gone.result.0 c.args.reading c.args.message.now c.in-Gone.items
+    (readable_gone c.into_parts-viewing.result.0 c.args.reading c.args.message.now c.in-Gone.items
     c.tag-tag.ensures.open (sym step))

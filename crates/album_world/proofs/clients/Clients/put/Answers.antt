@@ -5,12 +5,12 @@ use Rattle.album_world.proofs.RegisterLemmas.{keys_push}
 use Rattle.album_world.proofs.clients.Clients.put.Goals as goal
 
 -- the client is new
-pub invariant_of-self-2 : goal.invariant_of-self-2
-invariant_of-self-2 c =
+pub invariant_of-self : goal.invariant_of-self
+invariant_of-self c =
     let clients : List Client = c.self.inside.clients.items in
     let same : c.args.client.number ≡ c.number.result = search rules in
     let new : has_number clients c.args.client.number ≡ false = search rules in
     let keys = keys_push clients c.self.inside.numbers.keys c.number.result c.args.client c.self.invariant
     (subst (λ (n : ℕ). has_number clients n ≡ false) same new) same in
     let pushed : c.push_reserved.new.self.items ≡ clients ++ c.args.client ∷ [] = search rules in
-    c.in_ok-add_number.ensures.keys ∙ keys ∙ ap numbers_of (sym pushed)
+    c.in-Ok.ensures.keys ∙ keys ∙ ap numbers_of (sym pushed)

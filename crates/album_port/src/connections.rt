@@ -1,8 +1,8 @@
 //! The connections of a service that are open. Each has a session and a thread of its own.
-use crate::port::notices::Notice;
-use crate::port::resumed::Resumed;
-use crate::port::waker::wake;
+use crate::notices::Notice;
 use crate::port::{Host, Shared};
+use crate::resumed::Resumed;
+use crate::waker::wake;
 use album_stamps::{ClientNo, Refusal};
 use album_talk::{Admins, converse_with};
 use album_threads::{OwnedSession, ServiceNames};

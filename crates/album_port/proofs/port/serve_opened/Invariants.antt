@@ -1,4 +1,4 @@
-use Rattle.album_server.proofs.port.serve_opened.Given as goal
+use Rattle.album_port.proofs.port.serve_opened.Given as goal
 
 -- the desk, the policy and the ledgers that were opened here
 abbrev pub ghosts-serve_at-J-ServiceNames : goal.ghosts-serve_at-J-ServiceNames

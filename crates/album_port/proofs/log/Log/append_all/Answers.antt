@@ -1,6 +1,6 @@
 use Rattle.std.proofs.Common.{◌∙◌}
-use Rattle.album_server.proofs.AuditLines.{one_more_line}
-use Rattle.album_server.proofs.port.log.Log.append_all.Goals as goal
+use Rattle.album_port.proofs.AuditLines.{one_more_line}
+use Rattle.album_port.proofs.log.Log.append_all.Goals as goal
 
 pub loop-of-preserved : goal.loop-of-preserved
 loop-of-preserved g c = record {

@@ -1,7 +1,7 @@
 use Rattle.std.proofs.Common.{◌≡◌, take}
 use Rattle.std.specs.Io.KnownBytes.{Appends}
-use Rattle.album_server.specs.Audits.{who_in, record_lines}
-use Rattle.album_server.proofs.port.log.Log.append_all.Given as goal
+use Rattle.album_port.specs.Audits.{who_in, record_lines}
+use Rattle.album_port.proofs.log.Log.append_all.Given as goal
 
 abbrev pub invariant-loop-of : goal.invariant-loop-of
 invariant-loop-of g l = record {

@@ -9,7 +9,7 @@ use Rattle.album_audit.specs.declared.totals.Record.{Record}
 use Rattle.album_eval.specs.declared.facts.Principal.{Principal}
 use Rattle.album_wire.specs.RecordJson.{record_text}
 use Rattle.std.proofs.lemmas.List.{take_more}
-use Rattle.album_server.specs.Audits.{who_in, record_lines}
+use Rattle.album_port.specs.Audits.{who_in, record_lines}
 
 -- the line of a record
 abbrev line_of : (ℕ → Principal) → Record → List ℕ

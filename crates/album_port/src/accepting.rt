@@ -1,7 +1,7 @@
 //! The connections that come: each is given a session and a thread, or the reason why not.
-use crate::port::connections::{Connections, Guest, attend};
-use crate::port::resumed::Resumed;
+use crate::connections::{Connections, Guest, attend};
 use crate::port::{Host, Shared};
+use crate::resumed::Resumed;
 use album_judge::write_refused;
 use album_stamps::Refusal;
 use album_threads::{OwnedSession, Service, ServiceNames};

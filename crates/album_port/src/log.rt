@@ -2,7 +2,7 @@
 ghost use Rattle.std.specs.Prelude.{◌≡◌, ◌≢◌, ℕ, None, Some, OnOk, IfSome};
 ghost use Rattle.std.specs.Io.KnownBytes.{Appends};
 ghost use Rattle.album_wire.specs.RecordJson.{record_text};
-ghost use Rattle.album_server.specs.Audits.{named_in, who_in, record_lines};
+ghost use Rattle.album_port.specs.Audits.{named_in, who_in, record_lines};
 
 use album_audit::Record;
 use album_eval::Principal;

@@ -1,6 +1,6 @@
 //! The audit file of a service: each note is written to it before its request is answered.
-use crate::port::log::{Log, Unwritten};
-use crate::port::notices::Notice;
+use crate::log::{Log, Unwritten};
+use crate::notices::Notice;
 use album_eval::Principal;
 use album_judge::Fault;
 use album_talk::Journal;

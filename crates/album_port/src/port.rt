@@ -13,25 +13,13 @@
 ghost use Rattle.std.specs.Prelude.{◌≡◌};
 ghost use Rattle.album_threads.specs.Opened.{opened_as};
 
-mod accepting;
-mod audit;
-mod connections;
-mod log;
-mod notices;
-mod opening;
-mod resumed;
-mod waker;
-mod watch;
-
-use crate::port::accepting::{Limits, accept_all};
-pub use crate::port::audit::AuditFile;
-use crate::port::audit::AuditJournal;
-use crate::port::connections::Connections;
-use crate::port::notices::{Notice, Printer};
-pub use crate::port::opening::opening_of_text;
-use crate::port::opening::{Unopened, read_opening};
-use crate::port::waker::{Waker, local};
-use crate::port::watch::watch;
+use crate::accepting::{Limits, accept_all};
+use crate::audit::{AuditFile, AuditJournal};
+use crate::connections::Connections;
+use crate::notices::{Notice, Printer};
+use crate::opening::{Unopened, read_opening};
+use crate::waker::{Waker, local};
+use crate::watch::watch;
 use album_audit::Totals;
 use album_items::Opening;
 use album_judge::{Fault, PIECE, write_refused, write_text};
@@ -177,6 +165,7 @@ pub fn serve_until<T: Host, R: Read + Send + Drop, W: Write>(
 }
 
 /// Serves as `serve_until` does, where the opening is read by itself, and of the other input only the end counts.
+/// Without another input it serves as `serve_for` does.
 ///
 /// # Errors
 ///
@@ -185,14 +174,14 @@ pub fn serve_beside<T: Host, O: Read, R: Read + Send + Drop, W: Write>(
     rt: T,
     alloc: Global,
     opening: &mut O,
-    input: R,
+    input: Option<R>,
     writer: &mut W,
     serving: Serving,
     audit: Option<AuditFile>,
 ) -> Result<Served, Fault> {
     let begun = begin(&rt, alloc, opening, writer, &serving)?;
     let setup = Setup {
-        input: Some(input),
+        input,
         serving,
         audit,
     };
@@ -425,7 +414,9 @@ where
 {
     let (shared, own) = parts_of(&rt, alloc, service, setup, notices)?;
     attend_within(rt, alloc, service, listener, &shared, own);
-    shared.journal.outcome()
+    let outcome = shared.journal.outcome();
+    drop(shared);
+    outcome
 }
 
 /// What the threads of a service share.

@@ -1,8 +1,8 @@
 //! What a running service has: it is printed each so many seconds, and there is a warning before something is spent.
 ghost use Rattle.std.specs.Prelude.{◌≤◌, ◌*◌, ◌↔◌, IsTrue};
 
-use crate::port::connections::Connections;
-use crate::port::notices::Notice;
+use crate::connections::Connections;
+use crate::notices::Notice;
 use album_threads::{Figures, Gauge, ServiceNames};
 use album_wire::{Counted, ServiceFigures, write_figures};
 use crossbeam_channel::{Receiver, RecvTimeoutError};

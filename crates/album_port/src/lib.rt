@@ -1,0 +1,31 @@
+//! The service of a port: it is opened by lines, and whoever connects has a session.
+//!
+//! What comes in: a reader of the opening, the port, and then what the connections say. What goes out: to each of these
+//! its talk, which is `album_talk`'s; to a writer that the port is served, and at the end the totals; or a fault.
+//!
+//! Read `port` first: it opens a service (`opening`), gives each connection a thread (`accepting`, `connections`),
+//! writes its notes to a file (`audit`, `log`) and prints its figures (`watch`). specs/Audits.antt says what that file
+//! has.
+#![tactic(auto)]
+
+// How a service is opened, and what it prints on standard error.
+mod notices;
+mod opening;
+
+// The audit file.
+mod audit;
+mod log;
+
+// The connections, and what wakes the thread that accepts them.
+mod accepting;
+mod connections;
+mod resumed;
+mod waker;
+
+// The service.
+mod port;
+mod watch;
+
+pub use audit::AuditFile;
+pub use opening::opening_of_text;
+pub use port::{Host, Served, Serving, serve, serve_beside, serve_for, serve_until};
