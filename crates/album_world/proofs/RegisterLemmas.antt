@@ -257,3 +257,11 @@ pub turned_number : {Outs : Type 0} (r : Result Outs Refusal) (old new : Client)
     → new.number ≡ old.number
 turned_number (Ok given) old new turn before sent outs same h e = ap (λ (c : Client). c.number) h.client ∙ same
 turned_number (Err why) old new turn before sent outs same h e = ap (λ (c : Client). c.number) e
+
+-- ---- what the proof of each call rests on
+
+-- a client asks
+pub ruleset asking = (asked, may_there, new_client, keys_set)
+
+-- a client takes a message
+pub ruleset taking = (taken, new_takes_nothing, keys_set)

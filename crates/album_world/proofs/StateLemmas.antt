@@ -259,3 +259,23 @@ trimmed_nowhere now part item e = ap (trims part item) e
 pub part_is : (now : Now) (i : ℕ) (held : PartitionState) → i < length now.partitions → held ≡ get_or now.partitions i held
     → slice_get now.partitions i ≡ Some held
 part_is now i held inside e = slice_get-get_or now.partitions i held inside ∙ sym (ap Some e)
+
+-- ---- what each event's proof rests on
+
+-- a client asks
+pub ruleset asking = (asks_so, asks_no_more, asked_done)
+
+-- a message is delivered
+pub ruleset delivering = (part_delivered, client_delivered, delivered_is, not_there)
+
+-- a partition takes one
+pub ruleset changing_a_part = (part_changed, no_part_takes, part_is)
+
+-- a client takes one
+pub ruleset changing_a_client = (client_changed, client_still, message_is)
+
+-- a partition sweeps
+pub ruleset sweeping = (swept_done, swept_refused, swept_may, swept_nowhere, part_is, no_part)
+
+-- a partition trims
+pub ruleset trimming = (trimmed_done, trimmed_refused, trimmed_may, trimmed_nowhere, part_is, no_part)

@@ -87,7 +87,7 @@ impl Clients {
     /// # Errors
     ///
     /// `OutOfMemory`. Nothing is changed then.
-    #[tactic(auto, using(crate::proofs::RegisterLemmas::asked, crate::proofs::RegisterLemmas::may_there, crate::proofs::RegisterLemmas::new_client, crate::proofs::RegisterLemmas::keys_set))]
+    #[tactic(auto, using(crate::proofs::RegisterLemmas::asking))]
     pub fn ask(
         &mut self,
         alloc: Global,
@@ -176,7 +176,7 @@ impl Clients {
     /// # Errors
     ///
     /// `OutOfMemory`. Nothing is changed then.
-    #[tactic(auto, using(crate::proofs::RegisterLemmas::taken, crate::proofs::RegisterLemmas::new_takes_nothing, crate::proofs::RegisterLemmas::keys_set))]
+    #[tactic(auto, using(crate::proofs::RegisterLemmas::taking))]
     pub fn take(
         &mut self,
         alloc: Global,

@@ -65,7 +65,7 @@ impl State {
     }
 
     /// A client asks.
-    #[tactic(auto, using(crate::proofs::StateLemmas::asks_so, crate::proofs::StateLemmas::asks_no_more, crate::proofs::StateLemmas::asked_done))]
+    #[tactic(auto, using(crate::proofs::StateLemmas::asking))]
     fn ask(
         &mut self,
         alloc: Global,
@@ -97,7 +97,7 @@ impl State {
     }
 
     /// The message of this number is delivered to its receiver.
-    #[tactic(auto, using(crate::proofs::StateLemmas::part_delivered, crate::proofs::StateLemmas::client_delivered, crate::proofs::StateLemmas::delivered_is, crate::proofs::StateLemmas::not_there))]
+    #[tactic(auto, using(crate::proofs::StateLemmas::delivering))]
     fn deliver(&mut self, alloc: Global, terms: Terms, number: u64) -> Result<Vec<Out>, Refusal>
         ensures done { IfOk result
             (λ outs. IsMade (delivers terms self.old (message_of self.old.messages number))
@@ -142,7 +142,7 @@ impl State {
     }
 
     /// The message at this index is delivered to a partition. One that isn't there takes nothing.
-    #[tactic(auto, using(crate::proofs::StateLemmas::part_changed, crate::proofs::StateLemmas::no_part_takes, crate::proofs::StateLemmas::part_is))]
+    #[tactic(auto, using(crate::proofs::StateLemmas::changing_a_part))]
     fn deliver_to_partition(
         &mut self,
         alloc: Global,
@@ -173,7 +173,7 @@ impl State {
     }
 
     /// The message at this index is delivered to a client. A stopped one takes nothing.
-    #[tactic(auto, using(crate::proofs::StateLemmas::client_changed, crate::proofs::StateLemmas::client_still, crate::proofs::StateLemmas::message_is))]
+    #[tactic(auto, using(crate::proofs::StateLemmas::changing_a_client))]
     fn deliver_to_client(
         &mut self,
         alloc: Global,
@@ -202,7 +202,7 @@ impl State {
     }
 
     /// The partition asks the other participants for their votes on the stamp.
-    #[tactic(auto, using(crate::proofs::StateLemmas::swept_done, crate::proofs::StateLemmas::swept_refused, crate::proofs::StateLemmas::swept_may, crate::proofs::StateLemmas::swept_nowhere, crate::proofs::StateLemmas::part_is, crate::proofs::StateLemmas::no_part))]
+    #[tactic(auto, using(crate::proofs::StateLemmas::sweeping))]
     fn sweep(&mut self, alloc: Global, part: u16, stamp: Stamp) -> Result<Vec<Out>, Refusal>
         ensures done { IfOk result
             (λ outs. IsMade (sweeps part stamp (slice_get self.old.partitions part)) self.old self.new outs.items) }
@@ -237,7 +237,7 @@ impl State {
     }
 
     /// The partition drops versions of the item below its latest stamp.
-    #[tactic(auto, using(crate::proofs::StateLemmas::trimmed_done, crate::proofs::StateLemmas::trimmed_refused, crate::proofs::StateLemmas::trimmed_may, crate::proofs::StateLemmas::trimmed_nowhere, crate::proofs::StateLemmas::part_is, crate::proofs::StateLemmas::no_part))]
+    #[tactic(auto, using(crate::proofs::StateLemmas::trimming))]
     fn trim(&mut self, alloc: Global, part: u16, item: ItemId) -> Result<Vec<Out>, Refusal>
         ensures done { IfOk result
             (λ outs. IsMade (trims part item (slice_get self.old.partitions part)) self.old self.new outs.items) }
