@@ -1,5 +1,6 @@
 """What the scripts know of the tree: its crates, what each stands on, a checksum of each, and copies of them."""
 import fcntl
+import functools
 import hashlib
 import os
 import pathlib
@@ -32,16 +33,22 @@ def without_comments(path):
     return b"\n".join(line for line in path.read_bytes().splitlines() if line.strip() and not line.strip().startswith(sign))
 
 
+@functools.cache
+def version():
+    """The toolchain's."""
+    return subprocess.run(["rt", "version"], stdout=subprocess.PIPE, check=True).stdout
+
+
 def sums_of(rows, read=pathlib.Path.read_bytes):
-    """Of each crate a checksum of its sources as they are read, of those that it cites, and of the toolchain."""
-    version = subprocess.run(["rt", "version"], stdout=subprocess.PIPE, check=True).stdout
+    """Of each crate a checksum of its sources as they are read, of those that it cites, and of the toolchain. A file that
+    is read as None isn't one of them."""
     sums = {}
     for name, below in rows.items():
-        sum_ = hashlib.sha256(version)
+        sum_ = hashlib.sha256(version())
         for part in PARTS:
             for file in sorted((ROOT / "crates" / name / part).rglob("*")):
-                if file.is_file():
-                    sum_.update(str(file.relative_to(ROOT)).encode() + b"\0" + read(file) + b"\0")
+                if file.is_file() and (text := read(file)) is not None:
+                    sum_.update(str(file.relative_to(ROOT)).encode() + b"\0" + text + b"\0")
         for other in below:
             sum_.update(sums[other])
         sums[name] = sum_.digest()

@@ -11,7 +11,6 @@ use std::marker::Model;
 
 /// A pass that has seen all that was published, and who alone publishes. Contracts see the pass's cut, and what was
 /// published, in order.
-#[derive(Drop)]
 pub struct Board<J: BoardNames> {
     pass: Pass,
     writer: Writer<J>,
@@ -25,6 +24,15 @@ impl<J: BoardNames> Model for Board<J> {
     ghost view = { λ b. record { cut = b.pass.cut; published = b.writer } };
 
     ghost invariant = { λ b. IsSeeing J.table b.pass b.writer };
+}
+
+// By hand, so that what lets it go is proved here, and not again in each crate above.
+impl<J: BoardNames> Drop for Board<J> {
+    fn drop(self) {
+        let Board { pass, writer } = self;
+        drop(pass);
+        drop(writer);
+    }
 }
 
 /// What a request has listened to: a pass that has seen all that was published, and how much that was. Contracts see

@@ -26,7 +26,6 @@ use std::sync::{Arc, Mutex, Wait};
 use std::{mem, time};
 
 /// A session's channel to the partitions. Contracts see the client, and the cut of its pass.
-#[derive(Drop)]
 pub struct PartitionChannel<J: DeskNames> {
     pub(crate) alloc: Global,
     desk: Arc<Desk, Global>,
@@ -66,6 +65,35 @@ impl<J: DeskNames> Model for PartitionChannel<J> {
         × IsChannel J.table c.client c.parts c.pass
         × All (IfSighted J.terms.limit c.pass.cut) c.sightings.items
         × (vec_len c.to ≡ c.parts) };
+}
+
+// By hand, so that what lets it go is proved here, and not again in each crate above.
+impl<J: DeskNames> Drop for PartitionChannel<J> {
+    fn drop(self) {
+        let PartitionChannel {
+            alloc: _,
+            desk,
+            pass,
+            client: _,
+            parts: _,
+            tag: _,
+            closed: _,
+            to,
+            from,
+            heard,
+            found: _,
+            sightings,
+            repeats: _,
+            breakage,
+        } = self;
+        drop(desk);
+        drop(pass);
+        drop(to);
+        drop(from);
+        drop(heard);
+        drop(sightings);
+        drop(breakage);
+    }
 }
 
 impl<J: DeskNames> PartitionChannel<J> {

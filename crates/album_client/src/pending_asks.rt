@@ -8,7 +8,6 @@ use album_views::Viewing;
 use std::marker::Model;
 
 /// An ask that has no view yet, and its principal, who may ask it.
-#[derive(Drop)]
 pub struct PendingAsk {
     viewing: Viewing,
     principal: Principal,
@@ -22,6 +21,15 @@ impl Model for PendingAsk {
     ghost view = { λ a. record { viewing = a.viewing; principal = a.principal } };
 
     ghost invariant = { λ a. IsTaken (record { viewing = a.viewing; principal = a.principal }) };
+}
+
+// By hand, so that what lets it go is proved here, and not again in each crate above.
+impl Drop for PendingAsk {
+    fn drop(self) {
+        let PendingAsk { viewing, principal } = self;
+        drop(viewing);
+        drop(principal);
+    }
 }
 
 impl PendingAsk {

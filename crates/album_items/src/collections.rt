@@ -9,7 +9,7 @@ use std::alloc::AllocError;
 use std::marker::Model;
 
 /// Items, as the children of an album. Contracts see them in order.
-#[derive(Debug, Drop)]
+#[derive(Debug)]
 pub struct Items {
     items: SharedList<ItemId>,
 }
@@ -20,6 +20,14 @@ impl Model for Items {
     ghost Value = { List ℕ };
 
     ghost view = { λ a. a.items };
+}
+
+// By hand, so that what lets it go is proved here, and not again in each crate above.
+impl Drop for Items {
+    fn drop(self) {
+        let Items { items } = self;
+        drop(items);
+    }
 }
 
 // By hand, since the search doesn't find a derived clone of what holds items equal.
@@ -63,7 +71,7 @@ impl Items {
 }
 
 /// The members of a group. Contracts see them in order.
-#[derive(Debug, Drop)]
+#[derive(Debug)]
 pub struct Members {
     members: SharedList<Member>,
 }
@@ -75,6 +83,14 @@ impl Model for Members {
     ghost Value = { List Member };
 
     ghost view = { λ m. m.members };
+}
+
+// By hand, so that what lets it go is proved here, and not again in each crate above.
+impl Drop for Members {
+    fn drop(self) {
+        let Members { members } = self;
+        drop(members);
+    }
 }
 
 // By hand, since the search doesn't find a derived clone of what holds members equal.
@@ -118,7 +134,7 @@ impl Members {
 }
 
 /// Items, each with its value. Contracts see the pairs in order.
-#[derive(Clone, Debug, Drop)]
+#[derive(Clone, Debug)]
 pub struct ItemValues {
     rows: Vec<(ItemId, Value)>,
 }
@@ -130,6 +146,14 @@ impl Model for ItemValues {
     ghost Value = { List (ℕ × ItemValue) };
 
     ghost view = { λ v. v.rows.items };
+}
+
+// By hand, so that what lets it go is proved here, and not again in each crate above.
+impl Drop for ItemValues {
+    fn drop(self) {
+        let ItemValues { rows } = self;
+        drop(rows);
+    }
 }
 
 impl ItemValues {
@@ -151,7 +175,8 @@ impl ItemValues {
     pub fn into_vec(self) -> Vec<(ItemId, Value)>
         ensures { result.items ≡ self }
     {
-        self.rows
+        let ItemValues { rows } = self;
+        rows
     }
 
     /// Lets the copies that are made from now on share what each value holds, as `Value::make_shared` does.

@@ -7,7 +7,7 @@ use std::marker::Model;
 use std::sync::Arc;
 
 /// A value whose copies share its memory: a copy is a count, whatever the value holds. Contracts see the value.
-#[derive(Debug, Drop)]
+#[derive(Debug)]
 pub struct SharedValue {
     value: Arc<Value, Global>,
 }
@@ -19,6 +19,14 @@ impl Model for SharedValue {
     ghost Value = { ItemValue };
 
     ghost view = { λ s. arc_value s.value };
+}
+
+// By hand, so that what lets it go is proved here, and not again in each crate above.
+impl Drop for SharedValue {
+    fn drop(self) {
+        let SharedValue { value } = self;
+        drop(value);
+    }
 }
 
 impl SharedValue {

@@ -14,7 +14,7 @@ use std::sync::ArcStr;
 
 /// A title: at most `MAX_TITLE` bytes of UTF-8, with none of U+0000 to U+001F and U+007F, which its
 /// copies share. Contracts see its bytes.
-#[derive(Clone, Debug, Drop)]
+#[derive(Clone, Debug)]
 pub struct Title {
     text: ArcStr<Global>,
 }
@@ -29,6 +29,14 @@ impl Model for Title {
     ghost view = { λ t. arc_str_bytes t.text };
 
     ghost invariant = { λ t. IsTrue (is_title (arc_str_bytes t.text)) };
+}
+
+// By hand, so that what lets it go is proved here, and not again in each crate above.
+impl Drop for Title {
+    fn drop(self) {
+        let Title { text } = self;
+        drop(text);
+    }
 }
 
 impl Title {
@@ -87,7 +95,7 @@ fn is_title_byte(byte: u8) -> bool
 }
 
 /// What a picture shows: at most `MAX_CONTENT` bytes, which its copies share. Contracts see them.
-#[derive(Clone, Debug, Drop)]
+#[derive(Clone, Debug)]
 pub struct Content {
     bytes: Bytes,
 }
@@ -101,6 +109,14 @@ impl Model for Content {
     ghost view = { λ c. c.bytes };
 
     ghost invariant = { λ c. length c.bytes ≤ MAX_CONTENT };
+}
+
+// By hand, so that what lets it go is proved here, and not again in each crate above.
+impl Drop for Content {
+    fn drop(self) {
+        let Content { bytes } = self;
+        drop(bytes);
+    }
 }
 
 impl Content {

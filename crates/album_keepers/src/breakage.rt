@@ -2,9 +2,16 @@
 use std::sync::atomic::{AtomicBool, Ordering};
 
 /// A flag that the threads and the sessions of a service share. To set it takes no memory.
-#[derive(Drop)]
 pub struct Breakage {
     broken: AtomicBool,
+}
+
+// By hand, so that what lets it go is proved here, and not again in each crate above.
+impl Drop for Breakage {
+    fn drop(self) {
+        let Breakage { broken } = self;
+        drop(broken);
+    }
 }
 
 impl Breakage {

@@ -47,7 +47,6 @@ pub enum ControlAnswer {
 }
 
 /// A control request of a session, with a pass of the desk that J names. The tag is the session's own.
-#[derive(Drop)]
 pub struct ControlRequest<J: DeskNames> {
     client: ClientNo,
     tag: u64,
@@ -65,6 +64,20 @@ impl<J: DeskNames> Model for ControlRequest<J> {
 
     ghost invariant = { λ q. IsControlRequest J.table
         (record { client = q.client; tag = q.tag; control = q.control; pass = q.pass }) };
+}
+
+// By hand, so that what lets it go is proved here, and not again in each crate above.
+impl<J: DeskNames> Drop for ControlRequest<J> {
+    fn drop(self) {
+        let ControlRequest {
+            client: _,
+            tag: _,
+            control: _,
+            pass,
+            of: _,
+        } = self;
+        drop(pass);
+    }
 }
 
 impl<J: DeskNames> ControlRequest<J> {
@@ -118,7 +131,6 @@ impl<J: DeskNames> ControlRequest<J> {
 
 /// A partition's reply to a control request. Its pass is of the desk that J names, and shows the partition's history
 /// at the point at which the reply is true.
-#[derive(Drop)]
 pub struct ControlReply<J: DeskNames> {
     part: u16,
     tag: u64,
@@ -137,6 +149,22 @@ impl<J: DeskNames> Model for ControlReply<J> {
 
     ghost invariant = { λ n. IsControlReply J.table J.terms.limit
         (record { part = n.part; tag = n.tag; control = n.control; answer = n.answer; pass = n.pass }) };
+}
+
+// By hand, so that what lets it go is proved here, and not again in each crate above.
+impl<J: DeskNames> Drop for ControlReply<J> {
+    fn drop(self) {
+        let ControlReply {
+            part: _,
+            tag: _,
+            control: _,
+            answer,
+            pass,
+            of: _,
+        } = self;
+        drop(answer);
+        drop(pass);
+    }
 }
 
 impl<J: DeskNames> ControlReply<J> {

@@ -15,7 +15,6 @@ use std::marker::{Model, PhantomData};
 /// - a Get: each of its stamps is committed somewhere;
 /// - a Check: an item of its stamp is placed at the receiver;
 /// - a vote: the mark that it reports.
-#[derive(Drop)]
 pub struct RequestEnvelope<J: DeskNames> {
     message: Message,
     pass: Pass,
@@ -30,6 +29,19 @@ impl<J: DeskNames> Model for RequestEnvelope<J> {
     ghost view = { λ l. record { message = l.message; pass = l.pass } };
 
     ghost invariant = { λ l. IsRequestEnvelope J.table (record { message = l.message; pass = l.pass }) };
+}
+
+// By hand, so that what lets it go is proved here, and not again in each crate above.
+impl<J: DeskNames> Drop for RequestEnvelope<J> {
+    fn drop(self) {
+        let RequestEnvelope {
+            message,
+            pass,
+            of: _,
+        } = self;
+        drop(message);
+        drop(pass);
+    }
 }
 
 impl<J: DeskNames> RequestEnvelope<J> {
@@ -75,7 +87,6 @@ impl<J: DeskNames> RequestEnvelope<J> {
 /// and its cut shows the partition exactly as it was when it had replied. Where it replies a version of an item, the
 /// envelope says whether the partition had committed a newer one by then. It has a number, too, below which no stamp
 /// was pending there.
-#[derive(Drop)]
 pub struct ReplyEnvelope<J: DeskNames> {
     request: Message,
     reply: Message,
@@ -106,6 +117,23 @@ impl<J: DeskNames> Model for ReplyEnvelope<J> {
       settled_below = a.settled_below;
       pass = a.pass;
     }) };
+}
+
+// By hand, so that what lets it go is proved here, and not again in each crate above.
+impl<J: DeskNames> Drop for ReplyEnvelope<J> {
+    fn drop(self) {
+        let ReplyEnvelope {
+            request,
+            reply,
+            overtaken: _,
+            settled_below: _,
+            pass,
+            of: _,
+        } = self;
+        drop(request);
+        drop(reply);
+        drop(pass);
+    }
 }
 
 impl<J: DeskNames> ReplyEnvelope<J> {

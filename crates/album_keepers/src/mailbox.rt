@@ -58,11 +58,18 @@ pub enum SessionMail<J: DeskNames> {
 }
 
 /// Where a thread takes what lies in its mailbox.
-#[derive(Drop)]
 pub struct Inbox<T> {
     from: Receiver<T>,
     /// How many times more it sleeps at once.
     naps: u32,
+}
+
+// By hand, so that what lets it go is proved here, and not again in each crate above.
+impl<T: Drop> Drop for Inbox<T> {
+    fn drop(self) {
+        let Inbox { from, naps: _ } = self;
+        drop(from);
+    }
 }
 
 impl<T: Drop> Inbox<T> {

@@ -12,7 +12,7 @@ pub struct Row {
 }
 
 /// Children that are listed, with their titles. Contracts see them in order.
-#[derive(Debug, Drop)]
+#[derive(Debug)]
 pub struct Rows {
     rows: Vec<Row>,
 }
@@ -24,6 +24,14 @@ impl Model for Rows {
     ghost Value = { List Row };
 
     ghost view = { λ r. r.rows.items };
+}
+
+// By hand, so that what lets it go is proved here, and not again in each crate above.
+impl Drop for Rows {
+    fn drop(self) {
+        let Rows { rows } = self;
+        drop(rows);
+    }
 }
 
 impl Rows {

@@ -51,7 +51,7 @@ pub enum Holder {
 
 /// At most `MAX_ENTRIES` entries, each one that a line can spell, and with `INHERIT_ONLY` only where
 /// something inherits it. Contracts see the entries in order.
-#[derive(Debug, Drop)]
+#[derive(Debug)]
 pub struct AccessList {
     entries: SharedList<Ace>,
 }
@@ -68,6 +68,14 @@ impl Model for AccessList {
     ghost view = { λ l. l.entries };
 
     ghost invariant = { λ l. (length l.entries ≤ MAX_ENTRIES) × IsTrue (list_all is_whole l.entries) };
+}
+
+// By hand, so that what lets it go is proved here, and not again in each crate above.
+impl Drop for AccessList {
+    fn drop(self) {
+        let AccessList { entries } = self;
+        drop(entries);
+    }
 }
 
 // By hand, since the search doesn't find a derived clone of what holds a list equal.

@@ -10,7 +10,7 @@ use std::sync::Arc;
 
 /// Elements in order, in a list of its own until it is shared, and from then on in one that all its
 /// copies have together. Contracts see the elements.
-#[derive(Debug, Drop)]
+#[derive(Debug)]
 pub struct SharedList<T> {
     kept: Kept<T>,
 }
@@ -29,6 +29,14 @@ impl<T> Model for SharedList<T> {
     ghost use Rattle.album_lists.specs.SharedLists.{elements};
 
     ghost view = { λ l. elements l.kept };
+}
+
+// By hand, so that what lets it go is proved here, and not again in each crate above.
+impl<T: Drop> Drop for SharedList<T> {
+    fn drop(self) {
+        let SharedList { kept } = self;
+        drop(kept);
+    }
 }
 
 impl<T: Drop> SharedList<T> {

@@ -30,7 +30,7 @@ use std::marker::Model;
 
 /// A partition: a state machine over messages. Contracts see its number, what it opened with, its
 /// marks and the votes that it noted.
-#[derive(Debug, Drop)]
+#[derive(Debug)]
 pub struct Partition {
     alloc: Global,
     /// Which partition this is, and of how many.
@@ -67,6 +67,23 @@ impl Model for Partition {
       marks = p.stored;
       votes = p.votes.items;
     }) };
+}
+
+// By hand, so that what lets it go is proved here, and not again in each crate above.
+impl Drop for Partition {
+    fn drop(self) {
+        let Partition {
+            alloc: _,
+            seat: _,
+            limit: _,
+            items,
+            stored,
+            votes,
+        } = self;
+        drop(items);
+        drop(stored);
+        drop(votes);
+    }
 }
 
 impl Partition {

@@ -24,7 +24,6 @@ const WORDS: usize = PARTS + 1;
 /// The shared registry of a service: a word for each partition, which counts the marks of its
 /// history, and one that counts the numbers drawn. Contracts see its table, and what it was opened
 /// with.
-#[derive(Drop)]
 pub struct Desk {
     pub(crate) table: Table<u8, SeatView, Plan, OneRun, Global>,
     pub(crate) parts: usize,
@@ -42,6 +41,19 @@ impl Model for Desk {
     ghost view = { λ d. record { table = d.table.shared.table_id; terms = d.table.shared.key } };
 
     ghost invariant = { λ d. IsDesk d.table.shared.table_id d.table.shared.key d.parts d.limit d.sessions };
+}
+
+// By hand, so that what lets it go is proved here, and not again in each crate above.
+impl Drop for Desk {
+    fn drop(self) {
+        let Desk {
+            table,
+            parts: _,
+            limit: _,
+            sessions: _,
+        } = self;
+        drop(table);
+    }
 }
 
 impl Desk {
@@ -124,7 +136,12 @@ impl Desk {
                 given: self,
             });
         };
-        let Desk { table, .. } = self;
+        let Desk {
+            table,
+            parts: _,
+            limit: _,
+            sessions: _,
+        } = self;
         let closed = table.close();
         for part in 0..parts {
             words.push_reserved(closed.word(part + 1));

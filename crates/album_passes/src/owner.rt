@@ -14,7 +14,6 @@ use std::marker::Model;
 
 /// The one owner of a partition's history. Its cut has all of that history. Contracts see its
 /// desk's table, which partition it is, and the cut.
-#[derive(Drop)]
 pub struct Owner {
     holding: Holding,
     part: usize,
@@ -28,6 +27,14 @@ impl Model for Owner {
     ghost view = { λ o. owner_of o.holding o.part };
 
     ghost invariant = { λ o. IsOwner o.holding o.part };
+}
+
+// By hand, so that what lets it go is proved here, and not again in each crate above.
+impl Drop for Owner {
+    fn drop(self) {
+        let Owner { holding, part: _ } = self;
+        drop(holding);
+    }
 }
 
 impl Owner {

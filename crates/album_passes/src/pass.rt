@@ -18,7 +18,6 @@ use std::sync::Wait;
 /// What was seen of the partitions' histories and of the announced lists: a cut. When the program
 /// runs it is a version vector. It may hold a client's number, which no other pass of its desk holds
 /// then. Contracts see its desk's table, the cut, the number, and what was drawn.
-#[derive(Drop)]
 pub struct Pass {
     holding: Holding,
 }
@@ -29,6 +28,14 @@ impl Model for Pass {
     ghost Value = { PassState };
 
     ghost view = { λ p. pass_of p.holding };
+}
+
+// By hand, so that what lets it go is proved here, and not again in each crate above.
+impl Drop for Pass {
+    fn drop(self) {
+        let Pass { holding } = self;
+        drop(holding);
+    }
 }
 
 impl Pass {
@@ -43,7 +50,8 @@ impl Pass {
     pub(crate) fn into_holding(self) -> Holding
         ensures { self ≡ pass_of result }
     {
-        self.holding
+        let Pass { holding } = self;
+        holding
     }
 
     /// How many marks the pass has seen of the partition's history. Its cut is sound: it is

@@ -190,11 +190,31 @@ pub fn serve_beside<T: Host, O: Read, R: Read + Send + Drop, W: Write>(
 
 /// What a service is run with, in addition to its opening: the input after that, if it is read, its port and limits,
 /// and the audit file.
-#[derive(Drop)]
 struct Setup<R: Drop> {
     input: Option<R>,
     serving: Serving,
     audit: Option<AuditFile>,
+}
+
+// By hand, so that what lets it go is proved here, and not case by case where a call fails.
+impl<R: Drop> Drop for Setup<R> {
+    fn drop(self) {
+        let (input, serving, audit) = self.into_parts();
+        drop(input);
+        drop(serving);
+        drop(audit);
+    }
+}
+
+impl<R: Drop> Setup<R> {
+    fn into_parts(self) -> (Option<R>, Serving, Option<AuditFile>) {
+        let Setup {
+            input,
+            serving,
+            audit,
+        } = self;
+        (input, serving, audit)
+    }
 }
 
 /// What was opened, and its port; or how `serve` ends without them.
@@ -498,11 +518,7 @@ fn parted<J: ServiceNames, R: Drop>(
     setup: Setup<R>,
     ends: Ends<J>,
 ) -> (Shared<J>, Own<R>) {
-    let Setup {
-        input,
-        serving,
-        audit,
-    } = setup;
+    let (input, serving, audit) = setup.into_parts();
     let Ends {
         gauge,
         unwritten,

@@ -16,7 +16,7 @@ use std::marker::Model;
 
 /// A read of items under way. Contracts see its items, client, tag and number of partitions, the
 /// stamps that it asks with in its second round, and of each item the first answer.
-#[derive(Debug, Drop)]
+#[derive(Debug)]
 pub struct Reading {
     round: Round,
 }
@@ -29,6 +29,14 @@ impl Model for Reading {
     ghost view = { λ a. a.round };
 
     ghost invariant = { λ a. IsOpen a.round };
+}
+
+// By hand, so that what lets it go is proved here, and not again in each crate above.
+impl Drop for Reading {
+    fn drop(self) {
+        let Reading { round } = self;
+        drop(round);
+    }
 }
 
 /// The read after a message.

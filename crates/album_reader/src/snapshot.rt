@@ -10,7 +10,7 @@ use std::marker::Model;
 
 /// What was read: of each item the stamp and the value, each found by one look-up, however many there
 /// are. Contracts see these answers, in the order in which the items were asked.
-#[derive(Debug, Drop)]
+#[derive(Debug)]
 pub struct Snapshot {
     // Each answer is at the index of its item.
     items: IndexSet<ItemId>,
@@ -27,6 +27,15 @@ impl Model for Snapshot {
     ghost view = { λ s. s.answers.items };
 
     ghost invariant = { λ s. s.items.keys ≡ items_read s.answers.items };
+}
+
+// By hand, so that what lets it go is proved here, and not again in each crate above.
+impl Drop for Snapshot {
+    fn drop(self) {
+        let Snapshot { items, answers } = self;
+        drop(items);
+        drop(answers);
+    }
 }
 
 impl Snapshot {

@@ -100,9 +100,16 @@ impl Hint {
 
 /// The hints of a service, for all its sessions. Each has a lock of its own, and no one waits for it: where another
 /// session has it, there is no hint.
-#[derive(Drop)]
 pub struct Hints {
     slots: Vec<Mutex<Option<Hint>>>,
+}
+
+// By hand, so that what lets it go is proved here, and not again in each crate above.
+impl Drop for Hints {
+    fn drop(self) {
+        let Hints { slots } = self;
+        drop(slots);
+    }
 }
 
 impl Hints {

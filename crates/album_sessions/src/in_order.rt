@@ -20,11 +20,24 @@ use std::sync::Wait;
 use std::time;
 
 /// An answer, with what its request listened to before it began, and the publication that came before the answer.
-#[derive(Drop)]
 pub struct Acknowledged<J: ServiceNames> {
     pub answer: Answer,
     pub listened: Listened<J>,
     pub published: Published<J>,
+}
+
+// By hand, so that what lets it go is proved here, and not again in each crate above.
+impl<J: ServiceNames> Drop for Acknowledged<J> {
+    fn drop(self) {
+        let Acknowledged {
+            answer,
+            listened,
+            published,
+        } = self;
+        drop(answer);
+        drop(listened);
+        drop(published);
+    }
 }
 
 impl<J: ServiceNames> Acknowledged<J> {

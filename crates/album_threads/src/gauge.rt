@@ -9,12 +9,24 @@ use std::alloc::Global;
 use std::sync::{Arc, Mutex, Wait};
 
 /// The mailboxes of a service's partitions, and its audit book. Threads may share it.
-#[derive(Drop)]
 pub struct Gauge<J: ServiceNames> {
     pub(crate) alloc: Global,
     /// Of the partitions, in order.
     pub(crate) mailboxes: Vec<Sender<PartitionMail<J>>>,
     pub(crate) book: Arc<Mutex<AuditBook<J>>, Global>,
+}
+
+// By hand, so that what lets it go is proved here, and not again in each crate above.
+impl<J: ServiceNames> Drop for Gauge<J> {
+    fn drop(self) {
+        let Gauge {
+            alloc: _,
+            mailboxes,
+            book,
+        } = self;
+        drop(mailboxes);
+        drop(book);
+    }
 }
 
 impl<J: ServiceNames> Gauge<J> {

@@ -18,7 +18,7 @@ pub struct NewList {
 }
 
 /// Objects, each with the list that it is to have. Contracts see them in order.
-#[derive(Clone, Debug, Drop)]
+#[derive(Clone, Debug)]
 pub struct NewLists {
     lists: Vec<NewList>,
 }
@@ -30,6 +30,14 @@ impl Model for NewLists {
     ghost Value = { List NewList };
 
     ghost view = { λ l. l.lists.items };
+}
+
+// By hand, so that what lets it go is proved here, and not again in each crate above.
+impl Drop for NewLists {
+    fn drop(self) {
+        let NewLists { lists } = self;
+        drop(lists);
+    }
 }
 
 impl NewLists {
@@ -57,7 +65,7 @@ pub struct NewMembership {
 }
 
 /// Groups, each with the members that it is to have. Contracts see them in order.
-#[derive(Clone, Debug, Drop)]
+#[derive(Clone, Debug)]
 pub struct NewMemberships {
     members: Vec<NewMembership>,
 }
@@ -69,6 +77,14 @@ impl Model for NewMemberships {
     ghost Value = { List NewMembership };
 
     ghost view = { λ m. m.members.items };
+}
+
+// By hand, so that what lets it go is proved here, and not again in each crate above.
+impl Drop for NewMemberships {
+    fn drop(self) {
+        let NewMemberships { members } = self;
+        drop(members);
+    }
 }
 
 impl NewMemberships {

@@ -10,7 +10,7 @@ use album_stamps::Stamp;
 use std::marker::Model;
 
 /// An ask, and the one snapshot on which it is ruled, which has every item that the ruling looks at.
-#[derive(Debug, Drop)]
+#[derive(Debug)]
 pub struct View {
     ask: Ask,
     snapshot: Snapshot,
@@ -24,6 +24,15 @@ impl Model for View {
     ghost view = { λ v. record { ask = v.ask; rows = v.snapshot } };
 
     ghost invariant = { λ v. IsView (record { ask = v.ask; rows = v.snapshot }) };
+}
+
+// By hand, so that what lets it go is proved here, and not again in each crate above.
+impl Drop for View {
+    fn drop(self) {
+        let View { ask, snapshot } = self;
+        drop(ask);
+        drop(snapshot);
+    }
 }
 
 impl View {

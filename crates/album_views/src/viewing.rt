@@ -19,7 +19,7 @@ use std::alloc::Global;
 use std::marker::Model;
 
 /// An ask that has no view yet. Contracts see the ask, and how many reads were made for it.
-#[derive(Clone, Debug, Drop)]
+#[derive(Clone, Debug)]
 pub struct Viewing {
     ask: Ask,
     reads: u8,
@@ -33,6 +33,14 @@ impl Model for Viewing {
     ghost view = { λ v. record { ask = v.ask; reads = v.reads } };
 
     ghost invariant = { λ v. IsViewing (record { ask = v.ask; reads = v.reads }) };
+}
+
+// By hand, so that what lets it go is proved here, and not again in each crate above.
+impl Drop for Viewing {
+    fn drop(self) {
+        let Viewing { ask, reads: _ } = self;
+        drop(ask);
+    }
 }
 
 /// Why an ask has no view.
@@ -109,7 +117,8 @@ impl Viewing {
         ensures readable { AsksReadable result }
     {
         if has_all(&snapshot, &names) {
-            return ViewStep::Closed(View::of(self.ask, snapshot));
+            let Viewing { ask, reads: _ } = self;
+            return ViewStep::Closed(View::of(ask, snapshot));
         }
         self.unclosed(names)
     }
@@ -139,9 +148,10 @@ impl Viewing {
         if self.reads + 1 >= MAX_READS {
             return ViewStep::Busy(Why::Rounds);
         }
+        let Viewing { ask, reads } = self;
         let next = Viewing {
-            ask: self.ask,
-            reads: self.reads + 1,
+            ask,
+            reads: reads + 1,
         };
         ViewStep::Again(next, items)
     }

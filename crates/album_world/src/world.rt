@@ -28,7 +28,6 @@ use std::marker::Model;
 
 /// The store as one machine: partitions, clients and the messages between them. Contracts see the terms on which it
 /// opened, and what it keeps.
-#[derive(Drop)]
 pub struct World {
     alloc: Global,
     terms: Terms,
@@ -43,6 +42,18 @@ impl Model for World {
     ghost view = { λ w. record { terms = w.terms; kept = w.state } };
 
     ghost invariant = { λ w. IsReached (record { terms = w.terms; kept = w.state }) };
+}
+
+// By hand, so that what lets it go is proved here, and not again in each crate above.
+impl Drop for World {
+    fn drop(self) {
+        let World {
+            alloc: _,
+            terms: _,
+            state,
+        } = self;
+        drop(state);
+    }
 }
 
 impl World {

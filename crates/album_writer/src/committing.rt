@@ -20,7 +20,7 @@ use std::marker::Model;
 /// SIGMOD 2014, Algorithm 2). It can't be copied; dropping it leaves the write as it is. Contracts see the permit that
 /// was spent on it, its stamp, its client and tag, how many partitions there are, and the participants whose replies
 /// are outstanding.
-#[derive(Debug, Drop)]
+#[derive(Debug)]
 pub struct Committing {
     writing: Writing,
 }
@@ -34,6 +34,14 @@ impl Model for Committing {
     ghost view = { λ c. c.writing };
 
     ghost invariant = { λ c. c.writing.outstanding ≢ [] };
+}
+
+// By hand, so that what lets it go is proved here, and not again in each crate above.
+impl Drop for Committing {
+    fn drop(self) {
+        let Committing { writing } = self;
+        drop(writing);
+    }
 }
 
 /// The step that a message makes.

@@ -24,7 +24,7 @@ use std::marker::Model;
 /// SIGMOD 2014, Algorithm 2). It can't be copied; dropping it leaves the write as it is. Contracts see the permit that
 /// was spent on it, its stamp, its client and tag, how many partitions there are, and the participants whose replies
 /// are outstanding. Its Commits are made already, so that no message to it takes memory.
-#[derive(Debug, Drop)]
+#[derive(Debug)]
 pub struct Preparing {
     writing: Writing,
     commits: Vec<Message>,
@@ -40,6 +40,20 @@ impl Model for Preparing {
     ghost view = { λ p. p.writing };
 
     ghost invariant = { λ p. IsReady p.writing p.commits.items p.later.items };
+}
+
+// By hand, so that what lets it go is proved here, and not again in each crate above.
+impl Drop for Preparing {
+    fn drop(self) {
+        let Preparing {
+            writing,
+            commits,
+            later,
+        } = self;
+        drop(writing);
+        drop(commits);
+        drop(later);
+    }
 }
 
 /// The step that a message makes.
