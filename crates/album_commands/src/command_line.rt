@@ -4,7 +4,7 @@ use crate::asking::{ask_command, ask_service};
 use crate::explaining::{explain_command, explain_lines, flags_command, mask_command, tell_bits};
 use crate::judging::{judge_command, judge_lines};
 use crate::replaying::{replay_command, replay_lines};
-use crate::running::status;
+use crate::running::{status, with_subcommand};
 use crate::serving::serve_command;
 use crate::texts::{ABOUT, NO_TEXT};
 use album_judge::Fault;
@@ -31,17 +31,17 @@ pub fn parse<'a>(alloc: Global, words: &'a [String]) -> Result<ArgMatches<'a>, E
 }
 
 fn album_command<'a>(alloc: Global) -> Result<Command<'a>, AllocError> {
-    Command::new(alloc, "album")
+    let command = Command::new(alloc, "album")
         .about(ABOUT)
         .version(VERSION)
-        .subcommand_required(true)
-        .subcommand(judge_command(alloc)?)?
-        .subcommand(replay_command(alloc)?)?
-        .subcommand(serve_command(alloc)?)?
-        .subcommand(ask_command(alloc)?)?
-        .subcommand(explain_command(alloc)?)?
-        .subcommand(mask_command(alloc)?)?
-        .subcommand(flags_command(alloc)?)
+        .subcommand_required(true);
+    let command = with_subcommand(Ok(command), judge_command(alloc));
+    let command = with_subcommand(command, replay_command(alloc));
+    let command = with_subcommand(command, serve_command(alloc));
+    let command = with_subcommand(command, ask_command(alloc));
+    let command = with_subcommand(command, explain_command(alloc));
+    let command = with_subcommand(command, mask_command(alloc));
+    with_subcommand(command, flags_command(alloc))
 }
 
 /// Does what the command line names, but for `serve`, and gives the status that the program ends with. On a terminal

@@ -1,7 +1,7 @@
 //! The subcommands that explain: `explain` with the lines that are, and `mask` and `flags`, which give names for
 //! numbers and back.
 
-use crate::running::{TURNS, open, status};
+use crate::running::{TURNS, open, status, with_subcommand};
 use crate::texts::{
     EVENT_ABOUT, EXPLAIN_ABOUT, EXPLAIN_HELP, FLAGS_ABOUT, JUDGE_ABOUT, LINES_HELP, MASK_ABOUT,
     NAMES_HELP, OPENING_ABOUT, TALK_ABOUT,
@@ -22,13 +22,17 @@ use std::rt::Files;
 ///
 /// `AllocError`, where there is no memory for it.
 pub(crate) fn explain_command<'a>(alloc: Global) -> Result<Command<'a>, AllocError> {
-    Command::new(alloc, "explain")
+    let command = Command::new(alloc, "explain")
         .about(EXPLAIN_ABOUT)
-        .subcommand_required(true)
-        .subcommand(lines_command(alloc, "judge", JUDGE_ABOUT, EXPLAIN_HELP)?)?
-        .subcommand(lines_command(alloc, "opening", OPENING_ABOUT, LINES_HELP)?)?
-        .subcommand(lines_command(alloc, "event", EVENT_ABOUT, LINES_HELP)?)?
-        .subcommand(lines_command(alloc, "talk", TALK_ABOUT, LINES_HELP)?)
+        .subcommand_required(true);
+    let judge = lines_command(alloc, "judge", JUDGE_ABOUT, EXPLAIN_HELP);
+    let command = with_subcommand(Ok(command), judge);
+    let opening = lines_command(alloc, "opening", OPENING_ABOUT, LINES_HELP);
+    let command = with_subcommand(command, opening);
+    let event = lines_command(alloc, "event", EVENT_ABOUT, LINES_HELP);
+    let command = with_subcommand(command, event);
+    let talk = lines_command(alloc, "talk", TALK_ABOUT, LINES_HELP);
+    with_subcommand(command, talk)
 }
 
 fn lines_command<'a>(

@@ -1,8 +1,9 @@
-//! What the subcommands share: how many reads they make, the files that they read, and the status that they end with.
+//! What the subcommands share: how many reads they make, the files that they read, the status that they end with, and
+//! how they are put together.
 
 use album_judge::Fault;
-use clap::{Arg, value_parser};
-use std::alloc::Global;
+use clap::{Arg, Command, value_parser};
+use std::alloc::{AllocError, Global};
 use std::fs;
 use std::process::ExitCode;
 use std::rt::Files;
@@ -39,4 +40,21 @@ pub(crate) fn port_arg<'a>(alloc: Global) -> Arg<'a> {
         .help("The port of 127.0.0.1")
         .required(true)
         .value_parser(value_parser!(u16).range(1..))
+}
+
+/// The command with one more argument. What failed before stays so to the end: so a command is put together in as many
+/// calls as it has parts, and none of them is a way out that lets the others go.
+pub(crate) fn with_arg<'a>(
+    command: Result<Command<'a>, AllocError>,
+    arg: Arg<'a>,
+) -> Result<Command<'a>, AllocError> {
+    command?.arg(arg)
+}
+
+/// The command with one more subcommand, likewise.
+pub(crate) fn with_subcommand<'a>(
+    command: Result<Command<'a>, AllocError>,
+    subcommand: Result<Command<'a>, AllocError>,
+) -> Result<Command<'a>, AllocError> {
+    command?.subcommand(subcommand?)
 }

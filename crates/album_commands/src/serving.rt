@@ -1,6 +1,6 @@
 //! The subcommand `serve`: its arguments. `album` runs the service.
 
-use crate::running::port_arg;
+use crate::running::{port_arg, with_arg};
 use crate::texts::{SERVE_ABOUT, SERVE_HELP};
 use clap::{Arg, ArgAction, Command, value_parser};
 use std::alloc::{AllocError, Global};
@@ -11,17 +11,17 @@ use std::alloc::{AllocError, Global};
 ///
 /// `AllocError`, where there is no memory for it.
 pub(crate) fn serve_command<'a>(alloc: Global) -> Result<Command<'a>, AllocError> {
-    Command::new(alloc, "serve")
+    let command = Command::new(alloc, "serve")
         .about(SERVE_ABOUT)
-        .after_help(SERVE_HELP)
-        .arg(port_arg(alloc))?
-        .arg(conns_arg(alloc))?
-        .arg(idle_arg(alloc))?
-        .arg(until_eof_arg(alloc))?
-        .arg(opening_arg(alloc))?
-        .arg(admin_arg(alloc))?
-        .arg(stats_arg(alloc))?
-        .arg(audit_arg(alloc))
+        .after_help(SERVE_HELP);
+    let command = with_arg(Ok(command), port_arg(alloc));
+    let command = with_arg(command, conns_arg(alloc));
+    let command = with_arg(command, idle_arg(alloc));
+    let command = with_arg(command, until_eof_arg(alloc));
+    let command = with_arg(command, opening_arg(alloc));
+    let command = with_arg(command, admin_arg(alloc));
+    let command = with_arg(command, stats_arg(alloc));
+    with_arg(command, audit_arg(alloc))
 }
 
 fn conns_arg<'a>(alloc: Global) -> Arg<'a> {

@@ -1,7 +1,6 @@
 //! The lines that are written: {"answer", "at", "bits", "line"}, {"at", "line", "name", "refused", "value"}.
 ghost use Rattle.std.specs.Prelude.{◌≡◌, ◌++◌, ◌<◌, false, map, IfOk, Some, None, option_map, string_bytes};
 ghost use Rattle.serde_json.specs.View.{view, members_view};
-ghost use Rattle.serde_json.specs.Written.{has_float};
 ghost use Rattle.album_lines.specs.Output.{line_text};
 ghost use Rattle.album_eval.specs.Matching.{case_of};
 ghost use Rattle.album_eval.specs.declared.verdicts.Verdict.TheVariants.{Granted};
@@ -14,10 +13,11 @@ use crate::names::bit_name;
 use crate::places::Found;
 use album_access::Mask;
 use album_eval::{Facts, Verdict};
+use album_lines::{array_of, line, object_of, with_item, with_member};
 use album_lists::{AccessList, Holder};
 use album_stamps::Refusal;
 use bitflags::Flags;
-use serde_json::{Map, Value, json, put};
+use serde_json::{Map, Value};
 use std::alloc::{AllocError, Global};
 
 /// A bit that is asked, and how it is decided.
@@ -56,7 +56,7 @@ fn refused_json(
         view v ≡ refused_json number refusal (option_map (λ f. place_of f.now) found.entry)) }
 {
     match found {
-        None => Ok(Value::Object(refused_fields(alloc, number, refusal)?)),
+        None => object_of(refused_fields(alloc, number, refusal)),
         Some(found) => refused_at(alloc, number, refusal, found.at.as_str(), found.value),
     }
 }
@@ -70,14 +70,12 @@ fn refused_at(
 ) -> Result<Value, AllocError>
     ensures { IfOk result (λ v. view v ≡ refused_at number refusal at.now value) }
 {
-    let mut fields = refused_fields(alloc, number, refusal)?;
-    let place = Value::try_from_str(alloc, at)?;
-    put(&mut fields, alloc, "at", place)?;
+    let fields = refused_fields(alloc, number, refusal);
+    let fields = with_member(alloc, fields, "at", Value::try_from_str(alloc, at));
     let Some(value) = value else {
-        return Ok(Value::Object(fields));
+        return object_of(fields);
     };
-    put(&mut fields, alloc, "value", Value::from(value))?;
-    Ok(Value::Object(fields))
+    object_of(with_member(alloc, fields, "value", Ok(Value::from(value))))
 }
 
 /// What the line of a refusal says in addition to its place.
@@ -88,12 +86,11 @@ fn refused_fields(
 ) -> Result<Map<String, Value>, AllocError>
     ensures { IfOk result (λ fields. members_view fields.entries ≡ refused_fields number refusal) }
 {
-    let mut fields = Map::new(alloc);
-    put(&mut fields, alloc, "line", Value::from(number))?;
-    let name = Value::try_from_str(alloc, refusal.name())?;
-    put(&mut fields, alloc, "name", name)?;
-    put(&mut fields, alloc, "refused", Value::from(refusal.number()))?;
-    Ok(fields)
+    let fields = Ok(Map::new(alloc));
+    let fields = with_member(alloc, fields, "line", Ok(Value::from(number)));
+    let name = Value::try_from_str(alloc, refusal.name());
+    let fields = with_member(alloc, fields, "name", name);
+    with_member(alloc, fields, "refused", Ok(Value::from(refusal.number())))
 }
 
 /// The bits of the mask that have a name, rising, each with its decision.
@@ -158,7 +155,10 @@ fn explanation_json(
 fn granted_json(alloc: Global, number: u64, rows: &[BitRow]) -> Result<Value, AllocError>
     ensures { IfOk result (λ v. view v ≡ explanation_json number Granted (map bit_row rows.now)) }
 {
-    json!(in alloc; {"answer": "granted", "bits": bits_json(alloc, rows)?, "line": number})
+    let answer = Value::try_from_str(alloc, "granted");
+    let fields = with_member(alloc, Ok(Map::new(alloc)), "answer", answer);
+    let fields = with_member(alloc, fields, "bits", bits_json(alloc, rows));
+    object_of(with_member(alloc, fields, "line", Ok(Value::from(number))))
 }
 
 /// The line of a denial that is decided as `decision` says.
@@ -171,29 +171,31 @@ fn denied_json(
     ensures { IfOk result (λ v.
         view v ≡ denied_json number (decision_at_json decision) (map bit_row rows.now)) }
 {
-    json!(in alloc; {
-        "answer": "denied",
-        "at": decision_at(alloc, decision)?,
-        "bits": bits_json(alloc, rows)?,
-        "line": number,
-    })
+    let answer = Value::try_from_str(alloc, "denied");
+    let fields = with_member(alloc, Ok(Map::new(alloc)), "answer", answer);
+    let fields = with_member(alloc, fields, "at", decision_at(alloc, decision));
+    let fields = with_member(alloc, fields, "bits", bits_json(alloc, rows));
+    object_of(with_member(alloc, fields, "line", Ok(Value::from(number))))
 }
 
 fn bits_json(alloc: Global, rows: &[BitRow]) -> Result<Value, AllocError>
     ensures { IfOk result (λ v. view v ≡ bits_json (map bit_row rows.now)) }
 {
-    let mut values = Vec::with_capacity(alloc, rows.len())?;
+    let mut values = Vec::with_capacity(alloc, rows.len());
     for row in rows {
-        values.push(bit_json(alloc, *row)?)?;
+        values = with_item(values, bit_json(alloc, *row));
     }
-    Ok(Value::from(values))
+    array_of(values)
 }
 
 /// [name, word, at]
 fn bit_json(alloc: Global, row: BitRow) -> Result<Value, AllocError>
     ensures { IfOk result (λ v. view v ≡ bit_json (bit_row row)) }
 {
-    json!(in alloc; [row.name, decision_word(row.decision), decision_at(alloc, row.decision)?])
+    let word = decision_word(row.decision);
+    let parts = with_item(Ok(Vec::new(alloc)), Value::try_from_str(alloc, row.name));
+    let parts = with_item(parts, Value::try_from_str(alloc, word));
+    array_of(with_item(parts, decision_at(alloc, row.decision)))
 }
 
 fn decision_word(decision: Decision) -> &'static str
@@ -214,18 +216,4 @@ fn decision_at(alloc: Global, decision: Decision) -> Result<Value, AllocError>
         Decision::AllowedBy(index) | Decision::DeniedBy(index) => Ok(Value::from(index)),
         Decision::DeniedAtEnd => Value::try_from_str(alloc, "end"),
     }
-}
-
-/// The line of a value that has no float.
-///
-/// # Errors
-///
-/// `AllocError`.
-pub fn line(alloc: Global, value: &Value) -> Result<Vec<u8>, AllocError>
-    requires { has_float (view value.now) ≡ false }
-    ensures { IfOk result (λ bytes. bytes.items ≡ line_text (view value.now)) }
-{
-    let mut bytes = value.to_vec(alloc)?;
-    bytes.push(b'\n')?;
-    Ok(bytes)
 }

@@ -32,7 +32,7 @@ mod judging;
 pub use decisions::{Decision, decide, verdict_by_bits};
 pub use explainer::Explainer;
 pub use explaining::{Progress, explain};
-pub use explanations::{BitRow, line, write_refused};
+pub use explanations::{BitRow, write_refused};
 pub use judging::JudgeLines;
 pub use names::{bit_name, write_flags, write_mask};
 pub use places::{Found, find_byte, find_entries_form, find_entries_value};

@@ -6,10 +6,11 @@ ghost use Rattle.album_access.specs.Bits.{mask_bits, flag_bits};
 ghost use Rattle.album_explain.specs.Names.{bit_name};
 
 use album_access::{AceFlags, Mask};
+use album_lines::{array_of, object_of, with_item, with_member};
 use album_lists::Holder;
 use album_stamps::Refusal;
 use bitflags::{Flag, Flags};
-use serde_json::{Value, json};
+use serde_json::{Map, Value};
 use std::alloc::{AllocError, Global};
 
 /// What a bit of a mask is called on an object of this kind (RFC 7530, section 6.2.1.3.1).
@@ -32,10 +33,7 @@ pub fn bit_name(holder: Holder, flag: &Flag<Mask>) -> &'static str
 pub fn write_mask(alloc: Global, text: &str) -> Result<Vec<u8>, Refusal> {
     let value = match number(text) {
         Some(number) => mask_json(alloc, mask_of(number)?)?,
-        None => {
-            let bits = mask_named(text)?.bits();
-            json!(in alloc; {"mask": bits})?
-        }
+        None => number_json(alloc, "mask", mask_named(text)?.bits())?,
     };
     Ok(line(alloc, &value)?)
 }
@@ -48,10 +46,7 @@ pub fn write_mask(alloc: Global, text: &str) -> Result<Vec<u8>, Refusal> {
 pub fn write_flags(alloc: Global, text: &str) -> Result<Vec<u8>, Refusal> {
     let value = match number(text) {
         Some(number) => flags_json(alloc, flags_of(number)?)?,
-        None => {
-            let bits = flags_named(text)?.bits();
-            json!(in alloc; {"flags": bits})?
-        }
+        None => number_json(alloc, "flags", flags_named(text)?.bits())?,
     };
     Ok(line(alloc, &value)?)
 }
@@ -101,25 +96,33 @@ fn flags_named(text: &str) -> Result<AceFlags, Refusal> {
 }
 
 fn mask_json(alloc: Global, mask: Mask) -> Result<Value, AllocError> {
-    let mut names = Vec::new(alloc);
+    let mut names = Ok(Vec::new(alloc));
     for flag in Mask::flags() {
         if mask.contains(flag.value) {
-            names.push(Value::try_from_str(alloc, flag.name)?)?;
+            names = with_item(names, Value::try_from_str(alloc, flag.name));
         }
     }
-    let names = Value::from(names);
-    json!(in alloc; {"mask": mask.bits(), "names": names})
+    let fields = number_fields(alloc, "mask", mask.bits());
+    object_of(with_member(alloc, fields, "names", array_of(names)))
 }
 
 fn flags_json(alloc: Global, flags: AceFlags) -> Result<Value, AllocError> {
-    let mut names = Vec::new(alloc);
+    let mut names = Ok(Vec::new(alloc));
     for flag in AceFlags::flags() {
         if flags.contains(flag.value) {
-            names.push(Value::try_from_str(alloc, flag.name)?)?;
+            names = with_item(names, Value::try_from_str(alloc, flag.name));
         }
     }
-    let names = Value::from(names);
-    json!(in alloc; {"flags": flags.bits(), "names": names})
+    let fields = number_fields(alloc, "flags", flags.bits());
+    object_of(with_member(alloc, fields, "names", array_of(names)))
+}
+
+fn number_json(alloc: Global, name: &str, bits: u32) -> Result<Value, AllocError> {
+    object_of(number_fields(alloc, name, bits))
+}
+
+fn number_fields(alloc: Global, name: &str, bits: u32) -> Result<Map<String, Value>, AllocError> {
+    with_member(alloc, Ok(Map::new(alloc)), name, Ok(Value::from(bits)))
 }
 
 fn line(alloc: Global, value: &Value) -> Result<Vec<u8>, AllocError> {

@@ -6,11 +6,11 @@ ghost use Rattle.album_explain_store.specs.Explanations.{kind_word, lines_word, 
 
 use crate::places::find;
 use crate::places::tables::Table;
-use album_explain::{Found, line, write_refused};
-use album_lines::LineIn;
+use album_explain::{Found, write_refused};
+use album_lines::{LineIn, line, object_of, with_member};
 use album_stamps::Refusal;
 use json::Scratch;
-use serde_json::{Value, json};
+use serde_json::{Map, Value};
 use std::alloc::{AllocError, Global};
 
 /// Where a line is: in an opening, among the events of a script, or in a connection.
@@ -94,9 +94,11 @@ pub(crate) fn explain_taken(
 fn taken_json(alloc: Global, number: u64, taken: Taken) -> Result<Value, AllocError>
     ensures { IfOk result (λ v. view v ≡ taken_json number taken) }
 {
-    let kind = kind_word(taken.kind);
-    let lines = lines_word(taken.lines);
-    json!(in alloc; {"kind": kind, "line": number, "reads": lines})
+    let kind = Value::try_from_str(alloc, kind_word(taken.kind));
+    let fields = with_member(alloc, Ok(Map::new(alloc)), "kind", kind);
+    let fields = with_member(alloc, fields, "line", Ok(Value::from(number)));
+    let lines = Value::try_from_str(alloc, lines_word(taken.lines));
+    object_of(with_member(alloc, fields, "reads", lines))
 }
 
 fn kind_word(kind: Kind) -> &'static str

@@ -5,11 +5,11 @@ ghost use Rattle.album_lines.specs.Spelling.{whole_data, list_data};
 ghost use Rattle.album_lines.specs.Output.{line_text};
 ghost use Rattle.album_wire.specs.FiguresJson.{connections_json, marks_json, figures_of, figures_json, figures_text};
 
-use crate::out_json::line;
 use crate::talk_json::{Counted, totals_fields};
+use album_lines::{array_of, line, object_of, with_item, with_member};
 use album_partition::Figures;
 use album_stamps::Refusal;
-use serde_json::{Value, json, put};
+use serde_json::Value;
 use std::alloc::{AllocError, Global};
 
 /// How much a service has at some time.
@@ -56,16 +56,27 @@ pub fn worked_figures()
 fn figures_json(alloc: Global, figures: &ServiceFigures) -> Result<Value, AllocError>
     ensures { IfOk result (λ v. view v ≡ figures_json figures.now) }
 {
-    let mut fields = totals_fields(alloc, figures.audits, figures.alarms)?;
-    let connections = connections_json(alloc, figures)?;
-    put(&mut fields, alloc, "connections", connections)?;
-    let marks = all_marks_json(alloc, &figures.parts)?;
-    put(&mut fields, alloc, "marks", marks)?;
-    let pending = pending_json(alloc, &figures.parts)?;
-    put(&mut fields, alloc, "pending", pending)?;
-    let versions = versions_json(alloc, &figures.parts)?;
-    put(&mut fields, alloc, "versions", versions)?;
-    Ok(Value::Object(fields))
+    let fields = totals_fields(alloc, figures.audits, figures.alarms);
+    let fields = with_member(
+        alloc,
+        fields,
+        "connections",
+        connections_json(alloc, figures),
+    );
+    let fields = with_member(
+        alloc,
+        fields,
+        "marks",
+        all_marks_json(alloc, &figures.parts),
+    );
+    let fields = with_member(
+        alloc,
+        fields,
+        "pending",
+        pending_json(alloc, &figures.parts),
+    );
+    let versions = versions_json(alloc, &figures.parts);
+    object_of(with_member(alloc, fields, "versions", versions))
 }
 
 /// [those that are there, those that were, those that may be]
@@ -73,54 +84,45 @@ fn connections_json(alloc: Global, figures: &ServiceFigures) -> Result<Value, Al
     ensures { IfOk result
         (λ v. view v ≡ connections_json figures.now.connected figures.now.begun figures.now.most) }
 {
-    json!(in alloc; [figures.connected, figures.begun, figures.most])
+    let parts = with_item(Ok(Vec::new(alloc)), Ok(Value::from(figures.connected)));
+    let parts = with_item(parts, Ok(Value::from(figures.begun)));
+    array_of(with_item(parts, Ok(Value::from(figures.most))))
 }
 
 fn all_marks_json(alloc: Global, parts: &[Figures]) -> Result<Value, AllocError>
     ensures { IfOk result (λ v. view v ≡ list_data (map marks_json parts.now)) }
 {
-    let mut values = Vec::with_capacity(alloc, parts.len())?;
+    let mut values = Vec::with_capacity(alloc, parts.len());
     for part in parts {
-        values.push(marks_json(alloc, part)?)?;
+        values = with_item(values, marks_json(alloc, part));
     }
-    Ok(Value::from(values))
+    array_of(values)
 }
 
 /// [those that are made, those for which there is room]
 fn marks_json(alloc: Global, part: &Figures) -> Result<Value, AllocError>
     ensures { IfOk result (λ v. view v ≡ marks_json part.now) }
 {
-    json!(in alloc; [part.marks, part.limit])
+    let pair = with_item(Ok(Vec::new(alloc)), Ok(Value::from(part.marks)));
+    array_of(with_item(pair, Ok(Value::from(part.limit))))
 }
 
 fn pending_json(alloc: Global, parts: &[Figures]) -> Result<Value, AllocError>
     ensures { IfOk result (λ v. view v ≡ list_data (map (λ part. whole_data part.pending) parts.now)) }
 {
-    let mut values = Vec::with_capacity(alloc, parts.len())?;
+    let mut values = Vec::with_capacity(alloc, parts.len());
     for part in parts {
-        values.push(pending_value(part))?;
+        values = with_item(values, Ok(Value::from(part.pending)));
     }
-    Ok(Value::from(values))
-}
-
-fn pending_value(part: &Figures) -> Value
-    ensures { view result ≡ whole_data part.now.pending }
-{
-    Value::from(part.pending)
+    array_of(values)
 }
 
 fn versions_json(alloc: Global, parts: &[Figures]) -> Result<Value, AllocError>
     ensures { IfOk result (λ v. view v ≡ list_data (map (λ part. whole_data part.versions) parts.now)) }
 {
-    let mut values = Vec::with_capacity(alloc, parts.len())?;
+    let mut values = Vec::with_capacity(alloc, parts.len());
     for part in parts {
-        values.push(versions_value(part))?;
+        values = with_item(values, Ok(Value::from(part.versions)));
     }
-    Ok(Value::from(values))
-}
-
-fn versions_value(part: &Figures) -> Value
-    ensures { view result ≡ whole_data part.now.versions }
-{
-    Value::from(part.versions)
+    array_of(values)
 }

@@ -11,8 +11,9 @@ ghost use Rattle.album_wire.specs.MessageJson.{node_text, vote_word, stamps_json
 use crate::value_json::{item_json, item_list_json, value_json};
 use album_calls::{Body, Message, Node, Reply, Request, Vote};
 use album_items::ItemId;
+use album_lines::{array_of, object_of, with_item, with_member};
 use album_stamps::Stamp;
-use serde_json::{Map, Value, json, put};
+use serde_json::{Map, Value};
 use std::alloc::{AllocError, Global};
 
 /// What every line of a message has in addition to what the message says.
@@ -125,10 +126,10 @@ fn reply_json(alloc: Global, e: Envelope, reply: &Reply) -> Result<Value, AllocE
 fn get_json(alloc: Global, e: Envelope, item: ItemId, stamps: &[Stamp]) -> Result<Value, AllocError>
     ensures { IfOk result (λ v. view v ≡ get_json e item stamps.now) }
 {
-    let mut fields = envelope_fields(alloc, e, "get")?;
-    put(&mut fields, alloc, "item", item_json(alloc, item)?)?;
-    put(&mut fields, alloc, "stamps", stamps_json(alloc, stamps)?)?;
-    Ok(Value::Object(fields))
+    let fields = envelope_fields(alloc, e, "get");
+    let fields = with_member(alloc, fields, "item", item_json(alloc, item));
+    let fields = with_member(alloc, fields, "stamps", stamps_json(alloc, stamps));
+    object_of(fields)
 }
 
 fn prepare_json(
@@ -140,11 +141,11 @@ fn prepare_json(
 ) -> Result<Value, AllocError>
     ensures { IfOk result (λ v. view v ≡ prepare_json e stamp writes.now items.now) }
 {
-    let mut fields = envelope_fields(alloc, e, "prepare")?;
-    put(&mut fields, alloc, "items", item_list_json(alloc, items)?)?;
-    put(&mut fields, alloc, "stamp", Value::from(stamp.value()))?;
-    put(&mut fields, alloc, "writes", writes_json(alloc, writes)?)?;
-    Ok(Value::Object(fields))
+    let fields = envelope_fields(alloc, e, "prepare");
+    let fields = with_member(alloc, fields, "items", item_list_json(alloc, items));
+    let fields = with_member(alloc, fields, "stamp", Ok(Value::from(stamp.value())));
+    let fields = with_member(alloc, fields, "writes", writes_json(alloc, writes));
+    object_of(fields)
 }
 
 fn version_json(
@@ -156,58 +157,53 @@ fn version_json(
 ) -> Result<Value, AllocError>
     ensures { IfOk result (λ v. view v ≡ version_json e item stamp value.now) }
 {
-    let mut fields = envelope_fields(alloc, e, "version")?;
-    put(&mut fields, alloc, "item", item_json(alloc, item)?)?;
-    put(&mut fields, alloc, "stamp", Value::from(stamp.value()))?;
-    put(&mut fields, alloc, "value", value_json(alloc, value)?)?;
-    Ok(Value::Object(fields))
+    let fields = envelope_fields(alloc, e, "version");
+    let fields = with_member(alloc, fields, "item", item_json(alloc, item));
+    let fields = with_member(alloc, fields, "stamp", Ok(Value::from(stamp.value())));
+    let fields = with_member(alloc, fields, "value", value_json(alloc, value));
+    object_of(fields)
 }
 
 fn status_json(alloc: Global, e: Envelope, stamp: Stamp, vote: Vote) -> Result<Value, AllocError>
     ensures { IfOk result (λ v. view v ≡ status_json e stamp vote) }
 {
-    let mut fields = envelope_fields(alloc, e, "status")?;
-    put(&mut fields, alloc, "stamp", Value::from(stamp.value()))?;
-    let vote = Value::try_from_str(alloc, vote_word(vote))?;
-    put(&mut fields, alloc, "vote", vote)?;
-    Ok(Value::Object(fields))
+    let fields = envelope_fields(alloc, e, "status");
+    let fields = with_member(alloc, fields, "stamp", Ok(Value::from(stamp.value())));
+    let vote = Value::try_from_str(alloc, vote_word(vote));
+    object_of(with_member(alloc, fields, "vote", vote))
 }
 
 fn gone_json(alloc: Global, e: Envelope, item: ItemId) -> Result<Value, AllocError>
     ensures { IfOk result (λ v. view v ≡ gone_json e item) }
 {
-    let mut fields = envelope_fields(alloc, e, "gone")?;
-    put(&mut fields, alloc, "item", item_json(alloc, item)?)?;
-    Ok(Value::Object(fields))
+    let fields = envelope_fields(alloc, e, "gone");
+    object_of(with_member(alloc, fields, "item", item_json(alloc, item)))
 }
 
 fn clash_json(alloc: Global, e: Envelope) -> Result<Value, AllocError>
     ensures { IfOk result (λ v. view v ≡ clash_json e) }
 {
-    let fields = envelope_fields(alloc, e, "clash")?;
-    Ok(Value::Object(fields))
+    object_of(envelope_fields(alloc, e, "clash"))
 }
 
 /// What is said by a word and a stamp alone.
 fn stamped_json(alloc: Global, e: Envelope, word: &str, stamp: Stamp) -> Result<Value, AllocError>
     ensures { IfOk result (λ v. view v ≡ stamped_json e word.now stamp) }
 {
-    let mut fields = envelope_fields(alloc, e, word)?;
-    put(&mut fields, alloc, "stamp", Value::from(stamp.value()))?;
-    Ok(Value::Object(fields))
+    let fields = envelope_fields(alloc, e, word);
+    object_of(with_member(alloc, fields, "stamp", Ok(Value::from(stamp.value()))))
 }
 
 /// What every line of a message has, and the word for what it says.
 fn envelope_fields(alloc: Global, e: Envelope, word: &str) -> Result<Map<String, Value>, AllocError>
     ensures { IfOk result (λ fields. members_view fields.entries ≡ members_named (envelope_fields e word.now)) }
 {
-    let mut fields = Map::new(alloc);
-    put(&mut fields, alloc, "from", node_json(alloc, e.from)?)?;
-    put(&mut fields, alloc, "k", Value::from(e.number))?;
-    put(&mut fields, alloc, "say", Value::try_from_str(alloc, word)?)?;
-    put(&mut fields, alloc, "tag", Value::from(e.tag))?;
-    put(&mut fields, alloc, "to", node_json(alloc, e.to)?)?;
-    Ok(fields)
+    let fields = Ok(Map::new(alloc));
+    let fields = with_member(alloc, fields, "from", node_json(alloc, e.from));
+    let fields = with_member(alloc, fields, "k", Ok(Value::from(e.number)));
+    let fields = with_member(alloc, fields, "say", Value::try_from_str(alloc, word));
+    let fields = with_member(alloc, fields, "tag", Ok(Value::from(e.tag)));
+    with_member(alloc, fields, "to", node_json(alloc, e.to))
 }
 
 fn node_json(alloc: Global, node: Node) -> Result<Value, AllocError>
@@ -243,26 +239,27 @@ fn vote_word(vote: Vote) -> &'static str
 pub(crate) fn stamps_json(alloc: Global, stamps: &[Stamp]) -> Result<Value, AllocError>
     ensures { IfOk result (λ v. view v ≡ stamps_json stamps.now) }
 {
-    let mut values = Vec::with_capacity(alloc, stamps.len())?;
+    let mut values = Vec::with_capacity(alloc, stamps.len());
     for stamp in stamps {
-        values.push(Value::from(stamp.value()))?;
+        values = with_item(values, Ok(Value::from(stamp.value())));
     }
-    Ok(Value::from(values))
+    array_of(values)
 }
 
 fn writes_json(alloc: Global, writes: &[(ItemId, album_items::Value)]) -> Result<Value, AllocError>
     ensures { IfOk result (λ v. view v ≡ writes_json writes.now) }
 {
-    let mut values = Vec::with_capacity(alloc, writes.len())?;
+    let mut values = Vec::with_capacity(alloc, writes.len());
     for write in writes {
-        values.push(write_json(alloc, write)?)?;
+        values = with_item(values, write_json(alloc, write));
     }
-    Ok(Value::from(values))
+    array_of(values)
 }
 
 /// [item, value]
 fn write_json(alloc: Global, write: &(ItemId, album_items::Value)) -> Result<Value, AllocError>
     ensures { IfOk result (λ v. view v ≡ write_json write.now) }
 {
-    json!(in alloc; [item_json(alloc, write.0)?, value_json(alloc, &write.1)?])
+    let pair = with_item(Ok(Vec::new(alloc)), item_json(alloc, write.0));
+    array_of(with_item(pair, value_json(alloc, &write.1)))
 }

@@ -1,7 +1,6 @@
 //! The lines of an event's outputs: its notes, its answers, and in a trace its messages.
 ghost use Rattle.std.specs.Prelude.{◌≡◌, ◌++◌, [], ◌∷◌, true, Some, None, codes, option_map, false, map, IfOk, IsOkUnless};
 ghost use Rattle.serde_json.specs.View.{view, members_view};
-ghost use Rattle.serde_json.specs.Written.{has_float};
 ghost use Rattle.album_items.specs.ItemIds.{picture, album};
 ghost use Rattle.album_wire.specs.MessageJson.{message_json};
 ghost use Rattle.album_wire.specs.ValueJson.{members_named};
@@ -14,13 +13,14 @@ use crate::value_json::{entries_json, item_json, item_text, members_json};
 use album_calls::Message;
 use album_eval::Verdict;
 use album_items::{Content, ItemId, Title};
+use album_lines::{array_of, line, object_of, with_item, with_member};
 use album_listing::{Reason, Row};
 use album_lists::{Ace, Member};
 use album_permits::{Answer, Note, Out, Served};
 use album_stamps::{ClientNo, Refusal, Stamp};
 use album_views::Why;
 use bitflags::Flags;
-use serde_json::{Map, Value, json, put};
+use serde_json::{Map, Value};
 use std::alloc::{AllocError, Global};
 
 /// The line of an output. That a message is sent has a line where the message is given, and no byte where
@@ -194,21 +194,10 @@ fn ended_line(
     end_line(out)
 }
 
-/// The line of a value that has no float.
-pub(crate) fn line(alloc: Global, value: &Value) -> Result<Vec<u8>, AllocError>
-    requires { has_float (view value.now) ≡ false }
-    ensures { IfOk result (λ bytes. bytes.items ≡ line_text (view value.now)) }
-{
-    let mut bytes = value.to_vec(alloc)?;
-    bytes.push(b'\n')?;
-    Ok(bytes)
-}
-
 fn note_json(alloc: Global, client: ClientNo, note: Note) -> Result<Value, AllocError>
     ensures { IfOk result (λ v. view v ≡ note_json client note) }
 {
-    let fields = note_fields(alloc, client, note)?;
-    Ok(Value::Object(fields))
+    object_of(note_fields(alloc, client, note))
 }
 
 /// What a note says, which a record says too.
@@ -219,14 +208,13 @@ pub(crate) fn note_fields(
 ) -> Result<Map<String, Value>, AllocError>
     ensures { IfOk result (λ fields. members_view fields.entries ≡ members_named (note_fields client note)) }
 {
-    let mut fields = Map::new(alloc);
-    put(&mut fields, alloc, "alarm", Value::from(note.alarm))?;
-    put(&mut fields, alloc, "audit", Value::from(note.index))?;
-    put(&mut fields, alloc, "client", Value::from(client.number()))?;
-    put(&mut fields, alloc, "mask", Value::from(note.mask.bits()))?;
-    put(&mut fields, alloc, "object", item_json(alloc, note.object)?)?;
-    put(&mut fields, alloc, "success", Value::from(note.success))?;
-    Ok(fields)
+    let fields = Ok(Map::new(alloc));
+    let fields = with_member(alloc, fields, "alarm", Ok(Value::from(note.alarm)));
+    let fields = with_member(alloc, fields, "audit", Ok(Value::from(note.index)));
+    let fields = with_member(alloc, fields, "client", Ok(Value::from(client.number())));
+    let fields = with_member(alloc, fields, "mask", Ok(Value::from(note.mask.bits())));
+    let fields = with_member(alloc, fields, "object", item_json(alloc, note.object));
+    with_member(alloc, fields, "success", Ok(Value::from(note.success)))
 }
 
 fn group_served(
@@ -238,9 +226,8 @@ fn group_served(
 ) -> Result<Value, AllocError>
     ensures { IfOk result (λ v. view v ≡ group_served client object stamp members.now) }
 {
-    let mut fields = answer_about(alloc, "served", client, object, stamp)?;
-    put(&mut fields, alloc, "members", members_json(alloc, members)?)?;
-    Ok(Value::Object(fields))
+    let fields = answer_about(alloc, "served", client, object, stamp);
+    object_of(with_member(alloc, fields, "members", members_json(alloc, members)))
 }
 
 /// The stamp is that of the list.
@@ -253,9 +240,8 @@ fn entries_served(
 ) -> Result<Value, AllocError>
     ensures { IfOk result (λ v. view v ≡ entries_served client object stamp entries.now) }
 {
-    let mut fields = answer_about(alloc, "served", client, object, stamp)?;
-    put(&mut fields, alloc, "entries", entries_json(alloc, entries)?)?;
-    Ok(Value::Object(fields))
+    let fields = answer_about(alloc, "served", client, object, stamp);
+    object_of(with_member(alloc, fields, "entries", entries_json(alloc, entries)))
 }
 
 fn listed_json(
@@ -267,9 +253,8 @@ fn listed_json(
 ) -> Result<Value, AllocError>
     ensures { IfOk result (λ v. view v ≡ listed_json client album stamp rows.now) }
 {
-    let mut fields = answer_about(alloc, "listed", client, album, stamp)?;
-    put(&mut fields, alloc, "rows", rows_json(alloc, rows)?)?;
-    Ok(Value::Object(fields))
+    let fields = answer_about(alloc, "listed", client, album, stamp);
+    object_of(with_member(alloc, fields, "rows", rows_json(alloc, rows)))
 }
 
 /// What an answer begins with, and the object and the stamp that it is of.
@@ -283,10 +268,9 @@ fn answer_about(
     ensures { IfOk result
         (λ fields. members_view fields.entries ≡ members_named (answer_about word.now client object stamp)) }
 {
-    let mut fields = answer_fields(alloc, word, client)?;
-    put(&mut fields, alloc, "object", item_json(alloc, object)?)?;
-    put(&mut fields, alloc, "stamp", Value::from(stamp.value()))?;
-    Ok(fields)
+    let fields = answer_fields(alloc, word, client);
+    let fields = with_member(alloc, fields, "object", item_json(alloc, object));
+    with_member(alloc, fields, "stamp", Ok(Value::from(stamp.value())))
 }
 
 /// What an answer begins with: the word that says which, and the client.
@@ -297,54 +281,53 @@ fn answer_fields(
 ) -> Result<Map<String, Value>, AllocError>
     ensures { IfOk result (λ fields. members_view fields.entries ≡ members_named (answer_fields word.now client)) }
 {
-    let mut fields = Map::new(alloc);
-    let answer = Value::try_from_str(alloc, word)?;
-    put(&mut fields, alloc, "answer", answer)?;
-    put(&mut fields, alloc, "client", Value::from(client.number()))?;
-    Ok(fields)
+    let answer = Value::try_from_str(alloc, word);
+    let fields = with_member(alloc, Ok(Map::new(alloc)), "answer", answer);
+    with_member(alloc, fields, "client", Ok(Value::from(client.number())))
 }
 
 fn rows_json(alloc: Global, rows: &[Row]) -> Result<Value, AllocError>
     ensures { IfOk result (λ v. view v ≡ rows_json rows.now) }
 {
-    let mut values = Vec::with_capacity(alloc, rows.len())?;
+    let mut values = Vec::with_capacity(alloc, rows.len());
     for row in rows {
-        values.push(row_json(alloc, row)?)?;
+        values = with_item(values, row_json(alloc, row));
     }
-    Ok(Value::from(values))
+    array_of(values)
 }
 
 /// [item, title]
 fn row_json(alloc: Global, row: &Row) -> Result<Value, AllocError>
     ensures { IfOk result (λ v. view v ≡ row_json row.now) }
 {
-    json!(in alloc; [item_json(alloc, row.item)?, row.title.as_str()])
+    let pair = with_item(Ok(Vec::new(alloc)), item_json(alloc, row.item));
+    array_of(with_item(pair, Value::try_from_str(alloc, row.title.as_str())))
 }
 
 fn denied_json(alloc: Global, client: ClientNo, reasons: &[Reason]) -> Result<Value, AllocError>
     ensures { IfOk result (λ v. view v ≡ denied_json client reasons.now) }
 {
-    let mut fields = answer_fields(alloc, "denied", client)?;
-    put(&mut fields, alloc, "reasons", reasons_json(alloc, reasons)?)?;
-    Ok(Value::Object(fields))
+    let fields = answer_fields(alloc, "denied", client);
+    object_of(with_member(alloc, fields, "reasons", reasons_json(alloc, reasons)))
 }
 
 fn reasons_json(alloc: Global, reasons: &[Reason]) -> Result<Value, AllocError>
     ensures { IfOk result (λ v. view v ≡ reasons_json reasons.now) }
 {
-    let mut values = Vec::with_capacity(alloc, reasons.len())?;
+    let mut values = Vec::with_capacity(alloc, reasons.len());
     for reason in reasons {
-        values.push(reason_json(alloc, *reason)?)?;
+        values = with_item(values, reason_json(alloc, *reason));
     }
-    Ok(Value::from(values))
+    array_of(values)
 }
 
 /// [object, mask, at]
 fn reason_json(alloc: Global, reason: Reason) -> Result<Value, AllocError>
     ensures { IfOk result (λ v. view v ≡ reason_json reason) }
 {
-    let mask = reason.mask.bits();
-    json!(in alloc; [item_json(alloc, reason.object)?, mask, at_json(alloc, reason.verdict)?])
+    let parts = with_item(Ok(Vec::new(alloc)), item_json(alloc, reason.object));
+    let parts = with_item(parts, Ok(Value::from(reason.mask.bits())));
+    array_of(with_item(parts, at_json(alloc, reason.verdict)))
 }
 
 /// The index of the entry that denies, or the end; of what is granted, nothing.
@@ -361,18 +344,16 @@ fn at_json(alloc: Global, verdict: Verdict) -> Result<Value, AllocError>
 fn missing_json(alloc: Global, client: ClientNo, object: ItemId) -> Result<Value, AllocError>
     ensures { IfOk result (λ v. view v ≡ missing_json client object) }
 {
-    let mut fields = answer_fields(alloc, "missing", client)?;
-    put(&mut fields, alloc, "object", item_json(alloc, object)?)?;
-    Ok(Value::Object(fields))
+    let fields = answer_fields(alloc, "missing", client);
+    object_of(with_member(alloc, fields, "object", item_json(alloc, object)))
 }
 
 fn busy_json(alloc: Global, client: ClientNo, why: Why) -> Result<Value, AllocError>
     ensures { IfOk result (λ v. view v ≡ busy_json client why) }
 {
-    let mut fields = answer_fields(alloc, "busy", client)?;
-    let why = Value::try_from_str(alloc, why_word(why))?;
-    put(&mut fields, alloc, "why", why)?;
-    Ok(Value::Object(fields))
+    let fields = answer_fields(alloc, "busy", client);
+    let why = Value::try_from_str(alloc, why_word(why));
+    object_of(with_member(alloc, fields, "why", why))
 }
 
 fn why_word(why: Why) -> &'static str
@@ -392,20 +373,19 @@ fn unsettled_json(
 ) -> Result<Value, AllocError>
     ensures { IfOk result (λ v. view v ≡ unsettled_json client stamp refusal) }
 {
-    let mut fields = answer_fields(alloc, "unsettled", client)?;
-    let name = Value::try_from_str(alloc, refusal.name())?;
-    put(&mut fields, alloc, "name", name)?;
-    put(&mut fields, alloc, "refused", Value::from(refusal.number()))?;
-    put(&mut fields, alloc, "stamp", Value::from(stamp.value()))?;
-    Ok(Value::Object(fields))
+    let fields = answer_fields(alloc, "unsettled", client);
+    let name = Value::try_from_str(alloc, refusal.name());
+    let fields = with_member(alloc, fields, "name", name);
+    let fields = with_member(alloc, fields, "refused", Ok(Value::from(refusal.number())));
+    object_of(with_member(alloc, fields, "stamp", Ok(Value::from(stamp.value()))))
 }
 
 fn refused_json(alloc: Global, client: ClientNo, refusal: Refusal) -> Result<Value, AllocError>
     ensures { IfOk result (λ v. view v ≡ refused_json client refusal) }
 {
-    json!(in alloc; {
-        "client": client.number(),
-        "name": refusal.name(),
-        "refused": refusal.number(),
-    })
+    let fields = Ok(Map::new(alloc));
+    let fields = with_member(alloc, fields, "client", Ok(Value::from(client.number())));
+    let name = Value::try_from_str(alloc, refusal.name());
+    let fields = with_member(alloc, fields, "name", name);
+    object_of(with_member(alloc, fields, "refused", Ok(Value::from(refusal.number()))))
 }

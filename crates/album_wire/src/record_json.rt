@@ -1,15 +1,17 @@
 //! The lines of an audit file: each is a note as a replay writes it, and the principal.
 ghost use Rattle.std.specs.Prelude.{◌≡◌, ◌++◌, true, false, codes, string_bytes, IfOk, IsOkUnless};
+ghost use Rattle.serde_json.specs.Data.{string};
 ghost use Rattle.serde_json.specs.View.{view};
 ghost use Rattle.album_items.specs.ItemIds.{picture};
 ghost use Rattle.album_wire.specs.RecordJson.{principal_text, record_json, record_text};
 
-use crate::out_json::{line, note_fields};
+use crate::out_json::note_fields;
 use crate::value_json::owner_text;
 use album_eval::Principal;
+use album_lines::{line, object_of, with_member};
 use album_permits::Note;
 use album_stamps::{ClientNo, Refusal};
-use serde_json::{Value, put};
+use serde_json::Value;
 use std::alloc::{AllocError, Global};
 
 /// The line of a note that was taken of what this client asked for this principal.
@@ -51,10 +53,15 @@ fn record_json(
 ) -> Result<Value, AllocError>
     ensures { IfOk result (λ v. view v ≡ record_json client who.now note) }
 {
-    let mut fields = note_fields(alloc, client, note)?;
-    let who = Value::String(principal_text(alloc, who)?);
-    put(&mut fields, alloc, "who", who)?;
-    Ok(Value::Object(fields))
+    let fields = note_fields(alloc, client, note);
+    object_of(with_member(alloc, fields, "who", principal_json(alloc, who)))
+}
+
+fn principal_json(alloc: Global, who: &Principal) -> Result<Value, AllocError>
+    ensures { IfOk result (λ v. view v ≡ string (principal_text who.now)) }
+{
+    let text = principal_text(alloc, who)?;
+    Ok(Value::String(text))
 }
 
 fn principal_text(alloc: Global, who: &Principal) -> Result<String, AllocError>

@@ -1,14 +1,15 @@
 //! The lines that a service writes in addition to the answers to asks.
 ghost use Rattle.std.specs.Prelude.{◌≡◌, ◌++◌, ◌∷◌, [], codes, IfOk, IsOkUnless};
+ghost use Rattle.serde_json.specs.Data.{string};
 ghost use Rattle.serde_json.specs.View.{view, members_view};
 ghost use Rattle.album_lines.specs.Output.{line_text};
 ghost use Rattle.album_wire.specs.ValueJson.{members_named};
 ghost use Rattle.album_wire.specs.TalkJson.{hello_json, pending_json, done_json, serving_json, counted_json, totals_fields, totals_json, talk_json, talk_text};
 
 use crate::message_json::stamps_json;
-use crate::out_json::line;
+use album_lines::{array_of, line, object_of, with_item, with_member};
 use album_stamps::{ClientNo, Refusal, Stamp};
-use serde_json::{Map, Value, json, put};
+use serde_json::{Map, Value};
 use std::alloc::{AllocError, Global};
 
 /// How many records of a sort there are: of asks that succeeded, and of asks that failed.
@@ -74,43 +75,42 @@ fn talk_json(alloc: Global, out: &TalkOut) -> Result<Value, AllocError>
 fn hello_json(alloc: Global, client: ClientNo) -> Result<Value, AllocError>
     ensures { IfOk result (λ v. view v ≡ hello_json client) }
 {
-    json!(in alloc; {
-        "answer": "hello",
-        "client": client.number(),
-    })
+    let fields = answer_fields(alloc, "hello");
+    object_of(with_member(alloc, fields, "client", Ok(Value::from(client.number()))))
 }
 
 fn pending_json(alloc: Global, stamps: &[Stamp]) -> Result<Value, AllocError>
     ensures { IfOk result (λ v. view v ≡ pending_json stamps.now) }
 {
-    json!(in alloc; {
-        "answer": "pending",
-        "stamps": stamps_json(alloc, stamps)?,
-    })
+    let fields = answer_fields(alloc, "pending");
+    object_of(with_member(alloc, fields, "stamps", stamps_json(alloc, stamps)))
 }
 
 fn done_json(alloc: Global, word: &str) -> Result<Value, AllocError>
     ensures { IfOk result (λ v. view v ≡ done_json word.now) }
 {
-    json!(in alloc; {
-        "answer": word,
-    })
+    object_of(answer_fields(alloc, word))
 }
 
 fn serving_json(alloc: Global, port: u16) -> Result<Value, AllocError>
     ensures { IfOk result (λ v. view v ≡ serving_json port) }
 {
-    json!(in alloc; {
-        "answer": "serving",
-        "port": port,
-    })
+    let fields = answer_fields(alloc, "serving");
+    object_of(with_member(alloc, fields, "port", Ok(Value::from(port))))
+}
+
+/// What each begins with, but for the totals: the word that says which it is.
+fn answer_fields(alloc: Global, word: &str) -> Result<Map<String, Value>, AllocError>
+    ensures { IfOk result (λ fields. members_view fields.entries ≡ members_named ((codes "answer", string word.now) ∷ [])) }
+{
+    let answer = Value::try_from_str(alloc, word);
+    with_member(alloc, Ok(Map::new(alloc)), "answer", answer)
 }
 
 fn totals_json(alloc: Global, audits: Counted, alarms: Counted) -> Result<Value, AllocError>
     ensures { IfOk result (λ v. view v ≡ totals_json audits alarms) }
 {
-    let fields = totals_fields(alloc, audits, alarms)?;
-    Ok(Value::Object(fields))
+    object_of(totals_fields(alloc, audits, alarms))
 }
 
 /// How many records there are of each sort.
@@ -121,15 +121,15 @@ pub(crate) fn totals_fields(
 ) -> Result<Map<String, Value>, AllocError>
     ensures { IfOk result (λ fields. members_view fields.entries ≡ members_named (totals_fields audits alarms)) }
 {
-    let mut fields = Map::new(alloc);
-    put(&mut fields, alloc, "alarms", counted_json(alloc, alarms)?)?;
-    put(&mut fields, alloc, "audits", counted_json(alloc, audits)?)?;
-    Ok(fields)
+    let fields = Ok(Map::new(alloc));
+    let fields = with_member(alloc, fields, "alarms", counted_json(alloc, alarms));
+    with_member(alloc, fields, "audits", counted_json(alloc, audits))
 }
 
 /// [those that succeeded, those that failed]
 fn counted_json(alloc: Global, counted: Counted) -> Result<Value, AllocError>
     ensures { IfOk result (λ v. view v ≡ counted_json counted) }
 {
-    json!(in alloc; [counted.succeeded, counted.failed])
+    let pair = with_item(Ok(Vec::new(alloc)), Ok(Value::from(counted.succeeded)));
+    array_of(with_item(pair, Ok(Value::from(counted.failed))))
 }

@@ -2,15 +2,17 @@
 ghost use Rattle.std.specs.Prelude.{◌≡◌, string_bytes, IfOk};
 ghost use Rattle.hex.specs.Hex.{encode_lower};
 ghost use Rattle.album_items.specs.ItemIds.{text_of};
+ghost use Rattle.serde_json.specs.Data.{string};
 ghost use Rattle.serde_json.specs.View.{view, members_view};
 ghost use Rattle.album_lines.specs.Spelling.{type_word};
 ghost use Rattle.album_wire.specs.ValueJson.{members_named, owner_text, group_text, who_text, member_text, item_json, item_list_json, content_json, entry_json, entries_json, member_json, members_json, head_fields, picture_json, album_json, list_json, group_json, value_json};
 
 use album_access::AceType;
 use album_items::{Album, Content, Group, Head, ItemId, Picture};
+use album_lines::{array_of, object_of, with_item, with_member};
 use album_lists::{AccessList, Ace, Member, Name, Who};
 use bitflags::Flags;
-use serde_json::{Map, Value, json, put};
+use serde_json::{Map, Value};
 use std::alloc::{AllocError, Global};
 
 /// The value of an item: nothing, where it is missing.
@@ -29,52 +31,55 @@ pub(crate) fn value_json(alloc: Global, value: &album_items::Value) -> Result<Va
 fn picture_json(alloc: Global, picture: &Picture) -> Result<Value, AllocError>
     ensures { IfOk result (λ v. view v ≡ picture_json picture.now) }
 {
-    let mut fields = head_fields(alloc, &picture.head)?;
-    let content = content_json(alloc, &picture.content)?;
-    put(&mut fields, alloc, "content", content)?;
-    put(&mut fields, alloc, "home", Value::from(picture.home))?;
-    let title = Value::try_from_str(alloc, picture.title.as_str())?;
-    put(&mut fields, alloc, "title", title)?;
-    Ok(Value::Object(fields))
+    let fields = head_fields(alloc, &picture.head);
+    let content = content_json(alloc, &picture.content);
+    let fields = with_member(alloc, fields, "content", content);
+    let fields = with_member(alloc, fields, "home", Ok(Value::from(picture.home)));
+    let title = Value::try_from_str(alloc, picture.title.as_str());
+    object_of(with_member(alloc, fields, "title", title))
 }
 
 fn album_json(alloc: Global, album: &Album) -> Result<Value, AllocError>
     ensures { IfOk result (λ v. view v ≡ album_json album.now) }
 {
-    let mut fields = head_fields(alloc, &album.head)?;
-    let children = item_list_json(alloc, album.children.as_slice())?;
-    put(&mut fields, alloc, "children", children)?;
-    put(&mut fields, alloc, "home", Value::from(album.home))?;
-    let title = Value::try_from_str(alloc, album.title.as_str())?;
-    put(&mut fields, alloc, "title", title)?;
-    Ok(Value::Object(fields))
+    let fields = head_fields(alloc, &album.head);
+    let children = item_list_json(alloc, album.children.as_slice());
+    let fields = with_member(alloc, fields, "children", children);
+    let fields = with_member(alloc, fields, "home", Ok(Value::from(album.home)));
+    let title = Value::try_from_str(alloc, album.title.as_str());
+    object_of(with_member(alloc, fields, "title", title))
 }
 
 fn list_json(alloc: Global, list: &AccessList) -> Result<Value, AllocError>
     ensures { IfOk result (λ v. view v ≡ list_json list.now) }
 {
-    json!(in alloc; {"entries": entries_json(alloc, list.entries())?})
+    let entries = entries_json(alloc, list.entries());
+    object_of(with_member(alloc, Ok(Map::new(alloc)), "entries", entries))
 }
 
 fn group_json(alloc: Global, group: &Group) -> Result<Value, AllocError>
     ensures { IfOk result (λ v. view v ≡ group_json group.now) }
 {
-    let mut fields = head_fields(alloc, &group.head)?;
-    let members = members_json(alloc, group.members.as_slice())?;
-    put(&mut fields, alloc, "members", members)?;
-    Ok(Value::Object(fields))
+    let fields = head_fields(alloc, &group.head);
+    let members = members_json(alloc, group.members.as_slice());
+    object_of(with_member(alloc, fields, "members", members))
 }
 
 /// What every object has of its head.
 fn head_fields(alloc: Global, head: &Head) -> Result<Map<String, Value>, AllocError>
     ensures { IfOk result (λ fields. members_view fields.entries ≡ members_named (head_fields head.now)) }
 {
-    let mut fields = Map::new(alloc);
-    put(&mut fields, alloc, "group", Value::from(head.group))?;
-    put(&mut fields, alloc, "list", Value::from(head.list))?;
-    let owner = Value::String(owner_text(alloc, &head.owner)?);
-    put(&mut fields, alloc, "owner", owner)?;
-    Ok(fields)
+    let fields = Ok(Map::new(alloc));
+    let fields = with_member(alloc, fields, "group", Ok(Value::from(head.group)));
+    let fields = with_member(alloc, fields, "list", Ok(Value::from(head.list)));
+    with_member(alloc, fields, "owner", owner_json(alloc, &head.owner))
+}
+
+fn owner_json(alloc: Global, owner: &Name) -> Result<Value, AllocError>
+    ensures { IfOk result (λ v. view v ≡ string (owner_text owner.now)) }
+{
+    let text = owner_text(alloc, owner)?;
+    Ok(Value::String(text))
 }
 
 /// A content, in hexadecimal.
@@ -108,32 +113,33 @@ pub(crate) fn item_text(alloc: Global, item: ItemId) -> Result<String, AllocErro
 pub(crate) fn item_list_json(alloc: Global, items: &[ItemId]) -> Result<Value, AllocError>
     ensures { IfOk result (λ v. view v ≡ item_list_json items.now) }
 {
-    let mut values = Vec::with_capacity(alloc, items.len())?;
+    let mut values = Vec::with_capacity(alloc, items.len());
     for item in items {
-        values.push(item_json(alloc, *item)?)?;
+        values = with_item(values, item_json(alloc, *item));
     }
-    Ok(Value::from(values))
+    array_of(values)
 }
 
 /// The entries of a list.
 pub(crate) fn entries_json(alloc: Global, entries: &[Ace]) -> Result<Value, AllocError>
     ensures { IfOk result (λ v. view v ≡ entries_json entries.now) }
 {
-    let mut values = Vec::with_capacity(alloc, entries.len())?;
+    let mut values = Vec::with_capacity(alloc, entries.len());
     for entry in entries {
-        values.push(entry_json(alloc, entry)?)?;
+        values = with_item(values, entry_json(alloc, entry));
     }
-    Ok(Value::from(values))
+    array_of(values)
 }
 
 /// [type, who, mask, flags]
 fn entry_json(alloc: Global, entry: &Ace) -> Result<Value, AllocError>
     ensures { IfOk result (λ v. view v ≡ entry_json entry.now) }
 {
-    let sort = type_word(entry.sort);
-    let mask = entry.mask.bits();
-    let flags = entry.flags.bits();
-    json!(in alloc; [sort, who_text(alloc, &entry.who)?, mask, flags])
+    let sort = Value::try_from_str(alloc, type_word(entry.sort));
+    let parts = with_item(Ok(Vec::new(alloc)), sort);
+    let parts = with_item(parts, who_json(alloc, &entry.who));
+    let parts = with_item(parts, Ok(Value::from(entry.mask.bits())));
+    array_of(with_item(parts, Ok(Value::from(entry.flags.bits()))))
 }
 
 fn type_word(sort: AceType) -> &'static str
@@ -151,11 +157,11 @@ fn type_word(sort: AceType) -> &'static str
 pub(crate) fn members_json(alloc: Global, members: &[Member]) -> Result<Value, AllocError>
     ensures { IfOk result (λ v. view v ≡ members_json members.now) }
 {
-    let mut values = Vec::with_capacity(alloc, members.len())?;
+    let mut values = Vec::with_capacity(alloc, members.len());
     for member in members {
-        values.push(member_json(alloc, member)?)?;
+        values = with_item(values, member_json(alloc, member));
     }
-    Ok(Value::from(values))
+    array_of(values)
 }
 
 fn member_json(alloc: Global, member: &Member) -> Result<Value, AllocError>
@@ -175,6 +181,13 @@ fn member_text(alloc: Global, member: &Member) -> Result<String, AllocError>
 }
 
 /// The who of an entry.
+fn who_json(alloc: Global, who: &Who) -> Result<Value, AllocError>
+    ensures { IfOk result (λ v. view v ≡ string (who_text who.now)) }
+{
+    let text = who_text(alloc, who)?;
+    Ok(Value::String(text))
+}
+
 fn who_text(alloc: Global, who: &Who) -> Result<String, AllocError>
     ensures { IfOk result (λ text. string_bytes text ≡ who_text who.now) }
 {
