@@ -39,12 +39,17 @@ def version():
     return subprocess.run(["rt", "version"], stdout=subprocess.PIPE, check=True).stdout
 
 
-def sums_of(rows, read=pathlib.Path.read_bytes):
+def logic():
+    """Of the toolchain's version the part that says what its logic is: a goal is false under each kit that has it."""
+    return version().rpartition(b" logic ")[2]
+
+
+def sums_of(rows, read=pathlib.Path.read_bytes, toolchain=version):
     """Of each crate a checksum of its sources as they are read, of those that it cites, and of the toolchain. A file that
     is read as None isn't one of them."""
     sums = {}
     for name, below in rows.items():
-        sum_ = hashlib.sha256(version())
+        sum_ = hashlib.sha256(toolchain())
         for part in PARTS:
             for file in sorted((ROOT / "crates" / name / part).rglob("*")):
                 if file.is_file() and (text := read(file)) is not None:

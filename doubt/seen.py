@@ -7,7 +7,7 @@ import pathlib
 import re
 from typing import NamedTuple
 
-from tree import PARTS, ROOT, sums_of, version, without_comments
+from tree import PARTS, ROOT, logic, sums_of, without_comments
 
 FUNCTION = re.compile(r"( *)(pub(?:\([^)]*\))? )?(?:\w+ )*fn (\w+)")
 BLOCK = re.compile(r"(pub )?(impl|trait)\b")
@@ -131,13 +131,13 @@ class Seen:
 
     def __init__(self, rows):
         self.rows = rows
-        self.sums = sums_of(rows, public_in)
+        self.sums = sums_of(rows, public_in, logic)
 
     def by(self, crate, functions, text):
         """A checksum of what these functions of the crate see, and of this text, which stands for a part of them."""
         own = [name + body for name in sorted(functions) for body in proofs_of(crate).get(name, [])]
         named = words_of_lemmas(crate).union(functions, *map(WORD.findall, [*own, text]))
-        sum_ = hashlib.sha256(version() + "\0".join([*own, text]).encode())
+        sum_ = hashlib.sha256(logic() + "\0".join([*own, text]).encode())
         for other in self.rows[crate]:
             sum_.update(self.sums[other])
         for path in (path for part in PARTS for path in files_of(crate, part)):

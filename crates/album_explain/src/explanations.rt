@@ -13,7 +13,7 @@ use crate::names::bit_name;
 use crate::places::Found;
 use album_access::Mask;
 use album_eval::{Facts, Verdict};
-use album_lines::{array_of, line, object_of, with_item, with_member};
+use album_lines::{array_of, json_line, object_of, with_item, with_member};
 use album_lists::{AccessList, Holder};
 use album_stamps::Refusal;
 use bitflags::Flags;
@@ -42,8 +42,7 @@ pub fn write_refused(
     ensures { IfOk result (λ text.
         text.items ≡ line_text (refused_json number refusal (option_map (λ f. place_of f.now) found.entry))) }
 {
-    let value = refused_json(alloc, number, refusal, found)?;
-    line(alloc, &value)
+    json_line(alloc, refused_json(alloc, number, refusal, found))
 }
 
 fn refused_json(
@@ -133,8 +132,7 @@ pub(crate) fn write_explanation(
 ) -> Result<Vec<u8>, AllocError>
     ensures { IfOk result (λ text. text.items ≡ line_text (explanation_json number verdict (map bit_row rows.now))) }
 {
-    let value = explanation_json(alloc, number, verdict, rows)?;
-    line(alloc, &value)
+    json_line(alloc, explanation_json(alloc, number, verdict, rows))
 }
 
 fn explanation_json(

@@ -7,7 +7,7 @@ ghost use Rattle.album_explain_store.specs.Explanations.{kind_word, lines_word, 
 use crate::places::find;
 use crate::places::tables::Table;
 use album_explain::{Found, write_refused};
-use album_lines::{LineIn, line, object_of, with_member};
+use album_lines::{LineIn, json_line, object_of, with_member};
 use album_stamps::Refusal;
 use json::Scratch;
 use serde_json::{Map, Value};
@@ -86,8 +86,7 @@ pub(crate) fn explain_taken(
 ) -> Result<(Vec<u8>, bool), Refusal>
     ensures { IfOk result (λ explanation. IsReply number (Ok taken) explanation.1 explanation.0.items) }
 {
-    let value = taken_json(alloc, number, taken)?;
-    let text = line(alloc, &value)?;
+    let text = json_line(alloc, taken_json(alloc, number, taken))?;
     Ok((text, false))
 }
 

@@ -74,11 +74,12 @@ pub fn array_of(items: Result<Vec<Value>, AllocError>) -> Result<Value, AllocErr
 ///
 /// # Errors
 ///
-/// `AllocError`.
-pub fn line(alloc: Global, value: &Value) -> Result<Vec<u8>, AllocError>
-    requires { has_float (view value.now) ≡ false }
-    ensures { IfOk result (λ bytes. bytes.items ≡ line_text (view value.now)) }
+/// `AllocError`: that of the value, else its own.
+pub fn json_line(alloc: Global, value: Result<Value, AllocError>) -> Result<Vec<u8>, AllocError>
+    requires { IfOk value (λ v. has_float (view v) ≡ false) }
+    ensures { IfOk result (λ bytes. IsOkAnd value (λ v. bytes.items ≡ line_text (view v))) }
 {
+    let value = value?;
     let mut bytes = value.to_vec(alloc)?;
     bytes.push(b'\n')?;
     Ok(bytes)

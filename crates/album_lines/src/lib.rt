@@ -36,7 +36,7 @@ pub use fields::{
     field, has, is_list, is_nothing, item, list, list_under, member, only, sized_list, text,
     text_under, truth, whole, whole_under,
 };
-pub use json_values::{array_of, line, object_of, with_item, with_member};
+pub use json_values::{array_of, json_line, object_of, with_item, with_member};
 pub use judge_line::{Group, JudgeLine, questions_by_line, read_judge};
 pub use lines::{LineIn, Lines, any_pieces, joined_lines};
 pub use output::{refusal_texts, verdict_texts, write_refusal, write_verdict};

@@ -1,10 +1,12 @@
 -- No line that is written has a float. For `write_out`: `no_float_in_note`, `no_float_in_answer` with those of its lists,
 -- and `no_float_in_message`; for `write_talk`: `no_float_in_talk`; for `write_record`: `no_float_in_record`; for
 -- `write_figures`: `no_float_in_figures`.
-use Rattle.std.proofs.Common.{◌≡◌, ℕ, List, [], ◌∷◌, map, false, Some, None, Option, refl}
+use Rattle.std.proofs.Common.{◌≡◌, ℕ, List, [], ◌∷◌, map, false, Some, None, Option, Result, IfOk, refl, ap, ◌∙◌}
+use Rattle.std.proofs.lemmas.Result.{IfOk-weaker}
 use Rattle.serde_json.specs.Data.{Data}
 use Rattle.serde_json.specs.Written.{has_float, items_have_float}
-use Rattle.serde_json.specs.View.{items_of}
+use Rattle.serde_json.specs.View.{view, items_of}
+use Rattle.serde_json.specs.declared.value.Value.{Value as JsonValue}
 use Rattle.album_calls.specs.declared.messages.Message.{Message}
 use Rattle.album_calls.specs.declared.messages.Body.{Body}
 use Rattle.album_calls.specs.declared.messages.Body.TheVariants as body
@@ -83,6 +85,11 @@ in_reply e (reply.NotPrepared stamp) = refl
 in_reply e reply.Clash = refl
 in_reply e (reply.Full stamp) = refl
 in_reply e (reply.Gone item) = refl
+
+-- what is made without a float has none, if it is made
+pub no_float_if_ok : {E : Type 0} (r : Result JsonValue E) (d : Data) → has_float d ≡ false
+    → IfOk r (λ v. view v ≡ d) → IfOk r (λ v. has_float (view v) ≡ false)
+no_float_if_ok r d without = IfOk-weaker r (λ v. view v ≡ d) (λ v. has_float (view v) ≡ false) (λ v e. ap has_float e ∙ without)
 
 pub no_float_in_message : (number : ℕ) (m : Message) → has_float (message_json number m) ≡ false
 no_float_in_message number m = go m.body

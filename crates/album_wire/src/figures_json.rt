@@ -6,7 +6,7 @@ ghost use Rattle.album_lines.specs.Output.{line_text};
 ghost use Rattle.album_wire.specs.FiguresJson.{connections_json, marks_json, figures_of, figures_json, figures_text};
 
 use crate::talk_json::{Counted, totals_fields};
-use album_lines::{array_of, line, object_of, with_item, with_member};
+use album_lines::{array_of, json_line, object_of, with_item, with_member};
 use album_partition::Figures;
 use album_stamps::Refusal;
 use serde_json::Value;
@@ -37,8 +37,8 @@ pub fn write_figures(alloc: Global, figures: &ServiceFigures) -> Result<Vec<u8>,
     ensures text { IfOk result (λ bytes. bytes.items ≡ figures_text figures.now) }
     ensures memory { IsOkUnless result Refusal.OutOfMemory }
 {
-    let value = figures_json(alloc, figures)?;
-    Ok(line(alloc, &value)?)
+    let value = figures_json(alloc, figures);
+    Ok(json_line(alloc, value)?)
 }
 
 /// A law: a line that was worked out by hand. Two partitions have room for 100 marks each; one has 6 marks, with no

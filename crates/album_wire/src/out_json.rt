@@ -13,7 +13,7 @@ use crate::value_json::{entries_json, item_json, item_text, members_json};
 use album_calls::Message;
 use album_eval::Verdict;
 use album_items::{Content, ItemId, Title};
-use album_lines::{array_of, line, object_of, with_item, with_member};
+use album_lines::{array_of, json_line, object_of, with_item, with_member};
 use album_listing::{Reason, Row};
 use album_lists::{Ace, Member};
 use album_permits::{Answer, Note, Out, Served};
@@ -93,16 +93,14 @@ pub fn worked_outs()
 fn message_line(alloc: Global, number: u64, message: &Message) -> Result<Vec<u8>, AllocError>
     ensures { IfOk result (λ bytes. bytes.items ≡ line_text (message_json number message.now)) }
 {
-    let value = message_json(alloc, number, message)?;
-    line(alloc, &value)
+    json_line(alloc, message_json(alloc, number, message))
 }
 
 #[tactic(auto, using(crate::proofs::Floats::no_float_in_note))]
 fn note_line(alloc: Global, client: ClientNo, note: Note) -> Result<Vec<u8>, AllocError>
     ensures { IfOk result (λ bytes. bytes.items ≡ line_text (note_json client note)) }
 {
-    let value = note_json(alloc, client, note)?;
-    line(alloc, &value)
+    json_line(alloc, note_json(alloc, client, note))
 }
 
 #[tactic(auto, using(crate::proofs::Floats::no_float_in_answer))]
@@ -111,15 +109,15 @@ fn answer_line(alloc: Global, client: ClientNo, answer: &Answer) -> Result<Vec<u
 {
     match answer {
         Answer::Served(served) => served_line(alloc, client, served),
-        Answer::Denied(denial) => line(alloc, &denied_json(alloc, client, denial.as_slice())?),
-        Answer::Missing(object) => line(alloc, &missing_json(alloc, client, *object)?),
-        Answer::Busy(why) => line(alloc, &busy_json(alloc, client, *why)?),
+        Answer::Denied(denial) => json_line(alloc, denied_json(alloc, client, denial.as_slice())),
+        Answer::Missing(object) => json_line(alloc, missing_json(alloc, client, *object)),
+        Answer::Busy(why) => json_line(alloc, busy_json(alloc, client, *why)),
         Answer::Committed(stamp) => ended_line(alloc, client, "committed", *stamp),
         Answer::Aborted(stamp) => ended_line(alloc, client, "aborted", *stamp),
         Answer::Unsettled(stamp, refusal) => {
-            line(alloc, &unsettled_json(alloc, client, *stamp, *refusal)?)
+            json_line(alloc, unsettled_json(alloc, client, *stamp, *refusal))
         }
-        Answer::Refused(refusal) => line(alloc, &refused_json(alloc, client, *refusal)?),
+        Answer::Refused(refusal) => json_line(alloc, refused_json(alloc, client, *refusal)),
     }
 }
 
@@ -137,22 +135,22 @@ fn served_line(alloc: Global, client: ClientNo, served: &Served) -> Result<Vec<u
             object,
             stamp,
             members,
-        } => line(
+        } => json_line(
             alloc,
-            &group_served(alloc, client, *object, *stamp, members.as_slice())?,
+            group_served(alloc, client, *object, *stamp, members.as_slice()),
         ),
         Served::Entries {
             object,
             stamp,
             list,
-        } => line(
+        } => json_line(
             alloc,
-            &entries_served(alloc, client, *object, *stamp, list.entries())?,
+            entries_served(alloc, client, *object, *stamp, list.entries()),
         ),
         Served::Listed { album, stamp, rows } => {
-            line(
+            json_line(
                 alloc,
-                &listed_json(alloc, client, *album, *stamp, rows.as_slice())?,
+                listed_json(alloc, client, *album, *stamp, rows.as_slice()),
             )
         }
     }

@@ -8,7 +8,7 @@ ghost use Rattle.album_wire.specs.RecordJson.{principal_text, record_json, recor
 use crate::out_json::note_fields;
 use crate::value_json::owner_text;
 use album_eval::Principal;
-use album_lines::{line, object_of, with_member};
+use album_lines::{json_line, object_of, with_member};
 use album_permits::Note;
 use album_stamps::{ClientNo, Refusal};
 use serde_json::Value;
@@ -29,8 +29,8 @@ pub fn write_record(
     ensures text { IfOk result (λ bytes. bytes.items ≡ record_text client who.now note) }
     ensures memory { IsOkUnless result Refusal.OutOfMemory }
 {
-    let value = record_json(alloc, client, who, note)?;
-    Ok(line(alloc, &value)?)
+    let value = record_json(alloc, client, who, note);
+    Ok(json_line(alloc, value)?)
 }
 
 /// A law: lines that were worked out by hand.

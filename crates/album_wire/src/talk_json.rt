@@ -7,7 +7,7 @@ ghost use Rattle.album_wire.specs.ValueJson.{members_named};
 ghost use Rattle.album_wire.specs.TalkJson.{hello_json, pending_json, done_json, serving_json, counted_json, totals_fields, totals_json, talk_json, talk_text};
 
 use crate::message_json::stamps_json;
-use album_lines::{array_of, line, object_of, with_item, with_member};
+use album_lines::{array_of, json_line, object_of, with_item, with_member};
 use album_stamps::{ClientNo, Refusal, Stamp};
 use serde_json::{Map, Value};
 use std::alloc::{AllocError, Global};
@@ -44,8 +44,8 @@ pub fn write_talk(alloc: Global, out: &TalkOut) -> Result<Vec<u8>, Refusal>
     ensures text { IfOk result (λ bytes. bytes.items ≡ talk_text out.now) }
     ensures memory { IsOkUnless result Refusal.OutOfMemory }
 {
-    let value = talk_json(alloc, out)?;
-    Ok(line(alloc, &value)?)
+    let value = talk_json(alloc, out);
+    Ok(json_line(alloc, value)?)
 }
 
 /// A law: the text of each, byte for byte.

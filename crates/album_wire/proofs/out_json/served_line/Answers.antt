@@ -1,19 +1,20 @@
-use Rattle.std.proofs.Common.{ap, ◌∙◌}
-use Rattle.serde_json.specs.Written.{has_float}
-use Rattle.album_wire.proofs.Floats.{no_float_in_group, no_float_in_entries, no_float_in_rows}
+use Rattle.album_wire.proofs.Floats.{no_float_if_ok, no_float_in_group, no_float_in_entries, no_float_in_rows}
 use Rattle.album_wire.proofs.out_json.served_line.Goals as goal
 
-pub line-requires : goal.line-requires
-line-requires c =
-    ap has_float c.in_ok-group_served-in-Group.ensures
-    ∙ no_float_in_group c.args.client c.in-Group.object c.in-Group.stamp c.as_slice.result.now
+pub json_line-requires : goal.json_line-requires
+json_line-requires c =
+    no_float_if_ok c.group_served.result _
+    (no_float_in_group c.args.client c.in-Group.object c.in-Group.stamp c.as_slice.result.now)
+    c.group_served.ensures
 
-pub line-requires-in-Entries : goal.line-requires-in-Entries
-line-requires-in-Entries c =
-    ap has_float c.in_ok-entries_served-in-Entries.ensures
-    ∙ no_float_in_entries c.args.client c.in-Entries.object c.in-Entries.stamp c.entries.result.now
+pub json_line-requires-in-Entries : goal.json_line-requires-in-Entries
+json_line-requires-in-Entries c =
+    no_float_if_ok c.entries_served.result _
+    (no_float_in_entries c.args.client c.in-Entries.object c.in-Entries.stamp c.entries.result.now)
+    c.entries_served.ensures
 
-pub line-requires-in-Listed : goal.line-requires-in-Listed
-line-requires-in-Listed c =
-    ap has_float c.in_ok-listed_json-in-Listed.ensures
-    ∙ no_float_in_rows c.args.client c.in-Listed.album c.in-Listed.stamp c.as_slice-in-Listed.result.now
+pub json_line-requires-in-Listed : goal.json_line-requires-in-Listed
+json_line-requires-in-Listed c =
+    no_float_if_ok c.listed_json.result _
+    (no_float_in_rows c.args.client c.in-Listed.album c.in-Listed.stamp c.as_slice-in-Listed.result.now)
+    c.listed_json.ensures
