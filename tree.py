@@ -44,16 +44,15 @@ def logic():
     return version().rpartition(b" logic ")[2]
 
 
-def sums_of(rows, read=pathlib.Path.read_bytes, toolchain=version):
-    """Of each crate a checksum of its sources as they are read, of those that it cites, and of the toolchain. A file that
-    is read as None isn't one of them."""
+def sums_of(rows, read=pathlib.Path.read_bytes):
+    """Of each crate a checksum of its sources as they are read, of those that it cites, and of the toolchain."""
     sums = {}
     for name, below in rows.items():
-        sum_ = hashlib.sha256(toolchain())
+        sum_ = hashlib.sha256(version())
         for part in PARTS:
             for file in sorted((ROOT / "crates" / name / part).rglob("*")):
-                if file.is_file() and (text := read(file)) is not None:
-                    sum_.update(str(file.relative_to(ROOT)).encode() + b"\0" + text + b"\0")
+                if file.is_file():
+                    sum_.update(str(file.relative_to(ROOT)).encode() + b"\0" + read(file) + b"\0")
         for other in below:
             sum_.update(sums[other])
         sums[name] = sum_.digest()

@@ -1,13 +1,13 @@
 """What the goals of a function can see: the definitions and types of its crate and of those below, the lemmas, and the
-contracts of the functions that it calls. They see no body but its own. So a doubt has to be tried again only where some
-of that changes: what a checksum of `Seen` says."""
+contracts of the functions that it calls. They see no body but its own, and no contract of a function that it doesn't name.
+So a doubt has to be tried again only where some of that changes: what a checksum of `Seen` says."""
 import functools
 import hashlib
 import pathlib
 import re
 from typing import NamedTuple
 
-from tree import PARTS, ROOT, logic, sums_of, without_comments
+from tree import PARTS, ROOT, logic, wanted, without_comments
 
 FUNCTION = re.compile(r"( *)(pub(?:\([^)]*\))? )?(?:\w+ )*fn (\w+)")
 BLOCK = re.compile(r"(pub )?(impl|trait)\b")
@@ -15,6 +15,8 @@ IMPORT = re.compile(r"(?m)^ *(?:ghost )?use ([^{};]+)(?:\{([^{}]*)\})?;\n")
 OF_ONE_FUNCTION = ("Answers.antt", "Invariants.antt")  # what only proves the function after which its folder is named
 # A `Drop` without a contract, by hand or derived.
 DROP = re.compile(r"(?m)^impl\b[^{;]* Drop for [^{;]*\{\n    fn drop\(self\) \{\n\}$|\bDrop, |, Drop\b|^#\[derive\(Drop\)\]$")
+MODULE = re.compile(r"(?m)^(?:pub(?:\([^)]*\))? )?mod \w+;?\n?")  # (what it has is seen in its own file)
+PASSED_ON = re.compile(r"(?m)^pub use ([^{};]+)(?:\{([^{}]*)\})?;\n?")
 LEMMAS = re.compile(r"Rattle\.album_\w+\.proofs(?:\.\w+)+")
 WORD = re.compile(r"\w+")
 
@@ -58,21 +60,45 @@ def with_imports_used(text):
     """The source without the names that it imports and does not use."""
     rest = IMPORT.sub("", text)
     names = {start + name.strip() if names else start for start, names in IMPORT.findall(text) for name in names.split(",")}
-    used = (name for name in names if re.split(r"[.:\s]", name.strip("◌"))[-1] in rest)
+    words = set(WORD.findall(rest))
+    called = {name: re.split(r"[.:\s]", name.strip("◌"))[-1] for name in names}
+    used = (name for name in names if called[name] in (words if WORD.fullmatch(called[name]) else rest))
     return "\n".join([*sorted(used), *filter(None, rest.split("\n"))])
 
 
-def seen_in(path, is_seen):
-    """What is seen of this file, where of its functions these contracts are; None where it only proves a function."""
-    if path.name in OF_ONE_FUNCTION:
-        return None
-    text = without_comments(path)
-    if path.suffix != ".rt":
-        return text
-    kept = [part if isinstance(part, str) else part.contract for part in parts_of(text.decode())
-            if isinstance(part, str) or is_seen(part)]
+def passed_on(text, words):
+    """The source in which only names that are among these words are passed on, each in a line of its own."""
+    def lines(match):
+        start, names = match.groups()
+        paths = [start + name.strip() for name in names.split(",") if name.strip()] if names else [start]
+        return "".join(f"pub use {path};\n" for path in paths if WORD.findall(path)[-1] in words)
+
+    return PASSED_ON.sub(lines, text)
+
+
+@functools.cache
+def text_of(path):
+    return MODULE.sub("", without_comments(path).decode())
+
+
+@functools.cache
+def parts_in(path):
+    return list(parts_of(text_of(path)))
+
+
+@functools.cache
+def words_in(path):
+    return frozenset(WORD.findall(text_of(path)))
+
+
+@functools.cache
+def seen_in(path, words, is_above):
+    """What is seen of this source by who says these words of it: of its functions their contracts, and where that is a
+    crate above, those of the public ones alone."""
+    kept = [part if isinstance(part, str) else part.contract for part in parts_in(path)
+            if isinstance(part, str) or part.is_of_trait or part.name in words and (part.is_public or not is_above)]
     # (no goal sees how a value is let go)
-    return with_imports_used(DROP.sub("", "\n".join(kept))).encode()
+    return with_imports_used(passed_on(DROP.sub("", "\n".join(kept)), words))
 
 
 @functools.cache
@@ -99,11 +125,11 @@ def lemmas_of_others():
     return {lemmas[name] for name in found & set(lemmas)}
 
 
-def public_in(path):
-    """What the crates above may see of this file."""
-    if path.parts[-2:] != ("proofs", "Lib.antt") and "proofs" in path.parts and path not in lemmas_of_others():
-        return None
-    return seen_in(path, lambda function: function.is_public or function.is_of_trait)
+def seen_of(path, words, is_above):
+    """What is seen of this file by who says these words, if anything is: of what only proves a function nothing."""
+    if path.name in OF_ONE_FUNCTION or is_above and "proofs" in path.parts and path not in lemmas_of_others():
+        return ""
+    return seen_in(path, words_in(path) & words, is_above) if path.suffix == ".rt" else text_of(path)
 
 
 @functools.cache
@@ -131,17 +157,14 @@ class Seen:
 
     def __init__(self, rows):
         self.rows = rows
-        self.sums = sums_of(rows, public_in, logic)
 
     def by(self, crate, functions, text):
         """A checksum of what these functions of the crate see, and of this text, which stands for a part of them."""
         own = [name + body for name in sorted(functions) for body in proofs_of(crate).get(name, [])]
         named = words_of_lemmas(crate).union(functions, *map(WORD.findall, [*own, text]))
         sum_ = hashlib.sha256(logic() + "\0".join([*own, text]).encode())
-        for other in self.rows[crate]:
-            sum_.update(self.sums[other])
-        for path in (path for part in PARTS for path in files_of(crate, part)):
-            seen = seen_in(path, lambda function: function.name in named or function.is_of_trait)
-            if seen is not None:
-                sum_.update(f"{path.relative_to(ROOT)}\0".encode() + seen + b"\0")
+        for other in wanted(self.rows, crate):
+            for path in (path for part in PARTS for path in files_of(other, part)):
+                if (seen := seen_of(path, named, other != crate)).strip():
+                    sum_.update(f"{path.relative_to(ROOT)}\0{seen}\0".encode())
         return sum_.hexdigest()
