@@ -42,8 +42,8 @@ pub(crate) fn port_arg<'a>(alloc: Global) -> Arg<'a> {
         .value_parser(value_parser!(u16).range(1..))
 }
 
-/// The command with one more argument. What failed before stays so to the end: so a command is put together in as many
-/// calls as it has parts, and none of them is a way out that lets the others go.
+/// The command with one more argument. A failure is passed on to the end. So a command is put together in as many calls
+/// as it has parts, and its function has no `?` at which it would let the others go.
 pub(crate) fn with_arg<'a>(
     command: Result<Command<'a>, AllocError>,
     arg: Arg<'a>,

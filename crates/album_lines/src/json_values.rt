@@ -1,7 +1,7 @@
 //! JSON values that are written, made part by part: {name: value, ..}, [value, ..], and the line of one.
 //!
-//! A part comes as the result of what makes it, and so does what it is added to. What failed stays so up to `object_of` or
-//! `array_of`: so a value of many parts is made in as many calls, and none of them is a way out that lets the others go.
+//! A part comes as the result of what makes it, and so does what it is added to. A failure is passed on to the end. So
+//! a value of many parts is made in as many calls, and its function has no `?` at which it would let the others go.
 ghost use Rattle.std.specs.Prelude.{◌≡◌, ◌++◌, ◌∷◌, [], false, map, IfOk, IsOkAnd};
 ghost use Rattle.serde_json.specs.Data.{object, put as put_member};
 ghost use Rattle.serde_json.specs.View.{view, members_view};
@@ -16,7 +16,7 @@ use std::alloc::{AllocError, Global};
 ///
 /// # Errors
 ///
-/// `AllocError`: that of the members, else that of the value, else its own.
+/// `AllocError`, where the members or the value have failed, or there is no memory for one more.
 pub fn with_member(
     alloc: Global,
     members: Result<Map<String, Value>, AllocError>,
@@ -35,18 +35,18 @@ pub fn with_member(
 ///
 /// # Errors
 ///
-/// That of the members.
+/// `AllocError`, where the members have failed.
 pub fn object_of(members: Result<Map<String, Value>, AllocError>) -> Result<Value, AllocError>
     ensures { IfOk result (λ v. IsOkAnd members (λ all. view v ≡ object (members_view all.entries))) }
 {
     Ok(Value::Object(members?))
 }
 
-/// The items and one more, behind them.
+/// The items and one more, as the last.
 ///
 /// # Errors
 ///
-/// `AllocError`: that of the items, else that of the value, else its own.
+/// `AllocError`, where the items or the value have failed, or there is no memory for one more.
 pub fn with_item(
     items: Result<Vec<Value>, AllocError>,
     value: Result<Value, AllocError>,
@@ -63,7 +63,7 @@ pub fn with_item(
 ///
 /// # Errors
 ///
-/// That of the items.
+/// `AllocError`, where the items have failed.
 pub fn array_of(items: Result<Vec<Value>, AllocError>) -> Result<Value, AllocError>
     ensures { IfOk result (λ v. IsOkAnd items (λ all. view v ≡ list_data (map view all.items))) }
 {
@@ -74,7 +74,7 @@ pub fn array_of(items: Result<Vec<Value>, AllocError>) -> Result<Value, AllocErr
 ///
 /// # Errors
 ///
-/// `AllocError`: that of the value, else its own.
+/// `AllocError`, where the value has failed, or there is no memory for its line.
 pub fn json_line(alloc: Global, value: Result<Value, AllocError>) -> Result<Vec<u8>, AllocError>
     requires { IfOk value (λ v. has_float (view v) ≡ false) }
     ensures { IfOk result (λ bytes. IsOkAnd value (λ v. bytes.items ≡ line_text (view v))) }

@@ -7,7 +7,8 @@
 //! Read `lines` first, then `judge_line`: a line's JSON value (`trees`), its shape (`judge_shape`, by `shapes` and
 //! `fields`), and the values of that (`values`). A judge line of the usual form gets no tree: its shape is taken token
 //! by token (`judge_tokens`, by `tokens`). The law `questions_by_line` says that a line is read as what it spells. The
-//! lines of a store are read by the same parts, in `album_wire`. The JSON of lines that are written is made in `json_values`.
+//! lines of a store are read by the same parts, in `album_wire`. The JSON of lines that are written is made by
+//! `json_values`.
 #![tactic(auto)]
 
 // A text in pieces, and its lines.

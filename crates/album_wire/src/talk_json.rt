@@ -99,9 +99,10 @@ fn serving_json(alloc: Global, port: u16) -> Result<Value, AllocError>
     object_of(with_member(alloc, fields, "port", Ok(Value::from(port))))
 }
 
-/// What each begins with, but for the totals: the word that says which it is.
+/// What each but the totals begins with: the word that says which it is.
 fn answer_fields(alloc: Global, word: &str) -> Result<Map<String, Value>, AllocError>
-    ensures { IfOk result (λ fields. members_view fields.entries ≡ members_named ((codes "answer", string word.now) ∷ [])) }
+    ensures { IfOk result
+        (λ fields. members_view fields.entries ≡ members_named ((codes "answer", string word.now) ∷ [])) }
 {
     let answer = Value::try_from_str(alloc, word);
     with_member(alloc, Ok(Map::new(alloc)), "answer", answer)
