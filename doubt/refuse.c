@@ -3,7 +3,7 @@
    Rattle's code takes memory by `rattle_alloc` and `rattle_realloc` alone, which stand in the program (in one that
    `rt try` built, malloc does too, so it can't be replaced from outside). Where the two are, nm tells: REFUSE_SITES
    has their offsets, hexadecimal. A jump is written over each, so every call comes here. Of them the one of the
-   number REFUSE_AT, from 1, is refused; 0 refuses none. The file REFUSE_TOLD is left with two numbers of eight bytes:
+   number REFUSE_AT, from 1, is refused; 0 refuses none. The file REFUSE_LEFT is left with two numbers of eight bytes:
    how many calls there were, and how many bytes of standard input weren't read yet at the refusal. */
 #define _GNU_SOURCE
 #include <fcntl.h>
@@ -21,22 +21,22 @@ struct tried {
     void *block;
 };
 
-struct told {
+struct left {
     _Atomic uint64_t calls;
     uint64_t unread;
 };
 
-static struct told *told;
+static struct left *left;
 static uint64_t refused_at;
 static char nothing;
 
 static int is_refused(void)
 {
     int unread = 0;
-    if (atomic_fetch_add(&told->calls, 1) + 1 != refused_at)
+    if (atomic_fetch_add(&left->calls, 1) + 1 != refused_at)
         return 0;
     ioctl(0, FIONREAD, &unread);
-    told->unread = (uint64_t)unread;
+    left->unread = (uint64_t)unread;
     return 1;
 }
 
@@ -79,12 +79,12 @@ static int first_object(struct dl_phdr_info *object, size_t size, void *base)
 
 __attribute__((constructor)) static void begin(void)
 {
-    char *sites = getenv("REFUSE_SITES"), *at = getenv("REFUSE_AT"), *name = getenv("REFUSE_TOLD"), *base = NULL;
+    char *sites = getenv("REFUSE_SITES"), *at = getenv("REFUSE_AT"), *name = getenv("REFUSE_LEFT"), *base = NULL;
     int file = name ? open(name, O_RDWR) : -1;
     if (!sites || !at || file < 0)
         _exit(99);
-    told = mmap(NULL, sizeof *told, PROT_READ | PROT_WRITE, MAP_SHARED, file, 0);
-    if (told == MAP_FAILED)
+    left = mmap(NULL, sizeof *left, PROT_READ | PROT_WRITE, MAP_SHARED, file, 0);
+    if (left == MAP_FAILED)
         _exit(99);
     close(file);
     refused_at = strtoull(at, NULL, 10);

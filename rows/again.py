@@ -1,4 +1,4 @@
-"""Replays that a service is given again: what has to come of them stands beside them.
+"""Replays that a service is given again: what they have to give is next to them.
 
 An opening that a replay refuses a service refuses by the same line; where a replay takes it, the service begins. And a
 replay in which each ask has its answer before the next one comes is a talk: its clients are connections, its answers
@@ -14,11 +14,11 @@ from serving import SECONDS, Service, free_port, want, wrong_of
 
 REPLAYS = pathlib.Path(__file__).resolve().parent / "replay"
 OPENINGS = ("longest_header", "most_items", "opening_not_utf8", "too_long_header", "too_many_items")
-TAKEN = b'{"name":"NoSuchMessage","refused":14}\n'  # the end of what a replay tells whose opening is taken
+TAKEN = b'{"name":"NoSuchMessage","refused":14}\n'  # the end of what a replay prints whose opening is taken
 
 
 def replays():
-    """Each replay: its name, its script, and what it tells."""
+    """Each replay: its name, its script, and what it prints."""
     for path in sorted(REPLAYS.glob("*.jsonl")):
         yield path.stem, path.read_bytes(), path.with_suffix(".out").read_bytes()
     for path in sorted(REPLAYS.glob("*.txt")):
@@ -26,15 +26,15 @@ def replays():
             yield name, *replay_of(lines)
 
 
-def begin(program, script, told):
+def begin(program, script, printed):
     """A service of the script's opening, which begins, or is refused."""
-    if told.endswith(TAKEN):
+    if printed.endswith(TAKEN):
         with Service(program, script, 1):
             return
     words = [program, "serve", str(free_port()), "--conns", "1"]
     done = subprocess.run(words, input=script, capture_output=True, timeout=SECONDS)
-    want((1, told), (done.returncode, done.stdout), "the run")
-    name = json.loads(told)["name"]
+    want((1, printed), (done.returncode, done.stdout), "the run")
+    name = json.loads(printed)["name"]
     said = re.fullmatch(r"album: opening(?:, line (\d+))?: (\w+)\n", done.stderr.decode())
     want(name, said and said[2], "the refusal on standard error")
     most = script.count(b"\n") + 2
@@ -68,10 +68,10 @@ def totals_of(notes):
     return json.dumps(totals, separators=(",", ":"))
 
 
-def talk_of(script, told):
+def talk_of(script, printed):
     """The lines of the talk that a replay is, or None where it is none."""
     opening, is_begun, rest = script.decode(errors="replace").partition('{"begin":true}\n')
-    lines = told.decode().splitlines()
+    lines = printed.decode().splitlines()
     answers = [line for line in lines if '"audit":' not in line]
     try:
         turns = turns_of([json.loads(line) for line in rest.splitlines() if line.strip()])
@@ -93,9 +93,9 @@ def talk_of(script, told):
 
 def checks():
     """Each row: its name, how it is run on a program, and what it is."""
-    for name, script, told in replays():
-        talk = talk_of(script, told)
+    for name, script, printed in replays():
+        talk = talk_of(script, printed)
         if name in OPENINGS or name.startswith("openings: "):
-            yield f"serve, as in replay/{name}", begun, (script, told)
+            yield f"serve, as in replay/{name}", begun, (script, printed)
         elif talk is not None:
             yield f"serve, as in replay/{name}", talks.held, (talks.Talk(talk, REPLAYS), talks.ONE_PIECE)

@@ -27,7 +27,7 @@ def asked(program, port, words, text):
 
 
 def requests_and_lines(program):
-    """A request stands by itself, or as the line of a connection; blank lines are left out; each answer has a line. The
+    """A request is a line by itself, or the line of a connection; blank lines are left out; each answer has a line. The
     keys of a request may stand in any order, and a last line needs no end."""
     with Service(program, OPENING, 1) as service:
         text = compact(READ["ask"]) + b"\n \t\r\n" + compact(READ) + b'{"pending":0}\n{"list\n'
@@ -69,11 +69,11 @@ def spelled_bits_and_contents(program):
     flags = {1: "FILE_INHERIT", 2: "DIRECTORY_INHERIT", 4: "NO_PROPAGATE_INHERIT", 9: "FILE_INHERIT,INHERIT_ONLY",
              16: "SUCCESSFUL_ACCESS", 32: "FAILED_ACCESS", 64: "IDENTIFIER_GROUP"}
     given = [["allow", "OWNER@", 393216, 3]]
-    told = [["allow", "OWNER@", "READ_ACL,WRITE_ACL", "FILE_INHERIT,DIRECTORY_INHERIT"]]
+    spelled = [["allow", "OWNER@", "READ_ACL,WRITE_ACL", "FILE_INHERIT,DIRECTORY_INHERIT"]]
     for number, name in flags.items():
         who = "7@groups" if number == 64 else "bo@users"
         given.append(["deny", who, 65600, number])
-        told.append(["deny", who, "DELETE_CHILD,DELETE", name])
+        spelled.append(["deny", who, "DELETE_CHILD,DELETE", name])
     first, second = 65537, 131073  # counters 1 and 2 of client 1
     read = {"answer": "served", "client": 1, "object": "picture/0", "stamp": first, "text": "", "title": "Sea"}
     with Service(program, OPENING.replace(b"736561", b"ff"), 1) as service:
@@ -85,7 +85,7 @@ def spelled_bits_and_contents(program):
             ({"do": "set_lists", "lists": [["album/0", given]]},
              {"answer": "committed", "client": 1, "stamp": second}),
             ({"do": "get_list", "object": "album/0"},
-             {"answer": "served", "client": 1, "entries": told, "object": "album/0", "stamp": second})]
+             {"answer": "served", "client": 1, "entries": spelled, "object": "album/0", "stamp": second})]
         text, wanted = (b"".join(compact(row[n]) for row in requests) for n in (0, 1))
         want((0, wanted, b""), asked(program, service.port, ["--as", "amy@users", "--text"], text), "the run")
         service.end(NOTHING_NOTED, [b""])
@@ -124,14 +124,14 @@ def nobody_is_there(program):
 
 
 def on_a_terminal(program):
-    """A prompt with who asks stands where a request is waited for."""
+    """A prompt with the principal is shown where a request is waited for."""
     with Service(program, OPENING, 1) as service:
         ours, its = pty.openpty()
         with subprocess.Popen([program, "ask", str(service.port), "--as", "bo@users"], stdin=its, stdout=its,
                               stderr=its) as run:
             os.close(its)
             os.write(ours, b'{"pending":0}\n\x04')
-            told = b""
+            shown = b""
             while True:
                 try:
                     piece = os.read(ours, 4096)
@@ -139,11 +139,11 @@ def on_a_terminal(program):
                     break
                 if not piece:
                     break
-                told += piece
+                shown += piece
             want(0, run.wait(SECONDS), "the status")
         os.close(ours)
-        told = told.replace(b"\r\n", b"\n").replace(b'{"pending":0}\n', b"", 1)
-        want(b'bo@users> {"answer":"pending","stamps":[]}\nbo@users> ', told.replace(b"^D\x08\x08", b""), "the talk")
+        shown = shown.replace(b"\r\n", b"\n").replace(b'{"pending":0}\n', b"", 1)
+        want(b'bo@users> {"answer":"pending","stamps":[]}\nbo@users> ', shown.replace(b"^D\x08\x08", b""), "the talk")
         service.end(NOTHING_NOTED, [b""])
 
 

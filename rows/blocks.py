@@ -1,4 +1,4 @@
-"""Files of short rows, parted by empty lines: of each a name behind '# ', and its lines. The first part tells of the
+"""Files of short rows, parted by empty lines: of each a name after '# ', and its lines. The first part describes the
 file."""
 
 
@@ -10,7 +10,7 @@ def blocks(path):
 
 
 def replay_of(lines):
-    """What a short replay is given, and what it has to tell."""
+    """What a short replay is given, and what it has to print."""
     given = "".join(f"{line}\n" for line in lines if not line.startswith("= "))
-    told = "".join(f"{line[2:]}\n" for line in lines if line.startswith("= "))
-    return given.encode(), told.encode()
+    printed = "".join(f"{line[2:]}\n" for line in lines if line.startswith("= "))
+    return given.encode(), printed.encode()

@@ -57,9 +57,9 @@ def retitles(connection, client, count):
     wrote = {}
     for n in range(count):
         title = f"{client}, {n}"
-        told = connection.ask({"ask": {"do": "retitle", "object": "picture/0", "title": title}})
-        want(("committed", client, client), (told["answer"], told["client"], told["stamp"] % 65536), "a write")
-        wrote[told["stamp"]] = title
+        answer = connection.ask({"ask": {"do": "retitle", "object": "picture/0", "title": title}})
+        want(("committed", client, client), (answer["answer"], answer["client"], answer["stamp"] % 65536), "a write")
+        wrote[answer["stamp"]] = title
     want(sorted(wrote), list(wrote), "the order of the stamps")
     want(count, len(wrote), "the number of stamps")
     return wrote
@@ -68,11 +68,11 @@ def retitles(connection, client, count):
 def reads(connection, client, count):
     """Reads the picture so many times; what was read, by stamps, which must not sink. Trims may keep a read busy."""
     answers = [connection.ask({"ask": {"do": "read", "object": "picture/0"}}) for _ in range(count)]
-    served = [told for told in answers if told != {"answer": "busy", "client": client, "why": "rounds"}]
-    want({("served", client)}, {(told["answer"], told["client"]) for told in served}, "the reads")
-    stamps = [told["stamp"] for told in served]
+    served = [answer for answer in answers if answer != {"answer": "busy", "client": client, "why": "rounds"}]
+    want({("served", client)}, {(answer["answer"], answer["client"]) for answer in served}, "the reads")
+    stamps = [answer["stamp"] for answer in served]
     want(sorted(stamps), stamps, "the order of the stamps that are read")
-    return [(told["stamp"], told["title"]) for told in served]
+    return [(answer["stamp"], answer["title"]) for answer in served]
 
 
 def four_writers(program):
@@ -82,8 +82,8 @@ def four_writers(program):
             wrote = at_once(*((retitles, amy, client, 25) for client, amy in enumerate(amys, 1)))
             titles = {stamp: title for one in wrote for stamp, title in one.items()}
             want(100, len(titles), "the number of stamps")
-            told = amys[0].ask({"ask": {"do": "read", "object": "picture/0"}})
-            want((max(titles), titles[max(titles)]), (told["stamp"], told["title"]), "what is read at last")
+            answer = amys[0].ask({"ask": {"do": "read", "object": "picture/0"}})
+            want((max(titles), titles[max(titles)]), (answer["stamp"], answer["title"]), "what is read at last")
         service.end(b'{"alarms":[0,0],"audits":[100,0]}\n', [b""])
 
 
@@ -131,28 +131,28 @@ def change_of_two_lists(program):
 
     def look_on(bo, client):
         for _ in range(60):
-            told = bo.ask({"ask": {"album": "album/0", "do": "list"}})
-            want(client, told.pop("client"), "the client")
-            want(shown if told["answer"] == "listed" else hidden, told, "what is listed")
+            answer = bo.ask({"ask": {"album": "album/0", "do": "list"}})
+            want(client, answer.pop("client"), "the client")
+            want(shown if answer["answer"] == "listed" else hidden, answer, "what is listed")
 
     with Service(program, ruled([OWNER, see], [OWNER, look]), 3) as service:
         with connected(service, ["amy@users", "bo@users", "bo@users"]) as (amy, *bos):
             at_once((change, amy), (look_on, bos[0], 2), (look_on, bos[1], 3))
-            told = bos[0].ask({"ask": {"album": "album/0", "do": "list"}})
-            want("listed", told["answer"], "what is told at last")
+            answer = bos[0].ask({"ask": {"album": "album/0", "do": "list"}})
+            want("listed", answer["answer"], "what is listed at last")
         service.end(NOTHING_NOTED, [b""])
 
 
 def sweep_all(connection):
-    """Has every stamp swept that is pending somewhere, and tells whether there was one."""
+    """Has every stamp swept that is pending somewhere, and returns whether there was one."""
     found = False
     for part in range(3):
-        told = connection.ask({"pending": part})
-        want("pending", told["answer"], "what is told of a partition")
-        for stamp in told["stamps"]:
+        answer = connection.ask({"pending": part})
+        want("pending", answer["answer"], "what is pending at a partition")
+        for stamp in answer["stamps"]:
             found = True
-            told = connection.ask({"sweep": {"part": part, "stamp": stamp}})
-            want(told if told in (SWEPT, NOT_PREPARED) else SWEPT, told, "the answer to a sweep")
+            answer = connection.ask({"sweep": {"part": part, "stamp": stamp}})
+            want(answer if answer in (SWEPT, NOT_PREPARED) else SWEPT, answer, "the answer to a sweep")
     return found
 
 
@@ -161,18 +161,18 @@ def set_two_lists(amy, masks):
     wrote = {}
     for mask in masks:
         lists = [[item, [OWNER, ["allow", "bo@users", mask, 0]]] for item in ("picture/0", "album/0")]
-        told = amy.ask({"ask": {"do": "set_lists", "lists": lists}})
-        if told["answer"] == "committed":
-            wrote[told["stamp"]] = [mask]
+        answer = amy.ask({"ask": {"do": "set_lists", "lists": lists}})
+        if answer["answer"] == "committed":
+            wrote[answer["stamp"]] = [mask]
         else:
-            want("aborted", told["answer"], "a write that is swept")
+            want("aborted", answer["answer"], "a write that is swept")
     return wrote
 
 
-def list_told(connection, item):
-    """The stamp of an item's list, and the masks behind its owner's."""
-    told = connection.ask({"ask": {"do": "get_list", "object": item}})
-    return told["stamp"], [mask for _, _, mask, _ in told["entries"][1:]]
+def list_of(connection, item):
+    """The stamp of an item's list, and the masks after its owner's."""
+    answer = connection.ask({"ask": {"do": "get_list", "object": item}})
+    return answer["stamp"], [mask for _, _, mask, _ in answer["entries"][1:]]
 
 
 def swept_writes(program):
@@ -198,7 +198,7 @@ def swept_writes(program):
             for masks in ([], [64]):
                 wrote.update(set_two_lists(amy, masks))
                 for item in ("picture/0", "album/0"):
-                    want((max(wrote), wrote[max(wrote)]), list_told(amy, item), f"the list of {item}")
+                    want((max(wrote), wrote[max(wrote)]), list_of(amy, item), f"the list of {item}")
             want([64], wrote[max(wrote)], "what is written last")
         service.end(NOTHING_NOTED, [b""])
 
@@ -223,13 +223,13 @@ def answers_left_unread(program):
         amy = Connection(service.port, ONE_PIECE)
         want({"answer": "hello", "client": 2}, amy.ask({"who": "amy@users"}), "a hello")
         time.sleep(1)  # by now bo's answers should be stuck; whether they are changes nothing
-        told = amy.ask({"ask": {"do": "retitle", "object": "picture/0", "title": "Sea"}})
-        want({"answer": "committed", "client": 2, "stamp": 65538}, told, "the answer to another")
+        answer = amy.ask({"ask": {"do": "retitle", "object": "picture/0", "title": "Sea"}})
+        want({"answer": "committed", "client": 2, "stamp": 65538}, answer, "the answer to another")
         amy.finish()
         want(b'{"answer":"hello","client":1}\n', bo.answer(), "a hello")
         for _ in range(700):
-            told = json.loads(bo.answer())
-            want(("served", content, "Sea"), (told["answer"], told["content"], told["title"]), "an answer taken late")
+            answer = json.loads(bo.answer())
+            want(("served", content, "Sea"), (answer["answer"], answer["content"], answer["title"]), "an answer taken late")
         bo.finish()
         service.end(NOTHING_NOTED, [b""])
 

@@ -15,7 +15,7 @@ ROWS = pathlib.Path(__file__).resolve().parent
 EXAMPLES = ROWS.parent / "examples"
 sys.path.append(str(EXAMPLES))
 
-import client  # noqa: E402 (it stands among the examples)
+import client  # noqa: E402 (it is one of the examples)
 
 SERVED = {"answer": "served", "client": 1, "content": "", "object": "picture/0", "stamp": 0, "title": "Sea"}
 COMMITTED = {"answer": "committed", "client": 2, "stamp": 65538}  # counter 1 of client 2
@@ -66,7 +66,7 @@ def clients_by_turns(program):
 
 
 def scripts_that_are_refused(program):
-    """What can't be written out is told with its line; what comes before it is there."""
+    """What can't be written out is named by its line; what comes before it is there."""
     header, begin = '{"open":{"parts":1}}', '{"begin":true}'
     ask = '{"ask":{"do":"read","object":"picture/9"},"client":1,"who":"bo@users"}'
     for lines, said in (

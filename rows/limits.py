@@ -39,12 +39,12 @@ def files_that_run_out(program):
 
 
 def beyond_the_last(program):
-    """One more than is served is told so while the others talk."""
+    """One more than is served gets its refusal while the others talk."""
     with Service(program, OPENING, 2) as service:
         first, second = greeted(service), greeted(service)
         third = Connection(service.port, ONE_PIECE)
-        want(CLOSED, third.answer(), "what one too many is told")
-        want(b"", third.answer(), "what it is told then")
+        want(CLOSED, third.answer(), "the answer to one too many")
+        want(b"", third.answer(), "what follows it")
         third.close()
         for connection in (first, second):
             want(PENDING, connection.ask({"pending": 0}), "the answer to another")
@@ -74,7 +74,7 @@ def no_more_than_counted_until_the_end(program):
     with Service(program, OPENING, 1, "--until-eof", goes_on=True) as service:
         greeted(service).finish()
         more = Connection(service.port, ONE_PIECE)
-        want(CLOSED, more.answer(), "what one too many is told")
+        want(CLOSED, more.answer(), "the answer to one too many")
         more.close()
         want(None, service.run.poll(), "the end of the service")
         service.run.stdin.close()
@@ -107,7 +107,7 @@ def stopped_and_continued(program):
 
 
 def errors_that_nobody_reads(program):
-    """Connections that break off are told on standard error. Where nobody reads it, the others are answered still."""
+    """Connections that break off have a line on standard error. Where nobody reads it, the others are answered still."""
     reads, writes = os.pipe()
     fcntl.fcntl(writes, fcntl.F_SETPIPE_SZ, 4096)
     with os.fdopen(reads, "rb"), Service(program, OPENING, 402, errors=os.fdopen(writes, "wb")) as service:

@@ -92,8 +92,8 @@ def explained_files(program, folder):
     }
     wanted = {
         "bad": ['{"at":"mask","line":2,"name":"BadMask","refused":5,"value":0}',
-                '{"answer":"granted","bits":[["READ_DATA","allowed",0]],"line":3}'],
-        "good": ['{"answer":"denied","at":"end","bits":[["WRITE_DATA","denied","end"]],"line":1}'],
+                '{"answer":"granted","bits":[["READ_DATA","allowed",0]],"groups":[],"line":3}'],
+        "good": ['{"answer":"denied","at":"end","bits":[["WRITE_DATA","denied","end"]],"groups":[],"line":1}'],
         "silent": ['{"at":"pending","line":1,"name":"BadRequest","refused":3,"value":0}',
                    '{"kind":"who","line":2,"reads":"talk"}'],
         "talk": ['{"kind":"who","line":1,"reads":"talk"}', '{"kind":"pending","line":2,"reads":"talk"}'],
@@ -153,7 +153,7 @@ def traces_after_any_opening(program, _folder):
 
 
 def only_admins(program, _folder):
-    """Who is no admin may ask, and nothing else; the refusal doesn't tell which partitions there are."""
+    """Who is no admin may ask, and nothing else; the refusal doesn't show which partitions there are."""
     with Service(program, ALLOWED, 3, "--admin", "amy@users", "--admin", "ANONYMOUS@") as service:
         other = talker(service, "bo@users")
         for line in ({"pending": 0}, {"pending": 9}, SWEEP, TRIM):

@@ -8,7 +8,7 @@ import tempfile
 import threading
 
 SECONDS = 60  # how long a service may run, and how long one wait may take
-RESET = struct.pack("ii", 1, 0)  # linger for no time: what is not sent is dropped, and the other side is told
+RESET = struct.pack("ii", 1, 0)  # linger for no time: what is not sent is dropped, and the other side gets a reset
 
 
 class Differs(Exception):

@@ -1,7 +1,7 @@
 """Talks with a running service. rows/serve/NAME.txt has them, many a file, parted by empty lines.
 
 The first line of a talk is its name, the second one how the service is started: `serve --conns N < OPENING`. The
-opening is a file beside the talk; where none is named, it is the lines that follow. Then, a line each, in order:
+opening is a file next to the talk; where none is named, it is the lines that follow. Then, a line each, in order:
 
     amy> LINE       amy sends the line; amy is a connection, which is made where it is first named
     amy| TEXT       she sends the text without a newline
@@ -39,10 +39,10 @@ class Talk:
         if start is None:
             raise ValueError(f"no start of a talk: {lines[0]}")
         self.conns, name = int(start[1]), start[2]
-        told = [line for line in lines[1:] if not line.startswith(("= ", "! "))]
-        opening = [line for line in told if line.startswith("{")]
+        rest = [line for line in lines[1:] if not line.startswith(("= ", "! "))]
+        opening = [line for line in rest if line.startswith("{")]
         self.opening = (folder / name).read_bytes() if name else joined(opening)
-        self.steps = steps_of(told[len(opening):])
+        self.steps = steps_of(rest[len(opening):])
         self.printed = joined(line[2:] for line in lines if line.startswith("= "))
         self.errors = joined(line[2:] for line in lines if line.startswith("! "))
 

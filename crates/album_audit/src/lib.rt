@@ -7,6 +7,7 @@
 //! total with its part of the shares.
 #![tactic(auto)]
 
+// The totals, the book that keeps them, and a session's share of it.
 mod book;
 mod names;
 mod share;

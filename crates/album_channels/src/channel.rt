@@ -33,9 +33,11 @@ pub struct PartitionChannel<J: DeskNames> {
     client: ClientNo,
     /// How many partitions there are.
     parts: u16,
-    /// The last tag that went out.
+    /// The last tag of a control request. (Rounds have the client's tags.)
     tag: u64,
-    /// Whether a mailbox was found gone.
+    /// Whether no ask and no control request begins any more: a mailbox was found gone, the service was found broken
+    /// while the session waited, or the tags of control requests are spent. It is never reset, and what was heard is
+    /// kept. A session that ends is let go instead (`leave`).
     closed: bool,
     /// The mailboxes of the partitions, in order.
     to: Vec<Sender<PartitionMail<J>>>,
@@ -255,7 +257,7 @@ impl<J: DeskNames> PartitionChannel<J> {
         ensures same { self.new ≡ self.old }
     {
         match self.from.next_unless(rt, &self.breakage) {
-            Some(word) => Ok(word),
+            Some(mail) => Ok(mail),
             None => {
                 self.closed = true;
                 Err(Refusal::Closed)

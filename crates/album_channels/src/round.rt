@@ -38,8 +38,10 @@ impl<J: DeskNames> PartitionChannel<J> {
             self.post_all(rt, &messages)?;
         }
         if begins_read(&messages) {
+            // What the first replies show as latest is kept from now on.
             self.sights(messages.len());
         }
+        // From here on the message is looked for that a reply answers.
         self.found = 0;
         Ok(Asked {
             sent: messages,
@@ -195,8 +197,8 @@ impl<J: DeskNames> PartitionChannel<J> {
     }
 
     /// Takes in the reply, where it answers one of these messages, at a point of the partition's history no earlier
-    /// than the session had seen when they were sent. A version ends the read, where a newer one of the item may have
-    /// been committed by then, unless the first round has shown that this one is new enough.
+    /// than the session had seen when they were sent. An overtaken reply ends the read: a newer version of its item may
+    /// have been committed by then. It doesn't, where the first round has shown that this version is new enough.
     #[tactic(auto, using(crate::proofs::ChannelLemmas::later_same))]
     fn take(
         &mut self,
@@ -227,6 +229,7 @@ impl<J: DeskNames> PartitionChannel<J> {
                 let_go(request, reply, pass);
                 return ends_read(reads);
             }
+            // It isn't the latest version, so it is no sighting.
             drop(request);
             self.join(pass);
             return Ok(Some(reply));

@@ -7,7 +7,7 @@ use album_stamps::Refusal;
 use album_views::Viewing;
 use std::marker::Model;
 
-/// An ask that has no view yet, and its principal, who may ask it.
+/// An ask that has no view yet, and its principal, for whom it has passed `Ask::check`.
 pub struct PendingAsk {
     viewing: Viewing,
     principal: Principal,
@@ -53,7 +53,7 @@ impl PendingAsk {
         (viewing, principal)
     }
 
-    /// The same once more. By hand, since the search doesn't find a derived clone of it equal.
+    /// The same once more. By hand, since the prover's search doesn't find a derived clone equal.
     ///
     /// # Errors
     ///

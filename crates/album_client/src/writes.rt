@@ -61,6 +61,7 @@ impl ClientStep {
             (prepare_transition (client_of self) preparing.tag (prepare_stepped preparing message.now)) result }
     {
         let tag = preparing.tag();
+        // How many Commits there may be is known once it is asked.
         let _few = preparing.count();
         match preparing.on_reply(message) {
             PrepareStep::Same(preparing) => {

@@ -28,7 +28,7 @@ fn as_arg<'a>(alloc: Global) -> Arg<'a> {
     Arg::new(alloc, "as")
         .long("as")
         .value_name("WHO")
-        .help("Who asks: name@users or ANONYMOUS@")
+        .help("The principal: name@users or ANONYMOUS@")
         .required(true)
 }
 

@@ -1,7 +1,7 @@
 //! The command line of `album`: its subcommands, how it is read, and what those do that need no running service.
 
 use crate::asking::{ask_command, ask_service};
-use crate::explaining::{explain_command, explain_lines, flags_command, mask_command, tell_bits};
+use crate::explaining::{explain_command, explain_lines, flags_command, mask_command, print_bits};
 use crate::judging::{judge_command, judge_lines};
 use crate::replaying::{replay_command, replay_lines};
 use crate::running::{status, with_subcommand};
@@ -62,8 +62,8 @@ where
         Some("replay") => replay_lines(rt, alloc, reader, writer, matches),
         Some("explain") => explain_lines(rt, alloc, reader, writer, matches),
         Some("ask") => ask_service(rt, alloc, reader, writer, matches, has_prompt),
-        Some("mask") => tell_bits(rt, alloc, writer, matches, "mask"),
-        Some("flags") => tell_bits(rt, alloc, writer, matches, "flags"),
+        Some("mask") => print_bits(rt, alloc, writer, matches, "mask"),
+        Some("flags") => print_bits(rt, alloc, writer, matches, "flags"),
         // No other command line has matched.
         _ => ExitCode::from(2),
     }

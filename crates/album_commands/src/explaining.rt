@@ -140,7 +140,7 @@ fn explain_each<R: Read, W: Write>(
 }
 
 /// Prints what the names, or the number, of `mask` or `flags` are.
-pub(crate) fn tell_bits<T: Eprint, W: Write>(
+pub(crate) fn print_bits<T: Eprint, W: Write>(
     rt: &T,
     alloc: Global,
     writer: &mut W,

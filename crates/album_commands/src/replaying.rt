@@ -4,7 +4,7 @@ use crate::running::{TURNS, open, status};
 use crate::texts::{REPLAY_ABOUT, REPLAY_HELP};
 use album_judge::Fault;
 use album_replay::replay;
-use album_scripts::{Asked, Told, Traced, Watch};
+use album_scripts::{Traced, Watch, WatchedReader, WatchedWriter};
 use clap::{Arg, ArgAction, ArgMatches, Command};
 use std::alloc::{AllocError, Global};
 use std::io::{Read, Write};
@@ -90,9 +90,9 @@ fn replay_watched<R: Read, W: Write>(
         return status(rt, replayed(alloc, reader, writer));
     }
     let watch = Watch::new();
-    let mut asked = Asked::new(&watch, reader);
-    let mut told = Told::new(&watch, writer);
-    let ended = replayed(alloc, &mut asked, &mut told);
+    let mut reader = WatchedReader::new(&watch, reader);
+    let mut writer = WatchedWriter::new(&watch, writer);
+    let ended = replayed(alloc, &mut reader, &mut writer);
     if ended.is_err() {
         return status(rt, ended);
     }

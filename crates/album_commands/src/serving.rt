@@ -69,7 +69,7 @@ fn stats_arg<'a>(alloc: Global) -> Arg<'a> {
     Arg::new(alloc, "stats")
         .long("stats")
         .value_name("SECONDS")
-        .help("How often the figures of the service are told on standard error")
+        .help("How often the figures of the service are printed on standard error")
         .value_parser(value_parser!(u32).range(1..))
 }
 

@@ -18,10 +18,10 @@ list of one entry:
   group    the number of the group that GROUP@ means
   mask     the bits that are asked, added up: 1 read, 2 write, 4 append, .. (docs/FORMATS.md has all)
   owner    who owns the object: name@users
-  who      who asks: name@users or ANONYMOUS@
+  who      the principal: name@users or ANONYMOUS@
   kind     may be left out: picture, album or group, the object that carries the list
   groups   may be left out: [number, members] each, a member being name@users or number@groups
-  policy   may be left out: 1, or 2, by which an owner may always read and change the list of what he owns
+  policy   may be left out: 1; or 2, which lets an owner always read and change the list of what he owns
 
 It is answered by one of these lines, `at` being the index of the entry that denies, from 0:
 
@@ -33,11 +33,11 @@ It is answered by one of these lines, `at` being the index of the entry that den
 The lines of each FILE are answered in turn, in the place of standard input."#;
 
 pub(crate) const REPLAY_ABOUT: &str =
-    "Opens a store by the first lines of standard input, and tells what the events of the others bring about";
+    "Opens a store by the first lines of standard input, and prints the outputs of the events that follow";
 
 pub(crate) const REPLAY_HELP: &str =
     r#"Lines are JSON objects. The opening comes first: how the store is opened, each item with its value, and
-that these are all. Two partitions, and a picture of amy's with a list by which everyone may read it:
+that these are all. Two partitions, and a picture of amy's with a list that lets everyone read it:
 
   {"open":{"parts":2}}
   {"item":"picture/0","value":{"content":"736561","group":0,"home":0,"list":0,"owner":"amy@users","title":"Sea"}}
@@ -46,26 +46,25 @@ that these are all. Two partitions, and a picture of amy's with a list by which 
 
   open     parts, how many partitions there are, from 1 to 16. These may be left out: limit, the marks for
            which a partition has room (100000), and a write makes two at each that it concerns; policy,
-           1 or 2 (1); trace, whether each message that is sent is told (false)
+           1 or 2 (1); trace, whether each message that is sent is printed (false)
   value    of a picture: content, group, home, list, owner and title; of an album: children, group, home,
            list, owner and title; of a list: entries; of a group: group, list, members and owner
 
-Every line behind it is an event, or a range of deliveries. Here bo asks to read the picture, and the
-messages are given to whom they are sent:
+Every later line is an event, or a range of deliveries. Here bo asks to read the picture, and the messages
+are delivered:
 
   {"ask":{"do":"read","object":"picture/0"},"client":1,"who":"bo@users"}
-  {"deliver":[1,4]}
+  {"deliver":[1,16]}
 
   ask      who is name@users or ANONYMOUS@, client a number from 1 to 65535, and do one of read, list,
            get_list, add_picture, add_album, retitle, replace, delete, move, set_lists, set_owner,
            set_members and share, each with fields of its own (docs/FORMATS.md has all)
   deliver  the number of a message, the first that is sent being 1; or [first, last], at most 10000 of them
-  sweep    part and stamp: the partition asks the others how a write stands that is pending there
+  sweep    part and stamp: the partition asks the others for the state of a write that is pending at it
   stop     the number of a client, which stops for good
   trim     item and part: the partition lets old versions of the item go
 
-Each thing that an event brings about is told by one line: notes, messages in a trace, answers. So is
-each refusal:
+Each output of an event is one line: a note, a message in a trace, an answer. So is each refusal:
 
   {"answer":"served","client":1,"content":"736561","object":"picture/0","stamp":0,"title":"Sea"}
   {"name":"NoSuchMessage","refused":14}
@@ -73,7 +72,7 @@ each refusal:
 A refused event changes nothing, and a refused opening ends the run. With FILE the script is read from it."#;
 
 pub(crate) const ASK_ABOUT: &str =
-    "Sends each line of standard input to a service, and prints what it is answered";
+    "Sends each line of standard input to a service, and prints the line that answers it";
 
 pub(crate) const ASK_HELP: &str =
     r#"A line is a request; any other line of a connection is sent as it is:
@@ -92,30 +91,31 @@ The status is 1 where there is no service at the port, where it refuses WHO, or 
 last line is answered."#;
 
 pub(crate) const EXPLAIN_ABOUT: &str =
-    "Tells of each line where it is refused, or by which entry each bit is decided";
+    "Says of each line where it is refused, or which entry decides each bit";
 
 pub(crate) const EXPLAIN_HELP: &str =
     r#"The lines are those of `album judge`. Each that isn't blank is explained by one line, with its number:
 
   {"at":"entries[1].mask","line":3,"name":"BadMask","refused":5,"value":512}
-  {"answer":"denied","at":1,"bits":[["READ_DATA","allowed",0],["WRITE_DATA","denied",1]],"line":4}
+  {"answer":"denied","at":1,"bits":[["READ_DATA","allowed",0],["WRITE_DATA","denied",1]],"groups":[],"line":4}
 
   at       of a refusal the part of the line that fails its test, or the byte from which on it is no JSON;
            of a verdict the index of the entry that denies, from 0, or "end"
-  bits     what is asked, each with how and by which entry it is decided: an index, "end", or "owner",
-           whom policy 2 gives it
-  value    the number that stands at the place, if one does
+  bits     of each bit that is asked its name, whether it is allowed, and the index of the entry that decides
+           it: "end" where none does, "owner" where policy 2 gives it
+  groups   the numbers of the line's groups that the principal is in
+  value    the number that is there, if one is
 
 The status is 1 where a line is refused. The lines of each FILE are explained in turn, in the place of
 standard input, and counted from 1 in each."#;
 
 pub(crate) const OPENING_ABOUT: &str =
-    "Tells of each line of an opening, and of the events behind it, what it is or where it is refused";
+    "Says of each line of an opening, and of the events after it, what it is or where it is refused";
 
-pub(crate) const EVENT_ABOUT: &str = "Tells of each line what event it is, or where it is refused";
+pub(crate) const EVENT_ABOUT: &str = "Says of each line which event it is, or where it is refused";
 
 pub(crate) const TALK_ABOUT: &str =
-    "Tells of each line of a connection what it says, or where it is refused";
+    "Says of each line of a connection what it is, or where it is refused";
 
 pub(crate) const LINES_HELP: &str =
     r#"The lines are those of `album replay`, and of a connection to `album serve`. Each that isn't blank is
@@ -125,20 +125,20 @@ explained by one line, with its number:
   {"at":"ask.lists[0].entries[1].mask","line":4,"name":"BadMask","refused":5,"value":512}
   {"at":"line 3: value.list","line":6,"name":"BadOpening","refused":22,"value":0}
 
-  kind     of a line that is taken the name in it that tells what it says
-  reads    as what it is read: opening, event or talk
+  kind     what the line is, by the name in it that says so, where it isn't refused
+  reads    what it is read as: opening, event or talk
   at       of a refusal the part of the line that fails its test; the byte from which on it is no JSON; or, of
            an opening that is refused as a whole, the line with the part that fails
-  value    the number that stands at the place, if one does
+  value    the number that is there, if one is
 
 The status is 1 where a line is refused. The lines of each FILE are explained in turn, in the place of
 standard input, and counted from 1 in each."#;
 
 pub(crate) const MASK_ABOUT: &str =
-    "Tells the number of a mask's names, or the names of its number";
+    "Prints the number of a mask's names, or the names of its number";
 
 pub(crate) const FLAGS_ABOUT: &str =
-    "Tells the number of the names of an entry's flags, or the names of their number";
+    "Prints the number of the names of an entry's flags, or the names of their number";
 
 pub(crate) const NAMES_HELP: &str = r#"As in
 
@@ -150,11 +150,11 @@ pub(crate) const NAMES_HELP: &str = r#"As in
 docs/FORMATS.md has all names."#;
 
 pub(crate) const SERVE_ABOUT: &str =
-    "Opens a store by the lines of standard input, and answers what connections to a port ask of it";
+    "Opens a store by the lines of standard input, and answers the requests of connections to a port";
 
 pub(crate) const SERVE_HELP: &str =
     r#"The opening is that of a replay (album replay --help). Each connection to the port of 127.0.0.1 then says
-in its first line who asks, and is answered a line for each line:
+its principal in its first line, and is answered one line for each line:
 
   {"who":"bo@users"}
   {"ask":{"do":"read","object":"picture/0"}}

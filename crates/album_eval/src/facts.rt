@@ -31,7 +31,7 @@ pub struct Facts<'a> {
     pub principal: &'a Principal,
     /// Whose the object is.
     pub owner: &'a Name,
-    /// The number of the object's group.
+    /// The number of the object's group (RFC 7530's owner_group).
     pub head_group: u64,
     /// The numbers of the groups that the principal is in.
     pub groups: &'a BTreeSet<u64>,

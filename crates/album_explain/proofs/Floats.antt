@@ -7,10 +7,10 @@ use Rattle.serde_json.specs.View.{items_of}
 use Rattle.album_stamps.specs.declared.refusals.Refusal.{Refusal}
 use Rattle.album_eval.specs.declared.verdicts.Verdict.{Verdict}
 use Rattle.album_eval.specs.declared.verdicts.Verdict.TheVariants as verdict
-use Rattle.album_lines.specs.Spelling.{list_data}
+use Rattle.album_lines.specs.Spelling.{list_data, whole_data}
 use Rattle.album_explain.specs.declared.decisions.Decision.{Decision}
 use Rattle.album_explain.specs.declared.decisions.Decision.TheVariants as decision
-use Rattle.album_explain.specs.Explanations.{Place, Row, refused_at, refused_json, decision_word, decision_at_json, bit_json, explanation_json}
+use Rattle.album_explain.specs.Explanations.{Place, Row, refused_at, refused_json, decision_word, decision_at_json, bit_json, groups_json, explanation_json}
 
 at_place : (number : ℕ) (refusal : Refusal) (at : List ℕ) (value : Option ℕ) → has_float (refused_at number refusal at value) ≡ false
 at_place number refusal at None = refl
@@ -30,7 +30,12 @@ in_rows : (rows : List Row) → items_have_float (items_of (map bit_json rows)) 
 in_rows [] = refl
 in_rows (row ∷ rows) = rw (decided row.0 row.1, in_rows rows) refl
 
-pub no_float_in_explanation : (number : ℕ) (v : Verdict) (rows : List Row) → has_float (explanation_json number v rows) ≡ false
-no_float_in_explanation number verdict.Granted rows = rw (in_rows rows) refl
-no_float_in_explanation number (verdict.DeniedBy i) rows = rw (in_rows rows) refl
-no_float_in_explanation number verdict.DeniedAtEnd rows = rw (in_rows rows) refl
+in_groups : (groups : List ℕ) → items_have_float (items_of (map whole_data groups)) ≡ false
+in_groups [] = refl
+in_groups (group ∷ groups) = rw (in_groups groups) refl
+
+pub no_float_in_explanation : (number : ℕ) (v : Verdict) (groups : List ℕ) (rows : List Row)
+    → has_float (explanation_json number v groups rows) ≡ false
+no_float_in_explanation number verdict.Granted groups rows = rw (in_rows rows, in_groups groups) refl
+no_float_in_explanation number (verdict.DeniedBy i) groups rows = rw (in_rows rows, in_groups groups) refl
+no_float_in_explanation number verdict.DeniedAtEnd groups rows = rw (in_rows rows, in_groups groups) refl

@@ -99,18 +99,24 @@ bit_json row = list_data (string row.0 ∷ string (decision_word row.1) ∷ deci
 abbrev pub bits_json : List Row → Data
 bits_json rows = list_data (map bit_json rows)
 
-abbrev pub denied_json : ℕ → Data → List Row → Data
-denied_json number at rows = object (
+-- the groups that the principal is in, rising
+abbrev pub groups_json : List ℕ → Data
+groups_json groups = list_data (map whole_data groups)
+
+abbrev pub denied_json : ℕ → Data → List ℕ → List Row → Data
+denied_json number at groups rows = object (
     member (codes "answer") (string (codes "denied")) (
     member (codes "at") at (
     member (codes "bits") (bits_json rows) (
-    member (codes "line") (whole_data number) no_members))))
+    member (codes "groups") (groups_json groups) (
+    member (codes "line") (whole_data number) no_members)))))
 
--- the verdict on a line of this number, and how its bits are decided
-abbrev pub explanation_json : ℕ → Verdict → List Row → Data
-explanation_json number verdict.Granted rows = object (
+-- the verdict on a line of this number, how its bits are decided, and with which groups
+abbrev pub explanation_json : ℕ → Verdict → List ℕ → List Row → Data
+explanation_json number verdict.Granted groups rows = object (
     member (codes "answer") (string (codes "granted")) (
     member (codes "bits") (bits_json rows) (
-    member (codes "line") (whole_data number) no_members)))
-explanation_json number (verdict.DeniedBy index) rows = denied_json number (whole_data index) rows
-explanation_json number verdict.DeniedAtEnd rows = denied_json number (string (codes "end")) rows
+    member (codes "groups") (groups_json groups) (
+    member (codes "line") (whole_data number) no_members))))
+explanation_json number (verdict.DeniedBy index) groups rows = denied_json number (whole_data index) groups rows
+explanation_json number verdict.DeniedAtEnd groups rows = denied_json number (string (codes "end")) groups rows

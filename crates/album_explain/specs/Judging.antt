@@ -1,5 +1,8 @@
 -- The explanations of judge lines.
 use Rattle.std.specs.Prelude.{◌≡◌, ◌↔◌, ◌⊎◌, ℕ, List, Bool, true, false, Option, None, IsTrue, Result, Ok, Err, refl}
+use Rattle.std.specs.BTreeSet as set
+use Rattle.std.specs.BTreeSet.{BTreeSet}
+use Rattle.std.specs.Ordering.{nat_cmp}
 use Rattle.std.proofs.Common.{inr}
 use Rattle.album_stamps.specs.declared.refusals.Refusal.{Refusal}
 use Rattle.album_stamps.specs.declared.refusals.Refusal.TheVariants.{OutOfMemory}
@@ -14,11 +17,12 @@ use Rattle.album_explain.specs.Explanations.{Place, refused_json, explanation_js
 
 -- the line that explains the verdict on a question, judged with exactly the groups that its principal is in
 pub record ExplainsQuestion (number : ℕ) (q : Question) (text : List ℕ) : Type 0 where
-  pub is_in : ℕ → Bool
-  pub groups : (group : ℕ) → IsTrue (is_in group) ↔ IsMember (listed_by q.groups) q.who group
+  pub groups : BTreeSet ℕ
+  pub exact : (group : ℕ) → IsTrue (set.contains nat_cmp groups group) ↔ IsMember (listed_by q.groups) q.who group
   pub verdict : Verdict
-  pub judged : IsVerdict (case_by q is_in) q.list q.mask verdict
-  pub line : text ≡ line_text (explanation_json number verdict (bit_rows (case_by q is_in) q.list q.holder q.mask))
+  pub judged : IsVerdict (case_by q (set.contains nat_cmp groups)) q.list q.mask verdict
+  pub line : text ≡ line_text (explanation_json number verdict (set.keys groups)
+      (bit_rows (case_by q (set.contains nat_cmp groups)) q.list q.holder q.mask))
 
 -- the line of a refusal; which place it names is left open
 abbrev pub IsRefused : ℕ → Refusal → List ℕ → Type 0

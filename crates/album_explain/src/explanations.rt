@@ -1,11 +1,12 @@
-//! The lines that are written: {"answer", "at", "bits", "line"}, {"at", "line", "name", "refused", "value"}.
+//! The lines that are written: {"answer", "at", "bits", "groups", "line"}, {"at", "line", "name", "refused", "value"}.
 ghost use Rattle.std.specs.Prelude.{◌≡◌, ◌++◌, ◌<◌, false, map, IfOk, Some, None, option_map, string_bytes};
+ghost use Rattle.std.specs.BTreeSet as set;
 ghost use Rattle.serde_json.specs.View.{view, members_view};
 ghost use Rattle.album_lines.specs.Output.{line_text};
 ghost use Rattle.album_eval.specs.Matching.{case_of};
 ghost use Rattle.album_eval.specs.declared.verdicts.Verdict.TheVariants.{Granted};
 ghost use Rattle.album_explain.specs.Names.{bit_name};
-ghost use Rattle.album_explain.specs.Explanations.{place_of, refused_at, refused_fields, refused_json, decision_word, decision_at_json, bit_json, bits_json, denied_json, explanation_json, bit_row, bit_rows, bit_of};
+ghost use Rattle.album_explain.specs.Explanations.{place_of, refused_at, refused_fields, refused_json, decision_word, decision_at_json, bit_json, bits_json, groups_json, denied_json, explanation_json, bit_row, bit_rows, bit_of};
 ghost use Rattle.album_access.specs.Bits.{mask_bits};
 
 use crate::decisions::{Decision, decide, has_bit};
@@ -19,6 +20,7 @@ use album_stamps::Refusal;
 use bitflags::Flags;
 use serde_json::{Map, Value};
 use std::alloc::{AllocError, Global};
+use std::collections::BTreeSet;
 
 /// A bit that is asked, and how it is decided.
 #[derive(Clone, Copy, Debug)]
@@ -122,40 +124,56 @@ fn bit_of(mask: Mask) -> u32
     mask.bits().trailing_zeros()
 }
 
-/// The line of a verdict: how each bit was decided, and the line's number.
+/// The line of a verdict: how each bit was decided, the groups that the principal is in, and the line's number.
 #[tactic(auto, using(crate::proofs::Floats::no_float_in_explanation))]
 pub(crate) fn write_explanation(
     alloc: Global,
     number: u64,
     verdict: Verdict,
+    groups: &BTreeSet<u64>,
     rows: &[BitRow],
 ) -> Result<Vec<u8>, AllocError>
-    ensures { IfOk result (λ text. text.items ≡ line_text (explanation_json number verdict (map bit_row rows.now))) }
+    ensures { IfOk result (λ text. text.items
+        ≡ line_text (explanation_json number verdict (set.keys groups.now) (map bit_row rows.now))) }
 {
-    json_line(alloc, explanation_json(alloc, number, verdict, rows))
+    json_line(
+        alloc,
+        explanation_json(alloc, number, verdict, groups, rows),
+    )
 }
 
 fn explanation_json(
     alloc: Global,
     number: u64,
     verdict: Verdict,
+    groups: &BTreeSet<u64>,
     rows: &[BitRow],
 ) -> Result<Value, AllocError>
-    ensures { IfOk result (λ v. view v ≡ explanation_json number verdict (map bit_row rows.now)) }
+    ensures { IfOk result (λ v. view v
+        ≡ explanation_json number verdict (set.keys groups.now) (map bit_row rows.now)) }
 {
     match verdict {
-        Verdict::Granted => granted_json(alloc, number, rows),
-        Verdict::DeniedBy(index) => denied_json(alloc, number, Decision::DeniedBy(index), rows),
-        Verdict::DeniedAtEnd => denied_json(alloc, number, Decision::DeniedAtEnd, rows),
+        Verdict::Granted => granted_json(alloc, number, groups, rows),
+        Verdict::DeniedBy(index) => {
+            denied_json(alloc, number, Decision::DeniedBy(index), groups, rows)
+        }
+        Verdict::DeniedAtEnd => denied_json(alloc, number, Decision::DeniedAtEnd, groups, rows),
     }
 }
 
-fn granted_json(alloc: Global, number: u64, rows: &[BitRow]) -> Result<Value, AllocError>
-    ensures { IfOk result (λ v. view v ≡ explanation_json number Granted (map bit_row rows.now)) }
+fn granted_json(
+    alloc: Global,
+    number: u64,
+    groups: &BTreeSet<u64>,
+    rows: &[BitRow],
+) -> Result<Value, AllocError>
+    ensures { IfOk result (λ v. view v
+        ≡ explanation_json number Granted (set.keys groups.now) (map bit_row rows.now)) }
 {
     let answer = Value::try_from_str(alloc, "granted");
     let fields = with_member(alloc, Ok(Map::new(alloc)), "answer", answer);
     let fields = with_member(alloc, fields, "bits", bits_json(alloc, rows));
+    let fields = with_member(alloc, fields, "groups", groups_json(alloc, groups));
     object_of(with_member(alloc, fields, "line", Ok(Value::from(number))))
 }
 
@@ -164,15 +182,17 @@ fn denied_json(
     alloc: Global,
     number: u64,
     decision: Decision,
+    groups: &BTreeSet<u64>,
     rows: &[BitRow],
 ) -> Result<Value, AllocError>
-    ensures { IfOk result (λ v.
-        view v ≡ denied_json number (decision_at_json decision) (map bit_row rows.now)) }
+    ensures { IfOk result (λ v. view v
+        ≡ denied_json number (decision_at_json decision) (set.keys groups.now) (map bit_row rows.now)) }
 {
     let answer = Value::try_from_str(alloc, "denied");
     let fields = with_member(alloc, Ok(Map::new(alloc)), "answer", answer);
     let fields = with_member(alloc, fields, "at", decision_at(alloc, decision));
     let fields = with_member(alloc, fields, "bits", bits_json(alloc, rows));
+    let fields = with_member(alloc, fields, "groups", groups_json(alloc, groups));
     object_of(with_member(alloc, fields, "line", Ok(Value::from(number))))
 }
 
@@ -182,6 +202,23 @@ fn bits_json(alloc: Global, rows: &[BitRow]) -> Result<Value, AllocError>
     let mut values = Vec::with_capacity(alloc, rows.len());
     for row in rows {
         values = with_item(values, bit_json(alloc, *row));
+    }
+    array_of(values)
+}
+
+fn groups_json(alloc: Global, groups: &BTreeSet<u64>) -> Result<Value, AllocError>
+    ensures { IfOk result (λ v. view v ≡ groups_json (set.keys groups.now)) }
+{
+    let numbers: Vec<u64> = groups.iter().copied().collect(alloc)?;
+    numbers_json(alloc, &numbers)
+}
+
+fn numbers_json(alloc: Global, numbers: &[u64]) -> Result<Value, AllocError>
+    ensures { IfOk result (λ v. view v ≡ groups_json numbers.now) }
+{
+    let mut values = Vec::with_capacity(alloc, numbers.len());
+    for number in numbers {
+        values = with_item(values, Ok(Value::from(*number)));
     }
     array_of(values)
 }

@@ -136,9 +136,10 @@ fn explain_verdict(
 ) -> Result<Vec<u8>, AllocError>
     ensures { IfOk result (λ text. (verdict : Verdict) × IsVerdict (case_of facts.now) list.now mask verdict
         × (text.items ≡ line_text
-        (explanation_json number verdict (bit_rows (case_of facts.now) list.now holder mask)))) }
+        (explanation_json number verdict (set.keys facts.now.groups.now)
+        (bit_rows (case_of facts.now) list.now holder mask)))) }
 {
     let verdict = evaluate(list, facts, mask);
     let rows = bit_rows(alloc, list, facts, holder, mask)?;
-    write_explanation(alloc, number, verdict, &rows)
+    write_explanation(alloc, number, verdict, facts.groups, &rows)
 }

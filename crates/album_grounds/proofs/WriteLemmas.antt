@@ -202,7 +202,7 @@ heard_prepared limit b d begun m place r from says =
 
 -- ---- a step of a round
 
--- once a partition has answered, of each the answer is awaited, or what was asked is done
+-- once a partition has replied, of each the reply is outstanding, or what was asked is done
 answered_further : (xs outstanding : List ℕ) (node : Node) (place : ℕ) (P Q : ℕ → Type 0) → node ≡ Part place → Q place → ((n : ℕ) → P n → Q n)
     → ((n : ℕ) → Contains xs n → Contains outstanding n ⊎ P n)
     → (n : ℕ) → Contains xs n → Contains (filter (λ place. not (is_part node place)) outstanding) n ⊎ Q n
@@ -212,7 +212,7 @@ answered_further xs outstanding node place P Q from done on h n there = ⊎_elim
     go true e w = inr (subst Q (part-number place n (sym from ∙ is_part-own node n e)) done)
     go false e w = inl (filter-has (λ place. not (is_part node place)) outstanding n w (ap not e))
 
--- where nothing is awaited, all is done
+-- where nothing is outstanding, all is done
 none_outstanding : (xs outstanding : List ℕ) (Q : ℕ → Type 0) → outstanding ≡ [] → ((n : ℕ) → Contains xs n → Contains outstanding n ⊎ Q n) → (n : ℕ) → Contains xs n → Q n
 none_outstanding xs outstanding Q none h n there =
     ⊎_elim (λ w. absurd (let gone = subst (λ (ns : List ℕ). Contains ns n) none w in omega (arith, gone.1))) (λ q. q) (h n there)
@@ -301,7 +301,7 @@ module _ (limit : ℕ) (b c d : Cut) (begun : WritingState) (m : Message) (x : E
       go write_reply.Full e = still
       go write_reply.Nothing e = still
 
--- a round in which each answer is awaited
+-- a round in which each reply is outstanding
 pub begun_further : (begun : WritingState) (P : ℕ → Type 0) → begun.outstanding ≡ places_in begun → IsFurther begun P begun
 begun_further begun P all = record {
   same = refl;

@@ -7,14 +7,19 @@
 //! (`collections`, `texts`), and `shared_values`. `openings` comes last; by `pairs` it tests every two rows.
 #![tactic(auto)]
 
-mod collections;
+// Items, and where each is placed.
 mod item_ids;
-mod openings;
-mod pairs;
 mod places;
+
+// Their values, the parts of these, and values that are shared.
+mod collections;
 mod shared_values;
 mod texts;
 mod values;
+
+// What the service opens with.
+mod openings;
+mod pairs;
 
 pub use collections::{ItemValues, Items, Members};
 pub use item_ids::{ItemId, Kind, items_by_text, place, read_item};

@@ -162,7 +162,7 @@ pub fn has_single_rows(rows: &[(ItemId, Value)]) -> bool
     ensures { result ≡ has_single_rows rows.now }
 {
     for index in 0..rows.len() {
-        if tells_of(&rows[index + 1..], &rows[index]) {
+        if names_again(&rows[index + 1..], &rows[index]) {
             return false;
         }
     }
@@ -170,7 +170,7 @@ pub fn has_single_rows(rows: &[(ItemId, Value)]) -> bool
 }
 
 /// Whether one of the rows has the row's item.
-fn tells_of(rows: &[(ItemId, Value)], row: &(ItemId, Value)) -> bool
+fn names_again(rows: &[(ItemId, Value)], row: &(ItemId, Value)) -> bool
     ensures { result ≡ list_any (same_item row.now) rows.now }
 {
     rows.iter().any(|other| row.0.is(other.0))

@@ -5,7 +5,7 @@ use Rattle.std.proofs.Common.{◌≡◌, ◌≢◌, ◌≤◌, ◌<◌, ◌+◌,
 use Rattle.std.specs.Io.KnownBytes.{Consumes, IsAtEnd, Keeps}
 use Rattle.std.proofs.KnownBytes.{Consumes-trans, Consumes-nil, Appends-nil}
 use Rattle.album_lines.specs.Lines.{Line, cut, last, ended, begun, lines_of}
-use Rattle.album_judge.specs.declared.engines.judge.TheConstants.{PIECE}
+use Rattle.album_judge.specs.declared.engine.TheConstants.{PIECE}
 use Rattle.album_judge.specs.declared.fault.Fault.{Fault}
 use Rattle.album_judge.specs.declared.fault.Fault.TheVariants.{Reading, Writing, Memory}
 use Rattle.album_judge.specs.Writes.{HasRead, Writes, Exchanges, IsPrefixOf, IsLeftBy, IsEndedBy}

@@ -2,7 +2,7 @@
 use Rattle.std.specs.Prelude.{◌≡◌, ◌≢◌, ◌≤◌, ◌*◌, ℕ, List, [], ◌++◌, length, Option}
 use Rattle.std.specs.Io.KnownBytes.{Appends, Consumes}
 use Rattle.album_lines.specs.Lines.{Line, ended, lines_of}
-use Rattle.album_judge.specs.declared.engines.judge.TheConstants.{PIECE}
+use Rattle.album_judge.specs.declared.engine.TheConstants.{PIECE}
 use Rattle.album_judge.specs.declared.fault.Fault.{Fault}
 use Rattle.album_judge.specs.declared.fault.Fault.TheVariants.{Reading, Writing, Memory}
 

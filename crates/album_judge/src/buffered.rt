@@ -10,7 +10,7 @@ ghost use Rattle.album_lines.specs.Lines.{lines_of};
 ghost use Rattle.album_judge.specs.Judge.{Answers};
 ghost use Rattle.album_judge.specs.Writes.{HasRead, Writes, Exchanges, IsPrefixOf, IsEndedBy};
 
-use crate::engines::judge::judge_paced;
+use crate::engine::judge_paced;
 use crate::fault::Fault;
 use crate::pace::Held;
 use std::alloc::Global;

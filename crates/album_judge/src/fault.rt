@@ -19,7 +19,7 @@ pub enum Fault {
     Memory,
 }
 
-/// What an engine calls refuses it for want of memory alone.
+/// Callees of an engine fail for want of memory alone.
 impl From<Refusal> for Fault {
     ghost from_gives = { λ _ e. e ≡ Memory };
 

@@ -367,6 +367,7 @@ impl<J: DeskNames> PartitionKeeper<J> {
         ensures asked { (stamp : ℕ) → request.control ≡ Control.Sweep stamp → OnOk result.answer
             (swept self.old.partition stamp ≡ Ok (map (λ envelope. envelope.message) envelopes.new.items)) }
     {
+        // The control is wanted twice: it is carried out, and goes back with the reply.
         let asked = request.control();
         let (tag, control, pass) = request.open();
         self.hear(desk, pass);
@@ -520,6 +521,7 @@ fn append_next(owner: &mut Owner, desk: &Desk, partition: &Partition, before: us
 {
     let marks = partition.history();
     if before < marks.len() {
+        // It isn't `Full`: the partition had room for the mark, and both have one limit.
         owner.append(desk, &marks[before]).unwrap();
     }
 }

@@ -4,10 +4,15 @@
 //! goes out: the partition's reply, with a pass that shows the partition as it was when it had replied.
 //!
 //! Read `envelopes` and `control` first, then `keeper`: a partition with the owner of its history. The keeper settles
-//! the stamps that a reader has seen committed elsewhere, does what the message asks, and makes each mark in both.
+//! the stamps that a reader has seen committed elsewhere, does what the message asks, and makes each mark in the
+//! partition and in its owner's history. So a Get that is refused may have made marks.
+//!
 //! `thread` is the loop around it, `mailbox` is how threads wait, and `start` starts them. specs/Replies.antt says when
 //! a reply counts for the session that has asked. The sessions are `album_sessions`', and the service is
-//! `album_threads`'.
+//! `album_threads`', which makes the mailboxes; they have no bound.
+//!
+//! A thread that fails for want of memory *breaks* the service (`breakage`): sessions then answer `Closed`, and a port
+//! hears of it by `Gate::fail`. (*Stopped* is said of clients alone.)
 #![tactic(auto)]
 
 // What is sent to a partition and back: messages with their passes, and requests of whoever runs the service.

@@ -42,5 +42,5 @@ pub use judge_line::{Group, JudgeLine, questions_by_line, read_judge};
 pub use lines::{LineIn, Lines, any_pieces, joined_lines};
 pub use output::{refusal_texts, verdict_texts, write_refusal, write_verdict};
 pub use shapes::{EntryShape, entry_shapes, texts};
-pub use trees::data;
+pub use trees::{MAX_DEPTH, data};
 pub use values::{access_list, members};

@@ -80,7 +80,7 @@ impl<'a> Tokens<'a> {
         ensures { IfSome result (λ name. MatchOption name (self.old ≡ end_object ∷ self.new)
             (λ name. self.old ≡ key name.now ∷ self.new)) }
     {
-        if let Some(more) = self.behind_closing(b'}') {
+        if let Some(more) = self.after_closing(b'}') {
             self.go_on(more)?;
             return Some(None);
         }
@@ -103,7 +103,7 @@ impl<'a> Tokens<'a> {
     pub(crate) fn take_end(&mut self) -> Option<bool>
         ensures { IfSome result (λ taken. MatchBool taken (self.old ≡ end_array ∷ self.new) (self.new ≡ self.old)) }
     {
-        let Some(more) = self.behind_closing(b']') else {
+        let Some(more) = self.after_closing(b']') else {
             return Some(false);
         };
         self.go_on(more)?;
@@ -139,7 +139,7 @@ impl<'a> Tokens<'a> {
     }
 
     /// What follows this bracket or brace, where it is next and may close.
-    fn behind_closing(&self, byte: u8) -> Option<&'a str>
+    fn after_closing(&self, byte: u8) -> Option<&'a str>
         ensures { IfSome result (λ more. MayClose self.now (byte ∷ more.now)) }
     {
         match self.place {
@@ -178,7 +178,7 @@ fn quoted(text: &str) -> Option<(&str, &str)>
     Some((front, more))
 }
 
-/// How many bytes stand for themselves in a text, before a quote, a backslash or a control byte: 16 at a time.
+/// How many bytes are spelled as themselves in a text, before a quote, a backslash or a control byte: 16 at a time.
 fn plain_len(text: &[u8]) -> usize
     ensures { result ≡ prefix_len is_plain text.now }
 {

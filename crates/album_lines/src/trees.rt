@@ -13,7 +13,7 @@ use std::alloc::Global;
 use std::str;
 
 /// How deep the brackets of a line may be nested.
-const DEEPEST: usize = 127;
+pub const MAX_DEPTH: usize = 127;
 
 /// The JSON value of a line. The scratch is room that is kept from line to line, whatever was in it.
 ///
@@ -32,7 +32,7 @@ pub fn data<'a>(
         return Err(Refusal::BadLine);
     };
     let mut reader = Reader::new(text, scratch)?;
-    let value = match Value::read(alloc, &mut reader, DEEPEST) {
+    let value = match Value::read(alloc, &mut reader, MAX_DEPTH) {
         Ok(value) => value,
         Err(Error::Invalid) => return Err(Refusal::BadLine),
         // `read` gives no other error than that there is no memory.

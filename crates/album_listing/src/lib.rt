@@ -4,7 +4,8 @@
 //! What comes in: a view, and the principal. What goes out: the rows of the album's children that the principal may
 //! see.
 //!
-//! Read `view_lookups`, `reasons` and `ruling_contexts` first, which rulings on other asks use too, then `listing`.
+//! Read `view_lookups`, `reasons` and `ruling_contexts` first, which rulings on all other asks use too, then `listing`.
+//! (A reason is an alternative with its verdict.)
 //! `disclosure` and `titles` have laws alone.
 #![tactic(auto)]
 

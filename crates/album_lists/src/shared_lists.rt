@@ -60,7 +60,7 @@ impl<T: Drop> SharedList<T> {
     }
 
     /// Lets the copies that are made from now on share the elements: each then costs a count, whatever the
-    /// length.
+    /// length. Who keeps a value calls it: for what is prepared, first values, hints, and a second round's stamps.
     ///
     /// # Errors
     ///

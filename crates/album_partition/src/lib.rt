@@ -13,17 +13,24 @@
 //! `figures` says how much a partition holds.
 #![tactic(auto)]
 
-mod figures;
+// The marks, the history that is a list of them, and all that is read off it.
 mod first_values;
 mod history;
-mod laws;
 mod marks;
+mod standings;
+mod stored;
+
+// The table of answers: which Prepares are well-formed, and the votes on what is pending.
 mod partition;
 mod places;
 mod proper;
-mod standings;
-mod stored;
 mod votes;
+
+// How much a partition holds.
+mod figures;
+
+// What holds of partitions.
+mod laws;
 
 pub use figures::Figures;
 pub use laws::{

@@ -24,7 +24,7 @@ marked_cut cut part mark =
 abbrev pub lengths_in : Cut → List ℕ
 lengths_in cut = map length cut.prefixes
 
--- with the items announced for the stamp, whose author has seen just this cut
+-- with the items announced for the stamp, whose author has seen exactly this cut
 abbrev pub announced_cut : Cut → ℕ → List ℕ → Cut
 announced_cut cut stamp items = record cut {
   announced = (stamp, items) ∷ cut.announced;

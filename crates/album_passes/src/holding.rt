@@ -195,6 +195,7 @@ impl Holding {
             ≡ with_cut self.old.seat (announced_cut (known self.old.seat) N.stamp N.items) }
         ensures sound { IsSound (known self.old.seat) }
     {
+        // For contracts alone: the number that is read is dropped.
         desk.table.shared.load::<Announce<N>>(&mut self.seat, 0);
     }
 
@@ -231,7 +232,9 @@ fn take_in(desk: &Desk, seat: &mut Seat<u8, SeatView>, other: Seat<u8, SeatView>
     desk.table.shared.load::<Merge>(seat, 0);
 }
 
-/// Guesses how many numbers are drawn, until a guess is right.
+/// Guesses how many numbers are drawn, until a guess is right. A wrong guess shows the number, which is the next guess:
+/// the first, 0, is how the word is read, and no contention. `None` says that all are drawn, so the tries have no
+/// bound.
 fn draw_on<R: Wait>(rt: &R, desk: &Desk, seat: &mut Seat<u8, SeatView>) -> Option<ClientNo>
     requires table { seat.old.table_id ≡ desk.now.table }
     requires one_cut { seat.old.me.0.cuts ≡ known seat.old.me.0 ∷ [] }

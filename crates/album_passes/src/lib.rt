@@ -14,16 +14,25 @@
 //! for the numbers.
 //!
 //! Read `pass` and `owner` first, together with specs/Cuts.antt; then `desk`. Then read what they
-//! build on: `holding` with its `lengths`, and the rule of the words in `rule`. `laws` comes last.
+//! build on: `holding` with its `lengths`, and the rule of the shared counters in `rule`. `laws` comes last.
+//!
+//! `Append`, `Draw` and `Announce` of `rule` are the kinds of step at these counters, by specs/Steps.antt. `holding`
+//! makes the steps; `Owner::append` and `Desk::draw` pass on to it. One `Append` is one mark, and drawn numbers rise:
+//! contracts of crates above rest on both.
 #![tactic(auto)]
 
+// What callers have: the desk, a partition's owner, and passes.
 mod desk;
-mod holding;
-mod laws;
-mod lengths;
 mod owner;
 mod pass;
+
+// What these build on.
+mod holding;
+mod lengths;
 mod rule;
+
+// What holds of them.
+mod laws;
 
 pub use desk::Desk;
 pub use laws::{

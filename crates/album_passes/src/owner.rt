@@ -13,7 +13,7 @@ use album_stamps::Refusal;
 use std::marker::Model;
 
 /// The one owner of a partition's history. Its cut has all of that history. Contracts see its
-/// desk's table, which partition it is, and the cut.
+/// desk's table, which partition it is, the cut, and up to which number it knows numbers to be drawn.
 pub struct Owner {
     holding: Holding,
     part: usize,
@@ -96,8 +96,8 @@ impl Owner {
         self.holding.join(desk, other.into_holding());
     }
 
-    /// For contracts alone: the cut is sound, and of the owner's partition, by the invariant of its holding. Nothing is
-    /// computed.
+    /// For contracts alone: the cut is sound, and of the owner's partition, by the invariant of its holding: the
+    /// call only has that in view.
     pub fn is_sound(&self)
         ensures sound { IsSound self.now.cut }
         ensures inside { self.now.part < self.now.cut.parts }

@@ -19,7 +19,8 @@ mod rulings;
 mod permits;
 mod serving;
 
-// What it writes.
+// What it writes: `effects` has each ask's, made of new objects and of values with one thing changed, `merging` leaves
+// one write of each item, and `writes` is the result with its permit.
 mod additions;
 mod changes;
 mod effects;

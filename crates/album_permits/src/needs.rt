@@ -35,8 +35,8 @@ impl Need {
     }
 }
 
-/// What the ask needs, in order: each need a bit of an object's mask (RFC 7530, section 6.2.1.3.1). Where the bit has
-/// another name for an album, that name is written above it.
+/// What the ask needs, in order. Each alternative of a need is a bit of an object's mask (RFC 7530, section
+/// 6.2.1.3.1). Where the bit has another name for an album, that name is written above it.
 pub(crate) fn needs(alloc: Global, lookup: &ViewLookup, ask: &Ask) -> Result<Vec<Need>, AllocError>
     ensures { IfOk result (λ needs. needs.items ≡ needs_of (seen lookup.now.view.now.rows) ask.now) }
 {
@@ -101,6 +101,7 @@ fn deletion(alloc: Global, lookup: &ViewLookup, picture: ItemId) -> Result<Need,
             let alternatives = vec![in alloc; itself, from_home]?;
             Ok(Need { alternatives })
         }
+        // The picture is missing.
         None => {
             let alternatives = vec![in alloc; itself]?;
             Ok(Need { alternatives })

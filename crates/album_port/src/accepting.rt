@@ -1,5 +1,5 @@
 //! The connections that come: each is given a session and a thread, or the reason why not.
-use crate::connections::{Connections, Guest, attend};
+use crate::connections::{Connections, OpenConnection, attend};
 use crate::port::{Host, Shared};
 use crate::resumed::Resumed;
 use album_judge::write_refused;
@@ -7,7 +7,7 @@ use album_stamps::Refusal;
 use album_threads::{OwnedSession, Service, ServiceNames};
 use std::alloc::Global;
 use std::io::ErrorKind;
-use std::net::{Net, TcpListener, TcpStream};
+use std::net::{TcpListener, TcpStream};
 use std::sync::{Arc, Wait};
 use std::thread::{Scope, Threads};
 use std::time::Duration;
@@ -107,7 +107,7 @@ where
 fn is_closed<J, T>(rt: &T, service: &Service<J>, connections: &Connections) -> bool
 where
     J: ServiceNames,
-    T: Wait + Net<Listener = TcpListener, Stream = TcpStream>,
+    T: Host,
 {
     if service.is_broken() {
         connections.close(rt);
@@ -182,9 +182,9 @@ where
     J: ServiceNames + Send + Sync + 's,
     T: Host + 's,
 {
-    let guest = guest_of(&rt, service, &shared.connections, stream)?;
-    let client = guest.owned.session.client();
-    let thread = scope.spawn(move || attend(alloc, shared, guest));
+    let connection = open_connection(&rt, service, &shared.connections, stream)?;
+    let client = connection.owned.session.client();
+    let thread = scope.spawn(move || attend(alloc, shared, connection));
     if thread.is_err() {
         shared.connections.end(&rt, client);
         return Err(Refusal::OutOfMemory);
@@ -193,12 +193,12 @@ where
 }
 
 /// The connection is open, and has a session.
-fn guest_of<J: ServiceNames, T: Host>(
+fn open_connection<J: ServiceNames, T: Host>(
     rt: &T,
     service: &Service<J>,
     connections: &Connections,
     stream: &Arc<TcpStream, Global>,
-) -> Result<Guest<J, T>, Refusal> {
+) -> Result<OpenConnection<J, T>, Refusal> {
     let from = Resumed {
         rt: *rt,
         stream: Arc::try_clone(stream)?,
@@ -206,7 +206,7 @@ fn guest_of<J: ServiceNames, T: Host>(
     let stream = Arc::try_clone(stream)?;
     let owned = OwnedSession::begin(rt, service)?;
     connections.begin(rt, owned.session.client(), &stream)?;
-    Ok(Guest {
+    Ok(OpenConnection {
         owned,
         from,
         stream,

@@ -9,7 +9,7 @@ use album_threads::{OwnedSession, ServiceNames};
 use crossbeam_channel::Sender;
 use std::alloc::Global;
 use std::collections::BTreeMap;
-use std::net::{Net, Shutdown, TcpListener, TcpStream};
+use std::net::{Shutdown, TcpStream};
 use std::sync::atomic::{AtomicU64, Ordering};
 use std::sync::{Arc, Mutex, Wait};
 use std::time;
@@ -111,10 +111,7 @@ impl Connections {
 
     /// No connection begins any more, and those that are open are read to the end of what has come: each line that is
     /// there is answered still. The thread that accepts is woken.
-    pub(crate) fn close<T>(&self, rt: &T)
-    where
-        T: Wait + Net<Listener = TcpListener, Stream = TcpStream>,
-    {
+    pub(crate) fn close<T: Host>(&self, rt: &T) {
         if self.begin_to_close(rt) {
             wake(rt, self.port);
         }
@@ -151,7 +148,7 @@ impl Connections {
 
 /// Who talks over a connection, from its thread.
 #[derive(Drop)]
-pub(crate) struct Guest<J: ServiceNames, T: Wait + Copy> {
+pub(crate) struct OpenConnection<J: ServiceNames, T: Wait + Copy> {
     pub owned: OwnedSession<J, T>,
     /// What the connection is read by, and what its answers are written to.
     pub from: Resumed<T>,
@@ -159,7 +156,7 @@ pub(crate) struct Guest<J: ServiceNames, T: Wait + Copy> {
 }
 
 /// Answers the lines of a connection, to its end. Where a note can't be written, no connection is answered any more.
-pub(crate) fn attend<J, T>(alloc: Global, shared: &Shared<J>, guest: Guest<J, T>)
+pub(crate) fn attend<J, T>(alloc: Global, shared: &Shared<J>, connection: OpenConnection<J, T>)
 where
     J: ServiceNames + Send + Sync,
     T: Host,
@@ -170,11 +167,11 @@ where
         limits,
         ..
     } = shared;
-    let Guest {
+    let OpenConnection {
         mut owned,
         mut from,
         stream,
-    } = guest;
+    } = connection;
     let _ = stream.set_nodelay(true);
     let (rt, client) = (owned.rt, owned.session.client());
     let mut to: &TcpStream = &stream;

@@ -4,8 +4,11 @@
 //! its talk, which is `album_talk`'s; to a writer that the port is served, and at the end the totals; or a fault.
 //!
 //! Read `port` first: it opens a service (`opening`), gives each connection a thread (`accepting`, `connections`),
-//! writes its notes to a file (`audit`, `log`) and prints its figures (`watch`). specs/Audits.antt says what that file
-//! has.
+//! writes its notes to a file (`audit`, `log`) and prints its figures (`watch`). `resumed` reads anew after an
+//! interruption. specs/Audits.antt says what the audit file has.
+//!
+//! `serve` ends with its connections; `serve_for` has options; `serve_until` ends with its input; `serve_beside` takes
+//! the opening from another input.
 #![tactic(auto)]
 
 // How a service is opened, and what it prints on standard error.

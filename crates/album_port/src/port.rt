@@ -629,7 +629,7 @@ fn idle_of(seconds: u32) -> Option<Duration> {
 /// Reads to the end, and closes the connections then, or where reading fails.
 fn read_to_end<T, R>(rt: &T, mut reader: R, connections: &Connections, turns: u64)
 where
-    T: Wait + Net<Listener = TcpListener, Stream = TcpStream>,
+    T: Host,
     R: Read + Drop,
 {
     let mut piece = [0u8; PIECE];

@@ -5,11 +5,11 @@ use Rattle.std.specs.Io.KnownBytes.{Consumes, IsAtEnd, Keeps}
 use Rattle.std.proofs.KnownBytes.{Consumes-trans, Consumes-nil, Appends-nil}
 use Rattle.album_world.specs.Past.{Past}
 use Rattle.album_lines.specs.Lines.{Line, cut, last, ended, begun, lines_of}
-use Rattle.album_judge.specs.declared.engines.judge.TheConstants.{PIECE}
+use Rattle.album_judge.specs.declared.engine.TheConstants.{PIECE}
 use Rattle.album_judge.specs.declared.fault.Fault.{Fault}
 use Rattle.album_judge.specs.declared.fault.Fault.TheVariants.{Reading, Writing, Memory}
-use Rattle.album_replay.specs.declared.engines.replay.stages.Stage.{Stage as Kept}
-use Rattle.album_replay.specs.declared.engines.replay.stages.Stage.TheVariants as kept
+use Rattle.album_replay.specs.declared.engine.stages.Stage.{Stage as Kept}
+use Rattle.album_replay.specs.declared.engine.stages.Stage.TheVariants as kept
 use Rattle.album_replay.specs.Replay.{Stage, Unopened, Over, Replays, IsReplay, StopsAmid, EndsAmid, IsLeftOf, IsOverBy, end_text, replayed, step_of}
 use Rattle.album_replay.specs.Stages.{Ends, IsLeftAmid, IsLeftAtEnd, Replayed, is_over, no_past, stage_of}
 use Rattle.album_judge.specs.Writes.{HasRead, Writes, Exchanges, IsPrefixOf}

@@ -17,8 +17,8 @@ use Rattle.album_lines.specs.Output.{refusal_line}
 use Rattle.album_judge.specs.declared.fault.Fault.{Fault}
 use Rattle.album_judge.specs.declared.fault.Fault.TheVariants.{Reading, Writing, Memory}
 use Rattle.album_replay.specs.declared.openings.SoFar.{SoFar}
-use Rattle.album_replay.specs.declared.engines.replay.stages.Stage.{Stage as Kept}
-use Rattle.album_replay.specs.declared.engines.replay.stages.Stage.TheVariants as kept
+use Rattle.album_replay.specs.declared.engine.stages.Stage.{Stage as Kept}
+use Rattle.album_replay.specs.declared.engine.stages.Stage.TheVariants as kept
 use Rattle.album_replay.specs.Replay.{Stage, Running, Over, Step, IsStep, IsOpened, IsRun, IsPrinted, Takes, Prints, Replays, begun, opened_by, refused, silently, end_text, replayed}
 use Rattle.album_replay.specs.Stages.{GoesOn, Opens, Steps, Replayed, Ends, IsLeftAmid, IsLeftAtEnd, Leads, MayLead, is_over, no_past, stage_of, step_by, with_past}
 use Rattle.album_judge.specs.Writes.{Writes, IsPrefixOf, LeavesOf}

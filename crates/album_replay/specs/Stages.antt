@@ -11,8 +11,8 @@ use Rattle.album_judge.specs.declared.fault.Fault.{Fault}
 use Rattle.album_judge.specs.declared.fault.Fault.TheVariants.{Reading, Writing, Memory}
 use Rattle.album_replay.specs.declared.openings.SoFar.{SoFar}
 use Rattle.album_replay.specs.declared.openings.SoFar.TheVariants as so_far
-use Rattle.album_replay.specs.declared.engines.replay.stages.Stage.{Stage as Kept}
-use Rattle.album_replay.specs.declared.engines.replay.stages.Stage.TheVariants as kept
+use Rattle.album_replay.specs.declared.engine.stages.Stage.{Stage as Kept}
+use Rattle.album_replay.specs.declared.engine.stages.Stage.TheVariants as kept
 use Rattle.album_judge.specs.Writes.{IsCutShort}
 
 -- the world that is kept, where this has happened to it

@@ -11,5 +11,5 @@ mod by_line;
 mod strict;
 mod traced;
 
-pub use strict::{Asked, Told, Watch};
+pub use strict::{Watch, WatchedReader, WatchedWriter};
 pub use traced::Traced;

@@ -37,7 +37,7 @@ impl Watch {
 
 /// A reader that gives at most one line a read, and none once one was refused.
 #[derive(Drop)]
-pub struct Asked<'a, R> {
+pub struct WatchedReader<'a, R> {
     watch: &'a Watch,
     lines: ByLine<'a, R>,
     /// The number of the line that comes next.
@@ -46,10 +46,10 @@ pub struct Asked<'a, R> {
     is_unfinished: bool,
 }
 
-impl<'a, R: Read> Asked<'a, R> {
+impl<'a, R: Read> WatchedReader<'a, R> {
     /// The lines of this reader.
-    pub fn new(watch: &'a Watch, reader: &'a mut R) -> Asked<'a, R> {
-        Asked {
+    pub fn new(watch: &'a Watch, reader: &'a mut R) -> WatchedReader<'a, R> {
+        WatchedReader {
             watch,
             lines: ByLine::new(reader),
             next: 1,
@@ -58,7 +58,7 @@ impl<'a, R: Read> Asked<'a, R> {
     }
 }
 
-impl<R: Read> Read for Asked<'_, R> {
+impl<R: Read> Read for WatchedReader<'_, R> {
     fn read(&mut self, buf: &mut [u8]) -> io::Result<usize> {
         if buf.is_empty() || self.watch.has_refused.get() {
             return Ok(0);
@@ -82,17 +82,17 @@ impl<R: Read> Read for Asked<'_, R> {
 
 /// A writer that looks for a refusal.
 #[derive(Drop)]
-pub struct Told<'a, W> {
+pub struct WatchedWriter<'a, W> {
     watch: &'a Watch,
     writer: &'a mut W,
     /// Whether the next byte begins a line.
     is_new: bool,
 }
 
-impl<'a, W: Write> Told<'a, W> {
+impl<'a, W: Write> WatchedWriter<'a, W> {
     /// Passes the output on to this writer.
-    pub fn new(watch: &'a Watch, writer: &'a mut W) -> Told<'a, W> {
-        Told {
+    pub fn new(watch: &'a Watch, writer: &'a mut W) -> WatchedWriter<'a, W> {
+        WatchedWriter {
             watch,
             writer,
             is_new: true,
@@ -100,7 +100,7 @@ impl<'a, W: Write> Told<'a, W> {
     }
 }
 
-impl<W: Write> Write for Told<'_, W> {
+impl<W: Write> Write for WatchedWriter<'_, W> {
     fn write(&mut self, buf: &[u8]) -> io::Result<usize> {
         if self.is_new && buf.starts_with(REFUSAL) {
             self.watch.has_refused.set(true);

@@ -1,8 +1,8 @@
 //! The one door to what a program of one's own needs: engines of lines, a service, and a port.
 //!
 //! Nothing is made here. The engine of judge lines is `album_judge`'s, that of scripts `album_replay`'s, and that of
-//! connections `album_talk`'s. A service is `album_threads`', and a port `album_port`'s. `album_first` is such a
-//! program.
+//! connections `album_talk`'s. A service is `album_threads`', and a port `album_port`'s. `album_first` is a
+//! program over it.
 #![tactic(auto)]
 
 // The engines: lines come in, and lines go out.

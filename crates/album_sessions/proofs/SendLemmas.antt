@@ -40,9 +40,9 @@ some_prepares w some = some_map (prepare_to w) (places_in w) some
 pub some_commits : (w : WritingState) → places_in w ≢ [] → commits_of w ≡ [] → ⊥
 some_commits w some = some_map (commit_to w) (places_in w) some
 
--- ---- what is awaited
+-- ---- what is outstanding
 
--- where messages are sent, replies to them are awaited
+-- where messages are sent, replies to them are outstanding
 pub last_sent : (before sent : List Message) → (sent ≡ [] → ⊥) → sent_last before sent ≡ sent
 last_sent before [] some = absurd (some refl)
 last_sent before (m ∷ ms) some = refl

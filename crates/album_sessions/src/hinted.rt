@@ -57,7 +57,7 @@ impl Course {
         }
     }
 
-    /// Whether its hint is tried now, by whether it reads.
+    /// Whether its hint is tried now: `reads` says whether the client is still in a read.
     pub(crate) fn tries(&self, reads: bool) -> bool
         ensures { result ≡ (self.now.hinted && reads) }
     {
@@ -170,7 +170,8 @@ fn viewing_of(alloc: Global, ask: &Ask, items: &[ItemId]) -> Option<Viewing>
     }
 }
 
-/// The outcome of an ask that hears no more. A hint that is tried is let go, and so is a read that is overtaken.
+/// The outcome of an ask that hears no more. A hint that is tried was in vain, and so was a read that is overtaken: the
+/// ask is made anew. `stamp` is that of its write, if one has begun.
 pub(crate) fn given_up(tries: bool, stamp: Option<Stamp>, why: NoReply) -> Result<Way, Refusal>
     ensures tried { tries ≡ true → result ≡ Ok Way.InVain }
     ensures overtaken { why ≡ NoReply.Overtaken → result ≡ Ok Way.InVain }
@@ -234,7 +235,7 @@ fn items_asked(alloc: Global, sent: &[Message]) -> Result<Items, AllocError>
     Ok(Items::of(items))
 }
 
-/// The item of a Get; of another message the first of all items.
+/// The item of a Get. No other message comes here, and what it would get doesn't matter.
 fn item_asked(body: &Body) -> ItemId
     ensures { result ≡ item_asked body.now }
 {

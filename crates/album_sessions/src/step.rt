@@ -103,7 +103,7 @@ impl<J: ServiceNames> Session<J> {
         let heard = self.channel.hear(rt, asked, reads);
         self.channel.is_sound();
         // What is true of each session is known once it is looked at.
-        let _actor = self.client_step();
+        let _client_step = self.client_step();
         heard
     }
 
@@ -182,7 +182,7 @@ impl<J: ServiceNames> Session<J> {
     }
 
     /// Sends the messages, once what the first of them prepares is announced. Where there are none, replies to what was
-    /// asked are awaited further. Once a write has begun, what cuts it off is its answer.
+    /// asked stay outstanding. Once a write has begun, what cuts it off is its answer.
     ///
     /// # Errors
     ///

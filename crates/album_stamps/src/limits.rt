@@ -1,5 +1,5 @@
-//! The limits of the service that more than one crate has to know, and docs/FORMATS.md lists all. Those of lines are in
-//! `album_wire`, and those of a session's hints in `album_sessions`.
+//! The limits of the service that more than one crate has to know, and docs/FORMATS.md lists all. How many deliveries a
+//! line may spell is in `album_wire`, and the limits of hints are in `album_sessions`.
 
 /// How many partitions a service may have.
 pub const MAX_PARTS: u16 = 16;

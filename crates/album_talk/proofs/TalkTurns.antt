@@ -6,7 +6,7 @@ use Rattle.album_eval.specs.declared.policies.Policy.{Policy}
 use Rattle.album_sessions.specs.Asks.{IsOn}
 use Rattle.album_sessions.specs.Sessions.{SessionState}
 use Rattle.album_lines.specs.Lines.{Line, cut, last, lines_of}
-use Rattle.album_judge.specs.declared.engines.judge.TheConstants.{PIECE}
+use Rattle.album_judge.specs.declared.engine.TheConstants.{PIECE}
 use Rattle.album_judge.specs.declared.fault.Fault.{Fault}
 use Rattle.album_judge.specs.declared.fault.Fault.TheVariants.{Reading, Memory}
 use Rattle.album_talk.specs.declared.admins.Admins.{Admins}

@@ -156,15 +156,15 @@ pub record IsAnswered (limit : ℕ) (policy : Policy) (who : Principal) (said : 
   pub on : IsOn old.session new.session
   pub answers : AnswersTalk limit policy who said old.session new.session text
 
-abbrev pub Attends : ℕ → Policy → Principal → Talker → Result TalkLine Refusal → Talker → List ℕ → Type 0
-Attends limit policy who old (Ok said) new text = IsAnswered limit policy who said old new text
-Attends limit policy who old (Err why) new text = (new ≡ old) × (text ≡ refusal_line why)
+abbrev pub AnswersLater : ℕ → Policy → Principal → Talker → Result TalkLine Refusal → Talker → List ℕ → Type 0
+AnswersLater limit policy who old (Ok said) new text = IsAnswered limit policy who said old new text
+AnswersLater limit policy who old (Err why) new text = (new ≡ old) × (text ≡ refusal_line why)
 
 -- until it is said who talks, a line that doesn't say so is refused
 abbrev pub Hears : ℕ → Policy → Admins → Option Principal → Talker → Line → Talker → List ℕ → Type 0
 Hears limit policy admins None old line new text = Greets old (hello_line_read line) new text
 Hears limit policy admins (Some who) old line new text =
-    Attends limit policy who old (talk_line_heard admins who line) new text
+    AnswersLater limit policy who old (talk_line_heard admins who line) new text
 
 -- A blank line is skipped. On another memory may run out; then that is answered, and nothing has happened.
 abbrev pub TalksOnce : ℕ → Policy → Admins → Talker → Line → Talker → List ℕ → Type 0

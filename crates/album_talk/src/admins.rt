@@ -28,7 +28,7 @@ impl Admins {
     ///
     /// # Errors
     ///
-    /// `BadWho`, where a word is no principal; else `OutOfMemory`.
+    /// `BadWho`, where a word is no principal, or `OutOfMemory`: the first that comes.
     pub fn named(alloc: Global, words: &[&str]) -> Result<Admins, Refusal>
         ensures nobody { IfOk result (λ admins. words.now ≡ [] → admins ≡ Admins.Anyone) }
         ensures named { IfOk result (λ admins. words.now ≢ []

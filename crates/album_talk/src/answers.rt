@@ -5,7 +5,7 @@ ghost use Rattle.album_stamps.specs.Outcome.{Gives};
 ghost use Rattle.album_sessions.specs.Asks.{IsOn};
 ghost use Rattle.album_lines.specs.Lines.{said};
 ghost use Rattle.album_lines.specs.Output.{refusal_line};
-ghost use Rattle.album_talk.specs.Talk.{AnswersAsk, AnswersTalk, Attends, Greets, IsAsked, IsPendingAnswered, IsSweptFor, IsTrimmedFor, TalksOnce, hello_line_read, talk_line_heard};
+ghost use Rattle.album_talk.specs.Talk.{AnswersAsk, AnswersTalk, AnswersLater, Greets, IsAsked, IsPendingAnswered, IsSweptFor, IsTrimmedFor, TalksOnce, hello_line_read, talk_line_heard};
 
 use crate::admins::Admins;
 use album_eval::Principal;
@@ -40,13 +40,14 @@ pub(crate) fn answer<J: ServiceNames, T: Wait + time::Clock>(
         (record { who = who.new; session = session.new }) text.items) }
     ensures on { IsOn session.old session.new }
 {
+    // For contracts alone.
     session.has_granted_writes();
     if line.is_blank() {
         return Ok(Vec::new(alloc));
     }
     match &*who {
         None => greet(alloc, scratch, session, who, line),
-        Some(principal) => attend(rt, alloc, scratch, session, admins, principal, line),
+        Some(principal) => answer_later(rt, alloc, scratch, session, admins, principal, line),
     }
 }
 
@@ -79,7 +80,7 @@ fn hello_line(alloc: Global, scratch: &mut Scratch, line: &LineIn) -> Result<Pri
 }
 
 /// The answer to a later line.
-fn attend<J: ServiceNames, T: Wait + time::Clock>(
+fn answer_later<J: ServiceNames, T: Wait + time::Clock>(
     rt: &T,
     alloc: Global,
     scratch: &mut Scratch,
@@ -88,13 +89,14 @@ fn attend<J: ServiceNames, T: Wait + time::Clock>(
     principal: &Principal,
     line: &LineIn,
 ) -> Result<Vec<u8>, Refusal>
-    ensures attends { IfOk result (λ text. Attends J.terms.limit J.policy principal.now
+    ensures answered { IfOk result (λ text. AnswersLater J.terms.limit J.policy principal.now
         (record { who = Some principal.now; session = session.old })
         (talk_line_heard admins.now principal.now (said line.now))
         (record { who = Some principal.now; session = session.new }) text.items
         ⊎ ((session.new ≡ session.old) × (text.items ≡ refusal_line OutOfMemory))) }
     ensures on { IsOn session.old session.new }
 {
+    // For contracts alone.
     session.has_granted_writes();
     match talk_line(alloc, scratch, admins, principal, line) {
         Ok(line) => carry_out(rt, alloc, session, principal, line),

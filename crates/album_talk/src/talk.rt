@@ -82,7 +82,7 @@ pub fn converse<J: ServiceNames, T: Wait + time::Clock, R: Read, W: Write>(
 ///
 /// # Errors
 ///
-/// As `converse`.
+/// As `converse`; also `Writing`, where the journal can't be settled.
 pub fn converse_with<J: ServiceNames, T: Wait + time::Clock, R: Read, W: Write, A: Journal>(
     rt: &T,
     alloc: Global,

@@ -20,7 +20,7 @@ pub enum StampState {
 /// What a partition does with a stamp that is pending there.
 #[derive(Clone, Copy, Debug, PartialEq, Eq)]
 pub enum Decision {
-    /// Not each of the others has voted yet.
+    /// Not each of the others has voted Prepared yet.
     Wait,
     /// Its writes are to be read.
     Commit,

@@ -4,14 +4,17 @@
 //! Read `streams` and `runs` first: the readers and writers, and what the tests of engines do with them.
 #![tactic(auto)]
 
-#[cfg(test)]
-mod engine_runs;
-#[cfg(test)]
-mod lines;
+// Readers and writers in memory, and what is done with them.
 #[cfg(test)]
 mod runs;
 #[cfg(test)]
 mod streams;
+
+// The tests.
+#[cfg(test)]
+mod engine_runs;
+#[cfg(test)]
+mod lines;
 #[cfg(test)]
 mod talk_runs;
 #[cfg(test)]

@@ -51,7 +51,7 @@ struct Ended {
     writes: u64,
 }
 
-/// A run over pieces of at most so many bytes.
+/// A run in which each read gives, and each write takes, at most so many bytes.
 fn run_of<E: Engine>(
     engine: &mut E,
     alloc: Global,
@@ -88,7 +88,7 @@ fn has_ended(end: &Ended, script: &Script, fault: Option<Fault>, len: usize) -> 
 }
 
 /// How much is written for the lines that have ended once so many bytes were read.
-fn told(script: &Script, read: u64) -> usize {
+fn answered_len(script: &Script, read: u64) -> usize {
     let mut len = 0;
     for (input, output) in script.ends {
         if *input as u64 <= read {
@@ -117,7 +117,7 @@ fn written(script: &Script, writes: u64) -> usize {
     len
 }
 
-/// Whether the whole output is written, however the input is cut into pieces.
+/// Whether the whole output is written, however few bytes each read gives and each write takes: one, at first.
 fn holds_in_pieces<E: Engine>(engine: &mut E, alloc: Global, script: &Script) -> bool {
     for most in [1, 2, 7, 4096] {
         let end = run_of(engine, alloc, script, most, NONE);
@@ -133,7 +133,7 @@ fn holds_at_each_read<E: Engine>(engine: &mut E, alloc: Global, script: &Script)
     let reads = run_of(engine, alloc, script, 7, NONE).reads;
     for at in 0..reads {
         let end = run_of(engine, alloc, script, 7, Trouble { read: at, ..NONE });
-        let len = told(script, at.wrapping_mul(7));
+        let len = answered_len(script, at.wrapping_mul(7));
         if !has_ended(&end, script, Some(Fault::Reading), len) {
             return false;
         }
@@ -168,7 +168,7 @@ fn holds_at_each_turn<E: Engine>(engine: &mut E, alloc: Global, script: &Script)
     let reads = run_of(engine, alloc, script, 7, NONE).reads;
     for turns in 0..reads {
         let end = run_of(engine, alloc, script, 7, Trouble { turns, ..NONE });
-        let len = told(script, turns.wrapping_mul(7));
+        let len = answered_len(script, turns.wrapping_mul(7));
         if !has_ended(&end, script, Some(Fault::Reading), len) || end.reads != turns {
             return false;
         }

@@ -145,8 +145,8 @@ type Ran = (u64, u64, Option<usize>, Option<usize>);
 fn ran(alloc: Global, is_at_once: bool) -> Result<Ran, Refusal> {
     let events = events(alloc)?;
     let mut world = opened(alloc)?;
-    let told = run(&mut world, &events, is_at_once)?;
-    Ok((told, world.sent(), marks(&world, 0), marks(&world, 1)))
+    let sum = run(&mut world, &events, is_at_once)?;
+    Ok((sum, world.sent(), marks(&world, 0), marks(&world, 1)))
 }
 
 fn run(world: &mut World, events: &[Event], is_at_once: bool) -> Result<u64, Refusal> {

@@ -1,9 +1,9 @@
 //! What a session asks, the answers to it, and how many messages partitions take for that.
+use crate::answers::text_of;
 use crate::gates::Counts;
 use crate::messages::{item_of, same, stamp_of};
 use crate::scripts::new_lists;
 use crate::sessions::{OWNED, READABLE};
-use crate::told::text_of;
 use crate::values::Entry;
 use album_eval::Principal;
 use album_items::{Members, Title};
@@ -96,7 +96,7 @@ pub fn member(alloc: Global, who: &str) -> Result<Members, Refusal> {
 pub type Row = (Wish, &'static str, (u64, u64));
 
 /// The answer to the session.
-pub fn told<J: ServiceNames, R: Wait + time::Clock>(
+pub fn answer_to<J: ServiceNames, R: Wait + time::Clock>(
     rt: &R,
     alloc: Global,
     session: &mut Session<J>,
@@ -111,7 +111,7 @@ pub fn told<J: ServiceNames, R: Wait + time::Clock>(
 }
 
 /// The session gets these answers, and the partitions take so many messages for each.
-pub fn told_so<J: ServiceNames, R: Wait + time::Clock + Abort>(
+pub fn assert_answers<J: ServiceNames, R: Wait + time::Clock + Abort>(
     rt: &R,
     alloc: Global,
     session: &mut Session<J>,
@@ -120,7 +120,7 @@ pub fn told_so<J: ServiceNames, R: Wait + time::Clock + Abort>(
 ) -> Result<(), Fail> {
     for (wish, expected, messages) in rows {
         let before = counts.so_far();
-        same(rt, told(rt, alloc, session, *wish), expected)?;
+        same(rt, answer_to(rt, alloc, session, *wish), expected)?;
         assert_eq!(rt; counts.since(before), *messages, "messages at {expected}");
     }
     Ok(())
@@ -158,7 +158,7 @@ fn carried_out<J: ServiceNames, R: Wait + time::Clock>(
 }
 
 /// Each order has this result, or is refused by this name. An order is no message.
-pub fn ordered_so<J: ServiceNames, R: Wait + time::Clock + Abort>(
+pub fn assert_orders<J: ServiceNames, R: Wait + time::Clock + Abort>(
     rt: &R,
     alloc: Global,
     session: &mut Session<J>,

@@ -4,7 +4,7 @@ ghost use Rattle.std.specs.Prelude.{◌≡◌};
 ghost use Rattle.album_threads.specs.Opened.{opened_as};
 
 use crate::asked::Wish::{Read, Retitle};
-use crate::asked::told;
+use crate::asked::answer_to;
 use crate::gates::{Overtakes, Overtaking};
 use crate::messages::same;
 use crate::sessions::{READABLE, opened};
@@ -23,7 +23,7 @@ fn retitled<J: ServiceNames, R: Wait + time::Clock + Copy>(
     mut amy: OwnedSession<J, R>,
 ) -> Result<String, Refusal> {
     let rt = amy.rt;
-    told(&rt, alloc, &mut amy.session, Retitle("picture/0", "Bay"))
+    answer_to(&rt, alloc, &mut amy.session, Retitle("picture/0", "Bay"))
 }
 
 /// The answer to bo, who reads once amy's last read is held.
@@ -34,7 +34,7 @@ fn served<J: ServiceNames, R: Wait + time::Clock + Copy>(
 ) -> Result<String, Refusal> {
     let rt = bo.rt;
     overtakes.wait_for_amy();
-    told(&rt, alloc, &mut bo.session, Read("bo@users", "picture/0"))
+    answer_to(&rt, alloc, &mut bo.session, Read("bo@users", "picture/0"))
 }
 
 /// The answers to both, each on a thread of its own.

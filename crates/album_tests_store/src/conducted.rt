@@ -3,10 +3,10 @@
 ghost use Rattle.std.specs.Prelude.{◌≡◌};
 ghost use Rattle.album_threads.specs.Opened.{opened_as};
 
+use crate::answers::{AllAnswers, ClientAnswers};
 use crate::doors::{Doors, Held};
 use crate::mails::Move;
 use crate::scripts::{Who, Wish, ask_of, opening};
-use crate::told::{Answers, Told};
 use album_audit::Totals;
 use album_stamps::Refusal;
 use album_threads::{Opened, OwnedSession, Service, ServiceNames};
@@ -43,15 +43,15 @@ fn make_all(doors: &Doors, moves: &[Move]) {
 /// The session asks for the wish, and the answer is added.
 fn ask<J: ServiceNames, R: Wait + time::Clock + Copy>(
     alloc: Global,
-    guest: &mut OwnedSession<J, R>,
+    owned: &mut OwnedSession<J, R>,
     who: Who,
     wish: Wish,
-    answers: &mut Answers,
+    answers: &mut ClientAnswers,
 ) -> Result<(), Refusal> {
-    let rt = guest.rt;
+    let rt = owned.rt;
     let principal = who.principal()?;
     let ask = ask_of(alloc, wish)?;
-    let answer = guest.session.ask(&rt, &principal, ask)?;
+    let answer = owned.session.ask(&rt, &principal, ask)?;
     let added = answers.add(&answer);
     drop(answer);
     added
@@ -60,16 +60,16 @@ fn ask<J: ServiceNames, R: Wait + time::Clock + Copy>(
 /// The answers to the session for all its wishes. It asks for each once it is time.
 fn ask_all<J: ServiceNames, R: Wait + time::Clock + Copy>(
     alloc: Global,
-    mut guest: OwnedSession<J, R>,
+    mut owned: OwnedSession<J, R>,
     doors: &Doors,
     who: Who,
-) -> Result<Answers, Refusal> {
-    let mut answers = Answers::new(alloc);
+) -> Result<ClientAnswers, Refusal> {
+    let mut answers = ClientAnswers::new(alloc);
     let mut count: u64 = 0;
     for wish in who.wishes() {
         count = count.wrapping_add(1);
         doors.wait(doors.asks(who), count);
-        ask(alloc, &mut guest, who, *wish, &mut answers)?;
+        ask(alloc, &mut owned, who, *wish, &mut answers)?;
     }
     Ok(answers)
 }
@@ -77,8 +77,8 @@ fn ask_all<J: ServiceNames, R: Wait + time::Clock + Copy>(
 /// The answers to two sessions.
 #[derive(Drop)]
 struct Both {
-    amy: Result<Answers, Refusal>,
-    bo: Result<Answers, Refusal>,
+    amy: Result<ClientAnswers, Refusal>,
+    bo: Result<ClientAnswers, Refusal>,
 }
 
 /// Two sessions ask on threads of their own, while the moves are made.
@@ -119,13 +119,13 @@ fn new_ask<J: ServiceNames + Send, R: Threads + Wait + time::Clock + Copy + Send
 }
 
 /// The answers to both, and what the audit book has, where nobody gave up waiting.
-fn told_of(both: Both, totals: Totals, doors: &Doors) -> Result<Told, Refusal> {
+fn all_answers(both: Both, totals: Totals, doors: &Doors) -> Result<AllAnswers, Refusal> {
     let Both { amy, bo } = both;
     let (amy, bo) = (amy?, bo?);
     if doors.has_given_up() {
         return Err(Refusal::Closed);
     }
-    Ok(Told {
+    Ok(AllAnswers {
         amy,
         bo,
         granted: totals.audit_ok,
@@ -136,7 +136,7 @@ fn told_of(both: Both, totals: Totals, doors: &Doors) -> Result<Told, Refusal> {
 fn conduct_by<
     J: ServiceNames + Send + 'static,
     R: Threads + Wait + time::Clock + Copy + Send + Sync + 'static,
->(rt: R, alloc: Global, opened: Opened, moves: &[Move]) -> Result<Told, Refusal>
+>(rt: R, alloc: Global, opened: Opened, moves: &[Move]) -> Result<AllAnswers, Refusal>
     requires named { opened ≡ opened_as J.table J.terms J.policy J.list
         J.audit_ok J.audit_failed J.alarm_ok J.alarm_failed }
 {
@@ -147,7 +147,7 @@ fn conduct_by<
     let service = Service::<J>::open(rt, alloc, opened, gate)?;
     let both = new_ask(&rt, alloc, &service, &doors, moves);
     let totals = service.close(&rt);
-    told_of(both?, totals, &doors)
+    all_answers(both?, totals, &doors)
 }
 
 /// The answers to two sessions of a service in which the moves are made, and what its audit book has.
@@ -155,7 +155,7 @@ pub fn conduct<R: Threads + Wait + time::Clock + Copy + Send + Sync + 'static>(
     rt: R,
     alloc: Global,
     moves: &[Move],
-) -> Result<Told, Refusal> {
+) -> Result<AllAnswers, Refusal> {
     let opened = Opened::new(alloc, &opening(alloc)?, 2)?.plain();
     conduct_by::<Brand, R>(rt, alloc, opened, moves)
 }

@@ -5,7 +5,7 @@ ghost use Rattle.std.specs.Prelude.{◌≡◌};
 ghost use Rattle.album_threads.specs.Opened.{opened_as};
 
 use crate::asked::Wish::{List, Read, SetList, SetLists, SetMembers};
-use crate::asked::{Wish, member, told};
+use crate::asked::{Wish, answer_to, member};
 use crate::gates::{Hold, Watching};
 use crate::messages::{item_of, same};
 use crate::sessions::{OWNED, READABLE, list};
@@ -79,7 +79,7 @@ struct Delayed {
     until: (u64, u64),
     meanwhile: &'static [(Wish, &'static str)],
     /// The answer to it once the mail is passed on, and how many messages that takes.
-    told: &'static str,
+    answer: &'static str,
     after: (u64, u64),
 }
 
@@ -98,7 +98,7 @@ const NEW_ENEMY: Delayed = Delayed {
         (SetList, "committed at 65538"),
         (SetMembers, "committed at 131074"),
     ],
-    told: "denied picture/0 at the end",
+    answer: "denied picture/0 at the end",
     after: (5, 2),
 };
 
@@ -124,7 +124,7 @@ const HALF_COMMITTED: Delayed = Delayed {
         (Read("cy@users", "picture/0"), "denied picture/0 at the end"),
         (Read("cy@users", "picture/1"), "Sea at 0"),
     ],
-    told: "committed at 65537",
+    answer: "committed at 65537",
     after: (0, 1),
 };
 
@@ -146,11 +146,11 @@ struct Relay<J: ServiceNames> {
 /// Takes the place of the partition for the session.
 fn relay_for<J: ServiceNames, R: Wait + Copy>(
     alloc: Global,
-    guest: &mut OwnedSession<J, R>,
+    owned: &mut OwnedSession<J, R>,
     part: u16,
 ) -> Result<Relay<J>, Refusal> {
     let (mailbox, mails) = unbounded(alloc)?;
-    let to = guest
+    let to = owned
         .session
         .relay(part, mailbox)
         .ok_or(Refusal::NoSuchPart)?;
@@ -175,24 +175,28 @@ fn pass_on<J: ServiceNames, R: Wait + Copy>(rt: R, relay: Relay<J>, held: u64, h
 }
 
 /// The answer to the session, which ends then.
-fn told_late<J: ServiceNames, R: Wait + time::Clock + Copy>(
+fn late_answer<J: ServiceNames, R: Wait + time::Clock + Copy>(
     alloc: Global,
-    mut guest: OwnedSession<J, R>,
+    mut owned: OwnedSession<J, R>,
     wish: Wish,
 ) -> Result<String, Refusal> {
-    let rt = guest.rt;
-    told(&rt, alloc, &mut guest.session, wish)
+    let rt = owned.rt;
+    answer_to(&rt, alloc, &mut owned.session, wish)
 }
 
 /// The other session gets these answers, and ends.
-fn told_meanwhile<J: ServiceNames, R: Wait + time::Clock + Abort + Copy>(
+fn assert_meanwhile<J: ServiceNames, R: Wait + time::Clock + Abort + Copy>(
     alloc: Global,
     mut other: OwnedSession<J, R>,
     rows: &[(Wish, &'static str)],
 ) -> Result<(), Fail> {
     let rt = other.rt;
     for (wish, expected) in rows {
-        same(&rt, told(&rt, alloc, &mut other.session, *wish), expected)?;
+        same(
+            &rt,
+            answer_to(&rt, alloc, &mut other.session, *wish),
+            expected,
+        )?;
     }
     Ok(())
 }
@@ -205,13 +209,16 @@ struct Both {
     meanwhile: Result<(), Fail>,
 }
 
-fn both_told<J: ServiceNames + Send, R: Threads + Wait + time::Clock + Abort + Copy + Send + Sync>(
+fn both_answered<
+    J: ServiceNames + Send,
+    R: Threads + Wait + time::Clock + Abort + Copy + Send + Sync,
+>(
     rt: &R,
     alloc: Global,
     hold: &Hold,
     case: Delayed,
     relay: Relay<J>,
-    guest: OwnedSession<J, R>,
+    owned: OwnedSession<J, R>,
     other: OwnedSession<J, R>,
 ) -> Result<Both, AllocError> {
     thread::scope(
@@ -220,9 +227,9 @@ fn both_told<J: ServiceNames + Send, R: Threads + Wait + time::Clock + Abort + C
         |scope| -> Result<Both, AllocError> {
             let (own, held) = (*rt, case.held);
             let relaying = scope.spawn(move || pass_on(own, relay, held, hold))?;
-            let late = scope.spawn(move || told_late(alloc, guest, case.wish))?;
+            let late = scope.spawn(move || late_answer(alloc, owned, case.wish))?;
             hold.wait_for(case.until.0, case.until.1);
-            let meanwhile = told_meanwhile(alloc, other, case.meanwhile);
+            let meanwhile = assert_meanwhile(alloc, other, case.meanwhile);
             let before = hold.counts.so_far();
             hold.release();
             let late = late.join(rt);
@@ -236,28 +243,28 @@ fn both_told<J: ServiceNames + Send, R: Threads + Wait + time::Clock + Abort + C
     )
 }
 
-fn all_told<J: ServiceNames + Send, R: Threads + Wait + time::Clock + Abort + Copy + Send + Sync>(
+fn assert_all<J: ServiceNames + Send, R: Threads + Wait + time::Clock + Abort + Copy + Send + Sync>(
     rt: &R,
     alloc: Global,
     hold: &Hold,
     case: Delayed,
     service: &Service<J>,
 ) -> Result<(), Fail> {
-    let mut guest = OwnedSession::begin(rt, service)?;
+    let mut owned = OwnedSession::begin(rt, service)?;
     let other = OwnedSession::begin(rt, service)?;
-    let relay = relay_for(alloc, &mut guest, case.part)?;
+    let relay = relay_for(alloc, &mut owned, case.part)?;
     let Both {
         late,
         after,
         meanwhile,
-    } = both_told(rt, alloc, hold, case, relay, guest, other)?;
+    } = both_answered(rt, alloc, hold, case, relay, owned, other)?;
     meanwhile?;
-    same(rt, late, case.told)?;
+    same(rt, late, case.answer)?;
     assert_eq!(rt; after, case.after);
     Ok(())
 }
 
-fn told_by<
+fn assert_by<
     J: ServiceNames + Send + 'static,
     R: Threads + Wait + time::Clock + Abort + Copy + Send + Sync + 'static,
 >(rt: R, alloc: Global, opened: Opened, case: Delayed) -> Result<(), Fail>
@@ -269,30 +276,30 @@ fn told_by<
         hold: Arc::try_clone(&hold)?,
     };
     let service = Service::<J>::open(rt, alloc, opened, gate)?;
-    let told = all_told(&rt, alloc, &hold, case, &service);
+    let answered = assert_all(&rt, alloc, &hold, case, &service);
     service.close(&rt);
-    told?;
+    answered?;
     assert!(rt; !hold.has_given_up(), "nobody waits in vain");
     Ok(())
 }
 
-fn assert_told<R: Threads + Wait + time::Clock + Abort + Copy + Send + Sync + 'static>(
+fn assert_case<R: Threads + Wait + time::Clock + Abort + Copy + Send + Sync + 'static>(
     rt: R,
     alloc: Global,
     case: Delayed,
 ) -> Result<(), Fail> {
     let opened = opened(alloc, case.plain)?;
-    told_by::<Brand, R>(rt, alloc, opened, case)
+    assert_by::<Brand, R>(rt, alloc, opened, case)
 }
 
 #[test]
 fn no_new_enemy_is_served(rt: HostRuntime) -> Result<(), Fail> {
-    assert_told(rt, rt.alloc(), NEW_ENEMY)?;
-    assert_told(rt, rt.alloc(), PLAIN_NEW_ENEMY)
+    assert_case(rt, rt.alloc(), NEW_ENEMY)?;
+    assert_case(rt, rt.alloc(), PLAIN_NEW_ENEMY)
 }
 
 #[test]
 fn a_write_that_is_half_committed(rt: HostRuntime) -> Result<(), Fail> {
-    assert_told(rt, rt.alloc(), HALF_COMMITTED)?;
-    assert_told(rt, rt.alloc(), PLAIN_HALF_COMMITTED)
+    assert_case(rt, rt.alloc(), HALF_COMMITTED)?;
+    assert_case(rt, rt.alloc(), PLAIN_HALF_COMMITTED)
 }

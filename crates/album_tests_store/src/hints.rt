@@ -2,7 +2,7 @@
 //! looks at. One has lost its place to another object's. Each ask gets the answer that a service without hints gives
 //! (docs/PROTOCOL.md, "Hints" in "A service").
 use crate::asked::Wish::{Delete, List, Read, SetGroup, SetLists};
-use crate::asked::{Row, Wish, told_so};
+use crate::asked::{Row, Wish, assert_answers};
 use crate::gates::{Counting, Counts};
 use crate::messages::item_of;
 use crate::sessions::{OWNED, READABLE, list};
@@ -150,8 +150,8 @@ const ONE_PLACE: &[Twice] = &[
 
 /// The row of a service with hints, or of a plain one.
 fn row_of(twice: &Twice, plain: bool) -> Row {
-    let (wish, told, hinted, unhinted) = *twice;
-    (wish, told, if plain { unhinted } else { hinted })
+    let (wish, expected, hinted, unhinted) = *twice;
+    (wish, expected, if plain { unhinted } else { hinted })
 }
 
 /// A visit of one session, while the gate counts. The session gets the answers of the rows.
@@ -171,10 +171,10 @@ impl<R: Wait + time::Clock + Abort + Copy> Visit<R> for Asking {
         alloc: Global,
         service: &Service<J>,
     ) -> Result<(), Fail> {
-        let mut guest = OwnedSession::begin(rt, service)?;
+        let mut owned = OwnedSession::begin(rt, service)?;
         for row in self.rows {
             let row = row_of(row, self.plain);
-            told_so(rt, alloc, &mut guest.session, &self.counts, &[row])?;
+            assert_answers(rt, alloc, &mut owned.session, &self.counts, &[row])?;
         }
         Ok(())
     }
@@ -200,7 +200,7 @@ fn assert_one<R: Threads + Wait + time::Clock + Abort + Copy + Send + Sync + 'st
 }
 
 /// A session gets these answers from a service with hints, and the same from a plain one.
-fn assert_told<R: Threads + Wait + time::Clock + Abort + Copy + Send + Sync + 'static>(
+fn assert_same_answers<R: Threads + Wait + time::Clock + Abort + Copy + Send + Sync + 'static>(
     rt: R,
     alloc: Global,
     rows: &'static [Twice],
@@ -211,21 +211,21 @@ fn assert_told<R: Threads + Wait + time::Clock + Abort + Copy + Send + Sync + 's
 
 #[test]
 fn a_hint_of_a_wider_ask(rt: HostRuntime) -> Result<(), Fail> {
-    assert_told(rt, rt.alloc(), WIDE)
+    assert_same_answers(rt, rt.alloc(), WIDE)
 }
 
 #[test]
 fn a_hint_that_names_what_is_deleted(rt: HostRuntime) -> Result<(), Fail> {
-    assert_told(rt, rt.alloc(), LISTED)
+    assert_same_answers(rt, rt.alloc(), LISTED)
 }
 
 /// A hint that no longer names all that is looked at is let go.
 #[test]
 fn a_stale_hint(rt: HostRuntime) -> Result<(), Fail> {
-    assert_told(rt, rt.alloc(), REGROUPED)
+    assert_same_answers(rt, rt.alloc(), REGROUPED)
 }
 
 #[test]
 fn two_hints_of_one_place(rt: HostRuntime) -> Result<(), Fail> {
-    assert_told(rt, rt.alloc(), ONE_PLACE)
+    assert_same_answers(rt, rt.alloc(), ONE_PLACE)
 }

@@ -6,45 +6,54 @@
 //! before those of worlds `scripts`.
 #![tactic(auto)]
 
+// Messages, values and answers as short texts.
 #[cfg(test)]
-mod acknowledged;
-#[cfg(test)]
-mod asked;
-#[cfg(test)]
-mod between_rounds;
-#[cfg(test)]
-mod conducted;
-#[cfg(test)]
-mod delayed;
-#[cfg(test)]
-mod doors;
-#[cfg(test)]
-mod gates;
-#[cfg(test)]
-mod hints;
-#[cfg(test)]
-mod mails;
+mod answers;
 #[cfg(test)]
 mod messages;
 #[cfg(test)]
-mod orders;
+mod values;
+
+// Tests of partitions, reads and passes by themselves.
 #[cfg(test)]
 mod partition;
 #[cfg(test)]
 mod passes;
 #[cfg(test)]
-mod pending;
-#[cfg(test)]
 mod reader;
 #[cfg(test)]
 mod refused;
 #[cfg(test)]
-mod scripts;
+mod terminate;
+
+// What sessions ask, and what holds a thread or a mail.
+#[cfg(test)]
+mod asked;
+#[cfg(test)]
+mod gates;
+
+// Tests of sessions of a service.
+#[cfg(test)]
+mod acknowledged;
+#[cfg(test)]
+mod between_rounds;
+#[cfg(test)]
+mod delayed;
+#[cfg(test)]
+mod hints;
+#[cfg(test)]
+mod pending;
 #[cfg(test)]
 mod sessions;
+
+// A world and a service in which the same happens.
 #[cfg(test)]
-mod terminate;
+mod conducted;
 #[cfg(test)]
-mod told;
+mod doors;
 #[cfg(test)]
-mod values;
+mod mails;
+#[cfg(test)]
+mod orders;
+#[cfg(test)]
+mod scripts;

@@ -1,7 +1,7 @@
 //! A world in which each partition takes mails, as the threads of a service do (docs/PROTOCOL.md, "A service"): what
 //! one event sends to a partition is one mail, and a partition takes its mails in the order in which they were sent.
+use crate::answers::AllAnswers;
 use crate::scripts::{PARTS, Step, Who, Wish, ask_of, opening};
-use crate::told::Told;
 use album_calls::Node;
 use album_stamps::Refusal;
 use album_world::{Event, Out, World};
@@ -44,13 +44,13 @@ struct MailWorld {
     /// How many asks amy and bo have made.
     asked: (usize, usize),
     moves: Vec<Move>,
-    told: Told,
+    answers: AllAnswers,
 }
 
 /// The answers and notes of a world, and the moves that make the same happen in a service.
 #[derive(Drop)]
 pub struct Followed {
-    pub told: Told,
+    pub answers: AllAnswers,
     pub moves: Vec<Move>,
 }
 
@@ -113,7 +113,7 @@ impl MailWorld {
             events: 0,
             asked: (0, 0),
             moves: Vec::new(alloc),
-            told: Told::new(alloc),
+            answers: AllAnswers::new(alloc),
         })
     }
 
@@ -137,7 +137,7 @@ impl MailWorld {
         match out {
             Out::Sent(number) => self.post(*number),
             Out::Noted(_, note) => {
-                self.told.note(note);
+                self.answers.note(note);
                 Ok(())
             }
             Out::Answered(client, answer) => self.answer(client.number(), answer),
@@ -146,9 +146,9 @@ impl MailWorld {
 
     fn answer(&mut self, client: u16, answer: &Answer) -> Result<(), Refusal> {
         if client == 1 {
-            self.told.amy.add(answer)
+            self.answers.amy.add(answer)
         } else {
-            self.told.bo.add(answer)
+            self.answers.bo.add(answer)
         }
     }
 
@@ -269,6 +269,6 @@ pub fn follow(alloc: Global, steps: &[Step]) -> Result<Followed, Refusal> {
     for step in steps {
         world.step(*step)?;
     }
-    let MailWorld { told, moves, .. } = world;
-    Ok(Followed { told, moves })
+    let MailWorld { answers, moves, .. } = world;
+    Ok(Followed { answers, moves })
 }

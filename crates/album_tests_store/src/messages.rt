@@ -207,7 +207,7 @@ fn text_of(alloc: Global, message: &Message) -> Result<String, Refusal> {
 }
 
 /// The text of a reply, and a dash where there is none.
-pub fn told(alloc: Global, reply: &Option<Message>) -> Result<String, Refusal> {
+pub fn reply_or_dash(alloc: Global, reply: &Option<Message>) -> Result<String, Refusal> {
     match reply {
         None => Ok(String::from_str(alloc, "-")?),
         Some(message) => text_of(alloc, message),
@@ -215,11 +215,11 @@ pub fn told(alloc: Global, reply: &Option<Message>) -> Result<String, Refusal> {
 }
 
 /// The texts of the messages, joined.
-pub fn all_told(alloc: Global, messages: &[Message]) -> Result<String, Refusal> {
+pub fn texts_of(alloc: Global, messages: &[Message]) -> Result<String, Refusal> {
     let mut text = String::new(alloc);
     for message in messages {
-        let told = text_of(alloc, message)?;
-        text.push_str(told.as_str())?;
+        let one = text_of(alloc, message)?;
+        text.push_str(one.as_str())?;
         text.push_str("; ")?;
     }
     Ok(text)

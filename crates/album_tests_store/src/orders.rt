@@ -50,7 +50,7 @@ const AMY_FIRST: Script = Script {
         Ask(Bo),
         LOOK,
     ],
-    told: "amy: committed at 65537; committed at 131073; committed at 196609; \
+    answers: "amy: committed at 65537; committed at 131073; committed at 196609; \
         bo: Bay at 65537; denied picture/0 at the end; AlbumFull; denied picture/0 at the end; audited 3 and 2",
 };
 
@@ -76,7 +76,7 @@ const BO_FIRST: Script = Script {
         Ask(Bo),
         LOOK,
     ],
-    told: "amy: committed at 65537; committed at 196609; AlbumFull; \
+    answers: "amy: committed at 65537; committed at 196609; AlbumFull; \
         bo: Sea at 0; committed at 131074; committed at 196610; denied picture/0 at the end; audited 4 and 1",
 };
 
@@ -112,39 +112,39 @@ const SIDE_BY_SIDE: Script = Script {
         Ask(Bo),
         LOOK,
     ],
-    told: "amy: committed at 65537; committed at 131073; committed at 196609; \
+    answers: "amy: committed at 65537; committed at 131073; committed at 196609; \
         bo: Sea at 0; committed at 131074; committed at 196610; Bay at 65537; audited 5 and 0",
 };
 
 /// A world and a service give the answers of the script, and both exactly the same.
-fn assert_told<R: Threads + Wait + time::Clock + Abort + Copy + Send + Sync + 'static>(
+fn assert_same_answers<R: Threads + Wait + time::Clock + Abort + Copy + Send + Sync + 'static>(
     rt: R,
     alloc: Global,
     script: &Script,
 ) -> Result<(), Fail> {
-    let Followed { told, moves } = follow(alloc, script.steps)?;
+    let Followed { answers, moves } = follow(alloc, script.steps)?;
     let conducted = conduct(rt, alloc, &moves)?;
-    same(&rt, told.text(alloc), script.told)?;
-    same(&rt, conducted.text(alloc), script.told)?;
+    same(&rt, answers.text(alloc), script.answers)?;
+    same(&rt, conducted.text(alloc), script.answers)?;
     assert!(rt;
-        told.has_answers_of(&conducted),
+        answers.has_answers_of(&conducted),
         "the same at {}",
-        script.told
+        script.answers
     );
     Ok(())
 }
 
 #[test]
 fn amy_first(rt: HostRuntime) -> Result<(), Fail> {
-    assert_told(rt, rt.alloc(), &AMY_FIRST)
+    assert_same_answers(rt, rt.alloc(), &AMY_FIRST)
 }
 
 #[test]
 fn bo_first(rt: HostRuntime) -> Result<(), Fail> {
-    assert_told(rt, rt.alloc(), &BO_FIRST)
+    assert_same_answers(rt, rt.alloc(), &BO_FIRST)
 }
 
 #[test]
 fn side_by_side(rt: HostRuntime) -> Result<(), Fail> {
-    assert_told(rt, rt.alloc(), &SIDE_BY_SIDE)
+    assert_same_answers(rt, rt.alloc(), &SIDE_BY_SIDE)
 }

@@ -1,7 +1,7 @@
 //! What a partition answers, to messages too that no client sends, what it keeps, and how it opens (docs/PROTOCOL.md,
 //! "What a partition answers").
 use crate::messages::{
-    Is, Rows, Step, all_told, client, item_of, rows_of, same, sent, stamp_of, told,
+    Is, Rows, Step, client, item_of, reply_or_dash, rows_of, same, sent, stamp_of, texts_of,
 };
 use album_calls::{Body, Message, Node, Reply, Vote};
 use album_partition::{Figures, Partition};
@@ -24,7 +24,7 @@ fn reply_to(
     message: &Message,
 ) -> Result<String, Refusal> {
     let reply = partition.receive(message)?;
-    told(alloc, &reply)
+    reply_or_dash(alloc, &reply)
 }
 
 /// What the partition replies to a message of client 1 to this node.
@@ -390,7 +390,7 @@ fn copies(alloc: Global, messages: &[Message]) -> Result<Vec<Message>, Refusal> 
 /// The texts of the copies of these messages.
 fn copied_text(alloc: Global, messages: &[Message]) -> Result<String, Refusal> {
     let copies = copies(alloc, messages)?;
-    all_told(alloc, &copies)
+    texts_of(alloc, &copies)
 }
 
 /// What the partition replies to each message.

@@ -92,9 +92,9 @@ fn seen(alloc: Global) -> Result<(u64, u64, u64), Refusal> {
         return Err(Refusal::NoSuchPart);
     };
     owner.append(&desk, &mark)?;
-    let told = owner.split(&desk);
+    let shown = owner.split(&desk);
     let second = pass.length(0);
-    pass.join(&desk, told);
+    pass.join(&desk, shown);
     Ok((first, second, pass.length(0)))
 }
 

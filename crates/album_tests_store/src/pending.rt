@@ -4,7 +4,7 @@ ghost use Rattle.std.specs.Prelude.{◌≡◌};
 ghost use Rattle.album_threads.specs.Opened.{opened_as};
 
 use crate::asked::Wish::{Read, Retitle, SetLists};
-use crate::asked::{Row, told, told_so};
+use crate::asked::{Row, answer_to, assert_answers};
 use crate::gates::{Hold, Holding};
 use crate::messages::same;
 use crate::sessions::{READABLE, opened};
@@ -39,7 +39,7 @@ fn lists_set<J: ServiceNames, R: Wait + time::Clock + Copy>(
     mut amy: OwnedSession<J, R>,
 ) -> Result<String, Refusal> {
     let rt = amy.rt;
-    told(&rt, alloc, &mut amy.session, SetLists)
+    answer_to(&rt, alloc, &mut amy.session, SetLists)
 }
 
 /// The answer to amy, and whether the other session gets its answers while her lists are pending.
@@ -50,7 +50,7 @@ struct Both {
 
 /// amy's lists are prepared by the messages 0 to 4 of partition 0: picture/0; it, list/1 and the group; and Prepare. At
 /// partition 2 the Prepare is the message 1, after list/0.
-fn both_told<
+fn both_answered<
     J: ServiceNames + Send + 'static,
     R: Threads + Wait + time::Clock + Abort + Copy + Send + 'static,
 >(
@@ -64,27 +64,27 @@ fn both_told<
         return Err(AllocError);
     };
     hold.wait_for(5, 2);
-    let told = told_so(rt, alloc, &mut other.session, &hold.counts, PENDING);
+    let answered = assert_answers(rt, alloc, &mut other.session, &hold.counts, PENDING);
     hold.release();
     Ok(Both {
         amy: amy.join(rt),
-        other: told,
+        other: answered,
     })
 }
 
-fn all_told<
+fn assert_all<
     J: ServiceNames + Send + 'static,
     R: Threads + Wait + time::Clock + Abort + Copy + Send + 'static,
 >(rt: &R, alloc: Global, hold: &Hold, service: &Service<J>) -> Result<(), Fail> {
     let amy = OwnedSession::begin(rt, service)?;
-    let mut guest = OwnedSession::begin(rt, service)?;
-    let Both { amy, other } = both_told(rt, alloc, hold, amy, &mut guest)?;
+    let mut owned = OwnedSession::begin(rt, service)?;
+    let Both { amy, other } = both_answered(rt, alloc, hold, amy, &mut owned)?;
     other?;
     same(rt, amy, "committed at 65537")?;
-    told_so(rt, alloc, &mut guest.session, &hold.counts, COMMITTED)
+    assert_answers(rt, alloc, &mut owned.session, &hold.counts, COMMITTED)
 }
 
-fn told_by<
+fn assert_by<
     J: ServiceNames + Send + 'static,
     R: Threads + Wait + time::Clock + Abort + Copy + Send + 'static,
 >(rt: R, alloc: Global, opened: Opened) -> Result<(), Fail>
@@ -96,22 +96,22 @@ fn told_by<
         hold: Arc::try_clone(&hold)?,
     };
     let service = Service::<J>::open(rt, alloc, opened, gate)?;
-    let told = all_told(&rt, alloc, &hold, &service);
+    let answered = assert_all(&rt, alloc, &hold, &service);
     service.close(&rt);
-    told?;
+    answered?;
     assert!(rt; !hold.has_given_up(), "nobody waits in vain");
     Ok(())
 }
 
-fn told_while_pending<R: Threads + Wait + time::Clock + Abort + Copy + Send + 'static>(
+fn assert_while_pending<R: Threads + Wait + time::Clock + Abort + Copy + Send + 'static>(
     rt: R,
     alloc: Global,
 ) -> Result<(), Fail> {
     let opened = opened(alloc, READABLE, 2)?;
-    told_by::<Brand, R>(rt, alloc, opened)
+    assert_by::<Brand, R>(rt, alloc, opened)
 }
 
 #[test]
 fn a_read_while_a_write_is_pending(rt: HostRuntime) -> Result<(), Fail> {
-    told_while_pending(rt, rt.alloc())
+    assert_while_pending(rt, rt.alloc())
 }

@@ -96,7 +96,7 @@ fn copied(alloc: Global) -> Result<Step, Refusal> {
 
 /// What a partition replies to client 2, under a tag, for an item: the version at the zero stamp, or that it is
 /// gone.
-type Told = (u16, u64, &'static str, Option<Is>);
+type ReplyRow = (u16, u64, &'static str, Option<Is>);
 
 fn reply_of(alloc: Global, text: &str, is: Option<Is>) -> Result<Reply, Refusal> {
     let item = item_of(text)?;
@@ -109,19 +109,19 @@ fn reply_of(alloc: Global, text: &str, is: Option<Is>) -> Result<Reply, Refusal>
     }
 }
 
-fn message_of(alloc: Global, (part, tag, text, is): Told) -> Result<Message, Refusal> {
+fn message_of(alloc: Global, (part, tag, text, is): ReplyRow) -> Result<Message, Refusal> {
     let to = Node::Client(reader()?);
     let reply = reply_of(alloc, text, is)?;
     Ok(Message::new(Node::Part(part), to, tag, Body::Reply(reply)))
 }
 
 /// What is replied, and how far the reading is then.
-type Replies = &'static [(Told, &'static str)];
+type Replies = &'static [(ReplyRow, &'static str)];
 
 fn messages_of(alloc: Global, rows: Replies) -> Result<Vec<(Message, &'static str)>, Refusal> {
     let mut messages = Vec::new(alloc);
-    for (told, expected) in rows {
-        messages.push((message_of(alloc, *told)?, *expected))?;
+    for (reply, expected) in rows {
+        messages.push((message_of(alloc, *reply)?, *expected))?;
     }
     Ok(messages)
 }

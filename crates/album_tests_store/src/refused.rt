@@ -1,7 +1,9 @@
 //! Calls on a partition that are refused for want of memory (docs/PROTOCOL.md, "What a partition answers"): it is then
 //! as it was, and a call that is made once more does what one does that is not refused. doubt/memory refuses each
 //! allocation of these tests in turn; where none is, they show the answers alone.
-use crate::messages::{Is, Rows, Step, all_told, item_of, rows_of, same, sent, stamp_of, told};
+use crate::messages::{
+    Is, Rows, Step, item_of, reply_or_dash, rows_of, same, sent, stamp_of, texts_of,
+};
 use album_calls::{Message, Node};
 use album_items::ItemValues;
 use album_partition::Partition;
@@ -62,7 +64,7 @@ const STAMPS: &[u64] = &[65537, 131073, 196609];
 fn got(alloc: Global, partition: &mut Partition, item: &'static str) -> Result<String, Refusal> {
     let message = sent(alloc, Node::Part(0), 10, Step::Get(item, STAMPS))?;
     let reply = partition.receive(&message)?;
-    told(alloc, &reply)
+    reply_or_dash(alloc, &reply)
 }
 
 /// What the partition shows: its marks, and what it replies of its items.
@@ -121,7 +123,7 @@ fn answer(
 ) -> Result<String, Refusal> {
     let message = sent(alloc, Node::Part(0), tag, step)?;
     let reply = received(alloc, partition, &message)?;
-    told(alloc, &reply)
+    reply_or_dash(alloc, &reply)
 }
 
 /// What is sent under which tag, and what is replied.
@@ -168,7 +170,7 @@ fn replied(alloc: Global) -> Result<Partition, Refusal> {
 fn sweep_text(alloc: Global) -> Result<String, Refusal> {
     let partition = replied(alloc)?;
     let messages = swept(&partition, 196609)?;
-    all_told(alloc, &messages)
+    texts_of(alloc, &messages)
 }
 
 /// Whether the picture's first version is there, once older ones are let go.

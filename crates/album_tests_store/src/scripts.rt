@@ -198,5 +198,5 @@ pub enum Step {
 pub struct Script {
     pub steps: &'static [Step],
     /// The answers to amy and bo, and how many entries have audited what was granted and what was denied.
-    pub told: &'static str,
+    pub answers: &'static str,
 }

@@ -5,7 +5,7 @@ ghost use Rattle.album_threads.specs.Opened.{opened_as};
 
 use crate::asked::Order::{Pending, Sweep, Trim};
 use crate::asked::Wish::{Read, Retitle, SetLists};
-use crate::asked::{Order, Row, ordered_so, told, told_so};
+use crate::asked::{Order, Row, answer_to, assert_answers, assert_orders};
 use crate::gates::{Counting, Counts, Entered, Together};
 use crate::messages::{item_of, same, stamp_of};
 use crate::values::{Entry, list_of, picture};
@@ -121,21 +121,21 @@ const ORDERS: &[(Order, &str)] = &[
 const WRITTEN: &[Row] = &[(Retitle("picture/0", "Cove"), "committed at 131074", (4, 1))];
 
 /// Two sessions get these answers, before they meet and after it.
-fn both_told_so<J: ServiceNames, R: Wait + time::Clock + Abort>(
+fn both_answered<J: ServiceNames, R: Wait + time::Clock + Abort>(
     rt: &R,
     alloc: Global,
     counts: &Counts,
     one: &mut Session<J>,
     two: &mut Session<J>,
 ) -> Result<(), Fail> {
-    told_so(rt, alloc, two, counts, BEFORE)?;
-    told_so(rt, alloc, one, counts, MEANWHILE)?;
-    told_so(rt, alloc, two, counts, AFTER)?;
+    assert_answers(rt, alloc, two, counts, BEFORE)?;
+    assert_answers(rt, alloc, one, counts, MEANWHILE)?;
+    assert_answers(rt, alloc, two, counts, AFTER)?;
     one.meet(two);
-    told_so(rt, alloc, two, counts, AFTER)?;
-    ordered_so(rt, alloc, two, counts, ORDERS)?;
-    told_so(rt, alloc, two, counts, AFTER)?;
-    told_so(rt, alloc, two, counts, WRITTEN)
+    assert_answers(rt, alloc, two, counts, AFTER)?;
+    assert_orders(rt, alloc, two, counts, ORDERS)?;
+    assert_answers(rt, alloc, two, counts, AFTER)?;
+    assert_answers(rt, alloc, two, counts, WRITTEN)
 }
 
 /// A visit of two sessions, while the gate counts. Their numbers are 1 and 2, there is no third, and they get the
@@ -162,7 +162,7 @@ impl<R: Wait + time::Clock + Abort + Copy> Visit<R> for Two {
             OwnedSession::begin(rt, service).err(),
             Some(Refusal::SessionsSpent)
         );
-        both_told_so(rt, alloc, &self.counts, &mut one.session, &mut two.session)
+        both_answered(rt, alloc, &self.counts, &mut one.session, &mut two.session)
     }
 }
 
@@ -223,10 +223,10 @@ fn refused_controls<J: ServiceNames, R: Wait + time::Clock>(
 fn refused_all<J: ServiceNames, R: Wait + time::Clock + Copy>(
     rt: &R,
     alloc: Global,
-    mut guest: OwnedSession<J, R>,
+    mut owned: OwnedSession<J, R>,
 ) -> Result<([u8; 3], [u8; 4]), Refusal> {
-    let asks = refused_asks(rt, alloc, &mut guest.session)?;
-    Ok((asks, refused_controls(rt, &mut guest.session)?))
+    let asks = refused_asks(rt, alloc, &mut owned.session)?;
+    Ok((asks, refused_controls(rt, &mut owned.session)?))
 }
 
 /// The refusals that a session gets once the service is closed.
@@ -238,9 +238,9 @@ fn closed_on<
         J.audit_ok J.audit_failed J.alarm_ok J.alarm_failed }
 {
     let service = Service::<J>::open(rt, alloc, opened, Open)?;
-    let guest = OwnedSession::begin(&rt, &service);
+    let owned = OwnedSession::begin(&rt, &service);
     service.close(&rt);
-    refused_all(&rt, alloc, guest?)
+    refused_all(&rt, alloc, owned?)
 }
 
 fn refused_once_closed<R: Threads + Wait + time::Clock + Copy + Send + 'static>(
@@ -272,8 +272,8 @@ impl<R: Wait + time::Clock + Abort + Copy> Visit<R> for SetBoth {
         alloc: Global,
         service: &Service<J>,
     ) -> Result<String, Refusal> {
-        let mut guest = OwnedSession::begin(rt, service)?;
-        told(rt, alloc, &mut guest.session, SetLists)
+        let mut owned = OwnedSession::begin(rt, service)?;
+        answer_to(rt, alloc, &mut owned.session, SetLists)
     }
 }
 
@@ -329,17 +329,17 @@ fn retitle_often<J: ServiceNames, R: Wait + time::Clock>(
 /// A session that retitled, and the greatest stamp of it.
 #[derive(Drop)]
 struct Retitled<J: ServiceNames, R: Wait + Copy> {
-    guest: OwnedSession<J, R>,
+    owned: OwnedSession<J, R>,
     greatest: Result<u64, Refusal>,
 }
 
 fn retitle_all<J: ServiceNames, R: Wait + time::Clock + Copy>(
     alloc: Global,
-    mut guest: OwnedSession<J, R>,
+    mut owned: OwnedSession<J, R>,
 ) -> Retitled<J, R> {
-    let rt = guest.rt;
-    let greatest = retitle_often(&rt, alloc, &mut guest.session);
-    Retitled { guest, greatest }
+    let rt = owned.rt;
+    let greatest = retitle_often(&rt, alloc, &mut owned.session);
+    Retitled { owned, greatest }
 }
 
 /// The one session, once it met the other, and the greatest stamp of both.
@@ -347,7 +347,7 @@ fn met<J: ServiceNames, R: Wait + time::Clock + Copy>(
     mut one: Retitled<J, R>,
     mut other: Retitled<J, R>,
 ) -> Retitled<J, R> {
-    one.guest.session.meet(&mut other.guest.session);
+    one.owned.session.meet(&mut other.owned.session);
     one.greatest = greater(one.greatest, other.greatest);
     one
 }
@@ -396,10 +396,10 @@ fn four_retitled<J: ServiceNames + Send, R: Threads + Wait + time::Clock + Copy 
         OwnedSession::begin(rt, service)?,
     );
     let Retitled {
-        mut guest,
+        mut owned,
         greatest,
     } = retitled_at_once(rt, alloc, one, two, three, four)?;
-    let stamp = stamp_served(&read(rt, &mut guest.session, "amy@users")?)?;
+    let stamp = stamp_served(&read(rt, &mut owned.session, "amy@users")?)?;
     Ok((stamp == greatest?, service.totals(rt)))
 }
 
@@ -413,9 +413,9 @@ fn four_over<
         J.audit_ok J.audit_failed J.alarm_ok J.alarm_failed }
 {
     let service = Service::<J>::open(rt, alloc, opened, Open)?;
-    let told = four_retitled(&rt, alloc, &service);
+    let retitled = four_retitled(&rt, alloc, &service);
     let closed = service.close(&rt);
-    let (is_greatest, totals) = told?;
+    let (is_greatest, totals) = retitled?;
     Ok((is_greatest, totals, closed))
 }
 

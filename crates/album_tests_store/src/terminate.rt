@@ -1,5 +1,5 @@
 //! Votes, and what is decided by them (docs/PROTOCOL.md, "How a pending write is settled").
-use crate::messages::{all_told, same, stamp_of};
+use crate::messages::{same, stamp_of, texts_of};
 use album_calls::Vote;
 use album_stamps::Refusal;
 use album_terminate::{Decision, StampState, checks, decide, vote_of};
@@ -35,7 +35,7 @@ fn decisions(rt: HostRuntime) {
 
 fn checks_text(alloc: Global, others: &[u16]) -> Result<String, Refusal> {
     let messages = checks(alloc, 0, others, stamp_of(65537)?)?;
-    all_told(alloc, &messages)
+    texts_of(alloc, &messages)
 }
 
 #[test]

@@ -1,4 +1,4 @@
-//! Values for the tests of partitions and reads.
+//! Values for the tests of partitions, reads and sessions.
 use album_access::{AceFlags, AceType, Mask};
 use album_items::{Album, Content, Head, ItemId, Items, Kind, Picture, Title, Value};
 use album_lists::{AccessList, Ace, Name, Who};

@@ -39,9 +39,9 @@ fn member_number(text: &str) -> Result<Option<u64>, Refusal> {
 }
 
 /// What is read of texts: the length of a name, the numbers of two whos, and that of a member.
-type Told = (usize, Option<u64>, Option<u64>, Option<u64>);
+type Texts = (usize, Option<u64>, Option<u64>, Option<u64>);
 
-fn told() -> Result<Told, Refusal> {
+fn texts_read() -> Result<Texts, Refusal> {
     let name = name_len("amy-b_2.c")?;
     let who = group_number("0@groups", 64)?;
     let head = group_number("GROUP@", 0)?;
@@ -51,7 +51,7 @@ fn told() -> Result<Told, Refusal> {
 
 #[test]
 fn texts(rt: HostRuntime) {
-    assert_eq!(rt; told(), Ok((9, Some(0), None, Some(12))));
+    assert_eq!(rt; texts_read(), Ok((9, Some(0), None, Some(12))));
 }
 
 pub fn entry(sort: AceType, who: &str, mask: u32, flags: u32) -> Result<Ace, Refusal> {

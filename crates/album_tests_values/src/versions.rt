@@ -86,7 +86,7 @@ fn best(
 }
 
 /// What is returned after the steps.
-fn told(alloc: Global, steps: &[Step], asked: &[u64]) -> Result<(u64, u64, Option<u64>), Refusal> {
+fn shown(alloc: Global, steps: &[Step], asked: &[u64]) -> Result<(u64, u64, Option<u64>), Refusal> {
     let item = ItemId::new(Kind::Picture, 0);
     let mut versions = Versions::new(alloc);
     for step in steps {
@@ -204,21 +204,21 @@ const TRIMS: &[Row] = &[
 #[test]
 fn greater_stamp_stays(rt: HostRuntime) {
     for (steps, asked, expected) in COMMITS {
-        assert_eq!(rt; told(rt.alloc(), steps, asked), Ok(*expected));
+        assert_eq!(rt; shown(rt.alloc(), steps, asked), Ok(*expected));
     }
 }
 
 #[test]
 fn best_of_the_given(rt: HostRuntime) {
     for (steps, asked, expected) in BESTS {
-        assert_eq!(rt; told(rt.alloc(), steps, asked), Ok(*expected));
+        assert_eq!(rt; shown(rt.alloc(), steps, asked), Ok(*expected));
     }
 }
 
 #[test]
 fn nothing_kept_below_the_floor(rt: HostRuntime) {
     for (steps, asked, expected) in TRIMS {
-        assert_eq!(rt; told(rt.alloc(), steps, asked), Ok(*expected));
+        assert_eq!(rt; shown(rt.alloc(), steps, asked), Ok(*expected));
     }
 }
 

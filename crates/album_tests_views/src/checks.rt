@@ -1,4 +1,5 @@
-//! Asks that no line spells, and their copies (docs/PROTOCOL.md, "Asks").
+//! Calls of `Ask::check` that no line reaches, and copies of asks (docs/PROTOCOL.md, "Asks"). Which kinds of objects
+//! each ask allows is shown by lines, in `rows/replay/kinds_of_objects.jsonl`: add such a test there.
 use crate::asks::{Verb, ask_of, set_members, share};
 use album_eval::Principal;
 use album_items::{ItemId, Kind};
@@ -13,7 +14,7 @@ fn members_checked(alloc: Global, len: u64) -> Result<(), Refusal> {
     checked
 }
 
-/// A group has at most 128 members, which the line of an ask is refused for before the ask is.
+/// 129 members in a line are refused as it is read: only a call reaches this test.
 #[test]
 fn a_group_has_128_members_at_most(rt: HostRuntime) {
     assert_eq!(rt; members_checked(rt.alloc(), 129), Err(Refusal::ListFull));
@@ -52,15 +53,15 @@ const VERBS: &[Verb] = &[
 ];
 
 /// The text of the whole ask.
-fn told(alloc: Global, ask: &Ask) -> Result<String, Refusal> {
+fn text_of(alloc: Global, ask: &Ask) -> Result<String, Refusal> {
     Ok(format!(in alloc; "{ask:?}")?)
 }
 
 /// Whether the texts of the two are the same.
 fn are_same(alloc: Global, ask: &Ask, other: &Ask) -> Result<bool, Refusal> {
-    let told_of_ask = told(alloc, ask)?;
-    let told_of_other = told(alloc, other)?;
-    Ok(told_of_ask == told_of_other)
+    let text_of_ask = text_of(alloc, ask)?;
+    let text_of_other = text_of(alloc, other)?;
+    Ok(text_of_ask == text_of_other)
 }
 
 /// Whether a copy of the ask has the same text as the ask.

@@ -5,8 +5,17 @@
 //! Read `store` and `asks` first, which spell what the tests begin with.
 #![tactic(auto)]
 
+// The store and the asks that tests begin with.
 #[cfg(test)]
 mod asks;
+#[cfg(test)]
+mod ruling;
+#[cfg(test)]
+mod store;
+#[cfg(test)]
+mod viewing;
+
+// The tests.
 #[cfg(test)]
 mod audits;
 #[cfg(test)]
@@ -17,12 +26,6 @@ mod effects;
 mod listings;
 #[cfg(test)]
 mod refused;
-#[cfg(test)]
-mod ruling;
-#[cfg(test)]
-mod store;
-#[cfg(test)]
-mod viewing;
 #[cfg(test)]
 mod views;
 #[cfg(test)]

@@ -137,8 +137,8 @@ fn version(alloc: Global, store: Store, tag: u64, item: ItemId) -> Result<Messag
     let client = ClientNo::of(1).ok_or(Refusal::BadRequest)?;
     let value = found(alloc, store, item)?;
     let value = SharedValue::of(alloc, value)?;
-    let told = Body::Reply(Reply::Version(item, Stamp::zero(), value));
-    Ok(Message::new(Node::Part(0), Node::Client(client), tag, told))
+    let body = Body::Reply(Reply::Version(item, Stamp::zero(), value));
+    Ok(Message::new(Node::Part(0), Node::Client(client), tag, body))
 }
 
 fn versions(

@@ -34,7 +34,7 @@ const STORE: Store = &[
 
 /// What a partition replies about a stamp.
 #[derive(Clone, Copy)]
-enum Tells {
+enum ReplyKind {
     Prepared,
     Committed,
     Discarded,
@@ -47,11 +47,11 @@ enum Tells {
 
 /// A reply: from this partition, to this client, under this tag.
 #[derive(Clone, Copy)]
-struct Told {
+struct ReplyRow {
     from: u16,
     to: u16,
     tag: u64,
-    tells: Tells,
+    kind: ReplyKind,
     stamp: u64,
 }
 
@@ -166,24 +166,29 @@ fn full_album_gives_the_permit_back(rt: HostRuntime) {
     assert_eq!(rt; full_album(rt.alloc()), Ok(true));
 }
 
-fn reply_of(tells: Tells, stamp: Stamp) -> Result<Reply, Refusal> {
-    match tells {
-        Tells::Prepared => Ok(Reply::Prepared(stamp)),
-        Tells::Committed => Ok(Reply::Committed(stamp)),
-        Tells::Discarded => Ok(Reply::Discarded(stamp)),
-        Tells::Full => Ok(Reply::Full(stamp)),
-        Tells::NotPrepared => Ok(Reply::NotPrepared(stamp)),
-        Tells::Status => Ok(Reply::Status(stamp, Vote::Prepared)),
-        Tells::Clash => Ok(Reply::Clash),
-        Tells::Gone => Ok(Reply::Gone(item_of("list/0")?)),
+fn reply_of(kind: ReplyKind, stamp: Stamp) -> Result<Reply, Refusal> {
+    match kind {
+        ReplyKind::Prepared => Ok(Reply::Prepared(stamp)),
+        ReplyKind::Committed => Ok(Reply::Committed(stamp)),
+        ReplyKind::Discarded => Ok(Reply::Discarded(stamp)),
+        ReplyKind::Full => Ok(Reply::Full(stamp)),
+        ReplyKind::NotPrepared => Ok(Reply::NotPrepared(stamp)),
+        ReplyKind::Status => Ok(Reply::Status(stamp, Vote::Prepared)),
+        ReplyKind::Clash => Ok(Reply::Clash),
+        ReplyKind::Gone => Ok(Reply::Gone(item_of("list/0")?)),
     }
 }
 
-fn message_of(told: Told) -> Result<Message, Refusal> {
-    let stamp = Stamp::read(told.stamp).ok_or(Refusal::BadRequest)?;
-    let client = ClientNo::of(told.to).ok_or(Refusal::BadRequest)?;
-    let body = Body::Reply(reply_of(told.tells, stamp)?);
-    Ok(Message::new(Node::Part(told.from), Node::Client(client), told.tag, body))
+fn message_of(reply: ReplyRow) -> Result<Message, Refusal> {
+    let stamp = Stamp::read(reply.stamp).ok_or(Refusal::BadRequest)?;
+    let client = ClientNo::of(reply.to).ok_or(Refusal::BadRequest)?;
+    let body = Body::Reply(reply_of(reply.kind, stamp)?);
+    Ok(Message::new(
+        Node::Part(reply.from),
+        Node::Client(client),
+        reply.tag,
+        body,
+    ))
 }
 
 /// How far a write is.
@@ -231,8 +236,8 @@ fn word(phase: &Phase) -> (&'static str, u64) {
 }
 
 /// How far the write is after one more reply.
-fn next(phase: Phase, told: Told) -> Result<Phase, Refusal> {
-    match message_of(told) {
+fn next(phase: Phase, reply: ReplyRow) -> Result<Phase, Refusal> {
+    match message_of(reply) {
         Ok(message) => {
             let next = given(phase, &message);
             drop(message);
@@ -246,18 +251,18 @@ fn next(phase: Phase, told: Told) -> Result<Phase, Refusal> {
 }
 
 /// How far the write is after these replies.
-fn phase_after(alloc: Global, replies: &[Told]) -> Result<Phase, Refusal> {
+fn phase_after(alloc: Global, replies: &[ReplyRow]) -> Result<Phase, Refusal> {
     let (preparing, prepares) = begun(alloc, lists(alloc)?)?;
     drop(prepares);
     let mut phase = Phase::Prepares(preparing);
-    for told in replies {
-        phase = next(phase, *told)?;
+    for reply in replies {
+        phase = next(phase, *reply)?;
     }
     Ok(phase)
 }
 
 /// The word for it, and the stamp of the write.
-fn after(alloc: Global, replies: &[Told]) -> Result<(&'static str, u64), Refusal> {
+fn after(alloc: Global, replies: &[ReplyRow]) -> Result<(&'static str, u64), Refusal> {
     let phase = phase_after(alloc, replies)?;
     let word = word(&phase);
     drop(phase);
@@ -265,31 +270,31 @@ fn after(alloc: Global, replies: &[Told]) -> Result<(&'static str, u64), Refusal
 }
 
 /// Replies, and how far the write is then.
-type Row = (&'static [Told], &'static str);
+type Row = (&'static [ReplyRow], &'static str);
 
 /// What partitions 0 and 2 reply to client 1 about their Prepares of `T`, and about their Commits.
-const P0: Told = Told {
+const P0: ReplyRow = ReplyRow {
     from: 0,
     to: 1,
     tag: 5,
-    tells: Tells::Prepared,
+    kind: ReplyKind::Prepared,
     stamp: T,
 };
 
-const P2: Told = Told { from: 2, ..P0 };
+const P2: ReplyRow = ReplyRow { from: 2, ..P0 };
 
-const C0: Told = Told {
+const C0: ReplyRow = ReplyRow {
     tag: 6,
-    tells: Tells::Committed,
+    kind: ReplyKind::Committed,
     ..P0
 };
 
-const C2: Told = Told { from: 2, ..C0 };
+const C2: ReplyRow = ReplyRow { from: 2, ..C0 };
 
 /// The same from partition 1, which is no participant.
-const P1: Told = Told { from: 1, ..P0 };
+const P1: ReplyRow = ReplyRow { from: 1, ..P0 };
 
-const C1: Told = Told { from: 1, ..C0 };
+const C1: ReplyRow = ReplyRow { from: 1, ..C0 };
 
 const ROWS: &[Row] = &[
     (&[], "prepares"),
@@ -305,8 +310,8 @@ const ROWS: &[Row] = &[
     (
         &[
             P0,
-            Told {
-                tells: Tells::Discarded,
+            ReplyRow {
+                kind: ReplyKind::Discarded,
                 ..P2
             },
         ],
@@ -316,8 +321,8 @@ const ROWS: &[Row] = &[
     (
         &[
             P0,
-            Told {
-                tells: Tells::Discarded,
+            ReplyRow {
+                kind: ReplyKind::Discarded,
                 ..P0
             },
         ],
@@ -325,8 +330,8 @@ const ROWS: &[Row] = &[
     ),
     // No room at partition 2; and the same reply from one that has prepared.
     (
-        &[Told {
-            tells: Tells::Full,
+        &[ReplyRow {
+            kind: ReplyKind::Full,
             ..P2
         }],
         "full",
@@ -334,8 +339,8 @@ const ROWS: &[Row] = &[
     (
         &[
             P0,
-            Told {
-                tells: Tells::Full,
+            ReplyRow {
+                kind: ReplyKind::Full,
                 ..P0
             },
         ],
@@ -345,35 +350,35 @@ const ROWS: &[Row] = &[
     (&[P0, P0], "prepares"),
     (&[P0, P2, C0, C0], "commits"),
     // Strays to the Prepares: of another tag, another stamp, a partition that is no participant, to another client.
-    (&[P0, Told { tag: 6, ..P2 }], "prepares"),
-    (&[P0, Told { stamp: LATER, ..P2 }], "prepares"),
+    (&[P0, ReplyRow { tag: 6, ..P2 }], "prepares"),
+    (&[P0, ReplyRow { stamp: LATER, ..P2 }], "prepares"),
     (&[P0, P1], "prepares"),
-    (&[P0, Told { to: 2, ..P2 }], "prepares"),
+    (&[P0, ReplyRow { to: 2, ..P2 }], "prepares"),
     (
-        &[Told {
-            tells: Tells::Discarded,
+        &[ReplyRow {
+            kind: ReplyKind::Discarded,
             stamp: LATER,
             ..P2
         }],
         "prepares",
     ),
     (
-        &[Told {
-            tells: Tells::Discarded,
+        &[ReplyRow {
+            kind: ReplyKind::Discarded,
             ..P1
         }],
         "prepares",
     ),
     (
-        &[Told {
-            tells: Tells::Full,
+        &[ReplyRow {
+            kind: ReplyKind::Full,
             ..P1
         }],
         "prepares",
     ),
     (
-        &[Told {
-            tells: Tells::Full,
+        &[ReplyRow {
+            kind: ReplyKind::Full,
             ..C2
         }],
         "prepares",
@@ -382,8 +387,8 @@ const ROWS: &[Row] = &[
     (
         &[
             P0,
-            Told {
-                tells: Tells::Committed,
+            ReplyRow {
+                kind: ReplyKind::Committed,
                 ..P2
             },
         ],
@@ -392,8 +397,8 @@ const ROWS: &[Row] = &[
     (
         &[
             P0,
-            Told {
-                tells: Tells::NotPrepared,
+            ReplyRow {
+                kind: ReplyKind::NotPrepared,
                 ..P2
             },
         ],
@@ -402,8 +407,8 @@ const ROWS: &[Row] = &[
     (
         &[
             P0,
-            Told {
-                tells: Tells::Status,
+            ReplyRow {
+                kind: ReplyKind::Status,
                 ..P2
             },
         ],
@@ -412,8 +417,8 @@ const ROWS: &[Row] = &[
     (
         &[
             P0,
-            Told {
-                tells: Tells::Clash,
+            ReplyRow {
+                kind: ReplyKind::Clash,
                 ..P2
             },
         ],
@@ -422,25 +427,25 @@ const ROWS: &[Row] = &[
     (
         &[
             P0,
-            Told {
-                tells: Tells::Gone,
+            ReplyRow {
+                kind: ReplyKind::Gone,
                 ..P2
             },
         ],
         "prepares",
     ),
     // Strays to the Commits.
-    (&[P0, P2, C0, Told { tag: 5, ..C2 }], "commits"),
-    (&[P0, P2, C0, Told { stamp: LATER, ..C2 }], "commits"),
+    (&[P0, P2, C0, ReplyRow { tag: 5, ..C2 }], "commits"),
+    (&[P0, P2, C0, ReplyRow { stamp: LATER, ..C2 }], "commits"),
     (&[P0, P2, C0, C1], "commits"),
-    (&[P0, P2, C0, Told { to: 2, ..C2 }], "commits"),
+    (&[P0, P2, C0, ReplyRow { to: 2, ..C2 }], "commits"),
     (
         &[
             P0,
             P2,
             C0,
-            Told {
-                tells: Tells::Prepared,
+            ReplyRow {
+                kind: ReplyKind::Prepared,
                 ..C2
             },
         ],
@@ -451,8 +456,8 @@ const ROWS: &[Row] = &[
             P0,
             P2,
             C0,
-            Told {
-                tells: Tells::Discarded,
+            ReplyRow {
+                kind: ReplyKind::Discarded,
                 ..C2
             },
         ],
@@ -463,8 +468,8 @@ const ROWS: &[Row] = &[
             P0,
             P2,
             C0,
-            Told {
-                tells: Tells::Full,
+            ReplyRow {
+                kind: ReplyKind::Full,
                 ..C2
             },
         ],
@@ -475,8 +480,8 @@ const ROWS: &[Row] = &[
             P0,
             P2,
             C0,
-            Told {
-                tells: Tells::NotPrepared,
+            ReplyRow {
+                kind: ReplyKind::NotPrepared,
                 ..C2
             },
         ],

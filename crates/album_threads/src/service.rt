@@ -23,30 +23,6 @@ use std::sync::{Arc, Mutex, Wait};
 use std::thread::{JoinHandle, Threads};
 use std::{thread, time};
 
-/// The pass from which those of the sessions are split.
-#[derive(Drop)]
-struct Seed<J: ServiceNames> {
-    pass: Pass,
-    of: PhantomData<J>,
-    ghost table_is: { pass.table ≡ J.table },
-    ghost unnumbered: { pass.number ≡ None },
-    ghost parts_are: { pass.cut.parts ≡ J.terms.parts },
-    ghost opening_is: { pass.cut.opening ≡ J.terms.opening },
-}
-
-impl<J: ServiceNames> Seed<J> {
-    /// A pass with an equal cut.
-    fn split(&mut self, desk: &Desk) -> Pass
-        requires { desk.now.table ≡ J.table }
-        ensures of { result.table ≡ J.table }
-        ensures unnumbered { result.number ≡ None }
-        ensures parts { result.cut.parts ≡ J.terms.parts }
-        ensures opening { result.cut.opening ≡ J.terms.opening }
-    {
-        self.pass.split(desk)
-    }
-}
-
 /// A running service, of the desk, the policy and the audit book that `J` names. It has threads, and
 /// ends by `close`.
 pub struct Service<J: ServiceNames> {
@@ -274,6 +250,30 @@ impl<J: ServiceNames> Service<J> {
     }
 }
 
+/// The pass from which those of the sessions are split.
+#[derive(Drop)]
+struct Seed<J: ServiceNames> {
+    pass: Pass,
+    of: PhantomData<J>,
+    ghost table_is: { pass.table ≡ J.table },
+    ghost unnumbered: { pass.number ≡ None },
+    ghost parts_are: { pass.cut.parts ≡ J.terms.parts },
+    ghost opening_is: { pass.cut.opening ≡ J.terms.opening },
+}
+
+impl<J: ServiceNames> Seed<J> {
+    /// A pass with an equal cut.
+    fn split(&mut self, desk: &Desk) -> Pass
+        requires { desk.now.table ≡ J.table }
+        ensures of { result.table ≡ J.table }
+        ensures unnumbered { result.number ≡ None }
+        ensures parts { result.cut.parts ≡ J.terms.parts }
+        ensures opening { result.cut.opening ≡ J.terms.opening }
+    {
+        self.pass.split(desk)
+    }
+}
+
 /// What a service shares with its sessions, and with the partitions' threads.
 #[derive(Drop)]
 struct Shared<J: ServiceNames> {
@@ -316,7 +316,7 @@ fn copies_of<J: ServiceNames>(
     Ok(copies)
 }
 
-/// So many mailboxes, and where what is sent to them comes.
+/// `count` channels: senders and receivers.
 fn mailboxes_for<J: ServiceNames>(
     alloc: Global,
     count: usize,

@@ -1,4 +1,5 @@
-//! A service for the time of one visit. Its names are hidden, and it is closed whatever the visit returns.
+//! A service for the time of one visit. The type that names it (`J`) is picked here, and hidden. It is closed whatever
+//! the visit returns.
 ghost use Rattle.std.specs.Prelude.{◌≡◌};
 ghost use Rattle.album_threads.specs.Opened.{opened_as};
 
@@ -44,6 +45,7 @@ where
     V: Visit<R>,
 {
     let opened = Opened::new(alloc, opening, sessions.max(1))?;
+    // `Open` is the gate that each message passes at once.
     with_opened(rt, alloc, opened, Open, visit)
 }
 
@@ -67,6 +69,7 @@ where
     visited_as::<Brand, R, G, V>(rt, alloc, opened, gate, visit)
 }
 
+/// The same under the names J: of these `list` is the board's, and the last four are ledgers of the audit totals.
 fn visited_as<J, R, G, V>(
     rt: R,
     alloc: Global,

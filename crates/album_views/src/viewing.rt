@@ -18,7 +18,7 @@ use album_stamps::{MAX_READ_ITEMS, MAX_READS, Refusal, Refused};
 use std::alloc::Global;
 use std::marker::Model;
 
-/// An ask that has no view yet. Contracts see the ask, and how many reads were made for it.
+/// An ask that has no view yet. Contracts see the ask, and how many reads were made for it before the one under way.
 #[derive(Clone, Debug)]
 pub struct Viewing {
     ask: Ask,

@@ -110,7 +110,7 @@ trim_shape_of d = do
   trim ← field_of (codes "trim") d >>= trim_of
   Ok (Whole (spelled.One (event.Trim trim.0 trim.1)))
 
--- which of them, its names tell
+-- which of them, its names say
 abbrev pub event_shape_of : Data → Result SpelledEvent Refusal
 event_shape_of d =
     if has (codes "ask") d then asked_shape_of d

@@ -59,7 +59,7 @@ begin_shape_of d = do
   _ ← guard begin
   Ok Begin
 
--- which of the three, its names tell
+-- which of the three, its names say
 abbrev pub opening_shape_of : Data → Result SpelledOpening Refusal
 opening_shape_of d =
     if has (codes "open") d then open_shape_of d

@@ -44,6 +44,7 @@ pub use album_lines::{
     Group, JudgeLine, LineIn, Lines, any_pieces, joined_lines, questions_by_line, read_judge,
     refusal_texts, verdict_texts, write_refusal, write_verdict,
 };
+// (The names in `worked_` are laws: lines that were worked out by hand.)
 pub use event_line::{read_event, worked_events};
 pub use event_shape::{MAX_DELIVERIES, Spelled};
 pub use figures_json::{ServiceFigures, worked_figures, write_figures};

@@ -18,13 +18,16 @@ pub const DEFAULT_LIMIT: u64 = 100_000;
 /// The policy that lists are judged by, where the opening doesn't say it.
 pub const DEFAULT_POLICY: u64 = 1;
 
-/// How the store is to be opened: how many partitions there are, how many marks the history of each has room for, and
-/// the policy that lists are judged by. `trace` says whether each message that is sent is to be written.
+/// How the store is to be opened.
 #[derive(Clone, Copy, Debug, PartialEq, Eq)]
 pub struct Header {
+    /// How many partitions there are.
     pub parts: u64,
+    /// For how many marks the history of each has room.
     pub limit: u64,
+    /// The number of the policy that lists are judged by: 1 or 2.
     pub policy: u64,
+    /// Whether each message that is sent is to be written.
     pub trace: bool,
 }
 

@@ -88,7 +88,7 @@ pub fn worked_talks()
     ensures deliver { talk_line_of (codes "{\"deliver\":1}") ≡ Err Refusal.BadRequest }
 {}
 
-/// The values of its fields.
+/// The values of the fields of the shape.
 #[tactic(auto, unfolding(crate::specs::TalkLine::talk_read))]
 fn said(alloc: Global, shape: &TalkShape) -> Result<TalkLine, Refusal>
     ensures { Gives (λ line. line) result (talk_read (spelled_talk shape.now)) }

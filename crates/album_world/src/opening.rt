@@ -1,4 +1,5 @@
-//! The terms of a world as it opens.
+//! What of an opening a world's clients go by: its partitions and its policy. First values and limits go to the
+//! partitions, in `World::open`. Each client begins with a fresh clock, whatever the opening.
 ghost use Rattle.std.specs.Prelude.{◌≡◌, true};
 ghost use Rattle.album_items.specs.Openings.{is_opening};
 ghost use Rattle.album_client.specs.Terms.{terms_of};

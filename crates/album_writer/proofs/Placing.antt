@@ -123,7 +123,7 @@ placed parts place writes write = (
       (eq-eqb (place_of parts write.0) place both.1),
 )
 
--- some partition is concerned
+-- some partition is a participant
 pub some-place :
     (parts : ℕ) (items : List ℕ) → 1 ≤ parts → are_items items ≡ true → places_of parts items ≢ []
 some-place parts [] low some = absurd (true≢false (sym some))

@@ -5,14 +5,11 @@ ghost use Rattle.std.specs.List.{prefix_len};
 ghost use Rattle.std.specs.Str.{IsAsciiWhitespaceFrom};
 ghost use Rattle.album_explain.specs.Bytes.{is_in_word};
 
-use album_lines::data;
+use album_lines::{MAX_DEPTH, data};
 use album_stamps::Refusal;
 use json::{Reader, Scratch, Token};
 use std::alloc::{AllocError, Global};
 use std::str;
-
-/// How deep brackets may be nested.
-const DEEPEST: usize = 127;
 
 /// What may come next, by the brackets that are open and what came last.
 #[derive(Drop)]
@@ -150,7 +147,7 @@ impl Place {
                 if matches!(token, Token::BeginObject | Token::BeginArray) {
                     self.has_key = false;
                     self.objects.push(matches!(token, Token::BeginObject))?;
-                    return Ok(self.objects.len() <= DEEPEST);
+                    return Ok(self.objects.len() <= MAX_DEPTH);
                 }
             }
         }

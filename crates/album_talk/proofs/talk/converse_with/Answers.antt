@@ -2,7 +2,7 @@ use Rattle.std.proofs.Common.{◌≡◌, ◌≢◌, ◌≤◌, ℕ, List, [], Op
 use Rattle.std.proofs.lemmas.List.{length-take}
 use Rattle.std.proofs.lemmas.Result.{IfErr-weaker, on_ok_weaker, err_from_is_err_and}
 use Rattle.album_sessions.proofs.SessionLemmas.{on_self, on_trans}
-use Rattle.album_judge.specs.declared.engines.judge.TheConstants.{PIECE}
+use Rattle.album_judge.specs.declared.engine.TheConstants.{PIECE}
 use Rattle.album_talk.specs.Talk.{stranger}
 use Rattle.album_talk.proofs.TalkTurns.{HasTalked, begins, has_read_more, prefix_so_far, turn_done, turn_left, turn_uncut, prefix_of_turn, last_done, last_left, prefix_of_last}
 use Rattle.album_talk.proofs.Recording.{by_outcome, recorded_begins, recorded_part, recorded_joined, recorded_part_joined}

@@ -21,7 +21,7 @@ loop-preserved g c = record {
       (on_trans c.loop.self c.wait-heard.new.self c.go_on.new.self c.wait-heard.ensures.on c.go_on.ensures.on);
 }
 
--- what is under way was awaited so
+-- what is under way was outstanding
 pub go_on-requires-clause-way : goal.go_on-requires-clause-way
 go_on-requires-clause-way g c =
     let w = c.requires.way in

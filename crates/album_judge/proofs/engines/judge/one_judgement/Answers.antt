@@ -1,5 +1,0 @@
-use Rattle.album_judge.proofs.Judging.{one_judgement}
-use Rattle.album_judge.proofs.engines.judge.one_judgement.Goals as goal
-
-pub returns : goal.returns
-returns c = one_judgement

@@ -1,0 +1,18 @@
+use Rattle.std.proofs.Common.{◌≡◌, ◌≤◌}
+use Rattle.album_world.specs.Past.{Past}
+use Rattle.album_replay.specs.Replay.{Delivers}
+use Rattle.album_replay.specs.Stages.{Leads}
+use Rattle.album_judge.specs.Writes.{Writes}
+use Rattle.album_replay.proofs.Happening.{before_number}
+use Rattle.album_replay.proofs.engine.events.deliver_range.Given as goal
+
+abbrev pub invariant-loop-number : goal.invariant-loop-number
+invariant-loop-number g l = record {
+  low : l.first ≤ l.number;
+  high : l.number ≤ l.last;
+  terms : l.world.terms ≡ l.initial.world.terms;
+  written :
+      (past : Past)
+      → Writes (Leads (λ before. Delivers l.initial.world.terms l.trace before (before_number l.first l.number)) l.initial.world l.world past)
+      (g.W.Write.contents l.initial.writer) (g.W.Write.contents l.writer);
+}

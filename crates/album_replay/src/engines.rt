@@ -1,3 +1,0 @@
-//! The engine.
-
-pub mod replay;
