@@ -1,4 +1,4 @@
-"""What the scripts know of the tree: its crates, what each stands on, a checksum of each, and copies of them."""
+"""What the scripts know of the tree: its crates, what each depends on, a checksum of each, and copies of them."""
 import fcntl
 import functools
 import hashlib

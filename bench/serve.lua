@@ -51,7 +51,7 @@ local function is_granted(object, mask)
     return grants(mask, unpack(redis.call("HMGET", object, "owner", "group", "list")))
 end
 
--- The titles of the children of an album that may be seen, each behind the child.
+-- The titles of the children of an album that may be seen, each after the child.
 local function rows_of(album)
     local rows = {}
     for _, child in ipairs(redis.call("LRANGE", album .. ":children", 0, -1)) do

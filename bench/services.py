@@ -46,9 +46,9 @@ def connect(port):
             time.sleep(0.01)
 
 
-def told(talk, said):
-    """What is answered to bytes."""
-    talk.write(said)
+def answer_to(talk, line):
+    """The line that answers these bytes."""
+    talk.write(line)
     talk.flush()
     return talk.readline()
 
@@ -95,10 +95,10 @@ def fill(port, commands):
     """Puts the store and the script into Redis, and gives the script's name."""
     with connect(port) as talk:
         for made in (pictures.command("FLUSHALL"), *commands):
-            if told(talk, made)[:1] not in b"+:":
+            if answer_to(talk, made)[:1] not in b"+:":
                 sys.exit("bench: Redis doesn't take the store")
         with open(os.path.join(HERE, "serve.lua")) as script:
-            told(talk, pictures.command("SCRIPT", "LOAD", script.read()))
+            answer_to(talk, pictures.command("SCRIPT", "LOAD", script.read()))
         return talk.readline().strip().decode()
 
 

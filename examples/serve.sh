@@ -1,22 +1,22 @@
 #!/bin/sh
 # A service of one picture, and amy and bo who talk to it by turns: examples/serve.sh [PORT]
-# Each line that is said stands behind >, and what it is answered behind <. ALBUM can name another program.
+# Each line that is sent comes after >, and its answer after <. ALBUM can name another program.
 here=$(cd "$(dirname "$0")" && pwd)
 album=${ALBUM:-$here/../album}
 port=${1:-7543}
 "$album" --help > /dev/null || exit # this builds the program, where it isn't
-told=$(mktemp) || exit
-trap 'kill $service 2> /dev/null; rm -f "$told"' EXIT
+answers=$(mktemp) || exit
+trap 'kill $service 2> /dev/null; rm -f "$answers"' EXIT
 
-"$album" serve "$port" --conns 2 > "$told" << 'OPENING' &
+"$album" serve "$port" --conns 2 > "$answers" << 'OPENING' &
 {"open":{"parts":3}}
 {"item":"picture/0","value":{"content":"736561","group":0,"home":0,"list":0,"owner":"amy@users","title":"Sea"}}
 {"item":"list/0","value":{"entries":[["audit","EVERYONE@",1,48],["allow","OWNER@",2032127,0],["allow","EVERYONE@",1,0]]}}
 {"begin":true}
 OPENING
 service=$!
-while [ ! -s "$told" ]; do
-    kill -0 $service 2> /dev/null || exit 1 # it has told why on standard error
+while [ ! -s "$answers" ]; do
+    kill -0 $service 2> /dev/null || exit 1 # it has said why on standard error
     sleep 0.1
 done
 
@@ -43,7 +43,7 @@ amy {"ask":{"do":"set_lists","lists":[["picture/0",[["allow","EVERYONE@",1,0]]]]
 bo {"ask":{"do":"read","object":"picture/0"}}
 TALK
 
-# Both are gone, so the service ends. Its last line tells what its lists have audited.
+# Both are gone, so the service ends. Its last line says what its lists have audited.
 wait $service
 service=
-tail -n 1 "$told"
+tail -n 1 "$answers"

@@ -2,7 +2,7 @@
 //!
 //! Texts are borrowed from the line, buffers are kept from line to line, and a line is read in one pass. Only one that
 //! isn't of the plain shape (a key twice, a text with an escape, anything wrong) is read a second time, as a tree, in
-//! which the last of two equal keys counts and which tells what is wrong with it.
+//! which the last of two equal keys counts and which says what is wrong with it.
 mod judging;
 mod lines;
 mod values;
