@@ -1,7 +1,13 @@
--- Clients in the order of their first asks, for `Clients`: a client is at the index of its number, or nowhere.
-use Rattle.std.proofs.Common.{◌≡◌, ℕ, zero, suc, ◌+◌, ◌<◌, Bool, true, false, cond, not, ◌||◌, ◌==◌, ltb, List, [], ◌∷◌, ◌++◌, map, length, set, get_or, Option, Some, None, position, Result, Ok, Err, IsOk, IsOkAnd, IfOk, OnErr, IfSome, refl, sym, ap, ◌∙◌, subst, arith}
-use Rattle.std.specs.List.{list_any, position_or_len}
-use Rattle.std.proofs.lemmas.Bool.{eqb-true, ltb-true}
+-- Clients in the order of their first asks, for `Clients`: a client is at the index of its number, or nowhere. They are
+-- the values of a map, whose keys are their numbers.
+use Rattle.std.proofs.Common.{◌≡◌, ℕ, zero, suc, ◌+◌, ◌<◌, ◌≤◌, Bool, true, false, cond, not, ◌||◌, ◌==◌, ltb, List, [], ◌∷◌, ◌++◌, map, length, set, get_or, Option, Some, None, position, Result, Ok, Err, IsOk, IsOkAnd, IfOk, OnErr, IfSome, IfNone, refl, sym, ap, ◌∙◌, subst, arith}
+use Rattle.std.specs.List.{list_any, position_or_len, slice_get}
+use Rattle.std.specs.Map.{keys_of, values_of}
+use Rattle.std.proofs.lemmas.Bool.{eqb-true, ltb-false, ltb-true}
+use Rattle.std.proofs.lemmas.List.{map-append}
+use Rattle.std.proofs.lemmas.Option.{get_or_from_slice_get}
+use Rattle.indexmap.specs.IndexMap.{IndexMap, insert_entry, keys, set_value_at, values, with_value_at}
+use Rattle.indexmap.proofs.CallerLemmas.{keys-with_value_at}
 use Rattle.album_stamps.specs.declared.refusals.Refusal.{Refusal}
 use Rattle.album_calls.specs.declared.messages.Message.{Message}
 use Rattle.album_eval.specs.declared.facts.Principal.{Principal}
@@ -78,28 +84,29 @@ put (c ∷ cs) n x q h = put_by c cs n x (n == c.number) refl q (put cs n x q) h
 
 -- ---- one that isn't
 
-absent : (c : Client) (cs : List Client) (n : ℕ) → list_any (λ m. n == m) (numbers_of (c ∷ cs)) ≡ false → (n == c.number) ≡ false
-absent c cs n h = go (n == c.number) refl
+absent : (k : ℕ) (ks : List ℕ) (n : ℕ) → list_any (λ m. n == m) (k ∷ ks) ≡ false → (n == k) ≡ false
+absent k ks n h = go (n == k) refl
   where
-    go : (b : Bool) → (n == c.number) ≡ b → (n == c.number) ≡ false
+    go : (b : Bool) → (n == k) ≡ b → (n == k) ≡ false
     go true e = absurd (cc)
     go false e = e
 
-absent_rest : (c : Client) (cs : List Client) (n : ℕ) → list_any (λ m. n == m) (numbers_of (c ∷ cs)) ≡ false
-    → list_any (λ m. n == m) (numbers_of cs) ≡ false
-absent_rest c cs n h = sym (ap (λ t. t || list_any (λ m. n == m) (numbers_of cs)) (absent c cs n h)) ∙ h
+absent_rest : (k : ℕ) (ks : List ℕ) (n : ℕ) → list_any (λ m. n == m) (k ∷ ks) ≡ false → list_any (λ m. n == m) ks ≡ false
+absent_rest k ks n h = sym (ap (λ t. t || list_any (λ m. n == m) ks) (absent k ks n h)) ∙ h
 
 pub new_client : (cs : List Client) (n : ℕ) → list_any (λ m. n == m) (numbers_of cs) ≡ false → client_at cs n ≡ newcomer n
 new_client [] n h = refl
 new_client (c ∷ cs) n h =
-    ap (λ t. cond t c (client_at cs n)) (sameness-sym c.number n ∙ absent c cs n h) ∙ new_client cs n (absent_rest c cs n h)
+    ap (λ t. cond t c (client_at cs n)) (sameness-sym c.number n ∙ absent c.number (numbers_of cs) n h)
+    ∙ new_client cs n (absent_rest c.number (numbers_of cs) n h)
 
 pub put_last : (cs : List Client) (n : ℕ) (x : Client) → list_any (λ m. n == m) (numbers_of cs) ≡ false → x.number ≡ n
     → with_client x cs ≡ cs ++ x ∷ []
 put_last [] n x h q = refl
 put_last (c ∷ cs) n x h q =
-    ap (λ t. cond t (x ∷ cs) (c ∷ with_client x cs)) (ap (λ m. c.number == m) q ∙ sameness-sym c.number n ∙ absent c cs n h)
-    ∙ ap (λ xs. c ∷ xs) (put_last cs n x (absent_rest c cs n h) q)
+    ap (λ t. cond t (x ∷ cs) (c ∷ with_client x cs))
+    (ap (λ m. c.number == m) q ∙ sameness-sym c.number n ∙ absent c.number (numbers_of cs) n h)
+    ∙ ap (λ xs. c ∷ xs) (put_last cs n x (absent_rest c.number (numbers_of cs) n h) q)
 
 -- ---- their numbers
 
@@ -174,7 +181,7 @@ module _ (before n i : ℕ) (cs : List Client) (old x : Client) (at : StandsAt c
   among (Stops m) sent outs h = absurd h
 
   -- a message
-  pub taken : (terms : Terms) (message : Message) (sent : List Message) (outs : List Out)
+  taken : (terms : Terms) (message : Message) (sent : List Message) (outs : List Out)
       → IsChangedBy before old (takes_of terms old.number old message) x sent outs
       → AreChangedBy before cs (takes_of terms n (client_at cs n) message) (set cs i x) sent outs
   taken terms message sent outs h =
@@ -189,7 +196,7 @@ module _ (before n i : ℕ) (cs : List Client) (old x : Client) (at : StandsAt c
   all_of (Err e) sent outs h = h
 
   -- an ask
-  pub asked : (terms : Terms) (principal : Principal) (ask : Ask) (sent : List Message) (outs : List Out)
+  asked : (terms : Terms) (principal : Principal) (ask : Ask) (sent : List Message) (outs : List Out)
       → IsOkAnd (asks_of terms old.number old principal ask) (λ change. IsChangedBy before old change x sent outs)
       → IsOkAnd (asks_of terms n (client_at cs n) principal ask) (λ change. AreChangedBy before cs change (set cs i x) sent outs)
   asked terms principal ask sent outs h =
@@ -223,6 +230,34 @@ pub stands_if : (cs : List Client) (keys : List ℕ) (n : ℕ) (r : Option ℕ) 
 stands_if cs keys n None same e = tt
 stands_if cs keys n (Some i) same e = stands cs n i (sym (e ∙ ap (position (λ m. n == m)) same))
 
+-- no index where the number isn't there
+nowhere_by : (k : ℕ) (ks : List ℕ) (n : ℕ) (b : Bool) → (n == k) ≡ b
+    → (length ks ≤ position_or_len (λ m. n == m) ks → list_any (λ m. n == m) ks ≡ false)
+    → length (k ∷ ks) ≤ position_or_len (λ m. n == m) (k ∷ ks) → list_any (λ m. n == m) (k ∷ ks) ≡ false
+nowhere_by k ks n true e rest h =
+    absurd (omega (arith, h, ap (λ t. cond (not t) (1 + position_or_len (λ m. n == m) ks) 0) e))
+nowhere_by k ks n false e rest h =
+    ap (λ t. t || list_any (λ m. n == m) ks) e
+    ∙ rest (omega (arith, h, ap (λ t. cond (not t) (1 + position_or_len (λ m. n == m) ks) 0) e))
+
+nowhere_from : (ks : List ℕ) (n : ℕ) → length ks ≤ position_or_len (λ m. n == m) ks → list_any (λ m. n == m) ks ≡ false
+nowhere_from [] n h = refl
+nowhere_from (k ∷ ks) n h = nowhere_by k ks n (n == k) refl (nowhere_from ks n) h
+
+not_less : (b : Bool) (p : ℕ) → cond b (Some p) None ≡ None → b ≡ false
+not_less true p e = absurd (cc)
+not_less false p e = refl
+
+nowhere : (ks : List ℕ) (n : ℕ) → position (λ m. n == m) ks ≡ None → list_any (λ m. n == m) ks ≡ false
+nowhere ks n e =
+    nowhere_from ks n (ltb-false (position_or_len (λ m. n == m) ks) (length ks)
+    (not_less (ltb (position_or_len (λ m. n == m) ks) (length ks)) (position_or_len (λ m. n == m) ks) e))
+
+pub missing_if : (cs : List Client) (keys : List ℕ) (n : ℕ) (r : Option ℕ) → keys ≡ numbers_of cs
+    → r ≡ position (λ m. n == m) keys → IfNone r (has_number cs n ≡ false)
+missing_if cs keys n None same e = nowhere (numbers_of cs) n (sym (e ∙ ap (position (λ m. n == m)) same))
+missing_if cs keys n (Some i) same e = tt
+
 -- a message to one that never asked does nothing
 pub new_takes_nothing : (before n : ℕ) (cs : List Client) (terms : Terms) (message : Message) (sent : List Message) (outs : List Out)
     → has_number cs n ≡ false → sent ≡ [] → outs ≡ []
@@ -231,20 +266,8 @@ new_takes_nothing before n cs terms message sent outs new s o =
     subst (λ (c : Client). AreChangedBy before cs (takes_of terms n c message) cs sent outs) (sym (new_client cs n new))
     (record { clients = refl; silent = s; no_outputs = o })
 
--- the numbers, once a client has had its turn, and once one has come
-pub keys_set : (cs : List Client) (keys : List ℕ) (i : ℕ) (x old : Client) → keys ≡ numbers_of cs → x.number ≡ old.number
-    → old ≡ get_or cs i old → keys ≡ numbers_of (set cs i x)
-keys_set cs keys i x old same kept is =
-    same ∙ sym (numbers_set cs i x old (kept ∙ ap (λ (c : Client). c.number) is))
-
-pub keys_push : (cs : List Client) (keys : List ℕ) (n : ℕ) (x : Client) → keys ≡ numbers_of cs → has_number cs n ≡ false → x.number ≡ n
-    → cond (list_any (λ m. n == m) keys) keys (keys ++ n ∷ []) ≡ numbers_of (cs ++ x ∷ [])
-keys_push cs keys n x same new own =
-    ap (λ (b : Bool). cond b keys (keys ++ n ∷ [])) (ap (list_any (λ m. n == m)) same ∙ new)
-    ∙ ap (λ (ks : List ℕ). ks ++ n ∷ []) same ∙ ap (λ (m : ℕ). numbers_of cs ++ m ∷ []) (sym own) ∙ sym (numbers_push cs x)
-
 -- what may be asked by the number may be asked by the client at that index
-pub may_there : (n i : ℕ) (cs : List Client) (old : Client) (terms : Terms) (p : Principal) (a : Ask) → StandsAt cs n i
+may_there : (n i : ℕ) (cs : List Client) (old : Client) (terms : Terms) (p : Principal) (a : Ask) → StandsAt cs n i
     → old ≡ get_or cs i old → IsOk (asks_of terms n (client_at cs n) p a) → IsOk (asks_of terms old.number old p a)
 may_there n i cs old terms p a at is h =
     subst (λ (m : ℕ). IsOk (asks_of terms m old p a)) (sym (ap (λ (c : Client). c.number) is ∙ at.own old))
@@ -258,10 +281,90 @@ pub turned_number : {Outs : Type 0} (r : Result Outs Refusal) (old new : Client)
 turned_number (Ok given) old new turn before sent outs same h e = ap (λ (c : Client). c.number) h.client ∙ same
 turned_number (Err why) old new turn before sent outs same h e = ap (λ (c : Client). c.number) e
 
+-- ---- as the values of a map
+
+values_at : (es : List (ℕ × Client)) (i : ℕ) (x : Client) → values_of (set_value_at es i x) ≡ set (values_of es) i x
+values_at [] i x = refl
+values_at (e ∷ es) zero x = refl
+values_at (e ∷ es) (suc i) x = ap (λ cs. e.1 ∷ cs) (values_at es i x)
+
+entries_push : (es : List (ℕ × Client)) (n : ℕ) (x : Client) → list_any (λ m. n == m) (keys_of es) ≡ false
+    → insert_entry (λ i j. i == j) es n x ≡ es ++ (n, x) ∷ []
+entries_push [] n x h = refl
+entries_push (e ∷ es) n x h =
+    ap (λ (b : Bool). cond b ((e.0, x) ∷ es) (e ∷ insert_entry (λ i j. i == j) es n x)) (absent e.0 (keys_of es) n h)
+    ∙ ap (λ rest. e ∷ rest) (entries_push es n x (absent_rest e.0 (keys_of es) n h))
+
+-- a new client is put last, and so is its number
+module _ {S : Type 0} (m : IndexMap ℕ Client S) (n : ℕ) (x : Client) (same : keys m ≡ numbers_of (values m))
+    (new : has_number (values m) n ≡ false) (own : x.number ≡ n) where
+  entries_pushed : insert_entry (λ i j. i == j) m.entries n x ≡ m.entries ++ (n, x) ∷ []
+  entries_pushed = entries_push m.entries n x (ap (list_any (λ m. n == m)) same ∙ new)
+
+  pub pushed : values_of (insert_entry (λ i j. i == j) m.entries n x) ≡ values m ++ x ∷ []
+  pushed = ap values_of entries_pushed ∙ map-append (λ e. e.1) m.entries ((n, x) ∷ [])
+
+  pub pushed_keys : keys_of (insert_entry (λ i j. i == j) m.entries n x)
+      ≡ numbers_of (values_of (insert_entry (λ i j. i == j) m.entries n x))
+  pushed_keys =
+      ap keys_of entries_pushed ∙ map-append (λ e. e.0) m.entries ((n, x) ∷ [])
+      ∙ ap (λ (ks : List ℕ). ks ++ n ∷ []) same ∙ ap (λ (k : ℕ). numbers_of (values m) ++ k ∷ []) (sym own)
+      ∙ sym (numbers_push (values m) x) ∙ ap numbers_of (sym pushed)
+
+-- the client at an index
+module _ {S : Type 0} (i : ℕ) (m : IndexMap ℕ Client S) (old x : Client) (is : slice_get (values m) i ≡ Some old) where
+  got : old ≡ get_or (values m) i old
+  got = sym (get_or_from_slice_get (values m) i old old is)
+
+  -- stays where it is left
+  pub left : x ≡ old → values (with_value_at m i x) ≡ values m
+  left same =
+      values_at m.entries i x ∙ ap (set (values m) i) same ∙ put_back (values m) i old got
+
+  -- keeps its number
+  pub keys_kept : keys m ≡ numbers_of (values m) → x.number ≡ old.number
+      → keys (with_value_at m i x) ≡ numbers_of (values (with_value_at m i x))
+  keys_kept same kept =
+      keys-with_value_at m i x ∙ same ∙ sym (numbers_set (values m) i x old (kept ∙ ap (λ (c : Client). c.number) got))
+      ∙ ap numbers_of (sym (values_at m.entries i x))
+
+  module _ (before n : ℕ) (at : StandsAt (values m) n i) (terms : Terms) where
+    -- may ask what may be asked by its number
+    pub may_at : (principal : Principal) (ask : Ask) → IsOk (asks_of terms n (client_at (values m) n) principal ask)
+        → IsOk (asks_of terms old.number old principal ask)
+    may_at principal ask h = may_there n i (values m) old terms principal ask at got h
+
+    -- asks, where memory suffices
+    asked_at : (principal : Principal) (ask : Ask) (sent : List Message) (outs : List Out) → x.number ≡ old.number
+        → IsOkAnd (asks_of terms old.number old principal ask) (λ change. IsChangedBy before old change x sent outs)
+        → IsOkAnd (asks_of terms n (client_at (values m) n) principal ask)
+        (λ change. AreChangedBy before (values m) change (values (with_value_at m i x)) sent outs)
+    asked_at principal ask sent outs kept h =
+        subst (λ (cs : List Client). IsOkAnd (asks_of terms n (client_at (values m) n) principal ask)
+        (λ change. AreChangedBy before (values m) change cs sent outs)) (sym (values_at m.entries i x))
+        (asked before n i (values m) old x at got kept terms principal ask sent outs h)
+
+    pub asked_if : (principal : Principal) (ask : Ask) {Given : Type 0} (r : Result Given Refusal) (sent : Given → List Message)
+        (outs : Given → List Out) → x.number ≡ old.number
+        → IfOk r (λ given. IsOkAnd (asks_of terms old.number old principal ask)
+        (λ change. IsChangedBy before old change x (sent given) (outs given)))
+        → IfOk r (λ given. IsOkAnd (asks_of terms n (client_at (values m) n) principal ask)
+        (λ change. AreChangedBy before (values m) change (values (with_value_at m i x)) (sent given) (outs given)))
+    asked_if principal ask (Ok given) sent outs kept h = asked_at principal ask (sent given) (outs given) kept h
+    asked_if principal ask (Err e) sent outs kept h = h
+
+    -- takes a message
+    pub taken_at : (message : Message) (sent : List Message) (outs : List Out) → x.number ≡ old.number
+        → IsChangedBy before old (takes_of terms old.number old message) x sent outs
+        → AreChangedBy before (values m) (takes_of terms n (client_at (values m) n) message) (values (with_value_at m i x)) sent outs
+    taken_at message sent outs kept h =
+        subst (λ (cs : List Client). AreChangedBy before (values m) (takes_of terms n (client_at (values m) n) message) cs sent outs)
+        (sym (values_at m.entries i x)) (taken before n i (values m) old x at got kept terms message sent outs h)
+
 -- ---- what the proof of each call rests on
 
 -- a client asks
-pub ruleset asking = (asked, may_there, new_client, keys_set)
+pub ruleset asking = (may_at, new_client, keys_kept, left)
 
 -- a client takes a message
-pub ruleset taking = (taken, new_takes_nothing, keys_set)
+pub ruleset taking = (taken_at, new_takes_nothing, keys_kept, left)

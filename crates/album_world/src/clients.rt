@@ -1,6 +1,5 @@
 //! The clients that have asked.
-ghost use Rattle.std.specs.Prelude.{◌≡◌, ◌≢◌, ◌<◌, ◌≤◌, ◌^◌, ◌++◌, ◌∷◌, ◌==◌, if◌then◌else◌, vec_len, vec_capacity, false, [], length, Err, IsOk, IsOkAnd, IsOkUnless, IfOk, IfErr, IfSome, IfNone, OnOk, OnErr, MatchResult};
-ghost use Rattle.std.specs.List.{list_any};
+ghost use Rattle.std.specs.Prelude.{◌≡◌, ◌≢◌, ◌<◌, ◌≤◌, ◌^◌, ◌++◌, ◌∷◌, false, [], length, Err, IsOk, IsOkAnd, IsOkUnless, IfOk, IfErr, IfSome, IfNone, OnOk, OnErr, MatchResult};
 ghost use Rattle.album_stamps.specs.declared.limits.TheConstants.{MAX_READ_ITEMS};
 ghost use Rattle.album_client.specs.Clients.{newcomer};
 ghost use Rattle.album_world.specs.Registers.{AreChangedBy, StandsAt, asks_of, has_number, takes_of};
@@ -13,7 +12,7 @@ use album_eval::Principal;
 use album_permits::Out;
 use album_stamps::{ClientNo, Refusal};
 use album_views::Ask;
-use indexmap::IndexSet;
+use indexmap::IndexMap;
 use std::alloc::{AllocError, Global};
 use std::marker::Model;
 
@@ -21,21 +20,20 @@ use std::marker::Model;
 /// asks.
 #[derive(Drop)]
 pub(crate) struct Clients {
-    // Each client is at the index of its number.
-    numbers: IndexSet<u16>,
-    clients: Vec<Client>,
+    by_number: IndexMap<u16, Client>,
 }
 
 impl Model for Clients {
     ghost use Rattle.std.specs.Prelude.{◌≡◌, List};
+    ghost use Rattle.indexmap.specs.IndexMap.{keys, values};
     ghost use Rattle.album_client.specs.Clients.{Client as State};
     ghost use Rattle.album_world.specs.Registers.{numbers_of};
 
     ghost Value = { List State };
 
-    ghost view = { λ r. r.clients.items };
+    ghost view = { λ r. values r.by_number };
 
-    ghost invariant = { λ r. r.numbers.keys ≡ numbers_of r.clients.items };
+    ghost invariant = { λ r. keys r.by_number ≡ numbers_of (values r.by_number) };
 }
 
 impl Clients {
@@ -44,8 +42,7 @@ impl Clients {
         ensures { result ≡ [] }
     {
         Clients {
-            numbers: IndexSet::new(alloc),
-            clients: Vec::new(alloc),
+            by_number: IndexMap::new(alloc),
         }
     }
 
@@ -55,7 +52,7 @@ impl Clients {
         ensures found { IfSome result (StandsAt self.now number) }
         ensures missing { IfNone result (has_number self.now number ≡ false) }
     {
-        self.numbers.get_index_of(&number.number())
+        self.by_number.get_index_of(&number.number())
     }
 
     /// Whether the client may ask this.
@@ -77,7 +74,7 @@ impl Clients {
         ensures not_memory { IfErr result (λ e. e ≢ Refusal.OutOfMemory) }
     {
         match self.index_of(number) {
-            Some(index) => client_events::may_ask(&self.clients[index], terms, principal, ask),
+            Some(index) => client_events::may_ask(&self.by_number[index], terms, principal, ask),
             None => ask.check(principal),
         }
     }
@@ -108,7 +105,7 @@ impl Clients {
     {
         match self.index_of(number) {
             Some(index) => {
-                let client = &mut self.clients[index];
+                let client = &mut self.by_number[index];
                 client_events::ask(client, alloc, terms, principal, ask, before)
             }
             None => self.enter(alloc, terms, number, principal, ask, before),
@@ -153,22 +150,14 @@ impl Clients {
     }
 
     /// Puts a client after the others. None of them has its number.
-    #[tactic(auto, using(crate::proofs::RegisterLemmas::keys_push))]
+    #[tactic(auto, using(crate::proofs::RegisterLemmas::pushed, crate::proofs::RegisterLemmas::pushed_keys))]
     fn put(&mut self, client: Client) -> Result<(), AllocError>
         requires { has_number self.old client.number ≡ false }
         ensures ok { OnOk result (self.new ≡ self.old ++ client ∷ []) }
         ensures unchanged { OnErr result (self.new ≡ self.old) }
     {
-        match add_number(&mut self.numbers, &mut self.clients, client.number.number()) {
-            Ok(()) => {
-                self.clients.push_reserved(client);
-                Ok(())
-            }
-            Err(error) => {
-                drop(client);
-                Err(error)
-            }
-        }
+        self.by_number.insert(client.number.number(), client)?;
+        Ok(())
     }
 
     /// The client takes a message. `before` messages were sent before.
@@ -194,7 +183,7 @@ impl Clients {
     {
         match self.index_of(number) {
             Some(index) => client_events::take(
-                &mut self.clients[index],
+                &mut self.by_number[index],
                 alloc,
                 terms,
                 message,
@@ -203,21 +192,4 @@ impl Clients {
             None => Ok((Vec::new(alloc), Vec::new(alloc))),
         }
     }
-}
-
-/// Puts a number after the others, if it isn't there. There is room for its client then.
-fn add_number(
-    numbers: &mut IndexSet<u16>,
-    clients: &mut Vec<Client>,
-    number: u16,
-) -> Result<(), AllocError>
-    ensures keys { OnOk result (numbers.new.keys ≡ (if list_any (λ m. number == m) numbers.old.keys
-        then numbers.old.keys else numbers.old.keys ++ number ∷ [])) }
-    ensures room { OnOk result (vec_len clients.new < vec_capacity clients.new) }
-    ensures clients { clients.new.items ≡ clients.old.items }
-    ensures unchanged { OnErr result (numbers.new.keys ≡ numbers.old.keys) }
-{
-    clients.reserve(1)?;
-    numbers.insert(number)?;
-    Ok(())
 }

@@ -1,16 +1,28 @@
-use Rattle.std.proofs.Common.{◌≡◌, ℕ, List, [], ◌∷◌, ◌++◌, false, sym, ap, ◌∙◌, subst, rules}
-use Rattle.album_client.specs.Clients.{Client}
+use Rattle.std.proofs.Common.{◌≡◌, ℕ, false, rules, sym, subst, ap, ◌∙◌}
+use Rattle.std.specs.Map.{keys_of, values_of}
+use Rattle.indexmap.specs.IndexMap.{values}
 use Rattle.album_world.specs.Registers.{has_number, numbers_of}
-use Rattle.album_world.proofs.RegisterLemmas.{keys_push}
+use Rattle.album_world.proofs.RegisterLemmas.{pushed, pushed_keys}
 use Rattle.album_world.proofs.clients.Clients.put.Goals as goal
 
--- the client is new
-pub invariant_of-self : goal.invariant_of-self
-invariant_of-self c =
-    let clients : List Client = c.self.inside.clients.items in
+-- no client has its number
+new : (c : goal.Joined-branch-2) → has_number (values c.self.inside.by_number) c.number.result ≡ false
+new c =
     let same : c.args.client.number ≡ c.number.result = search rules in
-    let new : has_number clients c.args.client.number ≡ false = search rules in
-    let keys = keys_push clients c.self.inside.numbers.keys c.number.result c.args.client c.self.invariant
-    (subst (λ (n : ℕ). has_number clients n ≡ false) same new) same in
-    let pushed : c.push_reserved.new.self.items ≡ clients ++ c.args.client ∷ [] = search rules in
-    c.in-Ok.ensures.keys ∙ keys ∙ ap numbers_of (sym pushed)
+    let absent : has_number (values c.self.inside.by_number) c.args.client.number ≡ false = search rules in
+    subst (λ (n : ℕ). has_number (values c.self.inside.by_number) n ≡ false) same absent
+
+-- so it is put last, and its number too
+pub invariant_of-self-2 : goal.invariant_of-self-2
+invariant_of-self-2 c =
+    let own : c.args.client.number ≡ c.number.result = search rules in
+    ap keys_of c.in_ok-insert.ensures.entries
+    ∙ pushed_keys c.self.inside.by_number c.number.result c.args.client c.self.invariant (new c) own
+    ∙ ap (λ es. numbers_of (values_of es)) (sym c.in_ok-insert.ensures.entries)
+
+pub returns-clause-ok : goal.returns-clause-ok
+returns-clause-ok c =
+    let own : c.args.client.number ≡ c.number.result = search rules in
+    let done = ap values_of c.in_ok-insert.ensures.entries
+    ∙ pushed c.self.inside.by_number c.number.result c.args.client c.self.invariant (new c) own in
+    search (rules, done)
