@@ -1,6 +1,7 @@
 -- What a search finds among versions that rise by stamp, and what an edit leaves to be found: for the methods of `Row`.
-use Rattle.std.proofs.Common.{◌≡◌, ◌↔◌, Bool, true, false, ⊎_elim, IsNone, Option, ℕ, zero, suc, ◌+◌, ◌-◌, ◌<◌, ◌≤◌, ◌≢◌, List, [], ◌∷◌, length, get_or, not, ◌==◌, nat_lt, nat_le, ◌&&◌, if◌then◌else◌, Some, None, is_some, Result, Ok, Err, IfOk, IfErr, refl, sym, ap, subst, filter, All, arith}
-use Rattle.std.specs.List.{insert, remove}
+use Rattle.std.proofs.Common.{◌≡◌, ◌↔◌, Bool, true, false, ⊎_elim, IsNone, IsSome, Option, ℕ, zero, suc, ◌+◌, ◌-◌, ◌<◌, ◌≤◌, ◌≢◌, List, [], ◌∷◌, length, get_or, not, ◌==◌, nat_lt, nat_le, ◌&&◌, if◌then◌else◌, Some, None, is_some, Result, Ok, Err, IfOk, IfErr, refl, sym, ap, subst, filter, All, arith}
+use Rattle.std.specs.List.{insert, remove, slice_get}
+use Rattle.std.proofs.lemmas.Option.{slice_get_within, slice_get-get_or}
 use Rattle.std.specs.List.Sorted.{IsSearchInRange, IsBinarySearchResult, IsNonDecreasingBy}
 use Rattle.std.specs.Ordering.{nat_cmp, ordering_index}
 use Rattle.std.proofs.lemmas.Cmp.{ranked}
@@ -188,3 +189,30 @@ gone-iff row stamps kept = (there, back)
     back (high, none) =
         let zero_best = best_of-none passes stamps (All-weaker (λ t. version_in row.versions t ≡ None) (λ t. passes t ≡ false) (λ t e. ap is_some e) stamps none) in
         rw zero_best (grind (arith, nat_tests))
+
+-- ---- the last version is the one of the greatest stamp, for `Row::newest`
+
+module _ (vs : List Version) (v : Version) (rising : IsRising vs) (last : slice_get vs (length vs - 1) ≡ Some v) where
+  last_at : IsAt vs v.stamp (length vs - 1)
+  last_at = record {
+    in_range = slice_get_within vs (length vs - 1) v last;
+    has_stamp = λ d.
+        let found = slice_get-get_or vs (length vs - 1) d (slice_get_within vs (length vs - 1) v last) in
+        let same : get_or vs (length vs - 1) d ≡ v = cc in ap (λ (w : Version). w.stamp) same;
+  }
+
+  pub newest_there : IsSome (version_in vs v.stamp)
+  newest_there = subst IsSome (sym (version_in-at vs rising v.stamp (length vs - 1) v last_at)) refl
+
+  pub newest_greatest : (t : ℕ) → IsSome (version_in vs t) → t ≤ v.stamp
+  newest_greatest t there =
+      ⊎_elim (λ above. absurd (let none = version_in-gap vs t (length vs) (gap above) in let is = subst IsSome none there in cc)) (λ below. below) (cases_lt v.stamp t)
+    where
+      gap : v.stamp < t → IsGapFor vs t (length vs)
+      gap above = record {
+        in_range = omega arith;
+        parted = (
+          λ j d within. grind (arith, rising j (length vs - 1) d, last_at.has_stamp d, last_at.in_range, λ (same : j ≡ length vs - 1). ap (λ (k : ℕ). (get_or vs k d).stamp) same),
+          λ j d high within. absurd (omega arith),
+        );
+      }

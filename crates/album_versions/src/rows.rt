@@ -1,5 +1,5 @@
 //! What is kept of one item: its versions, its latest committed stamp and its floor.
-ghost use Rattle.std.specs.Prelude.{◌≡◌, ◌≤◌, ◌<◌, ◌↔◌, ◌==◌, ◌&&◌, ℕ, nat_le, not, max, filter, length, is_some, Some, None, IsNone, IfOk, IfErr, OnOk, OnErr, All, if◌then◌else◌};
+ghost use Rattle.std.specs.Prelude.{◌≡◌, ◌≢◌, IsSome, ◌≤◌, ◌<◌, ◌↔◌, ◌==◌, ◌&&◌, ℕ, nat_le, not, max, filter, length, is_some, Some, None, IsNone, IfOk, IfErr, OnOk, OnErr, All, if◌then◌else◌};
 ghost use Rattle.std.specs.List.{remove};
 ghost use Rattle.std.specs.Option.{option_copied};
 ghost use Rattle.album_versions.specs.Best.{best_of, unless_gone};
@@ -70,6 +70,17 @@ impl Row {
         ensures { result ≡ length self.now.versions }
     {
         self.versions.len()
+    }
+
+    /// The greatest stamp of a version, and the zero stamp where there is none.
+    pub fn newest(&self) -> Stamp
+        ensures there { result ≢ 0 → IsSome (version_in self.now.versions result) }
+        ensures greatest { (t : ℕ) → IsSome (version_in self.now.versions t) → t ≤ result }
+    {
+        match self.versions.last() {
+            None => Stamp::zero(),
+            Some(version) => version.stamp,
+        }
     }
 
     /// The value of the version at the stamp.

@@ -129,6 +129,18 @@ impl Versions {
         count
     }
 
+    /// The greatest stamp at which the item has a version, committed or not, and the zero stamp where it has none.
+    #[tactic(auto, unfolding(crate::specs::Versions::version_at))]
+    pub fn newest(&self, item: ItemId) -> Stamp
+        ensures there { result ≢ 0 → IsSome (version_at self.now item result) }
+        ensures greatest { (t : ℕ) → IsSome (version_at self.now item t) → t ≤ result }
+    {
+        match self.rows.get(&item) {
+            None => Stamp::zero(),
+            Some(row) => row.newest(),
+        }
+    }
+
     /// The greatest of the stamps at which the item has a version. Where it has none at any of
     /// them, that is the zero stamp as long as the floor is, and the answer is gone, `None`, from
     /// then on.
