@@ -1,5 +1,5 @@
 -- The rule of the book, and what a step on its first word shows.
-use Rattle.std.specs.Prelude.{◌≡◌, ℕ, ◌<◌, true, List, [], ◌∷◌, ◌++◌, length, None}
+use Rattle.std.specs.Prelude.{◌≡◌, ℕ, ◌<◌, true, false, List, [], ◌∷◌, ◌++◌, length, None}
 use Rattle.logbook.specs.Pages.{Cell, cell, Step, View, may_make}
 use Rattle.atomic_table.specs.Seated.{TableId}
 use Rattle.album_passes.specs.Changes.{empty_cut}
@@ -34,7 +34,7 @@ no_table = record { words = 0; slots = 0; views_name = 0; atom = 0; block = 0; o
 
 -- a pass of no table, which has seen nothing
 abbrev pub no_pass : PassState
-no_pass = record { table = no_table; cut = empty_cut [] 0; number = None; drawn = 0 }
+no_pass = record { table = no_table; cut = empty_cut [] 0 false; number = None; drawn = 0 }
 
 -- what a step asks that adds none
 abbrev pub no_entry : Entry

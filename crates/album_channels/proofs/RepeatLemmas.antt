@@ -12,7 +12,7 @@ use Rattle.album_calls.specs.declared.messages.Message.{Message}
 use Rattle.album_calls.specs.declared.nodes.Node.{Node}
 use Rattle.album_calls.specs.declared.nodes.Node.TheVariants.{Part}
 use Rattle.album_calls.specs.declared.replies.Reply.TheVariants as reply
-use Rattle.album_calls.specs.declared.requests.Request.TheVariants.{Prepare, Commit, Get, Check}
+use Rattle.album_calls.specs.declared.requests.Request.TheVariants.{Prepare, PrepareOn, Commit, Get, Check}
 use Rattle.album_partition.specs.Answers.{action_of, reply_to, on_body, get_by, says, nothing}
 use Rattle.album_partition.specs.Laws.{IsLatest, IsReadAt}
 use Rattle.album_partition.specs.Marks.{floor, has_version, state_of}
@@ -90,6 +90,7 @@ asks_for : (b : Body) → asks_latest b ≡ true → (i : ℕ) × (b ≡ body.Re
 asks_for (body.Request (Get i [])) e = (i, refl)
 asks_for (body.Request (Get i (t ∷ ts))) e = absurd (cc)
 asks_for (body.Request (Prepare t ws is)) e = absurd (cc)
+asks_for (body.Request (PrepareOn t ws is bs)) e = absurd (cc)
 asks_for (body.Request (Commit t)) e = absurd (cc)
 asks_for (body.Request (Check t)) e = absurd (cc)
 asks_for (body.Reply r) e = absurd (cc)

@@ -15,11 +15,12 @@ pub record ChannelState : Type 0 where
   pub client : ℕ
   pub cut : Cut
 
--- the pass is of this table and has the client's number, and there are so many partitions
-pub record IsChannel (table : TableId) (client parts : ℕ) (pass : PassState) : Type 0 where
+-- the pass is of this table and has the client's number, there are so many partitions, and they are checked or not
+pub record IsChannel (table : TableId) (client parts : ℕ) (checked : Bool) (pass : PassState) : Type 0 where
   pub of : pass.table ≡ table
   pub number : pass.number ≡ Some client
   pub parts_are : pass.cut.parts ≡ parts
+  pub checked_is : pass.cut.checked ≡ checked
   pub some : 1 ≤ parts
   pub few : parts ≤ MAX_PARTS
 

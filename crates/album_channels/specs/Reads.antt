@@ -4,11 +4,12 @@ use Rattle.album_calls.specs.declared.messages.Body.{Body}
 use Rattle.album_calls.specs.declared.messages.Body.TheVariants as body
 use Rattle.album_calls.specs.declared.messages.Message.{Message}
 use Rattle.album_calls.specs.declared.requests.Request.{Request}
-use Rattle.album_calls.specs.declared.requests.Request.TheVariants.{Prepare, Commit, Get, Check}
+use Rattle.album_calls.specs.declared.requests.Request.TheVariants.{Prepare, PrepareOn, Commit, Get, Check}
 
 -- a Get without stamps, which asks for the latest version
 abbrev pub gets_latest : Request → Bool
 gets_latest (Prepare stamp writes items) = false
+gets_latest (PrepareOn stamp writes items bases) = false
 gets_latest (Commit stamp) = false
 gets_latest (Get item []) = true
 gets_latest (Get item (stamp ∷ stamps)) = false

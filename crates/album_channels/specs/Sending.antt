@@ -4,7 +4,7 @@ use Rattle.album_calls.specs.declared.messages.Body.{Body}
 use Rattle.album_calls.specs.declared.messages.Body.TheVariants as body
 use Rattle.album_calls.specs.declared.messages.Message.{Message}
 use Rattle.album_calls.specs.declared.requests.Request.{Request}
-use Rattle.album_calls.specs.declared.requests.Request.TheVariants.{Prepare, Commit, Get, Check}
+use Rattle.album_calls.specs.declared.requests.Request.TheVariants.{Prepare, PrepareOn, Commit, Get, Check}
 use Rattle.album_passes.specs.Changes.{announced_cut}
 use Rattle.album_passes.specs.Cuts.{Cut, Announcement, announced_for}
 use Rattle.album_stamps.specs.Stamps.{client_number}
@@ -15,6 +15,7 @@ use Rattle.album_channels.specs.Channels.{ChannelState}
 -- the stamp and the items of a Prepare
 abbrev pub prepared_by : Request → Option Announcement
 prepared_by (Prepare stamp writes items) = Some (stamp, items)
+prepared_by (PrepareOn stamp writes items bases) = Some (stamp, items)
 prepared_by (Commit stamp) = None
 prepared_by (Get item stamps) = None
 prepared_by (Check stamp) = None

@@ -33,6 +33,8 @@ pub struct PartitionChannel<J: DeskNames> {
     client: ClientNo,
     /// How many partitions there are.
     parts: u16,
+    /// Whether they are checked.
+    checked: bool,
     /// The last tag of a control request. (Rounds have the client's tags.)
     tag: u64,
     /// Whether no ask and no control request begins any more: a mailbox was found gone, the service was found broken
@@ -64,7 +66,7 @@ impl<J: DeskNames> Model for PartitionChannel<J> {
     ghost view = { λ c. record { client = c.client; cut = c.pass.cut } };
 
     ghost invariant = { λ c. ((arc_value c.desk).table ≡ J.table)
-        × IsChannel J.table c.client c.parts c.pass
+        × IsChannel J.table c.client c.parts c.checked c.pass
         × All (IfSighted J.terms.limit c.pass.cut) c.sightings.items
         × (vec_len c.to ≡ c.parts) };
 }
@@ -78,6 +80,7 @@ impl<J: DeskNames> Drop for PartitionChannel<J> {
             pass,
             client: _,
             parts: _,
+            checked: _,
             tag: _,
             closed: _,
             to,
@@ -106,13 +109,14 @@ impl<J: DeskNames> PartitionChannel<J> {
         pass: Pass,
         client: ClientNo,
         parts: u16,
+        checked: bool,
         to: Vec<Sender<PartitionMail<J>>>,
         from: Receiver<SessionMail<J>>,
         repeats: bool,
         breakage: Arc<Breakage, Global>,
     ) -> PartitionChannel<J>
         requires table { (arc_value desk).table ≡ J.table }
-        requires is { IsChannel J.table client parts pass }
+        requires is { IsChannel J.table client parts checked pass }
         requires mailboxes { vec_len to ≡ parts }
         ensures { result ≡ record { client = client; cut = pass.cut } }
     {
@@ -122,6 +126,7 @@ impl<J: DeskNames> PartitionChannel<J> {
             pass,
             client,
             parts,
+            checked,
             tag: 0,
             closed: false,
             to,
@@ -148,6 +153,13 @@ impl<J: DeskNames> PartitionChannel<J> {
         ensures few { result ≤ MAX_PARTS }
     {
         self.parts
+    }
+
+    /// Whether they are checked.
+    pub fn checked(&self) -> bool
+        ensures { result ≡ self.now.cut.checked }
+    {
+        self.checked
     }
 
     /// For contracts alone: a channel's cut is sound, by the invariant of its pass. Nothing is computed.

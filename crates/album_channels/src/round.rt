@@ -94,7 +94,9 @@ impl<J: DeskNames> PartitionChannel<J> {
         ensures client { self.new.client ≡ self.old.client }
     {
         match message.body() {
-            Body::Request(Request::Prepare(stamp, _, items)) => {
+            Body::Request(
+                Request::Prepare(stamp, _, items) | Request::PrepareOn(stamp, _, items, _),
+            ) => {
                 self.announce_items(*stamp, items.as_slice());
             }
             Body::Request(_) | Body::Reply(_) => {}

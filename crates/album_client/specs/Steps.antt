@@ -94,7 +94,8 @@ ask_ends client tag answer = record (still (record client { phase = Idle tag }))
 
 -- the round of Prepares after that of the tag
 abbrev pub round_for : Terms → Client → ℕ → PermitState → ℕ → WritingState
-round_for terms client tag permit stamp = prepare_round permit stamp client.number (tag + 1) terms.parts
+round_for terms client tag permit stamp =
+    prepare_round terms.checked permit stamp client.number (tag + 1) terms.parts
 
 -- it begins, and writes the effect of its permit
 abbrev pub write_begins : Terms → Client → ℕ → PermitState → ℕ → TransitionState

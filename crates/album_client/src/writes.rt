@@ -1,11 +1,14 @@
 //! What a client does in a write.
-ghost use Rattle.std.specs.Prelude.{◌≡◌, ◌+◌, ◌<◌, ◌^◌, IfOk, IsOkUnless, IsTrue, Some};
+ghost use Rattle.std.specs.Prelude.{◌≡◌, ◌+◌, ◌<◌, ◌≤◌, ◌^◌, IfOk, IfErr, IsOkUnless, IsTrue, Some, false, if◌then◌else◌};
+ghost use Rattle.album_stamps.specs.declared.limits.TheConstants.{MAX_PARTS};
+ghost use Rattle.album_stamps.specs.declared.refusals.Refusal.TheVariants.{OutOfMemory, AlbumFull};
 ghost use Rattle.album_permits.specs.Effects.{is_full_for};
 ghost use Rattle.album_stamps.specs.Stamps.{client_of as drawer_of};
 ghost use Rattle.album_views.specs.Asks.{is_write};
 ghost use Rattle.album_client.specs.Transitions.{client_of, IsMoved};
-ghost use Rattle.album_client.specs.Steps.{answer_of, commit_transition, draws, prepare_transition, writes_unless};
+ghost use Rattle.album_client.specs.Steps.{answer_of, commit_transition, draws, prepare_transition, round_for, writes_unless};
 ghost use Rattle.album_writer.specs.Rounds.{commit_stepped, prepare_stepped};
+ghost use Rattle.album_writer.specs.Writing.{prepares_of};
 
 use crate::clients::Phase;
 use crate::transitions::{ClientStep, Transition};
@@ -40,8 +43,7 @@ impl ClientStep {
             (IsMoved (writes_unless self.terms (client_of self) tag permit stamp (is_full_for permit stamp))) }
         ensures memory { IsOkUnless result Refusal.OutOfMemory }
     {
-        let parts = self.terms.parts();
-        match Preparing::begin(self.alloc, permit, stamp, self.number, tag + 1, parts) {
+        match self.begin_round(tag, permit, stamp) {
             Ok((preparing, prepares)) => {
                 Ok(self.with(Phase::Prepares(preparing), prepares, None))
             }
@@ -52,6 +54,33 @@ impl ClientStep {
                     _ => Err(refusal),
                 }
             }
+        }
+    }
+
+    /// Spends the permit on the round of the write's Prepares, which is checked where the terms say so.
+    fn begin_round(
+        &self,
+        tag: u64,
+        permit: Permit,
+        stamp: Stamp,
+    ) -> Result<(Preparing, Vec<Message>), Refused<Permit>>
+        requires fits { tag + 2 < 2 ^ 64 }
+        requires change { IsTrue (is_write permit.view.ask) }
+        requires own { drawer_of stamp ≡ Some self.now.number }
+        ensures preparing { IfOk result (λ r. r.0 ≡ round_for self.now.terms (client_of self.now) tag permit stamp) }
+        ensures messages { IfOk result (λ r.
+            r.1.items ≡ prepares_of (round_for self.now.terms (client_of self.now) tag permit stamp)) }
+        ensures few { self.now.terms.parts ≤ MAX_PARTS }
+        ensures room { IfOk result (λ _. is_full_for permit stamp ≡ false) }
+        ensures refusal { IfErr result (λ e.
+            e.refusal ≡ (if is_full_for permit stamp then AlbumFull else OutOfMemory)) }
+        ensures given { IfErr result (λ e. e.given ≡ permit) }
+    {
+        let parts = self.terms.parts();
+        if self.terms.checked() {
+            Preparing::begin_checked(self.alloc, permit, stamp, self.number, tag + 1, parts)
+        } else {
+            Preparing::begin(self.alloc, permit, stamp, self.number, tag + 1, parts)
         }
     }
 

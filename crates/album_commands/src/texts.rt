@@ -39,14 +39,16 @@ pub(crate) const REPLAY_HELP: &str =
     r#"Lines are JSON objects. The opening comes first: how the store is opened, each item with its value, and
 that these are all. Two partitions, and a picture of amy's with a list that lets everyone read it:
 
-  {"open":{"parts":2}}
+  {"open":{"checked":true,"parts":2}}
   {"item":"picture/0","value":{"content":"736561","group":0,"home":0,"list":0,"owner":"amy@users","title":"Sea"}}
   {"item":"list/0","value":{"entries":[["allow","EVERYONE@",1,0]]}}
   {"begin":true}
 
   open     parts, how many partitions there are, from 1 to 16. These may be left out: limit, the marks for
            which a partition has room (100000), and a write makes two at each that it concerns; policy,
-           1 or 2 (1); trace, whether each message that is sent is printed (false)
+           1 or 2 (1); checked, whether a write is kept only on the versions that its author saw (false):
+           where it isn't, of writes of one item that race all but one may be lost; trace, whether each
+           message that is sent is printed (false)
   value    of a picture: content, group, home, list, owner and title; of an album: children, group, home,
            list, owner and title; of a list: entries; of a group: group, list, members and owner
 
@@ -127,6 +129,7 @@ explained by one line, with its number:
 
   kind     what the line is, by the name in it that says so, where it isn't refused
   reads    what it is read as: opening, event or talk
+  remark   of the header of a store that isn't checked: which writes may be lost
   at       of a refusal the part of the line that fails its test; the byte from which on it is no JSON; or, of
            an opening that is refused as a whole, the line with the part that fails
   value    the number that is there, if one is

@@ -1,7 +1,7 @@
 -- The lines that explain a store's lines.
-use Rattle.std.specs.Prelude.{◌≡◌, ◌⊎◌, ℕ, List, codes, Bool, true, false, None, Result, Ok, Err, refl}
+use Rattle.std.specs.Prelude.{◌≡◌, ◌⊎◌, ℕ, List, codes, Bool, true, false, not, if◌then◌else◌, None, Result, Ok, Err, refl}
 use Rattle.std.proofs.Common.{inr}
-use Rattle.serde_json.specs.Data.{Data, string, object, no_members, member}
+use Rattle.serde_json.specs.Data.{Data, string, object, Members, no_members, member}
 use Rattle.album_stamps.specs.declared.refusals.Refusal.{Refusal}
 use Rattle.album_stamps.specs.declared.refusals.Refusal.TheVariants.{OutOfMemory}
 use Rattle.album_lines.specs.Output.{line_text}
@@ -16,7 +16,7 @@ use Rattle.album_explain_store.specs.declared.explanations.Taken.{Taken}
 
 -- the name in a line that says what it is
 abbrev pub kind_word : Kind → List ℕ
-kind_word kind.Open = codes "open"
+kind_word (kind.Open checked) = codes "open"
 kind_word kind.Item = codes "item"
 kind_word kind.Begin = codes "begin"
 kind_word kind.Ask = codes "ask"
@@ -33,12 +33,34 @@ lines_word lines.Opening = codes "opening"
 lines_word lines.Events = codes "event"
 lines_word lines.Talk = codes "talk"
 
+-- whether the line is the header of a store that isn't checked
+abbrev pub is_unchecked : Kind → Bool
+is_unchecked (kind.Open checked) = not checked
+is_unchecked kind.Item = false
+is_unchecked kind.Begin = false
+is_unchecked kind.Ask = false
+is_unchecked kind.Deliver = false
+is_unchecked kind.Sweep = false
+is_unchecked kind.Stop = false
+is_unchecked kind.Trim = false
+is_unchecked kind.Who = false
+is_unchecked kind.Pending = false
+
+-- what it means that a store isn't checked
+abbrev pub unchecked_remark : List ℕ
+unchecked_remark = codes "of writes of one item that race, all but one may be lost; checked true prevents it"
+
+-- what is said of a line besides what it is
+abbrev pub remarks_on : Kind → Members
+remarks_on kind =
+    if is_unchecked kind then member (codes "remark") (string unchecked_remark) no_members else no_members
+
 -- a line of this number is taken, as this
 abbrev pub taken_json : ℕ → Taken → Data
 taken_json number taken = object (
     member (codes "kind") (string (kind_word taken.kind)) (
     member (codes "line") (whole_data number) (
-    member (codes "reads") (string (lines_word taken.lines)) no_members)))
+    member (codes "reads") (string (lines_word taken.lines)) (remarks_on taken.kind))))
 
 -- the line for what was read, and whether that is a refusal, whose place is left open
 abbrev pub IsReply : ℕ → Result Taken Refusal → Bool → List ℕ → Type 0

@@ -4,6 +4,7 @@ use Rattle.std.proofs.Common.{inr}
 use Rattle.album_stamps.specs.declared.refusals.Refusal.{Refusal}
 use Rattle.album_stamps.specs.declared.refusals.Refusal.TheVariants.{OutOfMemory, BadRequest, BadOpening}
 use Rattle.album_items.specs.Openings.{Row, is_opening}
+use Rattle.album_items.specs.declared.openings.Opening.{Opening}
 use Rattle.album_lines.specs.Lines.{Line}
 use Rattle.album_lines.specs.Output.{line_text}
 use Rattle.album_wire.specs.OpeningLine.{opening_line_of}
@@ -42,7 +43,7 @@ taken_opening kind = record { lines = lines.Opening; kind = kind }
 
 -- a header that is one, which takes the first line's place where that is refused
 abbrev pub any_header : Header
-any_header = record { parts = 1; limit = DEFAULT_LIMIT; policy = DEFAULT_POLICY; trace = false }
+any_header = record { parts = 1; limit = DEFAULT_LIMIT; policy = DEFAULT_POLICY; checked = false; trace = false }
 
 -- the header that the first line says
 abbrev pub header_said : Result OpeningLine Refusal → Result Header Refusal
@@ -53,7 +54,7 @@ header_said (Err refusal) = Err refusal
 
 -- what the first line is read as, by the header that it says
 abbrev pub header_reading : Result Header Refusal → Result Taken Refusal
-header_reading (Ok header) = Ok (taken_opening kind.Open)
+header_reading (Ok header) = Ok (taken_opening (kind.Open header.checked))
 header_reading (Err refusal) = Err refusal
 
 -- the explainer's stage after the first line
@@ -65,12 +66,21 @@ opened_by (Err refusal) = BeingOpened any_header []
 abbrev pub first_step : Result OpeningLine Refusal → Step Stage
 first_step said = record { reading = header_reading (header_said said); next = opened_by (header_said said) }
 
+-- what the lines have said
+abbrev pub opening_of : Header → List Row → Opening
+opening_of header rows =
+    record {
+      parts = header.parts;
+      limit = header.limit;
+      policy = header.policy;
+      checked = header.checked;
+      items = rows;
+    }
+
 -- the items that were taken are an opening
 abbrev pub begin_reading : Header → List Row → Result Taken Refusal
 begin_reading header rows =
-    if is_opening (record { parts = header.parts; limit = header.limit; policy = header.policy; items = rows })
-    then Ok (taken_opening kind.Begin)
-    else Err BadOpening
+    if is_opening (opening_of header rows) then Ok (taken_opening kind.Begin) else Err BadOpening
 
 -- then come the items, and then that these are all; a line that is refused is left out
 abbrev pub later_step : Header → List Row → Result OpeningLine Refusal → Step Stage

@@ -1,8 +1,9 @@
-//! What a line is, and the line that says so: {"kind", "line", "reads"}. That of a refusal is `album_explain`'s.
+//! What a line is, and the line that says so: {"kind", "line", "reads", and perhaps "remark"}. That of a refusal is
+//! `album_explain`'s.
 ghost use Rattle.std.specs.Prelude.{◌≡◌, Err, IfOk};
 ghost use Rattle.serde_json.specs.View.{view};
 ghost use Rattle.album_lines.specs.Output.{line_text};
-ghost use Rattle.album_explain_store.specs.Explanations.{kind_word, lines_word, taken_json, IsReply};
+ghost use Rattle.album_explain_store.specs.Explanations.{kind_word, lines_word, is_unchecked, taken_json, IsReply};
 
 use crate::places::find;
 use crate::places::tables::Table;
@@ -24,7 +25,10 @@ pub enum Lines {
 /// What a line says: which of its names says so.
 #[derive(Clone, Copy, Debug, PartialEq, Eq)]
 pub enum Kind {
-    Open,
+    Open {
+        /// Whether the store is to be checked.
+        checked: bool,
+    },
     Item,
     Begin,
     Ask,
@@ -97,14 +101,28 @@ fn taken_json(alloc: Global, number: u64, taken: Taken) -> Result<Value, AllocEr
     let fields = with_member(alloc, Ok(Map::new(alloc)), "kind", kind);
     let fields = with_member(alloc, fields, "line", Ok(Value::from(number)));
     let lines = Value::try_from_str(alloc, lines_word(taken.lines));
-    object_of(with_member(alloc, fields, "reads", lines))
+    let fields = with_member(alloc, fields, "reads", lines);
+    if !is_unchecked(taken.kind) {
+        return object_of(fields);
+    }
+    let remark =
+        "of writes of one item that race, all but one may be lost; checked true prevents it";
+    let remark = Value::try_from_str(alloc, remark);
+    object_of(with_member(alloc, fields, "remark", remark))
+}
+
+/// Whether the line is the header of a store that isn't checked: what that means is said besides.
+fn is_unchecked(kind: Kind) -> bool
+    ensures { result ≡ is_unchecked kind }
+{
+    matches!(kind, Kind::Open { checked: false })
 }
 
 fn kind_word(kind: Kind) -> &'static str
     ensures { result.now ≡ kind_word kind }
 {
     match kind {
-        Kind::Open => "open",
+        Kind::Open { .. } => "open",
         Kind::Item => "item",
         Kind::Begin => "begin",
         Kind::Ask => "ask",

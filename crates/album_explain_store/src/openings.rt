@@ -47,6 +47,7 @@ const ANY_HEADER: Header = Header {
     parts: 1,
     limit: DEFAULT_LIMIT,
     policy: DEFAULT_POLICY,
+    checked: false,
     trace: false,
 };
 
@@ -133,7 +134,9 @@ fn header_reading(header: Result<Header, Refusal>) -> Result<Taken, Refusal>
     ensures { result ≡ header_reading header }
 {
     match header {
-        Ok(_) => Ok(taken_opening(Kind::Open)),
+        Ok(header) => Ok(taken_opening(Kind::Open {
+            checked: header.checked,
+        })),
         Err(refusal) => Err(refusal),
     }
 }
@@ -254,6 +257,7 @@ fn explain_begin(alloc: Global, number: u64, so_far: SoFar) -> Result<(Vec<u8>, 
         parts: header.parts,
         limit: header.limit,
         policy: header.policy,
+        checked: header.checked,
         items: ItemValues::of(rows),
     };
     match opened.check() {

@@ -7,7 +7,7 @@ use album_server::{
 };
 use std::alloc::Global;
 
-const OPENING: &str = r#"{"open":{"parts":2}}
+const OPENING: &str = r#"{"open":{"checked":true,"parts":2}}
 {"item":"picture/0","value":{"content":"736561","group":0,"home":0,"list":0,"owner":"amy@users","title":"Sea"}}
 {"item":"list/0","value":{"entries":[["allow","amy@users",1,0]]}}
 {"begin":true}"#;

@@ -1,7 +1,10 @@
--- No read goes back, and reads are stable: the laws `reads_go_on` and `reads_are_stable` cite the lemmas that are `pub`.
-use Rattle.std.proofs.Common.{◌≡◌, ◌≢◌, ℕ, zero, suc, ◌<◌, ◌≤◌, Bool, true, false, ◌==◌, cond, List, [], ◌∷◌, length, filter, is_some, Contains, Option, Some, None, if◌then◌else◌, refl, ap, sym, ◌∙◌, subst, ⊎_elim, arith}
-use Rattle.std.specs.List.{list_any, find}
+-- No read goes back, no update is lost, and reads are stable: the laws `reads_go_on`, `kept_writes_lose_no_update` and
+-- `reads_are_stable` cite the lemmas that are `pub`.
+use Rattle.std.proofs.Common.{◌≡◌, ◌≢◌, ℕ, zero, suc, ◌<◌, ◌≤◌, Bool, true, false, ◌==◌, cond, List, [], ◌∷◌, ◌++◌, map, length, filter, is_some, Contains, Option, Some, None, if◌then◌else◌, refl, ap, sym, ◌∙◌, subst, ⊎_elim, arith}
+use Rattle.std.specs.List.{list_any, find, zip}
 use Rattle.std.proofs.lemmas.Bool.{eq-eqb}
+use Rattle.std.proofs.lemmas.Bool.Decides.{Decides-eqb}
+use Rattle.std.proofs.lemmas.List.{append_assoc}
 use Rattle.std.proofs.lemmas.List.Elements.{All-contains}
 use native.Mathlib.Decide.{ℕ_discrete}
 use mathlib.Core.Logic.{dite}
@@ -9,22 +12,27 @@ use Rattle.album_items.specs.ItemIds.{place_of}
 use Rattle.album_items.specs.Openings.{Row}
 use Rattle.album_items.specs.Places.{rows_placed_at}
 use Rattle.album_items.specs.Transactions.{items_written}
-use Rattle.album_partition.specs.Marks.{prepares, commits, mark_writes, writes_at, value_in}
+use Rattle.album_terminate.specs.declared.deciding.StampState.TheVariants as state
+use Rattle.album_partition.specs.Bases.{is_chained, IsMadeOn}
+use Rattle.album_partition.specs.Marks.{prepares, commits, mark_writes, writes_at, value_in, state_of, is_legal, latest}
 use Rattle.album_partition.specs.declared.marks.Mark.{Mark}
 use Rattle.album_partition.specs.declared.marks.Mark.TheVariants.{Prepared}
+use Rattle.album_partition.proofs.ChainLemmas.{made_on, base_is_latest}
 use Rattle.album_partition.proofs.LegalLemmas.{prepared_once}
+use Rattle.album_partition.proofs.ListLemmas.{one_before}
 use Rattle.album_passes.specs.Cuts.{Cut, prefix_at, prefix_for, IsSound, Extends}
 use Rattle.album_passes.specs.Reads.{IsCommitted, written_value, writes_in_cut}
 use Rattle.album_passes.proofs.ClosedLemmas.{never_discarded}
 use Rattle.album_passes.proofs.CutLemmas.{extends_trans, prefix_for_more}
 use Rattle.album_passes.proofs.PrefixLemmas.{any_more}
 use Rattle.album_passes.proofs.ReadLemmas.{same_written}
+use Rattle.album_listing.specs.ViewLookups.{stamp_seen}
 use Rattle.album_permits.specs.Effects.{effect_of}
 use Rattle.album_permits.specs.Permits.{PermitState}
 use Rattle.album_reader.specs.Answers.{ReadVersion}
 use Rattle.album_reader.specs.Atomic.{IsWrittenBy}
 use Rattle.album_items.specs.declared.values.Value.{Value}
-use Rattle.album_grounds.specs.Grounds.{IsSeen, AreNoOlder, AreAlike, HasSameMarks, AreFrom, items_of, IsKept}
+use Rattle.album_grounds.specs.Grounds.{IsSeen, AreNoOlder, AreAlike, HasSameMarks, AreFrom, items_of, rows_at, bases_for, IsKept}
 use Rattle.album_grounds.proofs.RoundLemmas.{value_placed}
 use Rattle.album_writer.proofs.Placing.{participant}
 
@@ -128,6 +136,42 @@ own_writes c l d permit t ys s r low x y kept k = λ row n of.
     let there = any_more (commits t) (prefix_for c row.item) (prefix_for l row.item) (prefix_for_more c l x row.item) w.0 in
     let wrote = ap is_some (same_written c d s r (extends_trans c l d x y) t (place_of c.parts row.item, w.0) row.item) ∙ w.1 in
     fresh_at l d ys row t k n there wrote
+
+-- ---- no update is lost
+
+is_committed : (ms : List Mark) (t : ℕ) → list_any (commits t) ms ≡ true → state_of ms t ≡ state.Committed
+is_committed ms t e = rw e refl
+
+-- a row of an item, with what is made of it
+zipped : (f : Row → ℕ) (rows : List Row) (i : ℕ) → is_some (value_in rows i) ≡ true
+    → (row : Row) × Contains (zip rows (map f rows)) (row, f row) × (row.0 ≡ i)
+zipped f [] i e = absurd (cc)
+zipped f (r ∷ rows) i e = go (r.0 == i) refl e (zipped f rows i)
+  where
+    go : (b : Bool) → (r.0 == i) ≡ b → is_some (cond b (Some r.1) (value_in rows i)) ≡ true
+        → (is_some (value_in rows i) ≡ true → (row : Row) × Contains (zip rows (map f rows)) (row, f row) × (row.0 ≡ i))
+        → (row : Row) × Contains (zip (r ∷ rows) (map f (r ∷ rows))) (row, f row) × (row.0 ≡ i)
+    go true g h rest = (r, (0, omega arith, refl), (Decides-eqb r.0 i).0 g)
+    go false g h rest = let x = rest h in (x.0, one_before (r, f r) (x.0, f x.0) (zip rows (map f rows)) x.1, x.2)
+
+pub kept_made_on : (c : Cut) (permit : PermitState) (t i : ℕ) → IsSound c → c.checked ≡ true → 1 ≤ c.parts → IsKept c permit t → Contains (items_of permit t) i
+    → IsMadeOn (prefix_for c i) i t (stamp_seen permit.view.rows i)
+kept_made_on c permit t i s on low kept n =
+    let place = place_of c.parts i in
+    let at = kept place ((participant c.parts place (items_of permit t) low).1 (i, n, refl)) in
+    let based = at.based on in
+    let rows = rows_at c permit t place in
+    let mark : Mark = Prepared t rows (items_of permit t) in
+    let is : based.before ++ mark ∷ based.had.0 ≡ prefix_at c place = sym (append_assoc based.before (mark ∷ []) based.had.0) ∙ based.had.1 in
+    let there : is_some (value_in rows i) ≡ true = ap is_some (value_placed (effect_of permit t) place c.parts i refl) ∙ value_written (effect_of permit t) i n in
+    let made = made_on based.before based.had.0 t rows (items_of permit t) i
+    (ap is_legal is ∙ s.legal place) (ap is_chained is ∙ s.chained place on)
+    (ap (λ (ms : List Mark). state_of ms t) is ∙ is_committed (prefix_at c place) t at.committed) there in
+    let z = zipped (λ (row : Row). stamp_seen permit.view.rows row.0) rows i there in
+    let base : latest based.before i ≡ stamp_seen permit.view.rows i =
+    subst (λ (j : ℕ). latest based.before j ≡ stamp_seen permit.view.rows j) z.2
+    (sym (base_is_latest based.before t rows (bases_for permit rows) (z.0, stamp_seen permit.view.rows z.0.0) based.based z.1)) in
+    subst (λ (x : List Mark × ℕ). IsMadeOn x.0 i t x.1) (λ k. (is k, base k)) made
 
 -- ---- where no mark is made
 

@@ -1,6 +1,7 @@
 -- The grounds of an answer stay as the cut grows: the law `grounds_stay` cites the lemmas that are `pub`.
-use Rattle.std.proofs.Common.{ℕ, ◌<◌, List, ◌++◌, length, length-append, get_or, Contains, sym, ◌∙◌, subst, arith}
+use Rattle.std.proofs.Common.{ℕ, ◌<◌, List, [], ◌∷◌, ◌++◌, length, length-append, get_or, Contains, sym, ◌∙◌, subst, arith}
 use Rattle.std.proofs.lemmas.List.{get_or_append_left}
+use Rattle.album_items.specs.Openings.{Row}
 use Rattle.album_items.specs.Places.{places_of, rows_placed_at}
 use Rattle.album_partition.specs.Marks.{commits}
 use Rattle.album_partition.specs.declared.marks.Mark.{Mark}
@@ -12,7 +13,7 @@ use Rattle.album_passes.specs.Cuts.{Cut, prefix_at, prefix_for, IsSound, IsPrefi
 use Rattle.album_passes.proofs.CutLemmas.{extends_self, extends_trans, prefix_for_more}
 use Rattle.album_passes.proofs.PrefixLemmas.{prefix_trans, any_more}
 use Rattle.album_passes.proofs.ReadLemmas.{atomic_more, fresh_more}
-use Rattle.album_grounds.specs.Grounds.{AreSettled, IsSeen, items_of, IsKeptAt, IsKept, IsWithoutRoom}
+use Rattle.album_grounds.specs.Grounds.{AreSettled, IsSeen, items_of, rows_at, bases_for, IsPreparedOn, IsKeptAt, IsKept, IsWithoutRoom}
 
 pub settled_more : (c d : Cut) → Extends c d → (rows : List ReadVersion) → AreSettled c rows → AreSettled d rows
 settled_more c d x rows h = λ k row l nz.
@@ -37,10 +38,18 @@ has_more ms ns m p h =
     let l : h.0 < length (ms ++ p.0) = (let long = length-append ms p.0 in let k = h.1 in omega arith) in
     subst (λ (os : List Mark). Contains os m) p.1 (h.0, l, get_or_append_left ms p.0 m h.0 h.1 ∙ h.2)
 
+-- what was prepared on these bases was so
+pub prepared_on_more : (ms ns : List Mark) (t : ℕ) (rows : List Row) (is bs : List ℕ) → IsPrefix ms ns → IsPreparedOn ms t rows is bs → IsPreparedOn ns t rows is bs
+prepared_on_more ms ns t rows is bs p h =
+    record { before = h.before; had = prefix_trans (h.before ++ Prepared t rows is ∷ []) ms ns h.had p; based = h.based }
+
 kept_at_more : (c d : Cut) → Extends c d → (permit : PermitState) (t p : ℕ) → IsKeptAt c permit t p → IsKeptAt d permit t p
 kept_at_more c d x permit t p h = record {
   prepared = subst (λ (n : ℕ). Contains (prefix_at d p) (Prepared t (rows_placed_at p n (effect_of permit t)) (items_of permit t))) (sym x.parts)
       (has_more (prefix_at c p) (prefix_at d p) _ (x.prefixes p) h.prepared);
+  based = λ on. subst (λ (n : ℕ). IsPreparedOn (prefix_at d p) t (rows_placed_at p n (effect_of permit t)) (items_of permit t) (bases_for permit (rows_placed_at p n (effect_of permit t)))) (sym x.parts)
+      (prepared_on_more (prefix_at c p) (prefix_at d p) t (rows_at c permit t p) (items_of permit t) (bases_for permit (rows_at c permit t p)) (x.prefixes p)
+      (h.based (sym x.checked ∙ on)));
   committed = any_more (commits t) (prefix_at c p) (prefix_at d p) (x.prefixes p) h.committed;
 }
 

@@ -2,7 +2,7 @@
 -- `shows_prepares`, and `shows_commits` by `prepared_all`. And how it ends: `end_all`.
 use Rattle.std.proofs.Common.{◌≡◌, ℕ, zero, suc, ◌≤◌, Bool, true, false, not, ◌==◌, ◌&&◌, ◌⊎◌, inl, inr, ⊎_elim, List, [], ◌∷◌, ◌++◌, append-nil, filter, map, All, Contains, Option, Some, None, option_map, option_to_list, if◌then◌else◌, refl, sym, ap, ◌∙◌, subst, arith, get_or}
 use Rattle.std.specs.List.{list_any, find}
-use Rattle.std.proofs.lemmas.Bool.{and_parts}
+use Rattle.std.proofs.lemmas.Bool.{and_parts, false≢true}
 use Rattle.std.proofs.lemmas.Bool.Decides.{Decides-eqb}
 use Rattle.std.proofs.lemmas.List.Elements.{All-map, All-contains_itself, Contains-append_right}
 use Rattle.std.proofs.lemmas.List.Folds.{list_any_at}
@@ -18,19 +18,20 @@ use Rattle.album_calls.specs.declared.messages.Body.TheVariants as body
 use Rattle.album_calls.specs.declared.messages.Message.{Message}
 use Rattle.album_calls.specs.declared.nodes.Node.{Node}
 use Rattle.album_calls.specs.declared.nodes.Node.TheVariants.{Part}
-use Rattle.album_calls.specs.declared.requests.Request.TheVariants.{Prepare}
+use Rattle.album_calls.specs.declared.requests.Request.TheVariants.{Prepare, PrepareOn}
 use Rattle.album_calls.specs.declared.replies.Reply.{Reply}
 use Rattle.album_calls.specs.declared.replies.Reply.TheVariants as reply
 use Rattle.album_calls.proofs.Sameness.{rows_tell}
 use Rattle.album_terminate.specs.declared.deciding.StampState.{StampState}
 use Rattle.album_terminate.specs.declared.deciding.StampState.TheVariants as state
-use Rattle.album_partition.specs.Answers.{says, nothing, is_same, prepare_by, on_prepare, on_body, action_of, with_action, after, reply_to, answer}
+use Rattle.album_partition.specs.Answers.{says, nothing, is_same, prepare_by, on_prepare, on_request, on_body, action_of, with_action, after, reply_to, answer}
 use Rattle.album_partition.specs.Laws.{IsTrueOf}
 use Rattle.album_partition.specs.Marks.{prepares, commits, discards, state_of, is_full, mark_writes, mark_items, writes_at, items_at}
 use Rattle.album_partition.specs.Partition.{PartitionState}
 use Rattle.album_partition.specs.Proper.{is_proper, are_own_writes}
 use Rattle.album_partition.specs.declared.marks.Mark.{Mark}
 use Rattle.album_partition.specs.declared.marks.Mark.TheVariants.{Prepared}
+use Rattle.album_partition.proofs.ChainLemmas.{replied_on}
 use Rattle.album_partition.proofs.LawLemmas.{replies_are_true, to_the_sender, full_only}
 use Rattle.album_partition.proofs.StateLemmas.{same_stamp, committed_tells}
 use Rattle.album_passes.specs.Cuts.{Cut, prefix_at, announced_for, IsPreparedFor, IsPreparedThroughout, IsPromisedSomewhere, IsSound, IsPrefix, Extends}
@@ -38,16 +39,16 @@ use Rattle.album_passes.proofs.ClosedLemmas.{found_in, prepares_is, discarded_te
 use Rattle.album_passes.proofs.PrefixLemmas.{prefix_trans, any_more}
 use Rattle.album_permits.specs.Permits.{PermitState}
 use Rattle.album_reader.proofs.Others.{is_part-own}
-use Rattle.album_grounds.specs.Grounds.{items_of, IsKept, IsWithoutRoom}
-use Rattle.album_keepers.specs.Envelopes.{Shows}
+use Rattle.album_grounds.specs.Grounds.{items_of, IsPreparedOn, IsKept, IsWithoutRoom}
+use Rattle.album_keepers.specs.Envelopes.{Shows, ShowsRequest}
 use Rattle.album_keepers.specs.Replies.{IsReplied}
-use Rattle.album_grounds.specs.Writes.{IsPreparedAt, IsCommittedAt, IsFurther, IsEndOf, AreCommits, AreAllCommitted, PrepareShows, CommitShows}
-use Rattle.album_grounds.proofs.GroundLemmas.{has_more}
+use Rattle.album_grounds.specs.Writes.{rows_for, IsPreparedIn, IsPreparedAt, IsCommittedAt, IsFurther, IsEndOf, AreCommits, AreAllCommitted, PrepareShows, CommitShows}
+use Rattle.album_grounds.proofs.GroundLemmas.{has_more, prepared_on_more}
 use Rattle.album_keepers.proofs.EnvelopeLemmas.{discarded_tells}
 use Rattle.album_writer.specs.Rounds.{answered_by, prepares_left, prepares_by, prepare_stepped, commits_left, commits_by, commit_stepped}
 use Rattle.album_writer.specs.Rounds.WriteStep.{Waits}
 use Rattle.album_writer.specs.WriteReplies.{reply_in}
-use Rattle.album_writer.specs.Writing.{WritingState, writes_in, items_in, places_in, prepare_to, prepares_of, commit_to, commit_round, commits_of}
+use Rattle.album_writer.specs.Writing.{WritingState, writes_in, items_in, places_in, bases_of, prepare_request, prepare_to, prepares_of, commit_to, commit_round, commits_of}
 use Rattle.album_writer.specs.declared.outcomes.Outcome.{Outcome}
 use Rattle.album_writer.specs.declared.outcomes.Outcome.TheVariants as outcome
 use Rattle.album_writer.specs.declared.write_replies.WriteReply.{WriteReply}
@@ -103,6 +104,16 @@ prepare_leaves p t ws is u = go (is_proper p.number p.parts t ws is) refl
         by (and_parts (not (t == 0)) (are_items is) (and_parts (not (t == 0) && are_items is) (are_own_writes p.number p.parts ws is) e).0).1
         (is_full p.limit p.marks) (is_same p.marks t ws is) refl (state_of p.marks t) f
 
+-- at a checked partition it clashes
+request_leaves : (p : PartitionState) (t : ℕ) (ws : List Row) (is : List ℕ) (u : ℕ) → (on_request p (Prepare t ws is)).reply ≡ Some (reply.Prepared u)
+    → Contains (with_action p (on_request p (Prepare t ws is))).marks (Prepared t ws is)
+request_leaves p t ws is u = go p.checked
+  where
+    go : (b : Bool) → (if b then says reply.Clash else on_prepare p t ws is).reply ≡ Some (reply.Prepared u)
+        → Contains (with_action p (if b then says reply.Clash else on_prepare p t ws is)).marks (Prepared t ws is)
+    go true f = absurd (cc)
+    go false f = prepare_leaves p t ws is u f
+
 prepare_left : (p : PartitionState) (q : Message) (t : ℕ) (ws : List Row) (is : List ℕ) (u : ℕ) → q.body ≡ body.Request (Prepare t ws is)
     → (action_of p q).reply ≡ Some (reply.Prepared u) → Contains (after p q).marks (Prepared t ws is)
 prepare_left p q t ws is u asked = go (is_part q.to p.number)
@@ -112,7 +123,38 @@ prepare_left p q t ws is u asked = go (is_part q.to p.number)
     go false f = absurd (cc)
     go true f =
         subst (λ (x : Body). Contains (with_action p (on_body p q.from x)).marks (Prepared t ws is)) (sym asked)
-        (prepare_leaves p t ws is u (subst (λ (x : Body). (on_body p q.from x).reply ≡ Some (reply.Prepared u)) asked f))
+        (request_leaves p t ws is u (subst (λ (x : Body). (on_body p q.from x).reply ≡ Some (reply.Prepared u)) asked f))
+
+-- a Prepare of a write leaves what it asks for, on its bases where the write is checked
+left_by : (p : PartitionState) (q : Message) (w : WritingState) (n : ℕ) → q.body ≡ body.Request (prepare_request w (rows_for w n))
+    → (action_of p q).reply ≡ Some (reply.Prepared w.stamp) → IsPreparedIn (after p q).marks w n
+left_by p q w n asked said = go w.checked refl asked
+  where
+    bases : List ℕ
+    bases = bases_of w (rows_for w n)
+
+    go : (b : Bool) → w.checked ≡ b
+        → q.body ≡ body.Request (if b then PrepareOn w.stamp (rows_for w n) (items_in w) bases else Prepare w.stamp (rows_for w n) (items_in w))
+        → IsPreparedIn (after p q).marks w n
+    go true e asked =
+        let made = replied_on p q w.stamp (rows_for w n) (items_in w) bases w.stamp asked said in
+        let last : List Mark = p.marks ++ Prepared w.stamp (rows_for w n) (items_in w) ∷ [] in
+        record {
+          prepared = subst (λ (ms : List Mark). Contains ms (Prepared w.stamp (rows_for w n) (items_in w))) (sym made.0)
+              (Contains-append_right p.marks (Prepared w.stamp (rows_for w n) (items_in w) ∷ []) (Prepared w.stamp (rows_for w n) (items_in w)) (0, omega arith, refl));
+          based = λ on. record { before = p.marks; had = ([], append-nil last ∙ sym made.0); based = made.1 };
+        }
+    go false e asked = record {
+      prepared = prepare_left p q w.stamp (rows_for w n) (items_in w) w.stamp asked said;
+      based = λ on. absurd (false≢true (sym e ∙ on));
+    }
+
+-- what is prepared in a history is so in a longer one
+in_more : (ms ns : List Mark) (w : WritingState) (n : ℕ) → IsPrefix ms ns → IsPreparedIn ms w n → IsPreparedIn ns w n
+in_more ms ns w n p h = record {
+  prepared = has_more ms ns _ p h.prepared;
+  based = λ on. prepared_on_more ms ns w.stamp (rows_for w n) (items_in w) (bases_of w (rows_for w n)) p (h.based on);
+}
 
 -- a message to another partition isn't answered
 to_this : (p : PartitionState) (q : Message) (r : Reply) → (action_of p q).reply ≡ Some r → q.to ≡ Part p.number
@@ -195,10 +237,10 @@ heard_prepared limit b d begun m place r from says =
     let asked = made_for (prepare_to begun) (places_in begun) q r.own in
     let said = said_so p q m (reply.Prepared begun.stamp) r.answered.answered says in
     let to : asked.0 ≡ p.number = part-number asked.0 p.number (sym (ap (λ (n : Message). n.to) asked.1) ∙ to_this p q (reply.Prepared begun.stamp) said) in
-    let left = prepare_left p q begun.stamp (rows_placed_at asked.0 begun.parts (writes_in begun)) (items_in begun) begun.stamp (ap (λ (n : Message). n.body) asked.1) said in
-    let now = has_more (after p q).marks (prefix_at d p.number) _ (seen limit b d (prepares_of begun) m place r from) left in
+    let left = left_by p q begun asked.0 (ap (λ (n : Message). n.body) asked.1) said in
+    let now = in_more (after p q).marks (prefix_at d p.number) begun asked.0 (seen limit b d (prepares_of begun) m place r from) left in
     subst (IsPreparedAt d begun) (sym (here limit b d (prepares_of begun) m place r from))
-    (subst (λ (n : ℕ). Contains (prefix_at d p.number) (Prepared begun.stamp (rows_placed_at n begun.parts (writes_in begun)) (items_in begun))) to now)
+    (subst (λ (n : ℕ). IsPreparedIn (prefix_at d p.number) begun n) to now)
 
 -- ---- a step of a round
 
@@ -218,7 +260,7 @@ none_outstanding xs outstanding Q none h n there =
     ⊎_elim (λ w. absurd (let gone = subst (λ (ns : List ℕ). Contains ns n) none w in omega (arith, gone.1))) (λ q. q) (h n there)
 
 prepared_on : (c d : Cut) (begun : WritingState) → Extends c d → (n : ℕ) → IsPreparedAt c begun n → IsPreparedAt d begun n
-prepared_on c d begun x n h = has_more (prefix_at c n) (prefix_at d n) _ (x.prefixes n) h
+prepared_on c d begun x n h = in_more (prefix_at c n) (prefix_at d n) begun n (x.prefixes n) h
 
 committed_on : (c d : Cut) (begun : WritingState) → Extends c d → (n : ℕ) → IsCommittedAt c begun n → IsCommittedAt d begun n
 committed_on c d begun x n h = any_more (commits begun.stamp) (prefix_at c n) (prefix_at d n) (x.prefixes n) h
@@ -311,7 +353,12 @@ begun_further begun P all = record {
 -- ---- what a cut shows about the messages of a write
 
 pub shows_prepares : (c : Cut) (w : WritingState) → announced_for c w.stamp ≡ Some (items_in w) → All (Shows c) (prepares_of w)
-shows_prepares c w h = All-map (Shows c) (prepare_to w) (places_in w) (λ k e l. h)
+shows_prepares c w h = All-map (Shows c) (prepare_to w) (places_in w) (λ k e l. one (get_or (places_in w) k e) w.checked)
+  where
+    one : (n : ℕ) (b : Bool)
+        → ShowsRequest c (Part n) (if b then PrepareOn w.stamp (rows_for w n) (items_in w) (bases_of w (rows_for w n)) else Prepare w.stamp (rows_for w n) (items_in w))
+    one n true = h
+    one n false = h
 
 pub prepared_all : (c : Cut) (w : WritingState) → w.parts ≡ c.parts → 1 ≤ w.parts → announced_for c w.stamp ≡ Some (items_in w)
     → ((n : ℕ) → Contains (places_in w) n → IsPreparedAt c w n) → IsPreparedThroughout c w.stamp
@@ -323,7 +370,7 @@ prepared_all c w parts some announced all = record {
   where
     one : (i : ℕ) → Contains (items_in w) i → IsPreparedFor c w.stamp i
     one i there =
-        let at = all (place_of w.parts i) ((participant w.parts (place_of w.parts i) (items_in w) some).1 (i, there, refl)) in
+        let at = (all (place_of w.parts i) ((participant w.parts (place_of w.parts i) (items_in w) some).1 (i, there, refl))).prepared in
         subst (λ (n : ℕ). list_any (prepares w.stamp) (prefix_at c (place_of n i)) ≡ true) parts
         (list_any_at (prepares w.stamp) (prefix_at c (place_of w.parts i)) at.0 _ at.1 (ap (prepares w.stamp) at.2 ∙ same_stamp w.stamp))
 
@@ -333,25 +380,27 @@ shows_commits c w h = All-map (Shows c) (commit_to w) (places_in w) (λ k e l. h
 -- ---- how a write ends
 
 -- what is prepared and committed at each participant is kept
-kept_end : (c d : Cut) (w : WritingState) → Extends c d → w.parts ≡ c.parts
+kept_end : (c d : Cut) (w : WritingState) → Extends c d → w.parts ≡ c.parts → w.checked ≡ c.checked
     → ((n : ℕ) → Contains (places_in w) n → IsPreparedAt c w n)
     → ((n : ℕ) → Contains (places_in w) n → IsCommittedAt d w n) → IsKept d w.permit w.stamp
-kept_end c d w x parts prepared committed = λ place of.
+kept_end c d w x parts checked prepared committed = λ place of.
     let same : w.parts ≡ d.parts = parts ∙ sym x.parts in
     let own : Contains (places_in w) place = subst (λ (k : ℕ). Contains (places_of k (items_in w)) place) (sym same) of in
     record {
       prepared = subst (λ (k : ℕ). Contains (prefix_at d place) (Prepared w.stamp (rows_placed_at place k (writes_in w)) (items_in w))) same
-          (prepared_on c d w x place (prepared place own));
+          (prepared_on c d w x place (prepared place own)).prepared;
+      based = λ on. subst (λ (k : ℕ). IsPreparedOn (prefix_at d place) w.stamp (rows_placed_at place k (writes_in w)) (items_in w) (bases_of w (rows_placed_at place k (writes_in w)))) same
+          ((prepared_on c d w x place (prepared place own)).based (checked ∙ sym x.checked ∙ on));
       committed = committed place own;
     }
 
 -- ---- the end of the round of Commits
 
-pub end_all : (limit : ℕ) (c d : Cut) (begun next : WritingState) → AreCommits c begun next (commits_of (commit_round begun)) → Extends c d → begun.parts ≡ c.parts
+pub end_all : (limit : ℕ) (c d : Cut) (begun next : WritingState) → AreCommits c begun next (commits_of (commit_round begun)) → Extends c d → begun.parts ≡ c.parts → begun.checked ≡ c.checked
     → (o : Outcome) → AreAllCommitted d next o → IsEndOf limit d begun o
-end_all limit c d begun next are x parts o h = go o (subst (λ (w : WritingState). AreAllCommitted d w o) are.next_is h)
+end_all limit c d begun next are x parts checked o h = go o (subst (λ (w : WritingState). AreAllCommitted d w o) are.next_is h)
   where
     go : (o : Outcome) → AreAllCommitted d (commit_round begun) o → IsEndOf limit d begun o
-    go (outcome.Committed t) (same, all) = (same, kept_end c d begun x parts are.prepared all)
+    go (outcome.Committed t) (same, all) = (same, kept_end c d begun x parts checked are.prepared all)
     go (outcome.Aborted t) none = absurd none
     go (outcome.Full t) none = absurd none

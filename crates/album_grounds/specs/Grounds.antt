@@ -1,12 +1,14 @@
 -- What an answer of a session rests on: the cut that it began with, and the one that it has then.
-use Rattle.std.specs.Prelude.{◌≡◌, ◌≢◌, ℕ, ◌+◌, ◌<◌, ◌≤◌, Bool, true, false, List, [], ◌∷◌, length, sum_by, count_by, All, Contains}
+use Rattle.std.specs.Prelude.{◌≡◌, ◌≢◌, ℕ, ◌+◌, ◌<◌, ◌≤◌, Bool, true, false, List, [], ◌∷◌, ◌++◌, map, length, sum_by, count_by, All, Contains}
 use Rattle.std.specs.List.{list_any}
 use Rattle.album_stamps.specs.declared.limits.TheConstants.{MAX_READ_ITEMS, MAX_READS}
+use Rattle.album_items.specs.Openings.{Row}
 use Rattle.album_items.specs.Places.{places_of, rows_placed_at}
 use Rattle.album_items.specs.Transactions.{items_written}
 use Rattle.album_eval.specs.declared.facts.Principal.{Principal}
 use Rattle.album_eval.specs.declared.policies.Policy.{Policy}
 use Rattle.album_terminate.specs.declared.deciding.StampState.TheVariants as state
+use Rattle.album_partition.specs.Bases.{are_bases}
 use Rattle.album_partition.specs.Marks.{commits, state_of, is_full, first_value, latest}
 use Rattle.album_partition.specs.declared.marks.Mark.{Mark}
 use Rattle.album_partition.specs.declared.marks.Mark.TheVariants.{Prepared, Committed, Discarded, Trimmed}
@@ -17,6 +19,7 @@ use Rattle.album_views.specs.Asks.{objects_of}
 use Rattle.album_views.specs.ReadSets.{names_of}
 use Rattle.album_views.specs.Views.{IsClosed, IsView}
 use Rattle.album_views.specs.declared.asks.Ask.{Ask}
+use Rattle.album_listing.specs.ViewLookups.{stamp_seen}
 use Rattle.album_permits.specs.Effects.{effect_of}
 use Rattle.album_permits.specs.Permits.{PermitState, permit_on}
 use Rattle.album_passes.specs.Cuts.{Cut, prefix_at, prefix_for, IsSound, IsPrefix, Extends}
@@ -89,10 +92,28 @@ items_of permit stamp = items_written (effect_of permit stamp)
 abbrev pub places_in : Cut → PermitState → ℕ → List ℕ
 places_in cut permit stamp = places_of cut.parts (items_of permit stamp)
 
--- a partition has prepared exactly what is written there, and has committed it
+-- what a permit writes at a partition, and the bases of these writes: of each the stamp at which the view shows its
+-- item, and 0 where it doesn't
+abbrev pub rows_at : Cut → PermitState → ℕ → ℕ → List Row
+rows_at cut permit stamp place = rows_placed_at place cut.parts (effect_of permit stamp)
+
+abbrev pub bases_for : PermitState → List Row → List ℕ
+bases_for permit rows = map (λ (row : Row). stamp_seen permit.view.rows row.0) rows
+
+-- The stamp's rows were prepared on these bases. Each was the latest version of its item just then, and no other was
+-- pending.
+pub record IsPreparedOn (marks : List Mark) (stamp : ℕ) (rows : List Row) (items bases : List ℕ) : Type 0 where
+  pub before : List Mark
+  pub had : IsPrefix (before ++ Prepared stamp rows items ∷ []) marks
+  pub based : are_bases before stamp rows bases ≡ true
+
+-- a partition has prepared exactly what is written there, in a checked store on what the view shows, and has committed
+-- it
 pub record IsKeptAt (now : Cut) (permit : PermitState) (stamp place : ℕ) : Type 0 where
   pub prepared : Contains (prefix_at now place)
-      (Prepared stamp (rows_placed_at place now.parts (effect_of permit stamp)) (items_of permit stamp))
+      (Prepared stamp (rows_at now permit stamp place) (items_of permit stamp))
+  pub based : now.checked ≡ true → IsPreparedOn (prefix_at now place) stamp
+      (rows_at now permit stamp place) (items_of permit stamp) (bases_for permit (rows_at now permit stamp place))
   pub committed : list_any (commits stamp) (prefix_at now place) ≡ true
 
 -- each participant has

@@ -2,24 +2,34 @@
 use Rattle.std.specs.Prelude.{◌≡◌, ◌≢◌, ℕ, ◌≤◌, ◌⊎◌, true, List, [], Contains}
 use Rattle.std.specs.List.{list_any}
 use Rattle.album_calls.specs.declared.messages.Message.{Message}
+use Rattle.album_items.specs.Openings.{Row}
 use Rattle.album_items.specs.Places.{rows_placed_at}
 use Rattle.album_partition.specs.Marks.{commits}
+use Rattle.album_partition.specs.declared.marks.Mark.{Mark}
 use Rattle.album_partition.specs.declared.marks.Mark.TheVariants.{Prepared}
 use Rattle.album_passes.specs.Cuts.{Cut, prefix_at, IsPromisedSomewhere}
-use Rattle.album_grounds.specs.Grounds.{IsKept, IsWithoutRoom}
+use Rattle.album_grounds.specs.Grounds.{IsPreparedOn, IsKept, IsWithoutRoom}
 use Rattle.album_writer.specs.Rounds.{WriteStep}
 use Rattle.album_writer.specs.Rounds.WriteStep.{Waits, Commits, Ends}
-use Rattle.album_writer.specs.Writing.{WritingState, writes_in, items_in, places_in, commit_round, commits_of}
+use Rattle.album_writer.specs.Writing.{WritingState, writes_in, items_in, places_in, bases_of, commit_round, commits_of}
 use Rattle.album_writer.specs.declared.outcomes.Outcome.{Outcome}
 use Rattle.album_writer.specs.declared.outcomes.Outcome.TheVariants as outcome
 
 -- ---- a round
 
--- the partition has prepared exactly what is written there
+-- what is written at the partition
+abbrev pub rows_for : WritingState → ℕ → List Row
+rows_for writing place = rows_placed_at place writing.parts (writes_in writing)
+
+-- these marks prepare exactly what is written at the partition, where the write is checked on what its view shows
+pub record IsPreparedIn (marks : List Mark) (writing : WritingState) (place : ℕ) : Type 0 where
+  pub prepared : Contains marks (Prepared writing.stamp (rows_for writing place) (items_in writing))
+  pub based : writing.checked ≡ true → IsPreparedOn marks writing.stamp
+      (rows_for writing place) (items_in writing) (bases_of writing (rows_for writing place))
+
+-- the partition has prepared it so
 abbrev pub IsPreparedAt : Cut → WritingState → ℕ → Type 0
-IsPreparedAt cut writing place =
-    Contains (prefix_at cut place)
-    (Prepared writing.stamp (rows_placed_at place writing.parts (writes_in writing)) (items_in writing))
+IsPreparedAt cut writing place = IsPreparedIn (prefix_at cut place) writing place
 
 -- the partition has committed it
 abbrev pub IsCommittedAt : Cut → WritingState → ℕ → Type 0
@@ -30,9 +40,10 @@ pub record IsFurther (begun : WritingState) (Holds : ℕ → Type 0) (writing : 
   pub same : writing ≡ record begun { outstanding = writing.outstanding }
   pub done : (place : ℕ) → Contains (places_in begun) place → Contains writing.outstanding place ⊎ Holds place
 
--- It writes in the cut's partitions, has some participant, and each is outstanding.
+-- It writes in the cut's partitions, checked where they are, has some participant, and each is outstanding.
 pub record IsBegunOn (cut : Cut) (begun : WritingState) : Type 0 where
   pub parts : begun.parts ≡ cut.parts
+  pub checked : begun.checked ≡ cut.checked
   pub some_parts : 1 ≤ begun.parts
   pub some : places_in begun ≢ []
   pub all : begun.outstanding ≡ places_in begun

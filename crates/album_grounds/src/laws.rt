@@ -1,9 +1,11 @@
 //! What follows from the grounds on which an answer rests.
-ghost use Rattle.std.specs.Prelude.{◌≡◌, ◌≢◌, ◌≤◌, ℕ, List, Contains};
+ghost use Rattle.std.specs.Prelude.{◌≡◌, ◌≢◌, ◌≤◌, ℕ, true, List, Contains};
+ghost use Rattle.album_partition.specs.Bases.{IsMadeOn};
 ghost use Rattle.album_reader.specs.Answers.{ReadVersion};
 ghost use Rattle.album_reader.specs.Atomic.{IsFreshFrom};
+ghost use Rattle.album_listing.specs.ViewLookups.{stamp_seen};
 ghost use Rattle.album_permits.specs.Permits.{PermitState};
-ghost use Rattle.album_passes.specs.Cuts.{Cut, IsSound, IsPromisedSomewhere, Extends};
+ghost use Rattle.album_passes.specs.Cuts.{Cut, prefix_for, IsSound, IsPromisedSomewhere, Extends};
 ghost use Rattle.album_passes.specs.Reads.{HadSeenCommitted, writes_in_cut};
 ghost use Rattle.album_grounds.specs.Grounds.{IsSeen, AreNoOlder, AreAlike, HasSameMarks, AreFrom, items_of, IsKept, IsWithoutRoom};
 
@@ -31,6 +33,15 @@ pub fn reads_go_on()
     ensures own_writes { (old later new : Cut) (permit : PermitState) (stamp : ℕ) (rows : List ReadVersion)
         → IsSound old → IsSound new → 1 ≤ old.parts → Extends old later → Extends later new
         → IsKept old permit stamp → IsSeen later new rows → AreFrom stamp (items_of permit stamp) rows }
+{}
+
+/// A law: no update is lost. In a checked store each version that a kept write has made was made on the one that the
+/// write's own view shows: that one is committed, or the opening's, and no committed one is between the two. So of an
+/// item the write changed what its ask changes, and undid nothing that somebody else was told is committed.
+pub fn kept_writes_lose_no_update()
+    ensures { (now : Cut) (permit : PermitState) (stamp item : ℕ) → IsSound now → now.checked ≡ true → 1 ≤ now.parts
+        → IsKept now permit stamp → Contains (items_of permit stamp) item
+        → IsMadeOn (prefix_for now item) item stamp (stamp_seen permit.view.rows item) }
 {}
 
 /// A law: no new enemy. No item of a view is older than what the author of another of its versions had seen committed

@@ -10,4 +10,6 @@
 // What holds of the grounds.
 mod laws;
 
-pub use laws::{grounds_stay, no_new_enemy, reads_are_stable, reads_go_on};
+pub use laws::{
+    grounds_stay, kept_writes_lose_no_update, no_new_enemy, reads_are_stable, reads_go_on,
+};

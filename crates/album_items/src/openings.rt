@@ -15,8 +15,8 @@ use album_stamps::{
 };
 
 /// The state that the service opens with: how many partitions there are, how many marks the
-/// history of each may have, the number of the policy that lists are judged by, and the first
-/// values of items.
+/// history of each may have, the number of the policy that lists are judged by, whether writes are
+/// checked, and the first values of items.
 #[derive(Debug, Drop)]
 pub struct Opening {
     /// How many partitions there are: 1 to `MAX_PARTS`.
@@ -25,6 +25,9 @@ pub struct Opening {
     pub limit: u64,
     /// The number of the policy that lists are judged by: 1 or 2.
     pub policy: u64,
+    /// Whether each write is committed only on the versions that its author saw. Where it isn't, of two
+    /// writes of one item that race the greater stamp wins, and the other is lost.
+    pub checked: bool,
     /// At most `MAX_OPENING_ITEMS` items with their first values. An item that isn't among them is missing at first.
     pub items: ItemValues,
 }

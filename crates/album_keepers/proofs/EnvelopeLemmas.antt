@@ -9,7 +9,7 @@ use Rattle.album_calls.specs.declared.nodes.Node.TheVariants.{Part, Client}
 use Rattle.album_calls.specs.declared.nodes.Vote.{Vote}
 use Rattle.album_calls.specs.declared.nodes.Vote.TheVariants as vote
 use Rattle.album_calls.specs.declared.requests.Request.{Request}
-use Rattle.album_calls.specs.declared.requests.Request.TheVariants.{Prepare, Commit, Get, Check}
+use Rattle.album_calls.specs.declared.requests.Request.TheVariants.{Prepare, PrepareOn, Commit, Get, Check}
 use Rattle.album_calls.specs.declared.replies.Reply.{Reply}
 use Rattle.album_calls.specs.declared.replies.Reply.TheVariants as reply
 use Rattle.album_terminate.specs.declared.deciding.StampState.TheVariants as state
@@ -72,6 +72,7 @@ more_check c d x (Client k) t h = tt
 
 more_request : (c d : Cut) → Extends c d → (n : Node) (r : Request) → ShowsRequest c n r → ShowsRequest d n r
 more_request c d x n (Prepare t ws is) h = x.announced t is h
+more_request c d x n (PrepareOn t ws is bs) h = x.announced t is h
 more_request c d x n (Commit t) h = backed_more c d x (Committed t) h
 more_request c d x n (Get i ts) h = λ k e l nz. let was = h k e l nz in
     (was.0, any_more (commits (get_or ts k e)) (prefix_at c was.0) (prefix_at d was.0) (x.prefixes was.0) was.1)

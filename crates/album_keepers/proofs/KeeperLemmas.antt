@@ -16,16 +16,19 @@ use Rattle.album_calls.specs.declared.nodes.Node.{Node}
 use Rattle.album_calls.specs.declared.nodes.Node.TheVariants.{Part, Client}
 use Rattle.album_calls.specs.declared.nodes.Vote.{Vote}
 use Rattle.album_calls.specs.declared.nodes.Vote.TheVariants as vote
-use Rattle.album_calls.specs.declared.requests.Request.TheVariants.{Prepare, Commit, Check}
+use Rattle.album_calls.specs.declared.requests.Request.TheVariants.{Prepare, PrepareOn, Commit, Check}
 use Rattle.album_calls.specs.declared.replies.Reply.TheVariants as reply
 use Rattle.album_partition.specs.Answers.{Action, nothing, on_body, action_of, after}
-use Rattle.album_partition.specs.Laws.{IsCause}
-use Rattle.album_partition.specs.Marks.{prepares, decided, items_at, may_follow, is_legal, load}
+use Rattle.album_partition.specs.Bases.{extends, MayAppend}
+use Rattle.album_partition.specs.Laws.{IsCause, IsBased, IsOutdated}
+use Rattle.album_partition.specs.Proper.{is_proper_on}
+use Rattle.album_partition.proofs.BaseLemmas.{outdated_here, asked_extends}
+use Rattle.album_partition.specs.Marks.{prepares, decided, items_at, is_legal, load}
 use Rattle.album_partition.specs.Partition.{PartitionState}
 use Rattle.album_partition.specs.Votes.{NotedVote, has_vote, new_vote, heard}
 use Rattle.album_partition.specs.declared.marks.Mark.{Mark}
 use Rattle.album_partition.specs.declared.marks.Mark.TheVariants.{Prepared, Committed, Discarded, Trimmed}
-use Rattle.album_partition.proofs.AnswerLemmas.{Acts, idle, said, prepared, committed, refused, voted_committed, voted_never, voted_prepared, acts_here}
+use Rattle.album_partition.proofs.AnswerLemmas.{Acts, idle, said, prepared, committed, refused, outdated, voted_committed, voted_never, voted_prepared, acts_here}
 use Rattle.album_partition.proofs.LegalLemmas.{follows}
 use Rattle.album_partition.proofs.LawLemmas.{marks_are_caused}
 use Rattle.album_partition.proofs.StateLemmas.{unknown_tells, pending_tells}
@@ -89,7 +92,8 @@ cause_backs : (limit : ℕ) (c : Cut) (p : PartitionState) (m : Message) → IsS
     → AreShown c p.votes → Shows c m → (mark : Mark) → is_part m.to p.number ≡ true → IsCause p m mark
     → IsBacked (marked_cut c p.number mark) mark
 cause_backs limit c p m s inside shown votes h (Prepared t ws is) here a =
-    let announced = shown_as c m (body.Request (Prepare t ws is)) a.asked h in
+    let announced = ⊎_elim (λ plain. shown_as c m (body.Request (Prepare t ws is)) plain.0 h)
+    (λ (on : IsBased p m.body t ws is). shown_as c m (body.Request (PrepareOn t ws is on.bases)) on.asked h) a.asked in
     backed_marked c p.number (Prepared t ws is)
     (record { announced = announced; within = proper_within p.number p.parts t ws is a.proper })
 cause_backs limit c p m s inside shown votes h (Committed t) here why =
@@ -120,9 +124,18 @@ cause_backs limit c p m s inside shown votes h (Discarded t) here why = ⊎_elim
     let none : list_any (prepares t) (prefix_at c p.number) ≡ false = ap (list_any (prepares t)) (sym shown.marks) ∙ (unknown_tells _ _ _ checked.unknown).2 in
     let wide = s.wide in
     discarded_backs c p.number t k.items i.0 (omega arith) k.announced i.1 i.2 none)
+    (λ rest. ⊎_elim
+    (λ (old : IsOutdated p m t).
+    let i = outdated_here p.marks p.number c.parts t old.writes old.items old.bases old.outdated
+    (subst (λ (n : ℕ). is_proper_on p.number n t old.writes old.items old.bases ≡ true) shown.parts old.proper) in
+    let none : list_any (prepares t) (prefix_at c p.number) ≡ false = ap (list_any (prepares t)) (sym shown.marks) ∙ (unknown_tells _ _ _ old.unknown).2 in
+    let wide = s.wide in
+    discarded_backs c p.number t old.items i.0 (omega arith)
+    (shown_as c m (body.Request (PrepareOn t old.writes old.items old.bases)) old.asked h) i.1 i.2 none)
     (λ voted.
     let v = voter c m.from t vote.Never (shown_as c m (body.Reply (reply.Status t vote.Never)) voted.1 h) in
     backed_marked c p.number (Discarded t) (discarded_tells c v.0 t s.closed v.2))
+    rest)
     why
 cause_backs limit c p m s inside shown votes h (Trimmed i) here a = absurd a
 
@@ -146,6 +159,7 @@ noted_from p from b e (said r is h) v f = none_some (ap (λ (x : Action). x.vote
 noted_from p from b e (prepared a) v f = none_some (ap (λ (x : Action). x.vote) (sym a.done) ∙ f)
 noted_from p from b e (committed a) v f = none_some (ap (λ (x : Action). x.vote) (sym a.done) ∙ f)
 noted_from p from b e (refused a) v f = none_some (ap (λ (x : Action). x.vote) (sym a.done) ∙ f)
+noted_from p from b e (outdated a) v f = none_some (ap (λ (x : Action). x.vote) (sym a.done) ∙ f)
 noted_from p from b e (voted_committed a) v f = none_some (ap (λ (x : Action). x.vote) (sym a.done) ∙ f)
 noted_from p from b e (voted_never a) v f = none_some (ap (λ (x : Action). x.vote) (sym a.done) ∙ f)
 noted_from p from b e (voted_prepared a) v f =
@@ -201,6 +215,7 @@ next_none c p ms n few = go n.mark refl
 pub record IsMade (c : Cut) (p : ℕ) (ms : List Mark) (m : Mark) : Type 0 where
   pub added : ms ≡ prefix_at c p ++ m ∷ []
   pub backed : IsBacked (marked_cut c p m) m
+  pub chained : c.checked ≡ true → extends (prefix_at c p) m ≡ true
 
 pub next_some : (c : Cut) (p : ℕ) (ms : List Mark) (k : ℕ) (m : Mark) → IsNext c p ms → k ≡ length (prefix_at c p) → k < length ms
     → m ≡ get_or ms k m → IsMade c p ms m
@@ -216,11 +231,13 @@ next_some c p ms k m n at more is = go n.mark refl
         record {
           added = added ∙ ap (λ (y : Mark). prefix_at c p ++ y ∷ []) (sym one);
           backed = subst (λ (y : Mark). IsBacked (marked_cut c p y) y) (sym one) (n.backed x e);
+          chained = λ on. subst (λ (y : Mark). extends (prefix_at c p) y ≡ true) (sym one) (n.chained x e on);
         }
 
 -- it may follow the others, and there is room for it
-pub made_follows : (c : Cut) (p : ℕ) (ms : List Mark) (m : Mark) → IsMade c p ms m → is_legal ms ≡ true → may_follow (prefix_at c p) m ≡ true
-made_follows c p ms m made legal = follows (prefix_at c p) [] m (ap is_legal (sym made.added) ∙ legal)
+pub made_follows : (c : Cut) (p : ℕ) (ms : List Mark) (m : Mark) → IsMade c p ms m → is_legal ms ≡ true → MayAppend c.checked (prefix_at c p) m
+made_follows c p ms m made legal =
+    record { follows = follows (prefix_at c p) [] m (ap is_legal (sym made.added) ∙ legal); chains = made.chained }
 
 pub made_fits : (c : Cut) (p : ℕ) (ms : List Mark) (m : Mark) (limit : ℕ) → IsMade c p ms m → load ms ≤ limit → length (prefix_at c p) < limit
 made_fits c p ms m limit made room =
@@ -240,16 +257,27 @@ shown_on limit c d p q s x number parts room items marks = record {
 
 pub keeper_on : (table : TableId) (limit : ℕ) (k : KeeperState) (q : PartitionState) (o : OwnerState) → IsKeeper table limit k
     → o.table ≡ k.owner.table → o.part ≡ k.owner.part → Extends k.owner.cut o.cut → q.number ≡ k.partition.number
-    → q.parts ≡ k.partition.parts → q.limit ≡ k.partition.limit → q.items ≡ k.partition.items → q.marks ≡ prefix_at o.cut q.number
+    → q.parts ≡ k.partition.parts → q.limit ≡ k.partition.limit → q.items ≡ k.partition.items → q.checked ≡ k.partition.checked → q.marks ≡ prefix_at o.cut q.number
     → AreShown o.cut q.votes → IsKeeper table limit (record { partition = q; owner = o })
-keeper_on table limit k q o is same part x number parts room items marks votes = record {
+keeper_on table limit k q o is same part x number parts room items checked marks votes = record {
   of = same ∙ is.of;
   own = part ∙ is.own ∙ sym number;
   shown = shown_on limit k.owner.cut o.cut k.partition q is.shown x number parts room items marks;
   voted = votes;
+  checked = checked ∙ is.checked ∙ sym x.checked;
 }
 
 -- ---- a message
+
+-- the mark that a message makes at a checked partition extends its marks
+message_extends : (p : PartitionState) (m : Message) → p.checked ≡ true → (made : Mark) → (action_of p m).mark ≡ Some made → extends p.marks made ≡ true
+message_extends p m checked made e = go made (marks_are_caused p m made e)
+  where
+    go : (x : Mark) → IsCause p m x → extends p.marks x ≡ true
+    go (Prepared t ws is) a = asked_extends p m.body t ws is a.asked checked
+    go (Committed t) a = refl
+    go (Discarded t) a = refl
+    go (Trimmed i) a = refl
 
 -- the mark that a message makes is the next one
 pub message_next : (table : TableId) (limit : ℕ) (k : KeeperState) (m : Message) (q : PartitionState) → IsKeeper table limit k
@@ -263,6 +291,8 @@ message_next table limit k m q is sound inside shows done =
           ∙ ap (λ (ms : List Mark). ms ++ option_to_list (action_of k.partition m).mark) (is.shown.marks ∙ ap (prefix_at k.owner.cut) own);
       backed = λ made e. subst (λ (n : ℕ). IsBacked (marked_cut k.owner.cut n made) made) own
           (mark_backed limit k.owner.cut k.partition m sound (subst (λ (n : ℕ). n < k.owner.cut.parts) is.own inside) is.shown is.voted shows made e);
+      chained = λ made e on. subst (λ (ms : List Mark). extends ms made ≡ true) (is.shown.marks ∙ ap (prefix_at k.owner.cut) own)
+          (message_extends k.partition m (is.checked ∙ on) made e);
     }
 
 -- and once the owner has it too, the keeper is one
@@ -272,6 +302,6 @@ pub keeper_after : (table : TableId) (limit : ℕ) (k : KeeperState) (m : Messag
 keeper_after table limit k m q o is shows done same part x marks =
     keeper_on table limit k q o is same part x
     (ap (λ (y : PartitionState). y.number) done) (ap (λ (y : PartitionState). y.parts) done)
-    (ap (λ (y : PartitionState). y.limit) done) (ap (λ (y : PartitionState). y.items) done)
+    (ap (λ (y : PartitionState). y.limit) done) (ap (λ (y : PartitionState). y.items) done) (ap (λ (y : PartitionState). y.checked) done)
     (marks ∙ ap (prefix_at o.cut) (is.own ∙ sym (ap (λ (y : PartitionState). y.number) done)))
     (subst (λ (y : PartitionState). AreShown o.cut y.votes) (sym done) (shown_more k.owner.cut o.cut x (after k.partition m).votes (votes_shown k.owner.cut k.partition m shows is.voted)))

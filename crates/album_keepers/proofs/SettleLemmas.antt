@@ -11,7 +11,7 @@ use Rattle.album_calls.specs.declared.messages.Body.TheVariants as body
 use Rattle.album_calls.specs.declared.messages.Message.{Message}
 use Rattle.album_calls.specs.declared.nodes.Node.{Node}
 use Rattle.album_calls.specs.declared.requests.Request.{Request}
-use Rattle.album_calls.specs.declared.requests.Request.TheVariants.{Prepare, Commit, Get, Check}
+use Rattle.album_calls.specs.declared.requests.Request.TheVariants.{Prepare, PrepareOn, Commit, Get, Check}
 use Rattle.album_partition.specs.Answers.{after, with_action, on_body, on_commit, commit_by, nothing}
 use Rattle.album_partition.specs.Laws.{IsReadAt}
 use Rattle.album_partition.specs.Marks.{prepares, commits, discards, state_by, state_of, is_pending, mark_writes, writes_at, value_in, has_version}
@@ -126,6 +126,7 @@ none_asked ms = All-nil _
 
 shown_request : (c : Cut) (to : Node) (r : Request) → ShowsRequest c to r → AreCommitted c (stamps_in (body.Request r))
 shown_request c to (Prepare t ws is) h = All-nil _
+shown_request c to (PrepareOn t ws is bs) h = All-nil _
 shown_request c to (Commit t) h = All-nil _
 shown_request c to (Get i ts) h = h
 shown_request c to (Check t) h = All-nil _

@@ -18,7 +18,7 @@ nothing_at (suc n) (suc p) = nothing_at n p
 
 -- the cut of a first owner shows its partition, which has no marks
 pub first_keeper : (table : TableId) (terms : Terms) (p : ℕ) (q : PartitionState) (o : OwnerState)
-    → q ≡ first_partition terms.parts terms.limit terms.opening p
+    → q ≡ first_partition terms.checked terms.parts terms.limit terms.opening p
     → o ≡ first_owner (record { table = table; terms = terms }) p → IsKeeper table terms.limit (record { partition = q; owner = o })
 first_keeper table terms p q o partition owner =
     subst (λ (y : PartitionState × OwnerState). IsKeeper table terms.limit (record { partition = y.0; owner = y.1 })) (λ i. (sym partition i, sym owner i))
@@ -27,6 +27,7 @@ first_keeper table terms p q o partition owner =
       own = refl;
       shown = record { parts = refl; room = refl; items = refl; marks = sym (nothing_at terms.parts p) };
       voted = All-nil _;
+      checked = refl;
     })
 
 -- ---- one after another, from the last

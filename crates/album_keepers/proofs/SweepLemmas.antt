@@ -14,6 +14,7 @@ use Rattle.album_items.specs.Places.{is_placed, lies_at, is_other, others_of}
 use Rattle.album_calls.specs.declared.messages.Message.{Message}
 use Rattle.album_terminate.specs.Asking.{check_to}
 use Rattle.album_terminate.specs.declared.deciding.StampState.TheVariants as state
+use Rattle.album_partition.specs.Bases.{extends}
 use Rattle.album_partition.specs.Marks.{prepares, state_of, is_pending, items_at, mark_items, is_full, latest, floor}
 use Rattle.album_partition.specs.Partition.{PartitionState}
 use Rattle.album_partition.specs.Sweeps.{own_vote, sent_by, swept}
@@ -196,6 +197,7 @@ trim_next table limit k i q is e =
       added = ap (λ (x : PartitionState). x.marks) t.is
           ∙ ap (λ (ms : List Mark). ms ++ option_to_list t.mark) (is.shown.marks ∙ ap (prefix_at k.owner.cut) (sym is.own));
       backed = λ made f. subst (λ (m : Mark). IsBacked (marked_cut k.owner.cut k.owner.part m) m) (sym (t.one made f)) tt;
+      chained = λ made f on. subst (λ (m : Mark). extends (prefix_at k.owner.cut k.owner.part) m ≡ true) (sym (t.one made f)) refl;
     }
 
 -- and once the owner has it too, the keeper is one
@@ -206,6 +208,6 @@ keeper_trimmed table limit k i q o is e same part x marks =
     let t = trim_tells k.partition q i e in
     keeper_on table limit k q o is same part x
     (ap (λ (y : PartitionState). y.number) t.is) (ap (λ (y : PartitionState). y.parts) t.is)
-    (ap (λ (y : PartitionState). y.limit) t.is) (ap (λ (y : PartitionState). y.items) t.is)
+    (ap (λ (y : PartitionState). y.limit) t.is) (ap (λ (y : PartitionState). y.items) t.is) (ap (λ (y : PartitionState). y.checked) t.is)
     (marks ∙ ap (prefix_at o.cut) (is.own ∙ sym (ap (λ (y : PartitionState). y.number) t.is)))
     (subst (λ (y : PartitionState). AreShown o.cut y.votes) (sym t.is) (shown_more k.owner.cut o.cut x k.partition.votes is.voted))

@@ -12,7 +12,7 @@ use Rattle.album_calls.specs.declared.nodes.Node.TheVariants.{Part, Client}
 use Rattle.album_calls.specs.declared.nodes.Vote.{Vote}
 use Rattle.album_calls.specs.declared.nodes.Vote.TheVariants as vote
 use Rattle.album_calls.specs.declared.requests.Request.{Request}
-use Rattle.album_calls.specs.declared.requests.Request.TheVariants.{Prepare, Commit, Get, Check}
+use Rattle.album_calls.specs.declared.requests.Request.TheVariants.{Prepare, PrepareOn, Commit, Get, Check}
 use Rattle.album_calls.specs.declared.replies.Reply.{Reply}
 use Rattle.album_calls.specs.declared.replies.Reply.TheVariants as reply
 use Rattle.album_partition.specs.Answers.{after, answer}
@@ -54,6 +54,7 @@ ShowsCheck cut (Client client) stamp = Unit {0}
 -- stamp, that of a Get that each of its stamps is committed somewhere, that of a Check as above.
 abbrev pub ShowsRequest : Cut → Node → Request → Type 0
 ShowsRequest cut to (Prepare stamp writes items) = announced_for cut stamp ≡ Some items
+ShowsRequest cut to (PrepareOn stamp writes items bases) = announced_for cut stamp ≡ Some items
 ShowsRequest cut to (Commit stamp) = IsPreparedThroughout cut stamp
 ShowsRequest cut to (Get item stamps) = AreCommitted cut stamps
 ShowsRequest cut to (Check stamp) = ShowsCheck cut to stamp

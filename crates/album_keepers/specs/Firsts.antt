@@ -9,7 +9,7 @@ use Rattle.album_passes.specs.Owner.{OwnerState}
 pub record AreFirst (terms : Terms) (count : ℕ) (partitions : List PartitionState) : Type 0 where
   pub count_is : length partitions ≡ count
   pub each : (part : ℕ) (other : PartitionState) → part < count
-      → slice_index_or partitions part other ≡ first_partition terms.parts terms.limit terms.opening part
+      → slice_index_or partitions part other ≡ first_partition terms.checked terms.parts terms.limit terms.opening part
 
 -- the owners of the first partitions, so many of them, in order
 pub record AreFirstOwners (desk : DeskState) (count : ℕ) (owners : List OwnerState) : Type 0 where

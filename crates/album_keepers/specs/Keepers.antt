@@ -2,6 +2,7 @@
 use Rattle.std.specs.Prelude.{◌≡◌, ℕ, true, List, ◌++◌, All, Option, Some, option_to_list}
 use Rattle.std.specs.List.{list_any}
 use Rattle.atomic_table.specs.Seated.{TableId}
+use Rattle.album_partition.specs.Bases.{extends}
 use Rattle.album_partition.specs.Marks.{prepares}
 use Rattle.album_partition.specs.Partition.{PartitionState}
 use Rattle.album_partition.specs.Votes.{NotedVote}
@@ -27,9 +28,12 @@ pub record IsKeeper (table : TableId) (limit : ℕ) (keeper : KeeperState) : Typ
   pub own : keeper.owner.part ≡ keeper.partition.number
   pub shown : IsShown limit keeper.owner.cut keeper.partition
   pub voted : AreShown keeper.owner.cut keeper.partition.votes
+  pub checked : keeper.partition.checked ≡ keeper.owner.cut.checked
 
--- The marks are those of the cut's prefix, with at most one mark more, which is backed once the cut has it too.
+-- The marks are those of the cut's prefix, with at most one mark more, which is backed once the cut has it too, and in
+-- a checked store was made on the latest versions.
 pub record IsNext (cut : Cut) (part : ℕ) (marks : List Mark) : Type 0 where
   pub mark : Option Mark
   pub added : marks ≡ prefix_at cut part ++ option_to_list mark
   pub backed : (made : Mark) → mark ≡ Some made → IsBacked (marked_cut cut part made) made
+  pub chained : (made : Mark) → mark ≡ Some made → cut.checked ≡ true → extends (prefix_at cut part) made ≡ true

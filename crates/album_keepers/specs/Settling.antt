@@ -6,7 +6,7 @@ use Rattle.album_calls.specs.declared.messages.Body.{Body}
 use Rattle.album_calls.specs.declared.messages.Body.TheVariants as body
 use Rattle.album_calls.specs.declared.messages.Message.{Message}
 use Rattle.album_calls.specs.declared.nodes.Node.TheVariants.{Part}
-use Rattle.album_calls.specs.declared.requests.Request.TheVariants.{Prepare, Commit, Get, Check}
+use Rattle.album_calls.specs.declared.requests.Request.TheVariants.{Prepare, PrepareOn, Commit, Get, Check}
 use Rattle.album_partition.specs.Answers.{after}
 use Rattle.album_partition.specs.Marks.{state_of, is_pending}
 use Rattle.album_partition.specs.Partition.{PartitionState}
@@ -19,6 +19,7 @@ use Rattle.album_terminate.specs.declared.deciding.StampState.TheVariants as sta
 abbrev pub stamps_in : Body → List ℕ
 stamps_in (body.Request (Get item stamps)) = stamps
 stamps_in (body.Request (Prepare stamp writes items)) = []
+stamps_in (body.Request (PrepareOn stamp writes items bases)) = []
 stamps_in (body.Request (Commit stamp)) = []
 stamps_in (body.Request (Check stamp)) = []
 stamps_in (body.Reply reply) = []

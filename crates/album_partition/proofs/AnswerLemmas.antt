@@ -1,5 +1,6 @@
 -- What a message can do, read off the table of answers once: `acts` is what the laws and PartitionLemmas cite.
-use Rattle.std.proofs.Common.{◌≡◌, ◌⊎◌, ℕ, Bool, true, false, ◌==◌, List, Option, Some, None, refl, inl, inr, if◌then◌else◌}
+use Rattle.std.proofs.Common.{◌≡◌, ◌⊎◌, ℕ, Bool, true, false, ◌==◌, List, Option, Some, None, length, refl, inl, inr, if◌then◌else◌}
+use Rattle.std.proofs.lemmas.Bool.{and_parts}
 use Rattle.std.proofs.lemmas.Bool.Decides.{Decides-eqb}
 use Rattle.album_items.specs.ItemIds.{place_of}
 use Rattle.album_items.specs.Openings.{Row}
@@ -11,18 +12,19 @@ use Rattle.album_calls.specs.declared.nodes.Node.{Node}
 use Rattle.album_calls.specs.declared.nodes.Node.TheVariants.{Part, Client}
 use Rattle.album_calls.specs.declared.nodes.Vote.{Vote}
 use Rattle.album_calls.specs.declared.nodes.Vote.TheVariants as vote
-use Rattle.album_calls.specs.declared.requests.Request.TheVariants.{Prepare, Commit, Get, Check}
+use Rattle.album_calls.specs.declared.requests.Request.TheVariants.{Prepare, PrepareOn, Commit, Get, Check}
 use Rattle.album_calls.specs.declared.replies.Reply.{Reply}
 use Rattle.album_calls.specs.declared.replies.Reply.TheVariants as reply
 use Rattle.album_terminate.specs.declared.deciding.StampState.{StampState}
 use Rattle.album_terminate.specs.declared.deciding.StampState.TheVariants as state
 use Rattle.album_partition.specs.declared.marks.Mark.TheVariants.{Prepared, Committed, Discarded}
-use Rattle.album_partition.specs.Answers.{Action, nothing, says, marks, marks_and_says, is_same, prepare_by, on_prepare, commit_by, on_commit, check_by, on_check, get_by, on_get, on_vote_of, on_prepared, on_vote, on_status, on_body, action_of}
-use Rattle.album_partition.specs.Laws.{IsClash}
+use Rattle.album_partition.specs.Answers.{Action, nothing, says, marks, marks_and_says, is_same, prepare_by, prepare_on_by, on_prepare, on_prepare_on, on_request, commit_by, on_commit, check_by, on_check, get_by, on_get, on_vote_of, on_prepared, on_vote, on_status, on_body, action_of}
+use Rattle.album_partition.specs.Laws.{IsClash, AsksFor}
+use Rattle.album_partition.specs.Bases.{are_bases}
 use Rattle.album_partition.specs.Marks.{state_of, is_pending, is_full, items_at}
 use Rattle.album_partition.specs.Partition.{PartitionState, value_at, stamp_for, read_at}
 use Rattle.album_items.specs.Places.{is_placed, lies_at}
-use Rattle.album_partition.specs.Proper.{is_proper}
+use Rattle.album_partition.specs.Proper.{is_proper, is_proper_on}
 use Rattle.album_partition.proofs.StateLemmas.{is_pending_tells}
 use Rattle.album_partition.proofs.TrimLemmas.{read_high}
 
@@ -49,7 +51,7 @@ pub record IsPrepared (p : PartitionState) (b : Body) (e : Action) : Type 0 wher
   pub t : ℕ
   pub ws : List Row
   pub is : List ℕ
-  pub asked : b ≡ body.Request (Prepare t ws is)
+  pub asked : AsksFor p b t ws is
   pub done : e ≡ marks_and_says (Prepared t ws is) (reply.Prepared t)
   pub proper : is_proper p.number p.parts t ws is ≡ true
   pub room : is_full p.limit p.marks ≡ false
@@ -69,6 +71,20 @@ pub record IsRefused (p : PartitionState) (b : Body) (e : Action) : Type 0 where
   pub asked : b ≡ body.Request (Check t)
   pub done : e ≡ marks_and_says (Discarded t) (reply.Status t vote.Never)
   pub some : (t == 0) ≡ false
+  pub room : is_full p.limit p.marks ≡ false
+  pub unknown : state_of p.marks t ≡ state.Unknown
+
+-- a checked Prepare of an unknown stamp, which is made on another version than the latest
+pub record IsRefusedOn (p : PartitionState) (b : Body) (e : Action) : Type 0 where
+  pub t : ℕ
+  pub ws : List Row
+  pub is : List ℕ
+  pub bs : List ℕ
+  pub checked : p.checked ≡ true
+  pub asked : b ≡ body.Request (PrepareOn t ws is bs)
+  pub done : e ≡ marks_and_says (Discarded t) (reply.Discarded t)
+  pub outdated : are_bases p.marks t ws bs ≡ false
+  pub proper : is_proper_on p.number p.parts t ws is bs ≡ true
   pub room : is_full p.limit p.marks ≡ false
   pub unknown : state_of p.marks t ≡ state.Unknown
 
@@ -101,6 +117,7 @@ pub data Acts (p : PartitionState) (from : Node) (b : Body) (e : Action) : Type 
   prepared : IsPrepared p b e → Acts p from b e
   committed : IsCommitted p b e → Acts p from b e
   refused : IsRefused p b e → Acts p from b e
+  outdated : IsRefusedOn p b e → Acts p from b e
   voted_committed : IsVotedCommitted p b e → Acts p from b e
   voted_never : IsVotedNever p b e → Acts p from b e
   voted_prepared : IsVotedPrepared p from b e → Acts p from b e
@@ -108,29 +125,73 @@ pub data Acts (p : PartitionState) (from : Node) (b : Body) (e : Action) : Type 
 -- ---- row by row
 
 prepare_acts : (p : PartitionState) (from : Node) (t : ℕ) (ws : List Row) (is : List ℕ)
-    → is_proper p.number p.parts t ws is ≡ true
+    → p.checked ≡ false → is_proper p.number p.parts t ws is ≡ true
     → (full : Bool) → is_full p.limit p.marks ≡ full
     → (same : Bool) → is_same p.marks t ws is ≡ same
     → (s : StampState) → state_of p.marks t ≡ s
     → Acts p from (body.Request (Prepare t ws is)) (prepare_by full same s t ws is)
-prepare_acts p from t ws is proper true f same g state.Unknown e = said (reply.Full t) refl (f, e)
-prepare_acts p from t ws is proper false f same g state.Unknown e =
-    prepared (record { t = t; ws = ws; is = is; asked = refl; done = refl; proper = proper; room = f; unknown = e })
-prepare_acts p from t ws is proper full f true g state.Pending e = said (reply.Prepared t) refl (inl e)
-prepare_acts p from t ws is proper full f false g state.Pending e = said reply.Clash refl (inr (g, inl e))
-prepare_acts p from t ws is proper full f true g state.Committed e = said (reply.Prepared t) refl (inr e)
-prepare_acts p from t ws is proper full f false g state.Committed e = said reply.Clash refl (inr (g, inr e))
-prepare_acts p from t ws is proper full f same g state.Discarded e = said (reply.Discarded t) refl e
+prepare_acts p from t ws is free proper true f same g state.Unknown e = said (reply.Full t) refl (f, e)
+prepare_acts p from t ws is free proper false f same g state.Unknown e =
+    prepared (record { t = t; ws = ws; is = is; asked = inl (refl, free); done = refl; proper = proper; room = f; unknown = e })
+prepare_acts p from t ws is free proper full f true g state.Pending e = said (reply.Prepared t) refl (inl e)
+prepare_acts p from t ws is free proper full f false g state.Pending e = said reply.Clash refl (inr (inl (g, inl e)))
+prepare_acts p from t ws is free proper full f true g state.Committed e = said (reply.Prepared t) refl (inr e)
+prepare_acts p from t ws is free proper full f false g state.Committed e = said reply.Clash refl (inr (inl (g, inr e)))
+prepare_acts p from t ws is free proper full f same g state.Discarded e = said (reply.Discarded t) refl e
 
 to_prepare_acts : (p : PartitionState) (from : Node) (t : ℕ) (ws : List Row) (is : List ℕ)
-    → Acts p from (body.Request (Prepare t ws is)) (on_prepare p t ws is)
-to_prepare_acts p from t ws is = go (is_proper p.number p.parts t ws is) refl
+    → Acts p from (body.Request (Prepare t ws is)) (on_request p (Prepare t ws is))
+to_prepare_acts p from t ws is = free p.checked refl
   where
-    go : (b : Bool) → is_proper p.number p.parts t ws is ≡ b
+    go : p.checked ≡ false → (b : Bool) → is_proper p.number p.parts t ws is ≡ b
         → Acts p from (body.Request (Prepare t ws is))
         (if b then prepare_by (is_full p.limit p.marks) (is_same p.marks t ws is) (state_of p.marks t) t ws is else says reply.Clash)
-    go true e = prepare_acts p from t ws is e (is_full p.limit p.marks) refl (is_same p.marks t ws is) refl (state_of p.marks t) refl
-    go false e = said reply.Clash refl (inl e)
+    go f true e = prepare_acts p from t ws is f e (is_full p.limit p.marks) refl (is_same p.marks t ws is) refl (state_of p.marks t) refl
+    go f false e = said reply.Clash refl (inl e)
+
+    free : (b : Bool) → p.checked ≡ b
+        → Acts p from (body.Request (Prepare t ws is)) (if b then says reply.Clash else on_prepare p t ws is)
+    free true e = said reply.Clash refl (inr (inr e))
+    free false e = go e (is_proper p.number p.parts t ws is) refl
+
+prepare_on_acts : (p : PartitionState) (from : Node) (t : ℕ) (ws : List Row) (is bs : List ℕ)
+    → p.checked ≡ true → is_proper_on p.number p.parts t ws is bs ≡ true
+    → (full : Bool) → is_full p.limit p.marks ≡ full
+    → (based : Bool) → are_bases p.marks t ws bs ≡ based
+    → (s : StampState) → state_of p.marks t ≡ s
+    → Acts p from (body.Request (PrepareOn t ws is bs)) (prepare_on_by full based s t ws is)
+prepare_on_acts p from t ws is bs checked proper true f based g state.Unknown e = said (reply.Full t) refl (f, e)
+prepare_on_acts p from t ws is bs checked proper false f true g state.Unknown e =
+    prepared (record {
+      t = t;
+      ws = ws;
+      is = is;
+      asked = inr (record { bases = bs; checked = checked; asked = refl; based = g });
+      done = refl;
+      proper = (and_parts (is_proper p.number p.parts t ws is) (length ws == length bs) proper).0;
+      room = f;
+      unknown = e;
+    })
+prepare_on_acts p from t ws is bs checked proper false f false g state.Unknown e =
+    outdated (record { t = t; ws = ws; is = is; bs = bs; checked = checked; asked = refl; done = refl; outdated = g; proper = proper; room = f; unknown = e })
+prepare_on_acts p from t ws is bs checked proper full f based g state.Pending e = said reply.Clash refl (inr (inl (inl e)))
+prepare_on_acts p from t ws is bs checked proper full f based g state.Committed e = said reply.Clash refl (inr (inl (inr e)))
+prepare_on_acts p from t ws is bs checked proper full f based g state.Discarded e = said (reply.Discarded t) refl e
+
+to_prepare_on_acts : (p : PartitionState) (from : Node) (t : ℕ) (ws : List Row) (is bs : List ℕ)
+    → Acts p from (body.Request (PrepareOn t ws is bs)) (on_request p (PrepareOn t ws is bs))
+to_prepare_on_acts p from t ws is bs = checked p.checked refl
+  where
+    go : p.checked ≡ true → (b : Bool) → is_proper_on p.number p.parts t ws is bs ≡ b
+        → Acts p from (body.Request (PrepareOn t ws is bs))
+        (if b then prepare_on_by (is_full p.limit p.marks) (are_bases p.marks t ws bs) (state_of p.marks t) t ws is else says reply.Clash)
+    go c true e = prepare_on_acts p from t ws is bs c e (is_full p.limit p.marks) refl (are_bases p.marks t ws bs) refl (state_of p.marks t) refl
+    go c false e = said reply.Clash refl (inl e)
+
+    checked : (b : Bool) → p.checked ≡ b
+        → Acts p from (body.Request (PrepareOn t ws is bs)) (if b then on_prepare_on p t ws is bs else says reply.Clash)
+    checked true e = go e (is_proper_on p.number p.parts t ws is bs) refl
+    checked false e = said reply.Clash refl (inr (inr e))
 
 commit_acts : (p : PartitionState) (from : Node) (t : ℕ) → (t == 0) ≡ false
     → (s : StampState) → state_of p.marks t ≡ s → Acts p from (body.Request (Commit t)) (commit_by s t)
@@ -201,6 +262,7 @@ status_acts p from t v = go (is_pending (state_of p.marks t)) refl
 
 pub acts : (p : PartitionState) (from : Node) (b : Body) → Acts p from b (on_body p from b)
 acts p from (body.Request (Prepare t ws is)) = to_prepare_acts p from t ws is
+acts p from (body.Request (PrepareOn t ws is bs)) = to_prepare_on_acts p from t ws is bs
 acts p from (body.Request (Commit t)) = to_commit_acts p from t
 acts p from (body.Request (Get item stamps)) = to_get_acts p from item stamps
 acts p from (body.Request (Check t)) = to_check_acts p from t

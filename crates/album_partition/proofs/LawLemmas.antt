@@ -17,7 +17,7 @@ use Rattle.album_calls.specs.declared.nodes.Node.TheVariants.{Part, Client}
 use Rattle.album_calls.specs.declared.nodes.Vote.{Vote}
 use Rattle.album_calls.specs.declared.nodes.Vote.TheVariants as vote
 use Rattle.album_calls.specs.declared.requests.Request.{Request}
-use Rattle.album_calls.specs.declared.requests.Request.TheVariants.{Prepare, Commit, Get, Check}
+use Rattle.album_calls.specs.declared.requests.Request.TheVariants.{Prepare, PrepareOn, Commit, Get, Check}
 use Rattle.album_calls.specs.declared.replies.Reply.{Reply}
 use Rattle.album_calls.specs.declared.replies.Reply.TheVariants as reply
 use Rattle.album_terminate.specs.Deciding.{have_voted}
@@ -29,15 +29,16 @@ use Rattle.album_versions.specs.Best.{best_of}
 use Rattle.album_versions.proofs.Greatest.{best_of-passes, Contains-best_of, All-best_of}
 use Rattle.album_partition.specs.declared.marks.Mark.{Mark}
 use Rattle.album_partition.specs.declared.marks.Mark.TheVariants.{Prepared, Committed, Discarded, Trimmed}
-use Rattle.album_partition.specs.Answers.{Action, nothing, says, get_by, marks, marks_and_says, mark_by, is_same, prepare_by, commit_by, check_by, on_prepare, on_check, on_vote_of, on_vote, on_status, on_request, on_body, action_of, with_action, after, reply_to, answer}
-use Rattle.album_partition.specs.Laws.{IsTrueOf, IsClash, IsReplyTo, IsLatest, IsBest, IsReadAt, IsValueOf, IsReadOf, IsGoneFor, IsChecked, IsCause}
+use Rattle.album_partition.specs.Answers.{Action, nothing, says, get_by, marks, marks_and_says, mark_by, is_same, prepare_by, prepare_on_by, commit_by, check_by, on_prepare, on_prepare_on, on_check, on_vote_of, on_vote, on_status, on_request, on_body, action_of, with_action, after, reply_to, answer}
+use Rattle.album_partition.specs.Laws.{IsTrueOf, IsClash, IsReplyTo, IsLatest, IsBest, IsReadAt, IsValueOf, IsReadOf, IsGoneFor, IsChecked, IsOutdated, IsCause}
+use Rattle.album_partition.specs.Bases.{are_bases}
 use Rattle.album_partition.specs.Marks.{IsPromisedAgainst, is_mark_of, commits, decided, state_of, is_unknown, is_pending, is_full, items_at, version, has_version, committed_stamps, latest}
 use Rattle.album_partition.specs.Partition.{PartitionState, IsPartition, value_at, stamp_for, read_at}
 use Rattle.album_items.specs.Places.{is_placed, lies_at, others_of}
-use Rattle.album_partition.specs.Proper.{is_proper}
+use Rattle.album_partition.specs.Proper.{is_proper, is_proper_on}
 use Rattle.album_partition.specs.Stored.{CanFollow}
 use Rattle.album_partition.specs.Votes.{NotedVote, heard, votes_left, is_on_pending}
-use Rattle.album_partition.proofs.AnswerLemmas.{IsSaid, Acts, idle, said, prepared, committed, refused, voted_committed, voted_never, voted_prepared, acts_here}
+use Rattle.album_partition.proofs.AnswerLemmas.{IsSaid, Acts, idle, said, prepared, committed, refused, outdated, voted_committed, voted_never, voted_prepared, acts_here}
 use Rattle.album_partition.proofs.GrowthLemmas.{full_still}
 use Rattle.album_partition.proofs.ListLemmas.{same_or_not, list_all-contains, any_from_contains, contains_from_any, kept_in, kept_out}
 use Rattle.album_partition.proofs.PartitionLemmas.{same_partition, follow_by, stays_after}
@@ -80,6 +81,9 @@ true_by p from b e (committed a) r f =
     reply_holds p e (marks_and_says (Committed a.t) (reply.Committed a.t)) r (reply.Committed a.t) a.done refl (committed_is_committed p.marks a.t) f
 true_by p from b e (refused a) r f =
     reply_holds p e (marks_and_says (Discarded a.t) (reply.Status a.t vote.Never)) r (reply.Status a.t vote.Never) a.done refl
+    (discarded_is_discarded p.marks a.t (unknown_tells _ _ _ a.unknown).0) f
+true_by p from b e (outdated a) r f =
+    reply_holds p e (marks_and_says (Discarded a.t) (reply.Discarded a.t)) r (reply.Discarded a.t) a.done refl
     (discarded_is_discarded p.marks a.t (unknown_tells _ _ _ a.unknown).0) f
 true_by p from b e (voted_committed a) r f = silent e (marks (Committed a.t)) r a.done refl f
 true_by p from b e (voted_never a) r f = silent e (marks (Discarded a.t)) r a.done refl f
@@ -132,6 +136,7 @@ replies_silent p from (reply.Gone i) = refl
 same_request : (p : PartitionState) (votes : List NotedVote) (from : Node) (q : Request)
     → (on_body (record p { votes = votes }) from (body.Request q)).reply ≡ (on_body p from (body.Request q)).reply
 same_request p votes from (Prepare t ws is) = refl
+same_request p votes from (PrepareOn t ws is bs) = refl
 same_request p votes from (Commit t) = refl
 same_request p votes from (Get item stamps) = refl
 same_request p votes from (Check t) = refl
@@ -250,8 +255,21 @@ cause_by p m e (committed a) mark f =
 cause_by p m e (refused a) mark f =
     marks_by p m e (marks_and_says (Discarded a.t) (reply.Status a.t vote.Never)) (Discarded a.t) mark a.done refl
     (inl (record { asked = a.asked; unknown = a.unknown; room = a.room })) f
+cause_by p m e (outdated a) mark f =
+    marks_by p m e (marks_and_says (Discarded a.t) (reply.Discarded a.t)) (Discarded a.t) mark a.done refl
+    (inr (inl (record {
+      writes = a.ws;
+      items = a.is;
+      bases = a.bs;
+      asked = a.asked;
+      checked = a.checked;
+      outdated = a.outdated;
+      proper = a.proper;
+      unknown = a.unknown;
+      room = a.room;
+    }))) f
 cause_by p m e (voted_committed a) mark f = marks_by p m e (marks (Committed a.t)) (Committed a.t) mark a.done refl (a.pending, inr (inl a.voted)) f
-cause_by p m e (voted_never a) mark f = marks_by p m e (marks (Discarded a.t)) (Discarded a.t) mark a.done refl (inr (a.pending, a.voted)) f
+cause_by p m e (voted_never a) mark f = marks_by p m e (marks (Discarded a.t)) (Discarded a.t) mark a.done refl (inr (inr (a.pending, a.voted))) f
 cause_by p m e (voted_prepared a) mark f =
     last_vote p m a.part a.t mark a.sender a.voted a.due a.pending
     (have_voted (a.part ∷ heard p.votes a.t) (others_of p.number p.parts (items_at p.marks a.t))) refl
@@ -282,6 +300,8 @@ promised_by p from b e t (refused a) unknown f =
       discarded = ap (λ (x : Action). p.marks ++ option_to_list x.mark) a.done ∙ ap (λ (u : ℕ). p.marks ++ Discarded u ∷ []) same;
       unprepared = (unknown_tells _ _ _ unknown).2;
     }
+promised_by p from b e t (outdated a) unknown f =
+    absurd (let g : Some (reply.Discarded a.t) ≡ Some (reply.Status t vote.Never) = subst (λ (x : Action). x.reply ≡ Some (reply.Status t vote.Never)) a.done f in cc)
 promised_by p from b e t (voted_committed a) unknown f = silent e (marks (Committed a.t)) (reply.Status t vote.Never) a.done refl f
 promised_by p from b e t (voted_never a) unknown f = silent e (marks (Discarded a.t)) (reply.Status t vote.Never) a.done refl f
 promised_by p from b e t (voted_prepared a) unknown f = silent e (on_vote_of p a.part a.t) (reply.Status t vote.Never) a.done refl f
@@ -296,7 +316,7 @@ never_is_a_promise p m t unknown f = promised_by p m.from m.body (action_of p m)
 abbrev ComesWithMark : Reply → Type 0
 ComesWithMark (reply.Prepared t) = Unit {0}
 ComesWithMark (reply.Committed t) = Unit {0}
-ComesWithMark (reply.Discarded t) = ⊥
+ComesWithMark (reply.Discarded t) = Unit {0}
 ComesWithMark (reply.Version i t v) = ⊥
 ComesWithMark (reply.Status t v) = Unit {0}
 ComesWithMark (reply.NotPrepared t) = ⊥
@@ -316,6 +336,8 @@ only_said p from b e r alone (committed a) f =
     let same : (reply.Committed a.t) ≡ r = (let g : Some (reply.Committed a.t) ≡ Some r = subst (λ (x : Action). x.reply ≡ Some r) a.done f in cc) in absurd (alone (subst ComesWithMark same tt))
 only_said p from b e r alone (refused a) f =
     let same : (reply.Status a.t vote.Never) ≡ r = (let g : Some (reply.Status a.t vote.Never) ≡ Some r = subst (λ (x : Action). x.reply ≡ Some r) a.done f in cc) in absurd (alone (subst ComesWithMark same tt))
+only_said p from b e r alone (outdated a) f =
+    let same : (reply.Discarded a.t) ≡ r = (let g : Some (reply.Discarded a.t) ≡ Some r = subst (λ (x : Action). x.reply ≡ Some r) a.done f in cc) in absurd (alone (subst ComesWithMark same tt))
 only_said p from b e r alone (voted_committed a) f = silent e (marks (Committed a.t)) r a.done refl f
 only_said p from b e r alone (voted_never a) f = silent e (marks (Discarded a.t)) r a.done refl f
 only_said p from b e r alone (voted_prepared a) f = silent e (on_vote_of p a.part a.t) r a.done refl f
@@ -355,7 +377,8 @@ pending_cause p m (Prepared s ws is) t full cause own = absurd (let room = cause
 pending_cause p m (Committed s) t full cause own = subst (λ (u : ℕ). state_of p.marks u ≡ state.Pending) ((Decides-eqb s t).0 own) cause.0
 pending_cause p m (Discarded s) t full cause own =
     subst (λ (u : ℕ). state_of p.marks u ≡ state.Pending) ((Decides-eqb s t).0 own)
-    (⊎_elim (λ (a : IsChecked p m s). absurd (let room = a.room in cc)) (λ b. b.0) cause)
+    (⊎_elim (λ (a : IsChecked p m s). absurd (let room = a.room in cc))
+    (⊎_elim (λ (a : IsOutdated p m s). absurd (let room = a.room in cc)) (λ b. b.0)) cause)
 pending_cause p m (Trimmed i) t full cause own = absurd (cc)
 
 pub still_unknown : (p : PartitionState) (m : Message) (t : ℕ) → is_full p.limit p.marks ≡ true → state_of p.marks t ≡ state.Unknown
@@ -383,7 +406,7 @@ committed_is (Committed s ∷ marks) t = ap (λ (b : Bool). (s == t) || b) (comm
 state_committed : (marks : List Mark) (t : ℕ) → list_any (commits t) marks ≡ true → state_of marks t ≡ state.Committed
 state_committed marks t e = rw e refl
 
-read_latest : (marks : List Mark) (item : ℕ) → IsLatest marks item (latest marks item)
+pub read_latest : (marks : List Mark) (item : ℕ) → IsLatest marks item (latest marks item)
 read_latest marks item =
     record {
       committed = λ some. state_committed marks (latest marks item)
@@ -474,6 +497,14 @@ prepare_replies full true state.Committed t ws is = refl
 prepare_replies full false state.Committed t ws is = refl
 prepare_replies full same state.Discarded t ws is = refl
 
+prepare_on_replies : (full based : Bool) (s : StampState) (t : ℕ) (ws : List Row) (is : List ℕ) → is_some (prepare_on_by full based s t ws is).reply ≡ true
+prepare_on_replies true based state.Unknown t ws is = refl
+prepare_on_replies false true state.Unknown t ws is = refl
+prepare_on_replies false false state.Unknown t ws is = refl
+prepare_on_replies full based state.Pending t ws is = refl
+prepare_on_replies full based state.Committed t ws is = refl
+prepare_on_replies full based state.Discarded t ws is = refl
+
 commit_replies : (s : StampState) (t : ℕ) → is_some (commit_by s t).reply ≡ true
 commit_replies state.Unknown t = refl
 commit_replies state.Pending t = refl
@@ -494,8 +525,13 @@ either false d e f g = g
 
 request_replies : (p : PartitionState) (q : Request) → is_some (on_request p q).reply ≡ true
 request_replies p (Prepare t ws is) =
-    either (is_proper p.number p.parts t ws is) (prepare_by (is_full p.limit p.marks) (is_same p.marks t ws is) (state_of p.marks t) t ws is) (says reply.Clash)
-    (prepare_replies (is_full p.limit p.marks) (is_same p.marks t ws is) (state_of p.marks t) t ws is) refl
+    either p.checked (says reply.Clash) (on_prepare p t ws is) refl
+    (either (is_proper p.number p.parts t ws is) (prepare_by (is_full p.limit p.marks) (is_same p.marks t ws is) (state_of p.marks t) t ws is) (says reply.Clash)
+    (prepare_replies (is_full p.limit p.marks) (is_same p.marks t ws is) (state_of p.marks t) t ws is) refl)
+request_replies p (PrepareOn t ws is bs) =
+    either p.checked (on_prepare_on p t ws is bs) (says reply.Clash)
+    (either (is_proper_on p.number p.parts t ws is bs) (prepare_on_by (is_full p.limit p.marks) (are_bases p.marks t ws bs) (state_of p.marks t) t ws is) (says reply.Clash)
+    (prepare_on_replies (is_full p.limit p.marks) (are_bases p.marks t ws bs) (state_of p.marks t) t ws is) refl) refl
 request_replies p (Commit t) = either (t == 0) (says reply.Clash) (commit_by (state_of p.marks t) t) refl (commit_replies (state_of p.marks t) t)
 request_replies p (Get item stamps) =
     either (is_placed p.number p.parts item) (get_by p item (read_at p.marks item stamps)) (says reply.Clash) (get_replies (read_at p.marks item stamps)) refl

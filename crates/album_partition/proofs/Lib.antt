@@ -7,6 +7,7 @@ pub mod VoteLemmas
 pub mod StandingLemmas
 pub mod HistoryLemmas
 pub mod VersionLemmas
+pub mod BaseLemmas
 pub mod TrimLemmas
 pub mod StoredLemmas
 pub mod FirstValueLemmas
@@ -15,3 +16,4 @@ pub mod PartitionLemmas
 pub mod OpeningLemmas
 pub mod GrowthLemmas
 pub mod LawLemmas
+pub mod ChainLemmas

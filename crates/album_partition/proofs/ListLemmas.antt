@@ -137,7 +137,7 @@ contains_from_any (x ∷ xs) t e = go (x == t) refl e (contains_from_any xs t)
 
 -- ---- what a filter keeps
 
-one_before : {X : Type 0} (x t : X) (xs : List X) → Contains xs t → Contains (x ∷ xs) t
+pub one_before : {X : Type 0} (x t : X) (xs : List X) → Contains xs t → Contains (x ∷ xs) t
 one_before x t xs (k, less, at) = (suc k, omega arith, at)
 
 pub kept_in : {X : Type 0} (test : X → Bool) (xs : List X) (t : X) → Contains (filter test xs) t → (test t ≡ true) × Contains xs t

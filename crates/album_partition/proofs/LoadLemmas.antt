@@ -112,7 +112,7 @@ filter_some test t e (s ∷ ts) (suc k, l, same) = go (test s) (filter_some test
 later : (s t : ℕ) (ts : List ℕ) → Contains ts t → Contains (s ∷ ts) t
 later s t ts n = (suc n.0, omega (arith, n.1), n.2)
 
-prepared_there : (t : ℕ) (marks : List Mark) → list_any (prepares t) marks ≡ true → Contains (prepared_stamps marks) t
+pub prepared_there : (t : ℕ) (marks : List Mark) → list_any (prepares t) marks ≡ true → Contains (prepared_stamps marks) t
 prepared_there t [] e = absurd (cc)
 prepared_there t (Prepared u ws is ∷ marks) e = go (u == t) refl e (λ g. prepared_there t marks g)
   where

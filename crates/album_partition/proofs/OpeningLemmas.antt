@@ -108,22 +108,22 @@ may_be_opened o part is =
 
 -- each partition of an opening that passes its check opens
 pub opened_so : (o : Opening) (part : ℕ) → is_opening o ≡ true → part < o.parts
-    → opened part o.parts (rows_placed_at part o.parts o.items) o.limit ≡ Ok (first_partition o.parts o.limit o.items part)
+    → opened part o.parts (rows_placed_at part o.parts o.items) o.limit ≡ Ok (first_partition false o.parts o.limit o.items part)
 opened_so o part is here =
     let a = lt-ltb part o.parts here in
     let b = may_be_opened o part is in
-    ap (λ (t : Bool). if not t then Err NoSuchPart else if not (may_open part o.parts o.limit (rows_placed_at part o.parts o.items)) then Err BadOpening else Ok (first_partition o.parts o.limit o.items part)) a
-    ∙ ap (λ (t : Bool). if not t then Err BadOpening else Ok (first_partition o.parts o.limit o.items part)) b
+    ap (λ (t : Bool). if not t then Err NoSuchPart else if not (may_open part o.parts o.limit (rows_placed_at part o.parts o.items)) then Err BadOpening else Ok (first_partition false o.parts o.limit o.items part)) a
+    ∙ ap (λ (t : Bool). if not t then Err BadOpening else Ok (first_partition false o.parts o.limit o.items part)) b
 
 -- ---- one after the other
 
 pub one_more :
     (o : Opening) (n : ℕ) (ps : List PartitionState)
-    → ps ≡ map (first_partition o.parts o.limit o.items) (range_with_len 0 n)
-    → ps ++ first_partition o.parts o.limit o.items n ∷ []
-    ≡ map (first_partition o.parts o.limit o.items) (range_with_len 0 (n + 1))
+    → ps ≡ map (first_partition o.checked o.parts o.limit o.items) (range_with_len 0 n)
+    → ps ++ first_partition o.checked o.parts o.limit o.items n ∷ []
+    ≡ map (first_partition o.checked o.parts o.limit o.items) (range_with_len 0 (n + 1))
 one_more o n ps e =
-    let first : ℕ → PartitionState = first_partition o.parts o.limit o.items in
+    let first : ℕ → PartitionState = first_partition o.checked o.parts o.limit o.items in
     ap (λ (z : List PartitionState). z ++ first n ∷ []) e ∙ sym (map-range_with_len_more first 0 n n (zero_plus n))
   where
     zero_plus : (n : ℕ) → 0 + n ≡ n

@@ -28,7 +28,9 @@ use Rattle.album_partition.specs.Proper.{are_rows_of, are_own_writes, is_proper,
 use Rattle.album_partition.specs.Stored.{CanFollow}
 use Rattle.album_partition.specs.Trims.{trim_mark, by_mark, on_trim, with_mark, trimmed}
 use Rattle.album_partition.specs.Votes.{NotedVote, has_vote, new_vote, heard, votes_left, AreVotes}
-use Rattle.album_partition.proofs.AnswerLemmas.{Acts, idle, said, prepared, committed, refused, voted_committed, voted_never, voted_prepared, acts, acts_here}
+use Rattle.album_partition.proofs.AnswerLemmas.{Acts, idle, said, prepared, committed, refused, outdated, voted_committed, voted_never, voted_prepared, acts, acts_here}
+use Rattle.album_partition.specs.Bases.{extends}
+use Rattle.album_partition.proofs.BaseLemmas.{is_chained-push, asked_extends, proper_of}
 use Rattle.album_partition.proofs.LegalLemmas.{is_legal-push}
 use Rattle.album_partition.proofs.ListLemmas.{list_all-push, list_all-any}
 use Rattle.album_partition.proofs.LoadLemmas.{prepared_counts, committed_counts, discarded_counts, refused_counts, trimmed_counts}
@@ -42,6 +44,7 @@ record Fits (p : PartitionState) (mark : Mark) : Type 0 where
   follows : may_follow p.marks mark ≡ true
   room : load (p.marks ++ mark ∷ []) ≤ p.limit
   proper : is_proper_mark p.number p.parts mark ≡ true
+  chained : p.checked ≡ true → extends p.marks mark ≡ true
 
 length-push : (marks : List Mark) (mark : Mark) → length (marks ++ mark ∷ []) ≡ length marks + 1
 length-push marks mark = length-append marks (mark ∷ [])
@@ -51,12 +54,12 @@ not_full limit marks e = (let fits : limit < load marks + 2 → ⊥ = λ (less :
 
 fits_prepare : (p : PartitionState) (t : ℕ) (ws : List Row) (is : List ℕ)
     → is_proper p.number p.parts t ws is ≡ true → is_full p.limit p.marks ≡ false
-    → state_of p.marks t ≡ state.Unknown → Fits p (Prepared t ws is)
-fits_prepare p t ws is proper room unknown =
+    → state_of p.marks t ≡ state.Unknown → (p.checked ≡ true → extends p.marks (Prepared t ws is) ≡ true) → Fits p (Prepared t ws is)
+fits_prepare p t ws is proper room unknown based =
     let space : load p.marks + 2 ≤ p.limit = not_full p.limit p.marks room in
     let one : length (p.marks ++ Prepared t ws is ∷ []) ≡ length p.marks + 1 = length-push p.marks (Prepared t ws is) in
     let more : length (pending_stamps (p.marks ++ Prepared t ws is ∷ [])) ≡ length (pending_stamps p.marks) + 1 = prepared_counts p.marks t ws is unknown in
-    record { follows = rw unknown refl; room = omega arith; proper = proper }
+    record { follows = rw unknown refl; room = omega arith; proper = proper; chained = based }
 
 fits_refusal : (p : PartitionState) (t : ℕ)
     → (t == 0) ≡ false → is_full p.limit p.marks ≡ false → state_of p.marks t ≡ state.Unknown → Fits p (Discarded t)
@@ -64,7 +67,7 @@ fits_refusal p t some room unknown =
     let space : load p.marks + 2 ≤ p.limit = not_full p.limit p.marks room in
     let one : length (p.marks ++ Discarded t ∷ []) ≡ length p.marks + 1 = length-push p.marks (Discarded t) in
     let same : length (pending_stamps (p.marks ++ Discarded t ∷ [])) ≡ length (pending_stamps p.marks) = refused_counts p.marks t unknown in
-    record { follows = rw unknown refl; room = omega arith; proper = ap not some }
+    record { follows = rw unknown refl; room = omega arith; proper = ap not some; chained = λ checked. refl }
 
 fits_commit : (p : PartitionState) (t : ℕ) → IsPartition p
     → (t == 0) ≡ false → state_of p.marks t ≡ state.Pending → Fits p (Committed t)
@@ -72,7 +75,7 @@ fits_commit p t h some pending =
     let room : load p.marks ≤ p.limit = h.room in
     let one : length (p.marks ++ Committed t ∷ []) ≡ length p.marks + 1 = length-push p.marks (Committed t) in
     let fewer : length (pending_stamps (p.marks ++ Committed t ∷ [])) + 1 ≡ length (pending_stamps p.marks) = committed_counts p.marks t h.legal pending in
-    record { follows = rw pending refl; room = omega arith; proper = ap not some }
+    record { follows = rw pending refl; room = omega arith; proper = ap not some; chained = λ checked. refl }
 
 fits_discard : (p : PartitionState) (t : ℕ) → IsPartition p
     → (t == 0) ≡ false → state_of p.marks t ≡ state.Pending → Fits p (Discarded t)
@@ -80,14 +83,14 @@ fits_discard p t h some pending =
     let room : load p.marks ≤ p.limit = h.room in
     let one : length (p.marks ++ Discarded t ∷ []) ≡ length p.marks + 1 = length-push p.marks (Discarded t) in
     let fewer : length (pending_stamps (p.marks ++ Discarded t ∷ [])) + 1 ≡ length (pending_stamps p.marks) = discarded_counts p.marks t h.legal pending in
-    record { follows = rw pending refl; room = omega arith; proper = ap not some }
+    record { follows = rw pending refl; room = omega arith; proper = ap not some; chained = λ checked. refl }
 
 fits_trim : (p : PartitionState) (i : ℕ) → is_placed p.number p.parts i ≡ true → is_full p.limit p.marks ≡ false → Fits p (Trimmed i)
 fits_trim p i placed room =
     let space : load p.marks + 2 ≤ p.limit = not_full p.limit p.marks room in
     let one : length (p.marks ++ Trimmed i ∷ []) ≡ length p.marks + 1 = length-push p.marks (Trimmed i) in
     let same : length (pending_stamps (p.marks ++ Trimmed i ∷ [])) ≡ length (pending_stamps p.marks) = trimmed_counts p.marks i in
-    record { follows = refl; room = omega arith; proper = placed }
+    record { follows = refl; room = omega arith; proper = placed; chained = λ checked. refl }
 
 -- a partition that makes a mark that fits is still a partition
 stays_with : (p : PartitionState) (mark : Mark) → IsPartition p → Fits p mark
@@ -102,6 +105,7 @@ stays_with p mark h fits =
       legal = is_legal-push p.marks mark h.legal fits.follows;
       proper = list_all-push (is_proper_mark p.number p.parts) p.marks mark h.proper fits.proper;
       votes = votes_with_mark p.number p.parts p.marks p.votes mark fits.follows h.votes;
+      chained = λ checked. is_chained-push p.marks mark (h.chained checked) (fits.chained checked);
     }
 
 -- and the mark can be stored
@@ -123,6 +127,10 @@ can_store p mark h fits =
         (and_parts (has_single_rows ws) _ (and_parts (has_single_rows ws && _) _ rows).0).0
 
 -- ---- no pending stamp is 0
+
+proper_some : (number parts t : ℕ) (ws : List Row) (is : List ℕ) → is_proper number parts t ws is ≡ true → (t == 0) ≡ false
+proper_some number parts t ws is e =
+    not-true (t == 0) (and_parts (not (t == 0)) (are_items is) (and_parts (not (t == 0) && are_items is) (are_own_writes number parts ws is) e).0).0
 
 proper_stamp : (number parts : ℕ) (mark : Mark) → is_proper_mark number parts mark ≡ true → is_mark_of 0 mark ≡ false
 proper_stamp number parts (Committed t) e = not-true (t == 0) e
@@ -174,7 +182,7 @@ unchanged p h = subst IsPartition (sym (same_partition p)) h
 with_votes : (p : PartitionState) (votes : List NotedVote) → IsPartition p
     → AreVotes p.number p.parts p.marks votes → IsPartition (record p { votes = votes })
 with_votes p votes h are =
-    record { some = h.some; few = h.few; here = h.here; limit = h.limit; room = h.room; legal = h.legal; proper = h.proper; votes = are }
+    record { some = h.some; few = h.few; here = h.here; limit = h.limit; room = h.room; legal = h.legal; proper = h.proper; votes = are; chained = h.chained }
 
 -- one that waits for others is noted
 waits : (p : PartitionState) (part t : ℕ) → IsPartition p → state_of p.marks t ≡ state.Pending
@@ -219,13 +227,16 @@ stays_by p from b e h (idle is) = subst (λ (action : Action). IsPartition (with
 stays_by p from b e h (said r is true_of) = subst (λ (action : Action). IsPartition (with_action p action)) (sym is) (unchanged p h)
 stays_by p from b e h (prepared a) =
     subst (λ (action : Action). IsPartition (with_action p action)) (sym a.done)
-    (marked p (Prepared a.t a.ws a.is) (stays_with p (Prepared a.t a.ws a.is) h (fits_prepare p a.t a.ws a.is a.proper a.room a.unknown)))
+    (marked p (Prepared a.t a.ws a.is) (stays_with p (Prepared a.t a.ws a.is) h (fits_prepare p a.t a.ws a.is a.proper a.room a.unknown (asked_extends p b a.t a.ws a.is a.asked))))
 stays_by p from b e h (committed a) =
     subst (λ (action : Action). IsPartition (with_action p action)) (sym a.done)
     (marked p (Committed a.t) (stays_with p (Committed a.t) h (fits_commit p a.t h a.some a.pending)))
 stays_by p from b e h (refused a) =
     subst (λ (action : Action). IsPartition (with_action p action)) (sym a.done)
     (marked p (Discarded a.t) (stays_with p (Discarded a.t) h (fits_refusal p a.t a.some a.room a.unknown)))
+stays_by p from b e h (outdated a) =
+    subst (λ (action : Action). IsPartition (with_action p action)) (sym a.done)
+    (marked p (Discarded a.t) (stays_with p (Discarded a.t) h (fits_refusal p a.t (proper_some p.number p.parts a.t a.ws a.is (proper_of p.number p.parts a.t a.ws a.is a.bs a.proper)) a.room a.unknown)))
 stays_by p from b e h (voted_committed a) =
     subst (λ (action : Action). IsPartition (with_action p action)) (sym a.done)
     (marked p (Committed a.t) (stays_with p (Committed a.t) h (fits_commit p a.t h (some_stamp p a.t h a.pending) a.pending)))
@@ -245,9 +256,11 @@ pub follow_by : (p : PartitionState) (from : Node) (b : Body) (e : Action) → I
 follow_by p from b e h (idle is) = rw is tt
 follow_by p from b e h (said r is true_of) = rw is tt
 follow_by p from b e h (prepared a) =
-    rw a.done (can_store p (Prepared a.t a.ws a.is) h (fits_prepare p a.t a.ws a.is a.proper a.room a.unknown))
+    rw a.done (can_store p (Prepared a.t a.ws a.is) h (fits_prepare p a.t a.ws a.is a.proper a.room a.unknown (asked_extends p b a.t a.ws a.is a.asked)))
 follow_by p from b e h (committed a) = rw a.done (can_store p (Committed a.t) h (fits_commit p a.t h a.some a.pending))
 follow_by p from b e h (refused a) = rw a.done (can_store p (Discarded a.t) h (fits_refusal p a.t a.some a.room a.unknown))
+follow_by p from b e h (outdated a) =
+    rw a.done (can_store p (Discarded a.t) h (fits_refusal p a.t (proper_some p.number p.parts a.t a.ws a.is (proper_of p.number p.parts a.t a.ws a.is a.bs a.proper)) a.room a.unknown))
 follow_by p from b e h (voted_committed a) = rw a.done (can_store p (Committed a.t) h (fits_commit p a.t h (some_stamp p a.t h a.pending) a.pending))
 follow_by p from b e h (voted_never a) = rw a.done (can_store p (Discarded a.t) h (fits_discard p a.t h (some_stamp p a.t h a.pending) a.pending))
 follow_by p from b e h (voted_prepared a) = rw a.done (decided _)
@@ -280,6 +293,7 @@ opens number parts limit items here may =
       legal = refl;
       proper = refl;
       votes = record { once = refl; due = refl; pending = refl; open_still = λ t pending voted. absurd (cc) };
+      chained = λ checked. refl;
     }
 
 pub opened_is : (number parts limit : ℕ) (items : List Row) (p : PartitionState) → opened number parts items limit ≡ Ok p → IsPartition p

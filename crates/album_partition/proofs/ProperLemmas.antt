@@ -246,7 +246,7 @@ rows_counted number parts items rows single =
 -- ---- the writes of a Prepare that can be followed
 
 -- the items that rows give a value are those that have a row
-has_value : (rows : List Row) (item : ℕ) → is_some (value_in rows item) ≡ has_row rows item
+pub has_value : (rows : List Row) (item : ℕ) → is_some (value_in rows item) ≡ has_row rows item
 has_value [] item = refl
 has_value (row ∷ rows) item = go (row.0 == item) (has_value rows item)
   where

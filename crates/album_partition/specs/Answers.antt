@@ -12,7 +12,7 @@ use Rattle.album_calls.specs.declared.nodes.Node.TheVariants.{Part, Client}
 use Rattle.album_calls.specs.declared.nodes.Vote.{Vote}
 use Rattle.album_calls.specs.declared.nodes.Vote.TheVariants as vote
 use Rattle.album_calls.specs.declared.requests.Request.{Request}
-use Rattle.album_calls.specs.declared.requests.Request.TheVariants.{Prepare, Commit, Get, Check}
+use Rattle.album_calls.specs.declared.requests.Request.TheVariants.{Prepare, PrepareOn, Commit, Get, Check}
 use Rattle.album_calls.specs.declared.replies.Reply.{Reply}
 use Rattle.album_calls.specs.declared.replies.Reply.TheVariants as reply
 use Rattle.album_terminate.specs.Deciding.{decision_of}
@@ -22,10 +22,11 @@ use Rattle.album_terminate.specs.declared.deciding.StampState.{StampState}
 use Rattle.album_terminate.specs.declared.deciding.StampState.TheVariants as state
 use Rattle.album_partition.specs.declared.marks.Mark.{Mark}
 use Rattle.album_partition.specs.declared.marks.Mark.TheVariants as mark
+use Rattle.album_partition.specs.Bases.{are_bases}
 use Rattle.album_partition.specs.Marks.{decided, state_of, is_pending, is_full, writes_at, items_at}
 use Rattle.album_partition.specs.Partition.{PartitionState, value_at, read_at}
 use Rattle.album_items.specs.Places.{is_placed, lies_at, others_of}
-use Rattle.album_partition.specs.Proper.{is_proper}
+use Rattle.album_partition.specs.Proper.{is_proper, is_proper_on}
 use Rattle.album_partition.specs.Votes.{NotedVote, new_vote, heard, votes_left}
 
 -- what a message does: the mark that it makes, the vote that is noted, and the reply
@@ -70,6 +71,28 @@ on_prepare partition stamp writes items =
     then prepare_by
     (is_full partition.limit partition.marks)
     (is_same partition.marks stamp writes items)
+    (state_of partition.marks stamp) stamp writes items
+    else says reply.Clash
+
+-- ---- a checked Prepare
+
+-- What it does, by whether the partition is full, whether its bases are the latest versions, and the stamp's state.
+-- Where they aren't, the stamp is promised against, as by a Check. It is sent once: a second one clashes.
+abbrev pub prepare_on_by : Bool → Bool → StampState → ℕ → List Row → List ℕ → Action
+prepare_on_by full based state.Unknown stamp writes items =
+    if full then says (reply.Full stamp)
+    else if based then marks_and_says (mark.Prepared stamp writes items) (reply.Prepared stamp)
+    else marks_and_says (mark.Discarded stamp) (reply.Discarded stamp)
+prepare_on_by full based state.Pending stamp writes items = says reply.Clash
+prepare_on_by full based state.Committed stamp writes items = says reply.Clash
+prepare_on_by full based state.Discarded stamp writes items = says (reply.Discarded stamp)
+
+abbrev pub on_prepare_on : PartitionState → ℕ → List Row → List ℕ → List ℕ → Action
+on_prepare_on partition stamp writes items bases =
+    if is_proper_on partition.number partition.parts stamp writes items bases
+    then prepare_on_by
+    (is_full partition.limit partition.marks)
+    (are_bases partition.marks stamp writes bases)
     (state_of partition.marks stamp) stamp writes items
     else says reply.Clash
 
@@ -159,7 +182,10 @@ on_status partition from stamp vote =
 -- ---- a message
 
 abbrev pub on_request : PartitionState → Request → Action
-on_request partition (Prepare stamp writes items) = on_prepare partition stamp writes items
+on_request partition (Prepare stamp writes items) =
+    if partition.checked then says reply.Clash else on_prepare partition stamp writes items
+on_request partition (PrepareOn stamp writes items bases) =
+    if partition.checked then on_prepare_on partition stamp writes items bases else says reply.Clash
 on_request partition (Commit stamp) = on_commit partition stamp
 on_request partition (Get item stamps) = on_get partition item stamps
 on_request partition (Check stamp) = on_check partition stamp

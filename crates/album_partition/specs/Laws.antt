@@ -8,17 +8,18 @@ use Rattle.album_calls.specs.declared.messages.Body.TheVariants as body
 use Rattle.album_calls.specs.declared.messages.Message.{Message}
 use Rattle.album_calls.specs.declared.nodes.Node.TheVariants.{Part}
 use Rattle.album_calls.specs.declared.nodes.Vote.TheVariants as vote
-use Rattle.album_calls.specs.declared.requests.Request.TheVariants.{Prepare, Commit, Get, Check}
+use Rattle.album_calls.specs.declared.requests.Request.TheVariants.{Prepare, PrepareOn, Commit, Get, Check}
 use Rattle.album_calls.specs.declared.replies.Reply.{Reply}
 use Rattle.album_calls.specs.declared.replies.Reply.TheVariants as reply
 use Rattle.album_terminate.specs.declared.deciding.StampState.TheVariants as state
 use Rattle.album_partition.specs.declared.marks.Mark.{Mark}
 use Rattle.album_partition.specs.declared.marks.Mark.TheVariants.{Prepared, Committed, Discarded, Trimmed}
 use Rattle.album_partition.specs.Answers.{is_same}
+use Rattle.album_partition.specs.Bases.{are_bases}
 use Rattle.album_partition.specs.Marks.{state_of, is_full, items_at, first_value, version, has_version, floor, kept_version, is_legal}
 use Rattle.album_partition.specs.Partition.{PartitionState}
 use Rattle.album_items.specs.Places.{lies_at, others_of}
-use Rattle.album_partition.specs.Proper.{is_proper}
+use Rattle.album_partition.specs.Proper.{is_proper, is_proper_on}
 use Rattle.album_partition.specs.Votes.{heard}
 
 -- ---- what a reply means
@@ -46,6 +47,11 @@ IsClash partition (body.Request (Prepare stamp writes items)) =
     (is_proper partition.number partition.parts stamp writes items ≡ false)
     ⊎ ((is_same partition.marks stamp writes items ≡ false)
     × ((state_of partition.marks stamp ≡ state.Pending) ⊎ (state_of partition.marks stamp ≡ state.Committed)))
+    ⊎ (partition.checked ≡ true)
+IsClash partition (body.Request (PrepareOn stamp writes items bases)) =
+    (is_proper_on partition.number partition.parts stamp writes items bases ≡ false)
+    ⊎ ((state_of partition.marks stamp ≡ state.Pending) ⊎ (state_of partition.marks stamp ≡ state.Committed))
+    ⊎ (partition.checked ≡ false)
 IsClash partition (body.Request (Commit stamp)) = stamp ≡ 0
 IsClash partition (body.Request (Get item stamps)) = place_of partition.parts item ≢ partition.number
 IsClash partition (body.Request (Check stamp)) = stamp ≡ 0
@@ -98,10 +104,24 @@ pub record IsGoneFor (marks : List Mark) (message : Message) (item : ℕ) : Type
 
 -- ---- why a mark is made
 
+-- a checked Prepare at a partition that is checked, whose bases are the latest versions
+pub record IsBased
+    (partition : PartitionState) (what : Body) (stamp : ℕ) (writes : List Row) (items : List ℕ) : Type 0 where
+  pub bases : List ℕ
+  pub checked : partition.checked ≡ true
+  pub asked : what ≡ body.Request (PrepareOn stamp writes items bases)
+  pub based : are_bases partition.marks stamp writes bases ≡ true
+
+-- a Prepare at a partition that is not checked, or a checked one at one that is
+abbrev pub AsksFor : PartitionState → Body → ℕ → List Row → List ℕ → Type 0
+AsksFor partition what stamp writes items =
+    ((what ≡ body.Request (Prepare stamp writes items)) × (partition.checked ≡ false))
+    ⊎ IsBased partition what stamp writes items
+
 -- a Prepare of an unknown stamp with these writes and items, which can be followed, and for which there is room
 pub record IsAsked
     (partition : PartitionState) (message : Message) (stamp : ℕ) (writes : List Row) (items : List ℕ) : Type 0 where
-  pub asked : message.body ≡ body.Request (Prepare stamp writes items)
+  pub asked : AsksFor partition message.body stamp writes items
   pub unknown : state_of partition.marks stamp ≡ state.Unknown
   pub proper : is_proper partition.number partition.parts stamp writes items ≡ true
   pub room : is_full partition.limit partition.marks ≡ false
@@ -109,6 +129,19 @@ pub record IsAsked
 -- a Check of an unknown stamp, for whose mark there is room
 pub record IsChecked (partition : PartitionState) (message : Message) (stamp : ℕ) : Type 0 where
   pub asked : message.body ≡ body.Request (Check stamp)
+  pub unknown : state_of partition.marks stamp ≡ state.Unknown
+  pub room : is_full partition.limit partition.marks ≡ false
+
+-- a checked Prepare of an unknown stamp at a partition that is checked: one of its bases is not the latest version, or
+-- another version is pending
+pub record IsOutdated (partition : PartitionState) (message : Message) (stamp : ℕ) : Type 0 where
+  pub writes : List Row
+  pub items : List ℕ
+  pub bases : List ℕ
+  pub asked : message.body ≡ body.Request (PrepareOn stamp writes items bases)
+  pub checked : partition.checked ≡ true
+  pub outdated : are_bases partition.marks stamp writes bases ≡ false
+  pub proper : is_proper_on partition.number partition.parts stamp writes items bases ≡ true
   pub unknown : state_of partition.marks stamp ≡ state.Unknown
   pub room : is_full partition.limit partition.marks ≡ false
 
@@ -130,6 +163,7 @@ IsCause partition message (Committed stamp) =
     ⊎ ((message.body ≡ body.Reply (reply.Status stamp vote.Committed)) ⊎ IsLastVote partition message stamp))
 IsCause partition message (Discarded stamp) =
     IsChecked partition message stamp
+    ⊎ IsOutdated partition message stamp
     ⊎ ((state_of partition.marks stamp ≡ state.Pending)
     × (message.body ≡ body.Reply (reply.Status stamp vote.Never)))
 IsCause partition message (Trimmed item) = ⊥

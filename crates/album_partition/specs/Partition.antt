@@ -1,5 +1,5 @@
 -- What a partition is seen as, what it opens with, and its value of an item.
-use Rattle.std.specs.Prelude.{◌≡◌, ℕ, ◌≤◌, ◌<◌, Bool, true, not, ◌==◌, ◌&&◌, nat_lt, nat_le, List, [], ◌∷◌, map, Option, Some, None, Result, Ok, Err, if◌then◌else◌}
+use Rattle.std.specs.Prelude.{◌≡◌, ℕ, ◌≤◌, ◌<◌, Bool, true, false, not, ◌==◌, ◌&&◌, nat_lt, nat_le, List, [], ◌∷◌, map, Option, Some, None, Result, Ok, Err, if◌then◌else◌}
 use Rattle.std.specs.List.{list_all, range_with_len}
 use Rattle.std.specs.Option.{unwrap_or}
 use Rattle.album_stamps.specs.declared.limits.TheConstants.{MAX_PARTS, MAX_MARKS}
@@ -10,13 +10,15 @@ use Rattle.album_items.specs.declared.values.Value.{Value}
 use Rattle.album_items.specs.declared.values.Value.TheVariants.{Missing}
 use Rattle.album_versions.specs.Best.{best_of}
 use Rattle.album_partition.specs.declared.marks.Mark.{Mark}
+use Rattle.album_partition.specs.Bases.{is_chained}
 use Rattle.album_partition.specs.Marks.{value_in, version, has_version, latest, floor, load, is_legal}
 use Rattle.album_items.specs.Places.{is_placed, rows_placed_at}
 use Rattle.album_partition.specs.Proper.{are_proper_marks}
 use Rattle.album_partition.specs.Votes.{NotedVote, AreVotes}
 
 -- A partition: its number from 0; how many partitions there are, how many marks its history may have, and the first
--- values of the items that are placed at it; its marks; and the votes Prepared that it noted.
+-- values of the items that are placed at it; its marks; and the votes Prepared that it noted. One that is checked takes
+-- checked Prepares alone.
 pub record PartitionState : Type 0 where
   pub number : ℕ
   pub parts : ℕ
@@ -24,6 +26,7 @@ pub record PartitionState : Type 0 where
   pub items : List Row
   pub marks : List Mark
   pub votes : List NotedVote
+  pub checked : Bool
 
 -- ---- how it opens
 
@@ -41,16 +44,16 @@ may_open number parts limit items = has_parts parts && has_limit limit && has_ow
 -- as it opens
 abbrev pub opening_state : ℕ → ℕ → List Row → ℕ → PartitionState
 opening_state number parts items limit =
-    record { number = number; parts = parts; limit = limit; items = items; marks = []; votes = [] }
+    record { number = number; parts = parts; limit = limit; items = items; marks = []; votes = []; checked = false }
 
--- the same, among the partitions that so many rows of first values are placed at: it has those that are placed at it
-abbrev pub first_partition : ℕ → ℕ → List Row → ℕ → PartitionState
-first_partition parts limit rows number =
-    opening_state number parts (rows_placed_at number parts rows) limit
+-- the same, checked or not, among so many partitions with these rows of first values: it has those that are placed at it
+abbrev pub first_partition : Bool → ℕ → ℕ → List Row → ℕ → PartitionState
+first_partition checked parts limit rows number =
+    record (opening_state number parts (rows_placed_at number parts rows) limit) { checked = checked }
 
 -- all partitions as they open, in the order of their numbers
-abbrev pub first_partitions : ℕ → ℕ → List Row → List PartitionState
-first_partitions parts limit rows = map (first_partition parts limit rows) (range_with_len 0 parts)
+abbrev pub first_partitions : Bool → ℕ → ℕ → List Row → List PartitionState
+first_partitions checked parts limit rows = map (first_partition checked parts limit rows) (range_with_len 0 parts)
 
 -- the partition of this number, among so many, with these first values and room for so many marks
 abbrev pub opened : ℕ → ℕ → List Row → ℕ → Result PartitionState Refusal
@@ -69,6 +72,7 @@ pub record IsPartition (partition : PartitionState) : Type 0 where
   pub legal : is_legal partition.marks ≡ true
   pub proper : are_proper_marks partition.number partition.parts partition.marks ≡ true
   pub votes : AreVotes partition.number partition.parts partition.marks partition.votes
+  pub chained : partition.checked ≡ true → is_chained partition.marks ≡ true
 
 -- ---- what is read of an item
 

@@ -1,5 +1,5 @@
 -- Which Prepares a partition can follow.
-use Rattle.std.specs.Prelude.{ℕ, Bool, ◌==◌, ◌&&◌, not, List}
+use Rattle.std.specs.Prelude.{ℕ, Bool, ◌==◌, ◌&&◌, not, List, length}
 use Rattle.std.specs.List.{list_all, list_any}
 use Rattle.album_items.specs.Openings.{Row, has_single_rows}
 use Rattle.album_items.specs.Places.{is_placed, placed_at}
@@ -29,6 +29,11 @@ are_own_writes number parts writes items =
 abbrev pub is_proper : ℕ → ℕ → ℕ → List Row → List ℕ → Bool
 is_proper number parts stamp writes items =
     not (stamp == 0) && are_items items && are_own_writes number parts writes items
+
+-- a checked Prepare that the partition can follow: it has a base for each of its writes
+abbrev pub is_proper_on : ℕ → ℕ → ℕ → List Row → List ℕ → List ℕ → Bool
+is_proper_on number parts stamp writes items bases =
+    is_proper number parts stamp writes items && (length writes == length bases)
 
 -- no mark is of the stamp 0, one that prepares is of a Prepare that could be followed, and one that trims of an item
 -- that is placed here

@@ -1,6 +1,6 @@
 //! What follows of every history, and of every answer that the table gives.
-ghost use Rattle.std.specs.Prelude.{◌≡◌, ◌≢◌, ◌↔◌, ◌≤◌, ◌⊎◌, ◌++◌, [], ◌∷◌, ℕ, List, true, false, IsTrue, is_some, None, Some, Ok, Contains, length, filter, option_to_list};
-ghost use Rattle.std.specs.List.{list_any};
+ghost use Rattle.std.specs.Prelude.{◌≡◌, ◌≢◌, ◌↔◌, ◌≤◌, ◌<◌, ◌⊎◌, ◌++◌, [], ◌∷◌, ℕ, List, true, false, IsTrue, is_some, None, Some, Ok, Contains, length, filter, option_to_list};
+ghost use Rattle.std.specs.List.{list_any, zip};
 ghost use Rattle.std.specs.List.Sorted.{IsPermutation};
 ghost use Rattle.album_items.specs.ItemIds.{place_of};
 ghost use Rattle.album_items.specs.Openings.{Row};
@@ -18,8 +18,9 @@ ghost use Rattle.album_terminate.specs.declared.deciding.StampState.TheVariants 
 ghost use Rattle.album_partition.specs.declared.marks.Mark.{Mark};
 ghost use Rattle.album_partition.specs.declared.marks.Mark.TheVariants as Made;
 ghost use Rattle.album_partition.specs.Answers.{says, on_prepare, on_check, action_of, after, answer};
+ghost use Rattle.album_partition.specs.Bases.{is_chained, are_bases, IsMadeOn};
 ghost use Rattle.album_partition.specs.Laws.{IsTrueOf, IsClash, IsReplyTo, IsReadOf, IsGoneFor, IsCause};
-ghost use Rattle.album_partition.specs.Marks.{IsPromisedAgainst, prepares, commits, discards, decides, decided, trims, state_of, value_in, version, latest, floor, has_kept_version, may_follow, is_legal, load, is_full};
+ghost use Rattle.album_partition.specs.Marks.{IsPromisedAgainst, prepares, commits, discards, decides, decided, trims, state_of, value_in, version, has_version, latest, floor, has_kept_version, may_follow, is_legal, load, is_full};
 ghost use Rattle.album_partition.specs.Partition.{PartitionState, IsPartition, opened, read_at};
 ghost use Rattle.album_partition.specs.Proper.{is_proper};
 ghost use Rattle.album_partition.specs.Trims.{trimmed};
@@ -221,4 +222,38 @@ pub fn full_stays()
         → state_of (after partition message).marks stamp ≡ StampState.Unknown }
     ensures trimmed { (old new : PartitionState) (item : ℕ)
         → is_full old.limit old.marks ≡ true → trimmed old item ≡ Ok new → new ≡ old }
+{}
+
+/// A law: no update is lost, in a history where each version was made on the latest while none was
+/// pending. At most one version of an item is pending, above the latest. Versions are committed in the
+/// order of their stamps. A version that is committed was made on the one right below it: the latest as
+/// it was prepared. That was the base of the Prepare.
+pub fn no_update_is_lost()
+    ensures one_pending { (marks : List Mark) (item t u : ℕ) → is_legal marks ≡ true → is_chained marks ≡ true
+        → state_of marks t ≡ StampState.Pending → has_version marks item t ≡ true
+        → state_of marks u ≡ StampState.Pending → has_version marks item u ≡ true → t ≡ u }
+    ensures above { (marks : List Mark) (item t : ℕ) → is_legal marks ≡ true → is_chained marks ≡ true
+        → state_of marks t ≡ StampState.Pending → has_version marks item t ≡ true → latest marks item < t }
+    ensures rising { (before later : List Mark) (stamp item : ℕ)
+        → is_legal (before ++ Made.Committed stamp ∷ later) ≡ true
+        → is_chained (before ++ Made.Committed stamp ∷ later) ≡ true
+        → has_version before item stamp ≡ true
+        → (latest before item < stamp) × (latest (before ++ Made.Committed stamp ∷ []) item ≡ stamp) }
+    ensures made_on { (before later : List Mark) (stamp : ℕ) (writes : List Row) (items : List ℕ) (item : ℕ)
+        → is_legal (before ++ Made.Prepared stamp writes items ∷ later) ≡ true
+        → is_chained (before ++ Made.Prepared stamp writes items ∷ later) ≡ true
+        → state_of (before ++ Made.Prepared stamp writes items ∷ later) stamp ≡ StampState.Committed
+        → is_some (value_in writes item) ≡ true
+        → IsMadeOn (before ++ Made.Prepared stamp writes items ∷ later) item stamp (latest before item) }
+    ensures bases { (marks : List Mark) (stamp : ℕ) (writes : List Row) (bases : List ℕ) (pair : Row × ℕ)
+        → are_bases marks stamp writes bases ≡ true → Contains (zip writes bases) pair
+        → pair.1 ≡ latest marks pair.0.0 }
+    ensures replied { (partition : PartitionState) (message : Message) (stamp : ℕ) (writes : List Row) (items bases : List ℕ) (t : ℕ)
+        → message.body ≡ Body.Request (Request.PrepareOn stamp writes items bases)
+        → (action_of partition message).reply ≡ Some (Reply.Prepared t)
+        → ((after partition message).marks ≡ partition.marks ++ Made.Prepared stamp writes items ∷ [])
+        × (are_bases partition.marks stamp writes bases ≡ true) }
+    ensures checked { (partition : PartitionState) (message : Message)
+        → IsPartition partition → partition.checked ≡ true
+        → is_chained (after partition message).marks ≡ true }
 {}

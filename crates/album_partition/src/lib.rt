@@ -35,7 +35,7 @@ mod laws;
 pub use figures::Figures;
 pub use laws::{
     full_has_its_cause, full_stays, gets_read_what_is_kept, gets_read_what_is_written,
-    histories_are_orderly, histories_only_grow, marks_have_their_causes,
+    histories_are_orderly, histories_only_grow, marks_have_their_causes, no_update_is_lost,
     partitions_stay_partitions, promises_against_are_kept, proper_writes_are_those_placed_here,
     replies_are_true, replies_go_to_the_sender, requests_are_answered, trims_raise_the_floor,
 };

@@ -1,5 +1,5 @@
 //! A partition, and what it does with a message.
-ghost use Rattle.std.specs.Prelude.{◌≡◌, ◌≤◌, true, IfOk, IfErr, OnOk, OnErr, IfSome, is_some, ◌||◌, ◌≢◌, ℕ, false, nat_lt, length, IsOk, Some, IsOkUnless, Ok, Err};
+ghost use Rattle.std.specs.Prelude.{[], ◌≡◌, ◌≤◌, true, IfOk, IfErr, OnOk, OnErr, IfSome, is_some, ◌||◌, ◌≢◌, ℕ, false, nat_lt, length, IsOk, Some, IsOkUnless, Ok, Err};
 ghost use Rattle.album_stamps.specs.Outcome.{Makes};
 ghost use Rattle.album_partition.specs.Answers.{with_action, action_of, after, answer, reply_to, wants_memory};
 ghost use Rattle.album_partition.specs.Marks.{ArePending, state_of, is_legal, load, pending_stamps, latest};
@@ -43,6 +43,8 @@ pub struct Partition {
     /// In the order in which they came, at most one of each partition on each pending stamp: as a
     /// stamp is decided, those on it are let go.
     votes: Vec<Noted>,
+    /// Whether it takes checked Prepares alone.
+    checked: bool,
 }
 
 impl Model for Partition {
@@ -57,6 +59,7 @@ impl Model for Partition {
       items = p.items;
       marks = p.stored;
       votes = p.votes.items;
+      checked = p.checked;
     } };
 
     ghost invariant = { λ p. IsPartition (record {
@@ -66,6 +69,7 @@ impl Model for Partition {
       items = p.items;
       marks = p.stored;
       votes = p.votes.items;
+      checked = p.checked;
     }) };
 }
 
@@ -79,6 +83,7 @@ impl Drop for Partition {
             items,
             stored,
             votes,
+            checked: _,
         } = self;
         drop(items);
         drop(stored);
@@ -117,6 +122,17 @@ impl Partition {
                 given: items,
             }),
         }
+    }
+
+    /// The same partition, which has no mark yet. One that is checked takes checked Prepares alone, and another takes
+    /// none of them.
+    pub fn with_checks(self, checked: bool) -> Partition
+        requires { self.marks ≡ [] }
+        ensures { result ≡ record self { checked = checked } }
+    {
+        let mut partition = self;
+        partition.checked = checked;
+        partition
     }
 
     /// Does what the message asks, and gives the reply, if there is one: the table of answers. A
@@ -270,6 +286,7 @@ impl Partition {
                 items: values,
                 stored: Stored::new(alloc),
                 votes: Vec::new(alloc),
+                checked: false,
             }),
             Err(_) => Err(Refused {
                 refusal: Refusal::OutOfMemory,

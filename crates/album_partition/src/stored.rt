@@ -4,6 +4,7 @@ ghost use Rattle.std.specs.Option.{option_copied};
 ghost use Rattle.album_stamps.specs.declared.limits.TheConstants.{MAX_MARKS};
 ghost use Rattle.album_items.specs.Openings.{has_single_rows};
 ghost use Rattle.album_versions.specs.Versions.{version_at, floor_of, SameVersions, Adds, Drops};
+ghost use Rattle.album_partition.specs.Bases.{has_pending, is_base, are_bases, is_chained};
 ghost use Rattle.album_partition.specs.History.{kept_mark};
 ghost use Rattle.album_partition.specs.Marks.{ArePending, mark_writes, mark_items, state_of, is_legal, load, pending_stamps, value_in, version, latest, floor};
 ghost use Rattle.album_partition.specs.Partition.{read_at};
@@ -85,6 +86,38 @@ impl Stored {
         ensures { IfOk result (λ stamps. ArePending self.now stamps.items) }
     {
         self.history.pending(alloc)
+    }
+
+    /// Whether each row is made on its base, which is the latest version, while no other is pending.
+    pub fn are_bases(&self, stamp: Stamp, rows: &[(ItemId, Value)], bases: &[Stamp]) -> bool
+        requires { is_chained self.now ≡ true }
+        ensures { result ≡ are_bases self.now stamp rows.now bases.now }
+    {
+        if rows.len() != bases.len() {
+            return false;
+        }
+        for index in 0..rows.len() {
+            if !self.is_base(stamp, rows[index].0, bases[index]) {
+                return false;
+            }
+        }
+        true
+    }
+
+    fn is_base(&self, stamp: Stamp, item: ItemId, base: Stamp) -> bool
+        requires { is_chained self.now ≡ true }
+        ensures { result ≡ is_base self.now stamp item base }
+    {
+        self.latest(item) == base && !self.has_pending(item) && base < stamp
+    }
+
+    /// Whether a pending stamp has a version of the item. Such a one is above the latest, and so the newest that
+    /// is kept.
+    fn has_pending(&self, item: ItemId) -> bool
+        requires { is_chained self.now ≡ true }
+        ensures { result ≡ has_pending self.now item }
+    {
+        self.latest(item).value() < self.versions.newest(item).value()
     }
 
     /// How many marks there are, and one more for each stamp that is pending.

@@ -1,6 +1,6 @@
 -- What a cut has of what the authors of its writes had seen. The laws `cuts_are_causal` and
 -- `fresh_as_authors_saw` cite these.
-use Rattle.std.proofs.Common.{◌≡◌, ℕ, zero, suc, ◌≤◌, Bool, true, false, ◌||◌, List, [], ◌∷◌, take, length, slice_index, Some, Option, refl, ap, sym, ◌∙◌, subst, arith}
+use Rattle.std.proofs.Common.{◌≡◌, ℕ, zero, suc, ◌≤◌, Bool, true, false, ◌||◌, List, [], ◌∷◌, take, length, slice_index, Some, refl, sym, subst, arith}
 use Rattle.std.specs.List.{list_any}
 use Rattle.std.proofs.Math.ListN.{get_or-map}
 use Rattle.album_items.specs.ItemIds.{place_of}
@@ -13,7 +13,7 @@ use Rattle.album_passes.specs.Cuts.{Cut, prefix_at, prefix_for, announced_for, d
 use Rattle.album_passes.specs.Reads.{IsCommitted, IsCommittedFor, writes_in_cut, HadSeenCommitted}
 use Rattle.album_passes.proofs.AnnouncedLemmas.{some_too, announced_here}
 use Rattle.album_passes.proofs.CutLemmas.{prefix_for_more}
-use Rattle.album_passes.proofs.ClosedLemmas.{committed_tells, same_list}
+use Rattle.album_passes.proofs.ClosedLemmas.{committed_tells}
 
 -- what is found among the first marks of a history, is found in a prefix that has as many
 any_within : (test : Mark → Bool) (n : ℕ) (ms ns : List Mark) → IsPrefix ms ns → n ≤ length ms

@@ -1,6 +1,6 @@
 -- What a closed cut has of each stamp, and the least cut that extends two. The laws of closed cuts cite the
 -- lemmas that are `pub`.
-use Rattle.std.proofs.Common.{rules, ◌≡◌, ℕ, zero, suc, ◌<◌, ◌+◌, Bool, true, false, not, ◌&&◌, ◌||◌, cond, List, [], ◌∷◌, length, get_or, All, Contains, IsSome, Some, None, Option, refl, ap, sym, ◌∙◌, subst, ⊎_elim, arith, ne_eqb}
+use Rattle.std.proofs.Common.{rules, ◌≡◌, ℕ, zero, suc, ◌<◌, ◌+◌, Bool, true, false, not, ◌&&◌, ◌||◌, cond, List, [], ◌∷◌, length, get_or, All, Contains, IsSome, Some, Option, refl, ap, sym, ◌∙◌, subst, ⊎_elim, arith, ne_eqb}
 use Rattle.std.specs.List.{list_any, list_all, find, range_with_len}
 use Rattle.std.proofs.lemmas.Bool.{and_parts}
 use Rattle.std.proofs.lemmas.Bool.Decides.{Decides-eqb}
@@ -194,6 +194,7 @@ pub merged_least : (a b c : Cut) → Extends a c → Extends b c → Extends (me
 merged_least a b c x y = record {
   opening = x.opening;
   parts = x.parts;
+  checked = x.checked;
   prefixes = λ p. subst (λ (ms : List Mark). IsPrefix ms (prefix_at c p)) (sym (longer_at a.prefixes b.prefixes p)) (⊎_elim
       (λ z. subst (λ (ms : List Mark). IsPrefix ms (prefix_at c p)) (sym z.1) (y.prefixes p))
       (λ z. subst (λ (ms : List Mark). IsPrefix ms (prefix_at c p)) (sym z.1) (x.prefixes p))

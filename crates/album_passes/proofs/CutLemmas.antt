@@ -1,6 +1,6 @@
 -- What is sound stays so as a cut grows. The proofs of the steps and of what a seat holds cite `sound_merged`,
 -- `sound_marked` and `sound_announced`; the main lemma is `backed_more`, that a mark stays backed.
-use Rattle.std.proofs.Common.{◌≡◌, ◌≢◌, ℕ, zero, suc, ◌<◌, ◌≤◌, ◌==◌, true, List, [], ◌∷◌, ◌++◌, length, get_or, set, All, Some, None, Option, is_some, refl, ap, sym, ◌∙◌, subst, ⊎_elim, arith, length-set, get_or-set_other, get_or-set_same}
+use Rattle.std.proofs.Common.{◌≡◌, ◌≢◌, ℕ, zero, suc, ◌<◌, ◌≤◌, ◌==◌, true, List, [], ◌∷◌, ◌++◌, length, get_or, set, All, Some, None, is_some, refl, ap, sym, ◌∙◌, subst, ⊎_elim, arith, length-set, get_or-set_other, get_or-set_same}
 use Rattle.std.proofs.lemmas.List.Elements.{All-push}
 use Rattle.std.proofs.lemmas.Bool.{cases_lt}
 use Rattle.std.proofs.Math.ListN.{get_or-map}
@@ -9,7 +9,9 @@ use mathlib.Core.Logic.{dite}
 use Rattle.album_items.specs.ItemIds.{place_of}
 use Rattle.album_partition.specs.declared.marks.Mark.{Mark}
 use Rattle.album_partition.specs.declared.marks.Mark.TheVariants.{Prepared, Committed, Discarded, Trimmed}
-use Rattle.album_partition.specs.Marks.{prepares, may_follow, is_legal}
+use Rattle.album_partition.specs.Bases.{MayAppend, IsChainedIf, is_chained}
+use Rattle.album_partition.specs.Marks.{prepares, is_legal}
+use Rattle.album_partition.proofs.BaseLemmas.{is_chained-push}
 use Rattle.album_partition.proofs.LegalLemmas.{is_legal-push}
 use Rattle.album_passes.specs.Cuts.{Cut, marks_at, prefix_at, prefix_for, announced_for, dependencies_of, HasReached, IsPreparedFor, IsBacked, IsSound, IsPrefix, Extends}
 use Rattle.album_passes.specs.Changes.{longer, longer_each, lengths_in, merged, marked_cut, announced_cut}
@@ -19,12 +21,13 @@ use Rattle.album_passes.proofs.AnnouncedLemmas.{listed-append, listed_each, both
 -- ---- a cut that extends another
 
 pub extends_self : (c : Cut) → Extends c c
-extends_self c = record { opening = refl; parts = refl; prefixes = λ p. prefix_self (prefix_at c p); announced = λ t is e. e; depended = λ t ls e. e }
+extends_self c = record { opening = refl; parts = refl; checked = refl; prefixes = λ p. prefix_self (prefix_at c p); announced = λ t is e. e; depended = λ t ls e. e }
 
 pub extends_trans : (c d e : Cut) → Extends c d → Extends d e → Extends c e
 extends_trans c d e x y = record {
   opening = y.opening ∙ x.opening;
   parts = y.parts ∙ x.parts;
+  checked = y.checked ∙ x.checked;
   prefixes = λ p. prefix_trans (prefix_at c p) (prefix_at d p) (prefix_at e p) (x.prefixes p) (y.prefixes p);
   announced = λ t is h. y.announced t is (x.announced t is h);
   depended = λ t ls h. y.depended t ls (x.depended t ls h);
@@ -87,6 +90,7 @@ pub sound_merged : (c d : Cut) → c.parts ≡ d.parts → IsSound c → IsSound
 sound_merged c d same x y e f = record {
   wide = length-longer_each c.prefixes d.prefixes (x.wide ∙ same ∙ sym y.wide) ∙ x.wide;
   legal = λ p. longer_has (λ (ms : List Mark). is_legal ms ≡ true) c d p (x.legal p) (y.legal p);
+  chained = λ p on. longer_has (λ (ms : List Mark). is_chained ms ≡ true) c d p (x.chained p on) (y.chained p (sym f.checked ∙ on));
   closed = λ p. longer_has (All (IsBacked (merged c d))) c d p
       (all_backed c (merged c d) e (prefix_at c p) (x.closed p))
       (all_backed d (merged c d) f (prefix_at d p) (y.closed p));
@@ -110,6 +114,7 @@ pub extends_marked : (c : Cut) (p : ℕ) (m : Mark) → p < length c.prefixes �
 extends_marked c p m l = record {
   opening = refl;
   parts = refl;
+  checked = refl;
   prefixes = λ q. dite (ℕ_discrete q p)
       (λ e. subst (λ (x : ℕ). IsPrefix (prefix_at c x) (prefix_at (marked_cut c p m) x)) (sym e) (m ∷ [], sym (mark_here c p m l)))
       (λ n. subst (λ (ms : List Mark). IsPrefix (prefix_at c q) ms) (sym (mark_else c p q m n)) (prefix_self (prefix_at c q)));
@@ -117,10 +122,11 @@ extends_marked c p m l = record {
   depended = λ t ls e. e;
 }
 
-pub sound_marked : (c : Cut) (p : ℕ) (m : Mark) → p < length c.prefixes → IsSound c → may_follow (prefix_at c p) m ≡ true → IsBacked (marked_cut c p m) m → IsSound (marked_cut c p m)
+pub sound_marked : (c : Cut) (p : ℕ) (m : Mark) → p < length c.prefixes → IsSound c → MayAppend c.checked (prefix_at c p) m → IsBacked (marked_cut c p m) m → IsSound (marked_cut c p m)
 sound_marked c p m l x may back = record {
   wide = length-set c.prefixes p (prefix_at c p ++ m ∷ []) ∙ x.wide;
-  legal = at_each (λ (ms : List Mark). is_legal ms ≡ true) (is_legal-push (prefix_at c p) m (x.legal p) may) x.legal;
+  legal = at_each (λ (ms : List Mark). is_legal ms ≡ true) (is_legal-push (prefix_at c p) m (x.legal p) may.follows) x.legal;
+  chained = at_each (IsChainedIf c.checked) (λ on. is_chained-push (prefix_at c p) m (x.chained p on) (may.chains on)) x.chained;
   closed = at_each (All (IsBacked (marked_cut c p m))) (All-push (IsBacked (marked_cut c p m)) (prefix_at c p) m (old p) back) old;
   depends = x.depends;
   causal = λ t ls h. reached_more c (marked_cut c p m) (extends_marked c p m l) ls (x.causal t ls h);
@@ -158,6 +164,7 @@ pub extends_announced : (c : Cut) (t : ℕ) (is : List ℕ) → announced_for c 
 extends_announced c t is none x = record {
   opening = refl;
   parts = refl;
+  checked = refl;
   prefixes = λ p. prefix_self (prefix_at c p);
   announced = announced_more (announced_for c) t is none;
   depended = announced_more (dependencies_of c) t (lengths_in c) (undepended c t none x);
@@ -174,6 +181,7 @@ pub sound_announced : (c : Cut) (t : ℕ) (is : List ℕ) → announced_for c t 
 sound_announced c t is none x = record {
   wide = x.wide;
   legal = x.legal;
+  chained = x.chained;
   closed = λ p. all_backed c (announced_cut c t is) (extends_announced c t is none x) (prefix_at c p) (x.closed p);
   depends = λ u. also_some (t == u) (lengths_in c) is (dependencies_of c u) (announced_for c u) (x.depends u);
   causal = λ u ls h. dite (ℕ_discrete u t)

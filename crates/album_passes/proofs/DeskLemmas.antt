@@ -1,5 +1,5 @@
 -- How a desk begins, and the words with which it ends. `Desk::open` and `Desk::close` cite these.
-use Rattle.std.proofs.Common.{◌≡◌, ℕ, zero, suc, ◌+◌, ◌<◌, ◌≤◌, true, List, [], ◌∷◌, ◌++◌, map, length, get_or, take, drop, replicate, None, Option, refl, ap, sym, ◌∙◌, subst, arith, add-one}
+use Rattle.std.proofs.Common.{Bool, ◌≡◌, ℕ, zero, suc, ◌+◌, ◌<◌, ◌≤◌, true, List, [], ◌∷◌, ◌++◌, map, length, get_or, take, drop, replicate, None, Option, refl, ap, sym, ◌∙◌, subst, arith, add-one}
 use Rattle.std.proofs.lemmas.List.{length-replicate, take-replicate}
 use mathlib.Core.Option.{some, some-ne-none, some-injective}
 use lib.ListN.{get_elem?}
@@ -8,6 +8,7 @@ use Rattle.std.proofs.lemmas.Grind.{common_steps}
 use Rattle.album_items.specs.Openings.{Row, is_opening}
 use Rattle.album_items.specs.declared.openings.Opening.{Opening}
 use Rattle.album_partition.specs.declared.marks.Mark.{Mark}
+use Rattle.album_partition.specs.Bases.{is_chained}
 use Rattle.album_partition.specs.Marks.{is_legal}
 use Rattle.album_passes.specs.Cuts.{marks_at, IsBacked, IsSound}
 use Rattle.album_passes.specs.Changes.{empty_cut}
@@ -40,11 +41,12 @@ lengths-nothing (suc n) = ap (λ xs. 0 ∷ xs) (lengths-nothing n)
 pub opening_words : (n : ℕ) → n ≤ 16 → take {A = ℕ} (n + 1) (replicate 17 0) ≡ 0 ∷ replicate n 0
 opening_words n l = ap (λ k. take {A = ℕ} k (replicate 17 0)) (add-one n) ∙ take-replicate (suc n) 17 0 (omega arith)
 
-sound_empty : (opening : List Row) (n : ℕ) → IsSound (empty_cut opening n)
-sound_empty opening n = record {
+sound_empty : (opening : List Row) (n : ℕ) (checked : Bool) → IsSound (empty_cut opening n checked)
+sound_empty opening n checked = record {
   wide = length-replicate n [];
   legal = λ p. subst (λ (h : List Mark). is_legal h ≡ true) (sym (nothing_at n p)) refl;
-  closed = λ p. subst (λ (h : List Mark). (k : ℕ) (m : Mark) → k < length h → IsBacked (empty_cut opening n) (get_or h k m)) (sym (nothing_at n p)) (λ k m l. absurd (omega arith));
+  chained = λ p on. subst (λ (h : List Mark). is_chained h ≡ true) (sym (nothing_at n p)) refl;
+  closed = λ p. subst (λ (h : List Mark). (k : ℕ) (m : Mark) → k < length h → IsBacked (empty_cut opening n checked) (get_or h k m)) (sym (nothing_at n p)) (λ k m l. absurd (omega arith));
   depends = λ t. refl;
   causal = λ t ls e. absurd (cc (e));
 }
@@ -53,7 +55,7 @@ pub held_empty : (key : Terms) (v : Knowledge) (k : ℕ) → v ≡ dealt key k �
 held_empty key v k is few = subst (λ (x : Knowledge). IsHeld x (replicate {A = ℕ} 16 0)) (sym is) record {
   one = refl;
   alone = refl;
-  sound = sound_empty key.opening key.parts;
+  sound = sound_empty key.opening key.parts key.checked;
   few = few;
   lengths_are = λ p l. zero_at 16 p ∙ ap length (sym (nothing_at key.parts p));
 }
@@ -63,17 +65,18 @@ begins key words is =
     let hs : List (List Mark) = replicate key.parts [] in
     let none : ℕ → Option (List ℕ) = λ _. None in
     let run : Run = record { histories = hs; drawn = 0; announced = none; depended = none; owner = λ _. 0; holder = λ _. 0 } in
-    let cut : IsCutOf key run (empty_cut key.opening key.parts) = record {
+    let cut : IsCutOf key run (empty_cut key.opening key.parts key.checked) = record {
       opening = refl;
       parts = refl;
+      checked = refl;
       prefixes = λ p. prefix_self (marks_at hs p);
       announced = λ t js e. absurd (cc (e));
       depended = λ t ls e. absurd (cc (e));
-      sound = sound_empty key.opening key.parts;
+      sound = sound_empty key.opening key.parts key.checked;
     } in
     let F : ℕ → Knowledge → Type 0 = Fits key run in
     let one : F 0 (first_seat key) = record {
-      cuts = at_one (IsCutOf key run) (empty_cut key.opening key.parts) cut;
+      cuts = at_one (IsCutOf key run) (empty_cut key.opening key.parts key.checked) cut;
       owns = λ p l h. record { alone = refl; whole = refl };
       number = λ n e. absurd (cc (e));
       guest = λ n e. absurd (cc (e));
@@ -85,6 +88,7 @@ begins key words is =
       words_are = is ∙ ap (λ xs. 0 ∷ xs) (sym (lengths-nothing key.parts));
       wide = length-replicate key.parts [];
       legal = λ p. subst (λ (h : List Mark). is_legal h ≡ true) (sym (nothing_at key.parts p)) refl;
+      chained = λ p on. subst (λ (h : List Mark). is_chained h ≡ true) (sym (nothing_at key.parts p)) refl;
       few = λ p. subst (λ (h : List Mark). length h ≤ key.limit) (sym (nothing_at key.parts p)) (omega arith);
       most = omega arith;
       named = λ t js e. absurd (cc (e));

@@ -1,10 +1,10 @@
 -- What is true of a seat that is held, after each of its steps. The methods of `Holding` cite these.
-use Rattle.std.proofs.Common.{◌≡◌, ℕ, true, ◌+◌, ◌<◌, ◌≤◌, max, List, [], ◌∷◌, ◌++◌, length, get_or, set, slice_index, None, refl, ap, sym, ◌∙◌, subst, ⊎_elim, arith, get_or-set_same, get_or-set_other, length-append}
+use Rattle.std.proofs.Common.{◌≡◌, ℕ, ◌+◌, ◌<◌, ◌≤◌, max, List, [], ◌∷◌, ◌++◌, length, get_or, set, slice_index, None, refl, ap, sym, ◌∙◌, subst, ⊎_elim, arith, get_or-set_same, get_or-set_other, length-append}
 use native.Mathlib.Decide.{ℕ_discrete}
 use mathlib.Core.Logic.{dite}
 use Rattle.album_stamps.specs.declared.limits.TheConstants.{MAX_PARTS}
 use Rattle.album_partition.specs.declared.marks.Mark.{Mark}
-use Rattle.album_partition.specs.Marks.{may_follow}
+use Rattle.album_partition.specs.Bases.{MayAppend}
 use Rattle.album_passes.specs.Cuts.{Cut, prefix_at, announced_for, IsBacked, IsSound}
 use Rattle.album_passes.specs.Changes.{merged, marked_cut, announced_cut}
 use Rattle.album_passes.specs.Knowledge.{Knowledge, known, last_known, first_of, last_of}
@@ -58,7 +58,7 @@ held_of z y ls e alone h =
 
 -- one mark more, and its length
 pub held_marked : (v w : Knowledge) (ls : List ℕ) (p : ℕ) (m : Mark) → w ≡ with_cut v (marked_cut (known v) p m) → IsHeld v ls → length ls ≡ 16
-    → p < (known v).parts → may_follow (prefix_at (known v) p) m ≡ true → IsBacked (marked_cut (known v) p m) m
+    → p < (known v).parts → MayAppend (known v).checked (prefix_at (known v) p) m → IsBacked (marked_cut (known v) p m) m
     → IsHeld w (set ls p (get_or ls p 0 + 1))
 held_marked v w ls p m is h len inside may back =
     let c : Cut = known v in

@@ -83,7 +83,7 @@ given_still holder (Some m) id n e = either (n == m)
 
 pub same_cut : (key : Terms) (r : Run) (drawn : ℕ) (owner holder : ℕ → ℕ) (c : Cut) → IsCutOf key r c
     → IsCutOf key (record r { drawn = drawn; owner = owner; holder = holder }) c
-same_cut key r drawn owner holder c C = record { opening = C.opening; parts = C.parts; prefixes = C.prefixes; announced = C.announced; depended = C.depended; sound = C.sound }
+same_cut key r drawn owner holder c C = record { opening = C.opening; parts = C.parts; checked = C.checked; prefixes = C.prefixes; announced = C.announced; depended = C.depended; sound = C.sound }
 
 pub same_owner : (r : Run) (drawn : ℕ) (lists : ℕ → Option (List ℕ)) (holder : ℕ → ℕ) (id : ℕ) (c : Cut) (p : ℕ) → Owns r id c p
     → Owns (record r { drawn = drawn; announced = lists; holder = holder }) id c p
@@ -114,6 +114,7 @@ same_run key words old new k each = record {
   words_are = k.words_are;
   wide = k.wide;
   legal = k.legal;
+  chained = k.chained;
   few = k.few;
   most = k.most;
   named = k.named;

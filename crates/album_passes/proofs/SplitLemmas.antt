@@ -91,6 +91,7 @@ module _ (key : Terms) where
         words_are = k.words_are;
         wide = k.wide;
         legal = k.legal;
+        chained = k.chained;
         few = k.few;
         most = k.most;
         named = k.named;
@@ -107,6 +108,7 @@ module _ (key : Terms) where
     words_are = k.words_are;
     wide = k.wide;
     legal = k.legal;
+    chained = k.chained;
     few = k.few;
     most = k.most;
     named = k.named;
@@ -212,6 +214,7 @@ module _ (key : Terms) where
       let first_on : Extends c m = record {
         opening = refl;
         parts = refl;
+        checked = refl;
         prefixes = λ p. subst (IsPrefix (prefix_at c p)) (sym (longer_at c.prefixes d.prefixes p)) (⊎_elim
             (λ t. subst (IsPrefix (prefix_at c p)) (sym t.1) (prefix_shorter (prefix_at c p) (prefix_at d p) (marks_at k.run.histories p) (C.prefixes p) (D.prefixes p) (omega arith)))
             (λ t. subst (IsPrefix (prefix_at c p)) (sym t.1) (prefix_self (prefix_at c p)))
@@ -222,6 +225,7 @@ module _ (key : Terms) where
       let second_on : Extends d m = record {
         opening = C.opening ∙ sym D.opening;
         parts = C.parts ∙ sym D.parts;
+        checked = C.checked ∙ sym D.checked;
         prefixes = λ p. subst (IsPrefix (prefix_at d p)) (sym (longer_at c.prefixes d.prefixes p)) (⊎_elim
             (λ t. subst (IsPrefix (prefix_at d p)) (sym t.1) (prefix_self (prefix_at d p)))
             (λ t. subst (IsPrefix (prefix_at d p)) (sym t.1) (prefix_shorter (prefix_at d p) (prefix_at c p) (marks_at k.run.histories p) (D.prefixes p) (C.prefixes p) t.0))
@@ -232,6 +236,7 @@ module _ (key : Terms) where
       let M : IsCutOf key k.run m = record {
         opening = C.opening;
         parts = C.parts;
+        checked = C.checked;
         prefixes = λ p. subst (λ (h : List Mark). IsPrefix h (marks_at k.run.histories p)) (sym (longer_at c.prefixes d.prefixes p)) (⊎_elim
             (λ t. subst (λ (h : List Mark). IsPrefix h (marks_at k.run.histories p)) (sym t.1) (D.prefixes p))
             (λ t. subst (λ (h : List Mark). IsPrefix h (marks_at k.run.histories p)) (sym t.1) (C.prefixes p))

@@ -9,7 +9,9 @@ use lib.Seq.{map-set}
 use prog.Atomic.{either}
 use Rattle.atomic_table.specs.Table.{State, Me, step, keeps, Allows}
 use Rattle.album_partition.specs.declared.marks.Mark.{Mark}
+use Rattle.album_partition.specs.Bases.{MayAppend, IsChainedIf, extends}
 use Rattle.album_partition.specs.Marks.{may_follow, is_legal}
+use Rattle.album_partition.proofs.BaseLemmas.{is_chained-push}
 use Rattle.album_partition.proofs.LegalLemmas.{is_legal-push}
 use Rattle.album_stamps.specs.Stamps.{client_number}
 use Rattle.album_passes.specs.Cuts.{Cut, marks_at, prefix_at, announced_for, dependencies_of, IsBacked, IsPrefix}
@@ -47,6 +49,7 @@ module _ (key : Terms) where
       let cut_more : (d : Cut) → IsCutOf key k.run d → IsCutOf key r d = λ d D. record {
         opening = D.opening;
         parts = D.parts;
+        checked = D.checked;
         prefixes = D.prefixes;
         announced = λ u js e. more u js (D.announced u js e);
         depended = λ u ls e. depended_more u ls (D.depended u ls e);
@@ -57,6 +60,7 @@ module _ (key : Terms) where
         cuts = at_one (IsCutOf key r) (announced_cut c t is) (record {
           opening = C.opening;
           parts = C.parts;
+          checked = C.checked;
           prefixes = C.prefixes;
           announced = λ u js e. dite (ℕ_discrete u t)
               (λ same. announced_here k.run.announced t is u same ∙ (sym (announced_here (announced_for c) t is u same) ∙ e))
@@ -104,6 +108,7 @@ module _ (key : Terms) where
           words_are = k.words_are;
           wide = k.wide;
           legal = k.legal;
+          chained = k.chained;
           few = k.few;
           most = k.most;
           named = λ u js e. dite (ℕ_discrete u t)
@@ -145,6 +150,7 @@ module _ (key : Terms) where
         words_are = ap (λ ws. set ws 0 new) k.words_are;
         wide = k.wide;
         legal = k.legal;
+        chained = k.chained;
         few = k.few;
         most = omega arith;
         named = λ t js e. (let le = k.named t js e in omega arith);
@@ -223,7 +229,7 @@ module _ (key : Terms) where
   pub appends : (slots id : ℕ) (v : Knowledge) (x : List (ℕ × ℕ)) (p : ℕ) (m : Mark)
       → v.cuts ≡ known v ∷ [] → v.guest ≡ None → v.low ≤ p → p < v.high → p < key.parts
       → length (prefix_at (known v) p) < key.limit → key.limit ≤ 1000000
-      → may_follow (prefix_at (known v) p) m ≡ true → IsBacked (marked_cut (known v) p m) m
+      → MayAppend (known v).checked (prefix_at (known v) p) m → IsBacked (marked_cut (known v) p m) m
       → Allows {S = ℕ} (Keeps key) slots id (v, x) (p + 1) (λ n. (n + 1) % 2 ^ 64) (Appends m (step slots (p + 1) 1 0 none) (v, x))
   appends slots id v x p m one alone low high inside room small may back s k _ at _ =
       let mine = k.each id v at in
@@ -248,6 +254,7 @@ module _ (key : Terms) where
       let cut_more : (e : Cut) → IsCutOf key k.run e → IsCutOf key r e = λ e E. record {
         opening = E.opening;
         parts = E.parts;
+        checked = E.checked;
         prefixes = λ q. prefix_trans (prefix_at e q) (marks_at k.run.histories q) (marks_at hs q) (E.prefixes q) (grown q);
         announced = E.announced;
         depended = E.depended;
@@ -258,6 +265,7 @@ module _ (key : Terms) where
         cuts = at_one (IsCutOf key r) d (record {
           opening = C.opening;
           parts = C.parts;
+          checked = C.checked;
           prefixes = λ q. dite (ℕ_discrete q p)
               (λ e. subst (λ (y : ℕ). IsPrefix (prefix_at d y) (marks_at hs y)) (sym e) (subst (IsPrefix (prefix_at d p)) at_p (prefix_self (prefix_at d p))))
               (λ n. subst (λ (y : List Mark). IsPrefix y (marks_at hs q)) (sym (mark_else c p q m n)) (prefix_trans (prefix_at c q) (marks_at k.run.histories q) (marks_at hs q) (C.prefixes q) (grown q)));
@@ -295,8 +303,12 @@ module _ (key : Terms) where
           words_are = words_set s.words k.run.drawn k.run.histories p ((get_or s.words (p + 1) 0 + 1) % 2 ^ 64) new k.words_are value;
           wide = length-set k.run.histories p new ∙ k.wide;
           legal = λ q. dite (ℕ_discrete q p)
-              (λ e. subst (λ (y : ℕ). is_legal (marks_at hs y) ≡ true) (sym e) (subst (λ (y : List Mark). is_legal y ≡ true) (sym here) (is_legal-push h m (k.legal p) (subst (λ (y : List Mark). may_follow y m ≡ true) is_h may))))
+              (λ e. subst (λ (y : ℕ). is_legal (marks_at hs y) ≡ true) (sym e) (subst (λ (y : List Mark). is_legal y ≡ true) (sym here) (is_legal-push h m (k.legal p) (subst (λ (y : List Mark). may_follow y m ≡ true) is_h may.follows))))
               (λ n. subst (λ (y : List Mark). is_legal y ≡ true) (sym (kept_at q n)) (k.legal q));
+          chained = λ q. dite (ℕ_discrete q p)
+              (λ e. subst (λ (y : ℕ). IsChainedIf key.checked (marks_at hs y)) (sym e) (subst (IsChainedIf key.checked) (sym here)
+              (λ on. is_chained-push h m (k.chained p on) (subst (λ (y : List Mark). extends y m ≡ true) is_h (may.chains (C.checked ∙ on))))))
+              (λ n. subst (IsChainedIf key.checked) (sym (kept_at q n)) (k.chained q));
           few = λ q. dite (ℕ_discrete q p)
               (λ e. subst (λ (y : ℕ). length (marks_at hs y) ≤ key.limit) (sym e) (let g = ap length here in let f = length-append h (m ∷ []) in omega arith))
               (λ n. subst (λ (y : List Mark). length y ≤ key.limit) (sym (kept_at q n)) (k.few q));

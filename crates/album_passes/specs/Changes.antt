@@ -1,15 +1,16 @@
 -- How cuts begin, grow and are put together.
-use Rattle.std.specs.Prelude.{◌≡◌, ℕ, nat_lt, List, [], ◌∷◌, ◌++◌, map, length, slice_set, replicate, Option, Some, None, if◌then◌else◌}
+use Rattle.std.specs.Prelude.{◌≡◌, ℕ, Bool, nat_lt, List, [], ◌∷◌, ◌++◌, map, length, slice_set, replicate, Option, Some, None, if◌then◌else◌}
 use Rattle.album_items.specs.Openings.{Row}
 use Rattle.album_stamps.specs.Stamps.{client_number}
 use Rattle.album_partition.specs.declared.marks.Mark.{Mark}
 use Rattle.album_passes.specs.Cuts.{Cut, prefix_at, announced_for}
 
 -- of no marks, and with nothing announced
-abbrev pub empty_cut : List Row → ℕ → Cut
-empty_cut opening parts = record {
+abbrev pub empty_cut : List Row → ℕ → Bool → Cut
+empty_cut opening parts checked = record {
   opening = opening;
   parts = parts;
+  checked = checked;
   prefixes = replicate parts [];
   announced = [];
   depended = [];

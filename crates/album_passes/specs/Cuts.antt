@@ -1,12 +1,13 @@
 -- Cuts: what was seen of the partitions' histories and of the announced item lists, and when a cut is closed, which is
 -- to say consistent.
-use Rattle.std.specs.Prelude.{◌≡◌, ℕ, ◌≤◌, true, ◌==◌, List, [], ◌++◌, length, slice_index, slice_index_or, All, Contains, Option, Some, is_some}
+use Rattle.std.specs.Prelude.{◌≡◌, ℕ, ◌≤◌, Bool, true, ◌==◌, List, [], ◌++◌, length, slice_index, slice_index_or, All, Contains, Option, Some, is_some}
 use Rattle.std.specs.List.{list_all, list_any}
 use Rattle.std.specs.Map.{lookup}
 use Rattle.album_items.specs.ItemIds.{place_of}
 use Rattle.album_items.specs.Openings.{Row}
 use Rattle.album_partition.specs.declared.marks.Mark.{Mark}
 use Rattle.album_partition.specs.declared.marks.Mark.TheVariants.{Prepared, Committed, Discarded, Trimmed}
+use Rattle.album_partition.specs.Bases.{IsChainedIf}
 use Rattle.album_partition.specs.Marks.{IsPromisedAgainst, prepares, is_legal}
 use Rattle.album_partition.specs.Proper.{is_among}
 
@@ -20,11 +21,13 @@ Announcement = ℕ × List ℕ
 abbrev pub Dependency : Type 0
 Dependency = ℕ × List ℕ
 
--- The first values of items, and how many partitions there are; of each partition a prefix of its history; and what
--- was announced, and what each stamp depends on, where the first entry of a stamp counts.
+-- The first values of items, how many partitions there are, and whether the store is checked; of each partition a
+-- prefix of its history; and what was announced, and what each stamp depends on, where the first entry of a stamp
+-- counts.
 pub record Cut : Type 0 where
   pub opening : List Row
   pub parts : ℕ
+  pub checked : Bool
   pub prefixes : List (List Mark)
   pub announced : List Announcement
   pub depended : List Dependency
@@ -89,11 +92,13 @@ IsBacked cut (Trimmed item) = Unit {0}
 abbrev pub IsClosedCut : Cut → Type 0
 IsClosedCut cut = (part : ℕ) → All (IsBacked cut) (prefix_at cut part)
 
--- It has a prefix of each partition, whose marks may follow each other, and it is closed. It is causal, too: of each
--- stamp that is announced it knows what the author had seen, and has all of that.
+-- It has a prefix of each partition, whose marks may follow each other, and it is closed. In a checked store each
+-- version was made on the latest. It is causal, too: of each stamp that is announced it knows what the author had seen,
+-- and has all of that.
 pub record IsSound (cut : Cut) : Type 0 where
   pub wide : length cut.prefixes ≡ cut.parts
   pub legal : (part : ℕ) → is_legal (prefix_at cut part) ≡ true
+  pub chained : (part : ℕ) → IsChainedIf cut.checked (prefix_at cut part)
   pub closed : IsClosedCut cut
   pub depends : (stamp : ℕ) → is_some (dependencies_of cut stamp) ≡ is_some (announced_for cut stamp)
   pub causal : (stamp : ℕ) (lengths : List ℕ) → dependencies_of cut stamp ≡ Some lengths → HasReached lengths cut
@@ -109,6 +114,7 @@ IsPrefix marks history = (later : List Mark) × (marks ++ later ≡ history)
 pub record Extends (old new : Cut) : Type 0 where
   pub opening : new.opening ≡ old.opening
   pub parts : new.parts ≡ old.parts
+  pub checked : new.checked ≡ old.checked
   pub prefixes : (part : ℕ) → IsPrefix (prefix_at old part) (prefix_at new part)
   pub announced : (stamp : ℕ) (items : List ℕ) → announced_for old stamp ≡ Some items
       → announced_for new stamp ≡ Some items

@@ -23,6 +23,7 @@ terms_of opening sessions = record {
   parts = opening.parts;
   limit = opening.limit;
   sessions = sessions;
+  checked = opening.checked;
 }
 
 -- the table has a word for the numbers and one for each partition, and the desk's own numbers are those of the terms
@@ -44,7 +45,7 @@ abbrev pub first_owner : DeskState → ℕ → OwnerState
 first_owner desk part = record {
   table = desk.table;
   part = part;
-  cut = empty_cut desk.terms.opening desk.terms.parts;
+  cut = empty_cut desk.terms.opening desk.terms.parts desk.terms.checked;
   drawn = 0;
 }
 
@@ -52,7 +53,7 @@ first_owner desk part = record {
 abbrev pub first_pass : DeskState → PassState
 first_pass desk = record {
   table = desk.table;
-  cut = empty_cut desk.terms.opening desk.terms.parts;
+  cut = empty_cut desk.terms.opening desk.terms.parts desk.terms.checked;
   number = None;
   drawn = 0;
 }

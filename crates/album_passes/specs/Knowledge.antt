@@ -1,16 +1,17 @@
 -- What a desk is opened with, and what a seat at it knows.
-use Rattle.std.specs.Prelude.{◌≡◌, ◌≢◌, ℕ, List, [], ◌∷◌, Option, Some, None}
+use Rattle.std.specs.Prelude.{◌≡◌, ◌≢◌, ℕ, Bool, false, List, [], ◌∷◌, Option, Some, None}
 use Rattle.album_items.specs.Openings.{Row}
 use Rattle.album_passes.specs.Cuts.{Cut}
 use Rattle.album_passes.specs.Changes.{empty_cut}
 
--- The first values of items, how many partitions there are, how many marks each history may have, and how many
--- numbers are given out.
+-- The first values of items, how many partitions there are, how many marks each history may have, how many numbers are
+-- given out, and whether the store is checked.
 pub record Terms : Type 0 where
   pub opening : List Row
   pub parts : ℕ
   pub limit : ℕ
   pub sessions : ℕ
+  pub checked : Bool
 
 -- The cut, or two that are to be put together, or none where the seat was given up; the number that the seat holds;
 -- the number of a guest, whose seat it took in and will give back; the partitions that it owns, from `low` on and
@@ -25,12 +26,12 @@ pub record Knowledge : Type 0 where
 
 -- the first of the cuts
 abbrev pub first_of : List Cut → Cut
-first_of [] = empty_cut [] 0
+first_of [] = empty_cut [] 0 false
 first_of (cut ∷ cuts) = cut
 
 -- the last of them
 abbrev pub last_of : List Cut → Cut
-last_of [] = empty_cut [] 0
+last_of [] = empty_cut [] 0 false
 last_of (cut ∷ []) = cut
 last_of (cut ∷ next ∷ cuts) = last_of (next ∷ cuts)
 
@@ -49,7 +50,7 @@ AreApart one other = (first second : ℕ) → one ≡ Some first → other ≡ S
 -- the first seat, where the owners of so many partitions have theirs
 abbrev pub dealt : Terms → ℕ → Knowledge
 dealt terms count = record {
-  cuts = empty_cut terms.opening terms.parts ∷ [];
+  cuts = empty_cut terms.opening terms.parts terms.checked ∷ [];
   number = None;
   guest = None;
   low = count;

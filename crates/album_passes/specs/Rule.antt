@@ -6,6 +6,7 @@ use lib.ListN.{get_elem?}
 use Rattle.atomic_table.specs.Table.{State}
 use Rattle.album_stamps.specs.Stamps.{client_number}
 use Rattle.album_partition.specs.declared.marks.Mark.{Mark}
+use Rattle.album_partition.specs.Bases.{IsChainedIf}
 use Rattle.album_partition.specs.Marks.{is_legal}
 use Rattle.album_passes.specs.Cuts.{Cut, marks_at, prefix_at, announced_for, dependencies_of, IsSound, IsPrefix}
 use Rattle.album_passes.specs.Knowledge.{Terms, Knowledge, known, last_known, AreApart}
@@ -25,6 +26,7 @@ pub record Run : Type 0 where
 pub record IsCutOf (terms : Terms) (run : Run) (cut : Cut) : Type 0 where
   pub opening : cut.opening ≡ terms.opening
   pub parts : cut.parts ≡ terms.parts
+  pub checked : cut.checked ≡ terms.checked
   pub prefixes : (part : ℕ) → IsPrefix (prefix_at cut part) (marks_at run.histories part)
   pub announced : (stamp : ℕ) (items : List ℕ) → announced_for cut stamp ≡ Some items → run.announced stamp ≡ Some items
   pub depended : (stamp : ℕ) (lengths : List ℕ) → dependencies_of cut stamp ≡ Some lengths
@@ -52,14 +54,15 @@ pub record Fits (terms : Terms) (run : Run) (id : ℕ) (seat : Knowledge) : Type
   pub apart : AreApart seat.number seat.guest
   pub seen : seat.drawn ≤ run.drawn
 
--- There is one run with which the words and all seats agree: each history has marks that may follow each other and is
--- no longer than it may be, no more numbers are drawn than there are, and what is announced is so of a client whose
--- number is drawn.
+-- There is one run with which the words and all seats agree: each history has marks that may follow each other, on the
+-- latest versions in a checked store, and is no longer than it may be. No more numbers are drawn than there are, and
+-- what is announced is so of a client whose number is drawn.
 pub record Agree (terms : Terms) (words : List ℕ) (seats : List Knowledge) : Type 0 where
   pub run : Run
   pub words_are : words ≡ run.drawn ∷ map length run.histories
   pub wide : length run.histories ≡ terms.parts
   pub legal : (part : ℕ) → is_legal (marks_at run.histories part) ≡ true
+  pub chained : (part : ℕ) → IsChainedIf terms.checked (marks_at run.histories part)
   pub few : (part : ℕ) → length (marks_at run.histories part) ≤ terms.limit
   pub most : run.drawn ≤ terms.sessions
   pub named : (stamp : ℕ) (items : List ℕ) → run.announced stamp ≡ Some items → client_number stamp ≤ run.drawn

@@ -4,7 +4,7 @@
 //! cuts alone. A holding is split and joined, appends a mark, announces items, or draws a number. Contracts see the
 //! seat, which allows it to do so. When the program runs, the lengths are all that a holding has.
 ghost use Rattle.std.specs.Prelude.{◌≡◌, ◌<◌, ◌≤◌, true, [], ◌∷◌, length, replicate, Some, None, IfSome, IfNone};
-ghost use Rattle.album_partition.specs.Marks.{may_follow};
+ghost use Rattle.album_partition.specs.Bases.{MayAppend};
 ghost use Rattle.album_stamps.specs.Stamps.{client_number};
 ghost use Rattle.album_passes.specs.Cuts.{IsBacked, IsSound, prefix_at, announced_for};
 ghost use Rattle.album_passes.specs.Changes.{marked_cut, announced_cut, IsUnheard};
@@ -142,7 +142,7 @@ impl Holding {
         requires inside { part < (known self.old.seat).parts }
         requires word { part < desk.now.terms.parts }
         requires room { length (prefix_at (known self.old.seat) part) < desk.now.terms.limit }
-        requires follows { may_follow (prefix_at (known self.old.seat) part) mark.now ≡ true }
+        requires follows { MayAppend (known self.old.seat).checked (prefix_at (known self.old.seat) part) mark.now }
         requires backed { IsBacked (marked_cut (known self.old.seat) part mark.now) mark.now }
         ensures table { self.new.table ≡ self.old.table }
         ensures seat { self.new.seat ≡ with_cut self.old.seat (marked_cut (known self.old.seat) part mark.now) }
@@ -159,7 +159,7 @@ impl Holding {
         requires inside { part < (known self.old.seat).parts }
         requires word { part < desk.now.terms.parts }
         requires room { length (prefix_at (known self.old.seat) part) < desk.now.terms.limit }
-        requires follows { may_follow (prefix_at (known self.old.seat) part) N.mark ≡ true }
+        requires follows { MayAppend (known self.old.seat).checked (prefix_at (known self.old.seat) part) N.mark }
         requires backed { IsBacked (marked_cut (known self.old.seat) part N.mark) N.mark }
         ensures table { self.new.table ≡ self.old.table }
         ensures seat { self.new.seat ≡ with_cut self.old.seat (marked_cut (known self.old.seat) part N.mark) }

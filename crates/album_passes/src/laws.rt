@@ -1,12 +1,13 @@
 //! What follows of cuts: of closed ones, of ones that grow and are merged, and of reads over them.
-ghost use Rattle.std.specs.Prelude.{◌≡◌, ◌≢◌, ◌<◌, ◌≤◌, ℕ, List, true, false, Some, IsSome, All, Contains, length, slice_index};
+ghost use Rattle.std.specs.Prelude.{is_some, ◌++◌, ◌∷◌, ◌≡◌, ◌≢◌, ◌<◌, ◌≤◌, ℕ, List, true, false, Some, IsSome, All, Contains, length, slice_index};
 ghost use Rattle.std.specs.List.{list_any};
 ghost use Rattle.album_items.specs.ItemIds.{place_of};
 ghost use Rattle.album_items.specs.Openings.{Row};
 ghost use Rattle.album_terminate.specs.declared.deciding.StampState.TheVariants as StampState;
 ghost use Rattle.album_partition.specs.declared.marks.Mark.{Mark};
 ghost use Rattle.album_partition.specs.declared.marks.Mark.TheVariants as Made;
-ghost use Rattle.album_partition.specs.Marks.{is_mark_of, prepares, commits, discards, state_of, items_at, first_value, latest};
+ghost use Rattle.album_partition.specs.Bases.{IsMadeOn};
+ghost use Rattle.album_partition.specs.Marks.{has_version, value_in, is_mark_of, prepares, commits, discards, state_of, items_at, first_value, latest};
 ghost use Rattle.album_items.specs.Places.{others_of};
 ghost use Rattle.album_partition.specs.Proper.{is_proper};
 ghost use Rattle.album_reader.specs.Answers.{ReadVersion};
@@ -120,4 +121,16 @@ pub fn reads_are_atomic_and_fresh()
         → Extends earlier begun → Extends begun old → Extends old new
         → IsFreshFrom (writes_in_cut old) (IsCommittedFor begun) answers
         → IsFreshFrom (writes_in_cut new) (IsCommittedFor earlier) answers }
+{}
+
+/// A law: no update is lost in what a cut of a checked store has. A version that is committed at its item's partition was made on the one
+/// right below it, the latest there as it was prepared, and at most one version of an item is pending.
+pub fn cuts_lose_no_update()
+    ensures made_on { (cut : Cut) (before later : List Mark) (stamp item : ℕ) (writes : List Row) (items : List ℕ)
+        → IsSound cut → cut.checked ≡ true → prefix_for cut item ≡ before ++ Made.Prepared stamp writes items ∷ later
+        → state_of (prefix_for cut item) stamp ≡ StampState.Committed → is_some (value_in writes item) ≡ true
+        → IsMadeOn (prefix_for cut item) item stamp (latest before item) }
+    ensures one_pending { (cut : Cut) (item t u : ℕ) → IsSound cut → cut.checked ≡ true
+        → state_of (prefix_for cut item) t ≡ StampState.Pending → has_version (prefix_for cut item) item t ≡ true
+        → state_of (prefix_for cut item) u ≡ StampState.Pending → has_version (prefix_for cut item) item u ≡ true → t ≡ u }
 {}

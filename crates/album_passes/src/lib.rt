@@ -36,7 +36,7 @@ mod laws;
 
 pub use desk::Desk;
 pub use laws::{
-    cuts_are_causal, cuts_only_grow, fresh_as_authors_saw, marks_are_backed,
+    cuts_are_causal, cuts_lose_no_update, cuts_only_grow, fresh_as_authors_saw, marks_are_backed,
     reads_are_atomic_and_fresh, what_closed_cuts_have, what_is_committed_is_there,
 };
 pub use owner::Owner;

@@ -1,6 +1,6 @@
 //! The owner of a partition's history: whoever has it makes the partition's marks.
 ghost use Rattle.std.specs.Prelude.{◌≡◌, ◌<◌, ◌≤◌, true, [], ◌∷◌, ◌++◌, max, length, OnOk, OnErr, IsOkUnless, None};
-ghost use Rattle.album_partition.specs.Marks.{may_follow};
+ghost use Rattle.album_partition.specs.Bases.{MayAppend};
 ghost use Rattle.album_passes.specs.Cuts.{IsBacked, IsSound, Extends, prefix_at};
 ghost use Rattle.album_passes.specs.Changes.{merged, marked_cut};
 ghost use Rattle.album_passes.specs.Owner.{owner_of, pass_of_owner, IsOwner};
@@ -54,7 +54,7 @@ impl Owner {
     /// `Full` where the history has as many marks as it may. Nothing changes then.
     pub fn append(&mut self, desk: &Desk, mark: &Mark) -> Result<(), Refusal>
         requires table { self.old.table ≡ desk.now.table }
-        requires follows { may_follow (prefix_at self.old.cut self.old.part) mark.now ≡ true }
+        requires follows { MayAppend self.old.cut.checked (prefix_at self.old.cut self.old.part) mark.now }
         requires backed { IsBacked (marked_cut self.old.cut self.old.part mark.now) mark.now }
         ensures cut { OnOk result (self.new.cut ≡ marked_cut self.old.cut self.old.part mark.now) }
         ensures history { OnOk result (prefix_at self.new.cut self.old.part

@@ -22,6 +22,7 @@ use Rattle.album_permits.specs.declared.outs.Out.{Out}
 use Rattle.album_permits.specs.declared.outs.Out.TheVariants as out
 use Rattle.album_world.proofs.StoryLemmas.{run_more, in_past_given}
 use Rattle.album_world.proofs.AnsweredLemmas.{answers_are_to_requests}
+use Rattle.album_world.proofs.UpdateLemmas.{no_update_is_lost}
 use Rattle.album_world.proofs.PromiseLemmas.{rulings_hold, writes_are_granted, views_are_read_atomic, views_are_fresh, outcomes_are_true, busy_has_its_cause}
 use Rattle.album_world.proofs.ListLemmas.{In, contains, within, in_cases, in_nil, in_uncons, in_map}
 use Rattle.album_wire.specs.EventLine.{deliveries}
@@ -103,6 +104,7 @@ all_hold o es is = record {
   views_are_read_atomic = views_are_read_atomic o es is;
   views_are_fresh = views_are_fresh o es is;
   outcomes_are_true = outcomes_are_true o es is;
+  no_update_is_lost = no_update_is_lost o es is;
   busy_has_its_cause = busy_has_its_cause o es is;
   answers_are_to_requests = answers_are_to_requests o es is;
 }

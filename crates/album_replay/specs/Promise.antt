@@ -22,6 +22,7 @@ use Rattle.album_world.specs.Outcomes.{OutcomesAreTrue}
 use Rattle.album_world.specs.Requests.{AnswersAreToRequests, IsAnsweredLast}
 use Rattle.album_world.specs.Rulings.{RulingsHold}
 use Rattle.album_world.specs.Runs.{run_of, past_answer}
+use Rattle.album_world.specs.Updates.{NoUpdateIsLost}
 use Rattle.album_permits.specs.declared.events.Event.{Event}
 use Rattle.album_permits.specs.declared.outs.Out.{Out}
 use Rattle.album_permits.specs.declared.outs.Out.TheVariants as out
@@ -95,6 +96,7 @@ pub record AllHold (opening : Opening) (world : World) : Type 0 where
   pub views_are_read_atomic : ViewsAreReadAtomic opening world
   pub views_are_fresh : ViewsAreFresh (terms_of opening) world
   pub outcomes_are_true : OutcomesAreTrue (terms_of opening) world
+  pub no_update_is_lost : NoUpdateIsLost opening world
   pub busy_has_its_cause : BusyHasItsCause world
   pub answers_are_to_requests : AnswersAreToRequests (terms_of opening) world
 

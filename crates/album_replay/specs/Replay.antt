@@ -53,7 +53,13 @@ silently next = record { next = next; text = [] }
 -- what the lines have said
 abbrev pub opening_of : Header → List Row → Opening
 opening_of header rows =
-    record { parts = header.parts; limit = header.limit; policy = header.policy; items = rows }
+    record {
+      parts = header.parts;
+      limit = header.limit;
+      policy = header.policy;
+      checked = header.checked;
+      items = rows;
+    }
 
 -- the world opens, where it may
 abbrev pub begun : Opening → Bool → Step

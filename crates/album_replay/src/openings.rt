@@ -77,6 +77,7 @@ pub fn opening_of(header: Header, rows: Vec<(ItemId, Value)>) -> Opening
         parts: header.parts,
         limit: header.limit,
         policy: header.policy,
+        checked: header.checked,
         items: ItemValues::of(rows),
     }
 }

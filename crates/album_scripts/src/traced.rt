@@ -1,7 +1,7 @@
 //! A script whose header asks for a trace, whatever it says of one. The header is spelled anew from its values, so it
 //! is never longer than a line may be. A first line that is no header stays as it is, and so does its refusal.
 use crate::by_line::ByLine;
-use album_lines::{data, field, member, only, whole};
+use album_lines::{data, field, member, only, truth, whole};
 use album_stamps::{MAX_LINE, Refusal};
 use json::{Scratch, Writer};
 use std::alloc::{AllocError, Global};
@@ -116,12 +116,16 @@ fn traced_header(alloc: Global, line: &[u8]) -> Result<Vec<u8>, Refusal> {
     let value = data(alloc, &mut scratch, text)?;
     only(&value, &["open"])?;
     let open = field(&value, "open")?;
-    only(open, &["limit", "parts", "policy", "trace"])?;
+    only(open, &["checked", "limit", "parts", "policy", "trace"])?;
 
     let mut writer = Writer::new(Vec::new(alloc));
     writer.begin_object()?;
     writer.key("open")?;
     writer.begin_object()?;
+    if let Some(checked) = member(open, "checked") {
+        writer.key("checked")?;
+        writer.boolean(truth(checked)?)?;
+    }
     for name in ["limit", "parts", "policy"] {
         if let Some(number) = member(open, name) {
             writer.key(name)?;

@@ -1,6 +1,6 @@
 -- A write that is granted on a view and begun at its stamp: how it begins (`begun_on`), stays so as more is seen
 -- (`found_more`, `begun_more`), and on what its answer rests, where it ends (`ends_rest`) or is cut off (`cut_rests`).
-use Rattle.std.proofs.Common.{◌≡◌, ℕ, ◌≤◌, true, inl, inr, List, Option, Some, None, refl, sym, ap, ◌∙◌, subst}
+use Rattle.std.proofs.Common.{Bool, ◌≡◌, ℕ, ◌≤◌, true, inl, inr, List, Option, Some, None, refl, sym, ap, ◌∙◌, subst}
 use Rattle.album_calls.specs.declared.messages.Message.{Message}
 use Rattle.album_client.specs.Clients.{stamp_at_work}
 use Rattle.album_client.specs.Steps.{answer_of}
@@ -29,11 +29,12 @@ use Rattle.album_writer.specs.declared.outcomes.Outcome.{Outcome}
 use Rattle.album_writer.specs.declared.outcomes.Outcome.TheVariants as outcome
 use Rattle.album_writer.proofs.Placing.{some-place}
 
-pub begun_on : (permit : PermitState) (stamp client tag parts : ℕ) (c : Cut) → parts ≡ c.parts → 1 ≤ parts
+pub begun_on : (checked : Bool) (permit : PermitState) (stamp client tag parts : ℕ) (c : Cut) → checked ≡ c.checked → parts ≡ c.parts → 1 ≤ parts
     → are_items (items_written (effect_of permit stamp)) ≡ true
-    → IsBegunOn c (prepare_round permit stamp client tag parts)
-begun_on permit stamp client tag parts c same some items = record {
+    → IsBegunOn c (prepare_round checked permit stamp client tag parts)
+begun_on checked permit stamp client tag parts c on same some items = record {
   parts = same;
+  checked = on;
   some_parts = some;
   some = some-place parts (items_written (effect_of permit stamp)) some items;
   all = refl;

@@ -97,6 +97,7 @@ module _ (limit : ℕ) (policy : Policy) (o : Outset) (now next noted : SessionS
                 next = other;
                 prepared = subst (λ (ms : List Message). AreCommits d begun other ms) are.messages_are are;
                 parts = over.parts ∙ sym along.parts;
+                checked = over.checked ∙ sym along.checked;
                 asks = sym (ap commits_of are.next_is);
                 further = begun_further other (IsCommittedAt d other)
                     (subst (λ (v : WritingState). v.outstanding ≡ places_in v) (sym are.next_is) refl);
@@ -139,12 +140,12 @@ module _ (limit : ℕ) (policy : Policy) (o : Outset) (now next noted : SessionS
           begun = begun;
           granted = granted;
           since = along;
-          carried = record { next = w.next; prepared = w.prepared; parts = w.parts; asks = w.asks; further = tells };
+          carried = record { next = w.next; prepared = w.prepared; parts = w.parts; checked = w.checked; asks = w.asks; further = tells };
         })
     commits writing w (Decides other messages) tells is = absurd tells
     commits writing w (IsDone out) tells is =
         ends is.noted (ap (λ (z : Client). z.clock.counter) is.client) out
-        (end_all limit at d begun w.next w.prepared along w.parts out tells) is.answer
+        (end_all limit at d begun w.next w.prepared along w.parts w.checked out tells) is.answer
 
     -- what a reply leads to
     pub prepared_on : (writing : WritingState) (m : Message) → IsPreparing at now.cut sent begun writing

@@ -10,4 +10,5 @@ pub mod CarryLemmas
 pub mod WaitLemmas
 pub mod StepLemmas
 pub mod HintLemmas
+pub mod AttemptLemmas
 pub mod InOrderLemmas

@@ -158,17 +158,17 @@ module _ (limit : ℕ) (policy : Policy) (o : Outset) (now next noted : SessionS
   module _ (e : ruling_of basis o.ask ≡ finding.Granted) (noted_is : transition.notes.items ≡ notes_of basis o.ask)
       (change : is_write o.ask ≡ true) where
     abbrev w : WritingState
-    w = prepare_round case stamp next.client (tag + 1) next.cut.parts
+    w = prepare_round next.cut.checked case stamp next.client (tag + 1) next.cut.parts
 
     permit_is : IsPermit case
     permit_is = record { taken = N.taken; basis = basis; based = basis-based policy o.principal rows; granted = e }
 
-    begun : (c : Cut) → c.parts ≡ next.cut.parts → IsBegunOn c w
-    begun c same = begun_on case stamp next.client (tag + 1) next.cut.parts c (sym same) N.heard.some
+    begun : (c : Cut) → c.parts ≡ next.cut.parts → c.checked ≡ next.cut.checked → IsBegunOn c w
+    begun c same on = begun_on next.cut.checked case stamp next.client (tag + 1) next.cut.parts c (sym on) (sym same) N.heard.some
         (effect_items case stamp permit_is change)
 
     some : places_in w ≢ []
-    some = (begun next.cut refl).some
+    some = (begun next.cut refl refl).some
 
     module _ (quiet : transition.answer ≡ None)
         (is : transition.client ≡ record y { clock = record k { counter = k.counter + 1 }; phase = phase.Prepares w })
@@ -259,7 +259,8 @@ module _ (limit : ℕ) (policy : Policy) (o : Outset) (now next noted : SessionS
             granted = granted_here;
             since = extends_self new.cut;
             carried = record {
-              over = begun new.cut (a.grown.parts ∙ ap (λ (c : Cut). c.parts) N.cut);
+              over = begun new.cut (a.grown.parts ∙ ap (λ (c : Cut). c.parts) N.cut)
+                  (a.grown.checked ∙ ap (λ (c : Cut). c.checked) N.cut);
               asks = refl;
               further = begun_further w (IsPreparedAt new.cut w) refl;
             };

@@ -1,14 +1,17 @@
 -- What is announced before messages are sent: the first of a write's Prepares prepares its stamp (`prepares_first`), and
 -- other messages prepare nothing (`gets_plain`, `commits_plain`).
-use Rattle.std.proofs.Common.{◌≡◌, ◌≢◌, ℕ, Bool, List, [], ◌∷◌, map, Some, None, if◌then◌else◌, refl, sym, ap}
+use Rattle.std.proofs.Common.{◌≡◌, ◌≢◌, ℕ, Bool, true, false, List, [], ◌∷◌, map, Some, None, if◌then◌else◌, refl, sym, ap}
 use Rattle.std.proofs.lemmas.Bool.{eq-eqb, ne_eqb}
+use Rattle.album_items.specs.Openings.{Row}
 use Rattle.album_calls.specs.declared.messages.Message.{Message}
+use Rattle.album_calls.specs.declared.requests.Request.TheVariants.{Prepare, PrepareOn}
 use Rattle.album_passes.specs.Changes.{lengths_in, announced_cut}
 use Rattle.album_passes.specs.Cuts.{Cut, announced_for, dependencies_of}
 use Rattle.album_reader.specs.Answers.{Asker}
 use Rattle.album_reader.specs.Rounds.{gets_of}
-use Rattle.album_channels.specs.Sending.{prepared_first, sent_last, sent_at}
-use Rattle.album_writer.specs.Writing.{WritingState, items_in, places_in, prepare_to, prepares_of, commit_to, commits_of}
+use Rattle.album_channels.specs.Sending.{prepared_by, prepared_first, sent_last, sent_at}
+use Rattle.album_grounds.specs.Writes.{rows_for}
+use Rattle.album_writer.specs.Writing.{WritingState, items_in, places_in, bases_of, prepare_to, prepares_of, commit_to, commits_of}
 
 -- ---- what messages prepare
 
@@ -28,7 +31,16 @@ prepares_first w some = go (places_in w) some
   where
     go : (ns : List ℕ) → ns ≢ [] → prepared_first (map (prepare_to w) ns) ≡ Some (w.stamp, items_in w)
     go [] h = absurd (h refl)
-    go (n ∷ ns) h = refl
+    go (n ∷ ns) h = by w.checked
+      where
+        rows : List Row
+        rows = rows_for w n
+
+        by : (b : Bool)
+            → prepared_by (if b then PrepareOn w.stamp rows (items_in w) (bases_of w rows) else Prepare w.stamp rows (items_in w))
+            ≡ Some (w.stamp, items_in w)
+        by true = refl
+        by false = refl
 
 some_map : (f : ℕ → Message) (ns : List ℕ) → ns ≢ [] → map f ns ≡ [] → ⊥
 some_map f [] h e = h refl

@@ -5,7 +5,7 @@ use Rattle.album_calls.specs.declared.messages.Body.{Body}
 use Rattle.album_calls.specs.declared.messages.Body.TheVariants as body
 use Rattle.album_calls.specs.declared.messages.Message.{Message}
 use Rattle.album_calls.specs.declared.requests.Request.{Request}
-use Rattle.album_calls.specs.declared.requests.Request.TheVariants.{Prepare, Commit, Get, Check}
+use Rattle.album_calls.specs.declared.requests.Request.TheVariants.{Prepare, PrepareOn, Commit, Get, Check}
 use Rattle.album_channels.specs.Reads.{begins_read}
 use Rattle.album_permits.specs.declared.answers.Answer.{Answer}
 use Rattle.album_permits.specs.declared.answers.Answer.TheVariants as answer
@@ -19,6 +19,7 @@ are_among items others = list_all (λ item. list_any (λ other. item == other) o
 -- the item of a Get, and of another message the first of all items
 abbrev pub item_got : Request → ℕ
 item_got (Prepare stamp writes items) = 0
+item_got (PrepareOn stamp writes items bases) = 0
 item_got (Commit stamp) = 0
 item_got (Get item stamps) = item
 item_got (Check stamp) = 0

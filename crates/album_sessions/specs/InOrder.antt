@@ -5,7 +5,7 @@ use Rattle.album_eval.specs.declared.facts.Principal.{Principal}
 use Rattle.album_eval.specs.declared.policies.Policy.{Policy}
 use Rattle.album_passes.specs.Cuts.{Extends}
 use Rattle.album_permits.specs.declared.answers.Answer.{Answer}
-use Rattle.album_sessions.specs.Resting.{RestsOn}
+use Rattle.album_sessions.specs.Attempts.{RestsOnLast}
 use Rattle.album_sessions.specs.Sessions.{SessionState}
 use Rattle.album_sessions.specs.Steps.{IsStill}
 use Rattle.album_views.specs.declared.asks.Ask.{Ask}
@@ -18,5 +18,5 @@ pub record IsInOrder
   pub begun : SessionState
   pub still : IsStill old begun
   pub has_listened : Extends listened.cut begun.cut
-  pub rests : RestsOn limit policy principal ask begun new answer
+  pub rests : RestsOnLast limit policy principal ask begun new answer
   pub published_all : published.cut ≡ new.cut

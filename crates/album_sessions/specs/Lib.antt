@@ -5,4 +5,5 @@ pub mod Asks
 pub mod Sending
 pub mod Phases
 pub mod Steps
+pub mod Attempts
 pub mod InOrder

@@ -64,6 +64,7 @@ pub record IsCommitting (at now : Cut) (sent : List Message) (begun writing : Wr
   pub next : WritingState
   pub prepared : AreCommits at begun next (commits_of (commit_round begun))
   pub parts : begun.parts ≡ at.parts
+  pub checked : begun.checked ≡ at.checked
   pub asks : sent ≡ commits_of next
   pub further : IsFurther next (IsCommittedAt now next) writing
 

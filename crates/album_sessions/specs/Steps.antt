@@ -39,7 +39,8 @@ client_step_in session = record {
 }
 
 abbrev pub terms_in : Policy → SessionState → Terms
-terms_in policy session = record { parts = session.cut.parts; policy = policy }
+terms_in policy session =
+    record { parts = session.cut.parts; policy = policy; checked = session.cut.checked }
 
 -- ---- how an ask begins
 

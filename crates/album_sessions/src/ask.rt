@@ -10,6 +10,7 @@ ghost use Rattle.album_stamps.specs.Stamps.{is_client};
 ghost use Rattle.album_views.specs.Asks.{objects_of};
 ghost use Rattle.album_views.specs.Checks.{refusal_of};
 ghost use Rattle.album_sessions.specs.Asks.{IsOn};
+ghost use Rattle.album_sessions.specs.Attempts.{RestsOnLast};
 ghost use Rattle.album_keepers.specs.Envelopes.{Shows};
 ghost use Rattle.album_sessions.specs.Phases.{Outset, IsUnderWay};
 ghost use Rattle.album_keepers.specs.Replies.{IsReplied};
@@ -45,7 +46,8 @@ pub(crate) enum Way {
 }
 
 impl<J: ServiceNames> Session<J> {
-    /// Reads what the ask looks at, rules on it by the service's policy, and serves it or writes it.
+    /// Reads what the ask looks at, rules on it by the service's policy, and serves it or writes it. In a checked store a
+    /// write that is aborted is attempted anew: `MAX_ATTEMPTS` times in all at most.
     ///
     /// # Errors
     ///
@@ -56,7 +58,7 @@ impl<J: ServiceNames> Session<J> {
         principal: &Principal,
         ask: Ask,
     ) -> Result<Answer, Refusal>
-        ensures rests { IfOk result (RestsOn J.terms.limit J.policy principal.now ask self.old self.new) }
+        ensures rests { IfOk result (RestsOnLast J.terms.limit J.policy principal.now ask self.old self.new) }
         ensures checked { IfSome (refusal_of ask principal.now) (λ e. (result ≡ Err e) × (self.new ≡ self.old)) }
         ensures refused { IfErr result (λ e. (refusal_of ask principal.now ≡ Some e) ⊎ IsClosedOrOutOfMemory e) }
         ensures unbegun { OnErr result (AddsNothing self.old self.new) }
@@ -67,7 +69,7 @@ impl<J: ServiceNames> Session<J> {
     {
         self.channel.is_sound();
         ask.check(principal)?;
-        let answer = self.answer(rt, principal, &ask);
+        let answer = self.answer_at_last(rt, principal, &ask);
         drop(ask);
         answer
     }
@@ -77,7 +79,7 @@ impl<J: ServiceNames> Session<J> {
     /// # Errors
     ///
     /// `Closed` or `OutOfMemory`.
-    fn answer<R: Wait + time::Clock>(
+    pub(crate) fn answer<R: Wait + time::Clock>(
         &mut self,
         rt: &R,
         principal: &Principal,
@@ -256,7 +258,7 @@ impl<J: ServiceNames> Session<J> {
         let _number = number.number();
         ClientStep {
             alloc: self.alloc,
-            terms: Terms::new(self.channel.parts(), self.policy),
+            terms: Terms::new(self.channel.parts(), self.policy, self.channel.checked()),
             number,
             clock: self.clock,
         }

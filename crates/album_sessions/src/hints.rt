@@ -164,7 +164,7 @@ impl Hints {
 }
 
 /// The first of the ask's objects. An ask without one is refused by its check.
-fn first_object(ask: &Ask) -> Option<ItemId> {
+pub(crate) fn first_object(ask: &Ask) -> Option<ItemId> {
     match ask {
         Ask::Read { object } => Some(*object),
         Ask::List { album } => Some(*album),

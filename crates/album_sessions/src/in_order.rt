@@ -3,7 +3,7 @@
 ghost use Rattle.std.specs.Prelude.{◌≡◌, ◌≤◌, ◌⊎◌, Some, Err, IfOk, IfErr, IfSome, OnErr};
 ghost use Rattle.album_passes.specs.Cuts.{Extends, IsSound};
 ghost use Rattle.album_sessions.specs.InOrder.{IsInOrder};
-ghost use Rattle.album_sessions.specs.Resting.{RestsOn};
+ghost use Rattle.album_sessions.specs.Attempts.{RestsOnLast};
 ghost use Rattle.album_channels.specs.Channels.{IsClosedOrOutOfMemory};
 ghost use Rattle.album_sessions.specs.Sessions.{AddsNothing};
 ghost use Rattle.album_sessions.specs.Steps.{IsStill};
@@ -70,7 +70,7 @@ impl<J: ServiceNames> Session<J> {
         ensures in_order { IfOk result (λ given. IsInOrder J.terms.limit J.policy principal.now ask
             self.old given.listened given.answer given.published self.new) }
         ensures rests { IfOk result (λ given.
-            RestsOn J.terms.limit J.policy principal.now ask self.old self.new given.answer) }
+            RestsOnLast J.terms.limit J.policy principal.now ask self.old self.new given.answer) }
         ensures checked { IfSome (refusal_of ask principal.now) (λ e. (result ≡ Err e) × (self.new ≡ self.old)) }
         ensures refused { IfErr result (λ e. (refusal_of ask principal.now ≡ Some e) ⊎ IsClosedOrOutOfMemory e) }
         ensures unbegun { OnErr result (AddsNothing self.old self.new) }

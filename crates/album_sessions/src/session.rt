@@ -12,12 +12,13 @@ ghost use Rattle.album_sessions.specs.Sessions.{AddsNothing};
 
 use crate::hints::Hints;
 use crate::service_names::ServiceNames;
+use crate::stripes::Stripes;
 use album_audit::{AuditBook, Share};
 use album_board::Board;
 use album_calls::Stamps;
 use album_channels::PartitionChannel;
 use album_eval::Policy;
-use album_items::ItemId;
+use album_items::{ItemId, Items};
 use album_keepers::{Control, ControlAnswer, PartitionMail};
 use album_stamps::{ClientNo, Clock, Refusal, Stamp};
 use crossbeam_channel::Sender;
@@ -41,6 +42,10 @@ pub struct Session<J: ServiceNames> {
     pub(crate) share: Share<J>,
     /// Of the whole service.
     pub(crate) hints: Arc<Hints, Global>,
+    /// Of the whole service.
+    pub(crate) stripes: Arc<Stripes, Global>,
+    /// What the last checked write wanted to write, if there was memory to keep that.
+    pub(crate) contested: Items,
 }
 
 impl<J: ServiceNames> Model for Session<J> {
@@ -59,8 +64,8 @@ impl<J: ServiceNames> Model for Session<J> {
 }
 
 impl<J: ServiceNames> Session<J> {
-    /// The session of this channel, whose client has announced no stamp yet. The board, the book and the hints are the
-    /// service's.
+    /// The session of this channel, whose client has announced no stamp yet. The board, the book, the hints and the stripes
+    /// are the service's.
     #[tactic(auto, using(crate::proofs::SessionLemmas::ahead_new, crate::proofs::GrantedLemmas::granted_new))]
     pub fn new(
         alloc: Global,
@@ -70,6 +75,7 @@ impl<J: ServiceNames> Session<J> {
         book: Arc<Mutex<AuditBook<J>>, Global>,
         share: Share<J>,
         hints: Arc<Hints, Global>,
+        stripes: Arc<Stripes, Global>,
     ) -> Session<J>
         requires policy { policy ≡ J.policy }
         requires unheard { IsUnheard channel.client channel.cut }
@@ -86,6 +92,8 @@ impl<J: ServiceNames> Session<J> {
             book,
             share,
             hints,
+            stripes,
+            contested: Items::of(Vec::new(alloc)),
         }
     }
 
@@ -255,6 +263,8 @@ impl<J: ServiceNames> Session<J> {
             book,
             share,
             hints: _,
+            stripes: _,
+            contested: _,
         } = self;
         channel.leave(rt);
         book.lock(rt).gather(share);

@@ -14,6 +14,7 @@ ghost use Rattle.album_channels.specs.Channels.{IsClosedOrOutOfMemory, IsNoReply
 ghost use Rattle.album_sessions.specs.Steps.{client_step_in, terms_in, IsTaken, IsWaited, IsReaction, IsSent};
 
 use crate::ask::Way;
+use crate::attempts::contest;
 use crate::service_names::ServiceNames;
 use crate::session::Session;
 use album_calls::Message;
@@ -213,6 +214,7 @@ impl<J: ServiceNames> Session<J> {
         requires { IsFree J.policy self.old sent.now }
         ensures { IsAnnouncedBy self.old self.new sent.now }
     {
+        contest(self.alloc, &mut self.contested, sent);
         self.channel.announce_first(sent);
         self.channel.is_sound();
     }

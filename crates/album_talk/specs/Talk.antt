@@ -13,7 +13,7 @@ use Rattle.album_permits.specs.declared.answers.Answer.{Answer}
 use Rattle.album_passes.specs.Cuts.{prefix_at}
 use Rattle.album_sessions.specs.Asks.{IsOn}
 use Rattle.album_keepers.specs.Controls.{IsUntrimmed}
-use Rattle.album_sessions.specs.Resting.{RestsOn}
+use Rattle.album_sessions.specs.Attempts.{RestsOnLast}
 use Rattle.album_channels.specs.Channels.{IsClosedOrOutOfMemory}
 use Rattle.album_sessions.specs.Sessions.{SessionState, AddsNothing}
 use Rattle.album_lines.specs.Lines.{Line, is_blank}
@@ -34,7 +34,7 @@ use Rattle.album_judge.specs.Writes.{IsPrefixOf}
 -- of an ask: the answer, on what it rests; or it is refused by its check, or no reply comes, and then nothing was
 -- noted, drawn or announced
 abbrev pub AnswersAsk : ℕ → Policy → Principal → Ask → SessionState → SessionState → Result Answer Refusal → Type 0
-AnswersAsk limit policy who ask old new (Ok answer) = RestsOn limit policy who ask old new answer
+AnswersAsk limit policy who ask old new (Ok answer) = RestsOnLast limit policy who ask old new answer
 AnswersAsk limit policy who ask old new (Err why) =
     ((refusal_of ask who ≡ Some why) ⊎ IsClosedOrOutOfMemory why) × AddsNothing old new
 

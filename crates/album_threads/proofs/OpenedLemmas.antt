@@ -17,9 +17,9 @@ zero_plus n = omega arith
 
 -- all partitions, in their order
 pub all_first : (terms : Terms) (ps : List PartitionState)
-    → ps ≡ first_partitions terms.parts terms.limit terms.opening → AreFirst terms terms.parts ps
+    → ps ≡ first_partitions terms.checked terms.parts terms.limit terms.opening → AreFirst terms terms.parts ps
 all_first terms ps e =
-    let first : ℕ → PartitionState = first_partition terms.parts terms.limit terms.opening in
+    let first : ℕ → PartitionState = first_partition terms.checked terms.parts terms.limit terms.opening in
     subst (AreFirst terms terms.parts) (sym e)
     (record {
       count_is = length-map-range_with_len first 0 terms.parts;

@@ -1,5 +1,5 @@
 -- What a service starts with.
-use Rattle.std.specs.Prelude.{◌≡◌, ℕ, ◌≤◌, List}
+use Rattle.std.specs.Prelude.{◌≡◌, ℕ, ◌≤◌, Bool, List}
 use Rattle.atomic_table.specs.Seated.{TableId}
 use Rattle.album_stamps.specs.declared.limits.TheConstants.{MAX_PARTS}
 use Rattle.album_eval.specs.declared.policies.Policy.{Policy}
@@ -34,12 +34,13 @@ opened_as table terms policy list audit_ok audit_failed alarm_ok alarm_failed = 
   };
 }
 
--- There are so many partitions, not too few of them nor too many; they are those of the desk's terms as they open, with
--- their owners, and the pass is its first one.
+-- There are so many partitions, not too few of them nor too many, checked or not; they are those of the desk's terms as
+-- they open, with their owners, and the pass is its first one.
 pub record IsOpened
-    (desk : DeskState) (parts : ℕ) (owners : List OwnerState) (partitions : List PartitionState) (pass : PassState)
+    (desk : DeskState) (parts : ℕ) (checked : Bool) (owners : List OwnerState) (partitions : List PartitionState) (pass : PassState)
     : Type 0 where
   pub parts_are : desk.terms.parts ≡ parts
+  pub checked_is : desk.terms.checked ≡ checked
   pub some : 1 ≤ desk.terms.parts
   pub few : desk.terms.parts ≤ MAX_PARTS
   pub owned : AreOwners desk owners

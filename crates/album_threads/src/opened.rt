@@ -21,6 +21,8 @@ use std::marker::Model;
 pub struct Opened {
     pub(crate) desk: Desk,
     pub(crate) parts: u16,
+    /// Whether the partitions are checked.
+    pub(crate) checked: bool,
     pub(crate) owners: Vec<Owner>,
     pub(crate) partitions: Vec<Partition>,
     pub(crate) pass: Pass,
@@ -40,7 +42,7 @@ impl Model for Opened {
 
     ghost view = { λ o. record { desk = o.desk; policy = o.policy; list = o.list; books = o.blanks } };
 
-    ghost invariant = { λ o. IsOpened o.desk o.parts o.owners.items o.partitions.items o.pass };
+    ghost invariant = { λ o. IsOpened o.desk o.parts o.checked o.owners.items o.partitions.items o.pass };
 }
 
 impl Opened {
@@ -64,6 +66,7 @@ impl Opened {
         Ok(Opened {
             desk,
             parts: opening.parts as u16,
+            checked: opening.checked,
             owners,
             partitions,
             pass,

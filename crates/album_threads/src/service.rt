@@ -14,7 +14,7 @@ use album_channels::PartitionChannel;
 use album_eval::Policy;
 use album_keepers::{Breakage, Gate, PartitionMail, start_all};
 use album_passes::{Desk, Pass};
-use album_sessions::{Hints, ServiceNames, Session};
+use album_sessions::{Hints, ServiceNames, Session, Stripes};
 use album_stamps::Refusal;
 use crossbeam_channel::{Receiver, SendError, Sender, unbounded};
 use std::alloc::{AllocError, Global};
@@ -32,11 +32,14 @@ pub struct Service<J: ServiceNames> {
     board: Arc<Mutex<Board<J>>, Global>,
     book: Arc<Mutex<AuditBook<J>>, Global>,
     hints: Arc<Hints, Global>,
+    stripes: Arc<Stripes, Global>,
     /// Whether a session may give itself the replies that it knows.
     repeats: bool,
     alloc: Global,
     /// How many partitions there are.
     parts: u16,
+    /// Whether they are checked.
+    checked: bool,
     /// Of the partitions, in order.
     mailboxes: Vec<Sender<PartitionMail<J>>>,
     threads: Vec<JoinHandle<()>>,
@@ -45,6 +48,7 @@ pub struct Service<J: ServiceNames> {
     ghost terms_are: { (arc_value desk).terms ≡ J.terms },
     ghost policy_is: { policy ≡ J.policy },
     ghost parts_are: { J.terms.parts ≡ parts },
+    ghost checked_is: { J.terms.checked ≡ checked },
     ghost some: { 1 ≤ parts },
     ghost few: { parts ≤ MAX_PARTS },
     ghost mailboxes_are: { vec_len mailboxes ≡ parts },
@@ -68,6 +72,7 @@ impl<J: ServiceNames + Send + 'static> Service<J> {
         let Opened {
             desk,
             parts,
+            checked,
             owners,
             partitions,
             mut pass,
@@ -107,6 +112,7 @@ impl<J: ServiceNames + Send + 'static> Service<J> {
             board,
             book,
             hints,
+            stripes,
             breakage,
         } = shared;
         Ok(Service {
@@ -116,9 +122,11 @@ impl<J: ServiceNames + Send + 'static> Service<J> {
             board,
             book,
             hints,
+            stripes,
             repeats,
             alloc,
             parts,
+            checked,
             mailboxes,
             threads,
             breakage,
@@ -135,9 +143,11 @@ impl<J: ServiceNames + Send + 'static> Service<J> {
             board: _,
             book,
             hints: _,
+            stripes: _,
             repeats: _,
             alloc: _,
             parts: _,
+            checked: _,
             mailboxes,
             threads,
             breakage: _,
@@ -159,6 +169,7 @@ impl<J: ServiceNames> Service<J> {
         ensures unheard { IfOk result (λ session. IsUnheard session.client session.cut) }
         ensures most { IfOk result (λ session. session.client ≤ J.terms.sessions) }
         ensures parts { IfOk result (λ session. session.cut.parts ≡ J.terms.parts) }
+        ensures checked { IfOk result (λ session. session.cut.checked ≡ J.terms.checked) }
         ensures opening { IfOk result (λ session. session.cut.opening ≡ J.terms.opening) }
         ensures counter { IfOk result (λ session. session.counter ≡ 0) }
         ensures share { IfOk result (λ session. session.share ≡ new_share) }
@@ -167,6 +178,7 @@ impl<J: ServiceNames> Service<J> {
         let board = Arc::try_clone(&self.board)?;
         let book = Arc::try_clone(&self.book)?;
         let hints = Arc::try_clone(&self.hints)?;
+        let stripes = Arc::try_clone(&self.stripes)?;
         let channel = self.channel(rt)?;
         let share = self.book.lock(rt).share();
         match share {
@@ -178,6 +190,7 @@ impl<J: ServiceNames> Service<J> {
                 book,
                 share,
                 hints,
+                stripes,
             )),
             Err(refusal) => {
                 channel.leave(rt);
@@ -191,6 +204,7 @@ impl<J: ServiceNames> Service<J> {
         ensures unheard { IfOk result (λ channel. IsUnheard channel.client channel.cut) }
         ensures most { IfOk result (λ channel. channel.client ≤ J.terms.sessions) }
         ensures parts { IfOk result (λ channel. channel.cut.parts ≡ J.terms.parts) }
+        ensures checked { IfOk result (λ channel. channel.cut.checked ≡ J.terms.checked) }
         ensures opening { IfOk result (λ channel. channel.cut.opening ≡ J.terms.opening) }
         ensures refused { IfErr result (λ e. (e ≡ Refusal.OutOfMemory) ⊎ (e ≡ Refusal.SessionsSpent)) }
     {
@@ -206,6 +220,7 @@ impl<J: ServiceNames> Service<J> {
             pass,
             client,
             self.parts,
+            self.checked,
             to,
             from,
             self.repeats,
@@ -258,6 +273,7 @@ struct Seed<J: ServiceNames> {
     ghost table_is: { pass.table ≡ J.table },
     ghost unnumbered: { pass.number ≡ None },
     ghost parts_are: { pass.cut.parts ≡ J.terms.parts },
+    ghost checked_is: { pass.cut.checked ≡ J.terms.checked },
     ghost opening_is: { pass.cut.opening ≡ J.terms.opening },
 }
 
@@ -268,6 +284,7 @@ impl<J: ServiceNames> Seed<J> {
         ensures of { result.table ≡ J.table }
         ensures unnumbered { result.number ≡ None }
         ensures parts { result.cut.parts ≡ J.terms.parts }
+        ensures checked { result.cut.checked ≡ J.terms.checked }
         ensures opening { result.cut.opening ≡ J.terms.opening }
     {
         self.pass.split(desk)
@@ -280,6 +297,7 @@ struct Shared<J: ServiceNames> {
     board: Arc<Mutex<Board<J>>, Global>,
     book: Arc<Mutex<AuditBook<J>>, Global>,
     hints: Arc<Hints, Global>,
+    stripes: Arc<Stripes, Global>,
     breakage: Arc<Breakage, Global>,
 }
 
@@ -293,11 +311,13 @@ fn shared_of<J: ServiceNames>(
     let board = Arc::new(alloc, Mutex::new(board))?;
     let book = Arc::new(alloc, Mutex::new(book))?;
     let hints = Arc::new(alloc, Hints::new(alloc, hints))?;
+    let stripes = Arc::new(alloc, Stripes::new(alloc))?;
     let breakage = Arc::new(alloc, Breakage::new())?;
     Ok(Shared {
         board,
         book,
         hints,
+        stripes,
         breakage,
     })
 }

@@ -71,6 +71,8 @@ in_write row = rw (in_value row.1) refl
 
 in_request : (e : Envelope) (r : Request) → has_float (request_json e r) ≡ false
 in_request e (request.Prepare stamp writes items) = rw (in_list write_json in_write writes, in_items items) refl
+in_request e (request.PrepareOn stamp writes items bases) =
+    rw (in_list write_json in_write writes, in_items items, in_list whole_data (λ s. refl) bases) refl
 in_request e (request.Commit stamp) = refl
 in_request e (request.Get item stamps) = rw (in_list whole_data (λ s. refl) stamps) refl
 in_request e (request.Check stamp) = refl

@@ -80,6 +80,20 @@ prepare_json e stamp writes items = object_data (
     ∷ (codes "writes", writes_json writes)
     ∷ [])
 
+-- a PrepareOn: what a Prepare has, and the base of each write
+abbrev pub prepare_on_json : Envelope → ℕ → List (ℕ × Value) → List ℕ → List ℕ → Data
+prepare_on_json e stamp writes items bases = object_data (
+    (codes "bases", stamps_json bases)
+    ∷ (codes "from", string (node_text e.from))
+    ∷ (codes "items", item_list_json items)
+    ∷ (codes "k", whole_data e.number)
+    ∷ (codes "say", string (codes "prepare"))
+    ∷ (codes "stamp", whole_data stamp)
+    ∷ (codes "tag", whole_data e.tag)
+    ∷ (codes "to", string (node_text e.to))
+    ∷ (codes "writes", writes_json writes)
+    ∷ [])
+
 -- a Version
 abbrev pub version_json : Envelope → ℕ → ℕ → Value → Data
 version_json e item stamp value = object_data (
@@ -139,6 +153,7 @@ stamped_json e word stamp = object_data (
 
 abbrev pub request_json : Envelope → Request → Data
 request_json e (request.Prepare stamp writes items) = prepare_json e stamp writes items
+request_json e (request.PrepareOn stamp writes items bases) = prepare_on_json e stamp writes items bases
 request_json e (request.Commit stamp) = stamped_json e (codes "commit") stamp
 request_json e (request.Get item stamps) = get_json e item stamps
 request_json e (request.Check stamp) = stamped_json e (codes "check") stamp

@@ -24,17 +24,18 @@ spelled_opening shape.Begin = Begin
 
 -- the names of the members of a header
 abbrev pub header_keys : List (List ℕ)
-header_keys = codes "parts" ∷ codes "limit" ∷ codes "policy" ∷ codes "trace" ∷ []
+header_keys = codes "parts" ∷ codes "limit" ∷ codes "policy" ∷ codes "checked" ∷ codes "trace" ∷ []
 
--- {parts, and perhaps limit, policy, trace}
+-- {parts, and perhaps limit, policy, checked, trace}
 unfoldable pub header_of : Data → Result Header Refusal
 header_of d = do
   _ ← only_of header_keys d
   parts ← field_of (codes "parts") d >>= whole_of
   limit ← member_or DEFAULT_LIMIT whole_of (get (codes "limit") d)
   policy ← member_or DEFAULT_POLICY whole_of (get (codes "policy") d)
+  checked ← member_or false truth_of (get (codes "checked") d)
   trace ← member_or false truth_of (get (codes "trace") d)
-  Ok (record { parts = parts; limit = limit; policy = policy; trace = trace })
+  Ok (record { parts = parts; limit = limit; policy = policy; checked = checked; trace = trace })
 
 -- {"open": header}
 unfoldable pub open_shape_of : Data → Result SpelledOpening Refusal

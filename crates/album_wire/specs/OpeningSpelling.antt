@@ -10,13 +10,14 @@ use Rattle.album_wire.specs.declared.opening_line.OpeningLine.TheVariants as lin
 use Rattle.album_wire.specs.declared.opening_shape.Header.{Header}
 use Rattle.album_wire.specs.declared.opening_shape.TheConstants.{DEFAULT_LIMIT, DEFAULT_POLICY}
 
--- How the store is to be opened. Where `limit` or `policy` is left out it is the usual one, and where `trace` is, no
--- message is written.
+-- How the store is to be opened. Where `limit` or `policy` is left out it is the usual one. Where `checked` is left
+-- out writes aren't checked, and where `trace` is, no message is written.
 pub record IsHeader (header : Header) (d : Data) : Type 0 where
-  pub names : HasOnly (codes "parts" ∷ codes "limit" ∷ codes "policy" ∷ codes "trace" ∷ []) d
+  pub names : HasOnly (codes "parts" ∷ codes "limit" ∷ codes "policy" ∷ codes "checked" ∷ codes "trace" ∷ []) d
   pub parts : HasMember (codes "parts") (IsWhole header.parts) d
   pub limit : MayHave (codes "limit") (header.limit ≡ DEFAULT_LIMIT) (IsWhole header.limit) d
   pub policy : MayHave (codes "policy") (header.policy ≡ DEFAULT_POLICY) (IsWhole header.policy) d
+  pub checked : MayHave (codes "checked") (header.checked ≡ false) (IsTruth header.checked) d
   pub trace : MayHave (codes "trace") (header.trace ≡ false) (IsTruth header.trace) d
 
 -- an item, and its first value

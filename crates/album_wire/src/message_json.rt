@@ -6,7 +6,7 @@ ghost use Rattle.album_items.specs.ItemIds.{picture, album};
 ghost use Rattle.album_items.specs.declared.values.Value.TheVariants as ItemValue;
 ghost use Rattle.album_lines.specs.Output.{line_text};
 ghost use Rattle.album_wire.specs.ValueJson.{members_named};
-ghost use Rattle.album_wire.specs.MessageJson.{node_text, vote_word, stamps_json, write_json, writes_json, envelope_of, envelope_fields, get_json, prepare_json, version_json, status_json, gone_json, clash_json, stamped_json, request_json, reply_json, said_json, message_json};
+ghost use Rattle.album_wire.specs.MessageJson.{node_text, vote_word, stamps_json, write_json, writes_json, envelope_of, envelope_fields, get_json, prepare_json, prepare_on_json, version_json, status_json, gone_json, clash_json, stamped_json, request_json, reply_json, said_json, message_json};
 
 use crate::value_json::{item_json, item_list_json, value_json};
 use album_calls::{Body, Message, Node, Reply, Request, Vote};
@@ -81,6 +81,16 @@ pub fn worked_messages()
       body = Body.Request (Request.Prepare 65537 ((picture 2, ItemValue.Missing) ∷ []) (picture 2 ∷ album 0 ∷ []));
     })) ≡ codes "{\"from\":\"c1\",\"items\":[\"picture/2\",\"album/0\"],\"k\":9,\"say\":\"prepare\","
         ++ codes "\"stamp\":65537,\"tag\":5,\"to\":\"p2\",\"writes\":[[\"picture/2\",null]]}\n" }
+    // The first write was made on a version of the opening, and the second on that of stamp 65537.
+    ensures prepare_on { line_text (message_json 12 (record {
+      from = Node.Client 2;
+      to = Node.Part 2;
+      tag = 5;
+      body = Body.Request (Request.PrepareOn 65538 ((picture 2, ItemValue.Missing) ∷ (album 2, ItemValue.Missing) ∷ [])
+          (picture 2 ∷ album 2 ∷ album 0 ∷ []) (0 ∷ 65537 ∷ []));
+    })) ≡ codes "{\"bases\":[0,65537],\"from\":\"c2\",\"items\":[\"picture/2\",\"album/2\",\"album/0\"],\"k\":12,"
+        ++ codes "\"say\":\"prepare\",\"stamp\":65538,\"tag\":5,\"to\":\"p2\","
+        ++ codes "\"writes\":[[\"picture/2\",null],[\"album/2\",null]]}\n" }
     ensures status { line_text (message_json 19 (record {
       from = Node.Part 0;
       to = Node.Part 0;
@@ -100,6 +110,14 @@ fn request_json(alloc: Global, e: Envelope, request: &Request) -> Result<Value, 
             *stamp,
             writes.as_slice(),
             items.as_slice(),
+        ),
+        Request::PrepareOn(stamp, writes, items, bases) => prepare_on_json(
+            alloc,
+            e,
+            *stamp,
+            writes.as_slice(),
+            items.as_slice(),
+            bases.as_slice(),
         ),
         Request::Commit(stamp) => stamped_json(alloc, e, "commit", *stamp),
         Request::Get(item, stamps) => get_json(alloc, e, *item, stamps.as_slice()),
@@ -142,6 +160,25 @@ fn prepare_json(
     ensures { IfOk result (λ v. view v ≡ prepare_json e stamp writes.now items.now) }
 {
     let fields = envelope_fields(alloc, e, "prepare");
+    let fields = with_member(alloc, fields, "items", item_list_json(alloc, items));
+    let fields = with_member(alloc, fields, "stamp", Ok(Value::from(stamp.value())));
+    let fields = with_member(alloc, fields, "writes", writes_json(alloc, writes));
+    object_of(fields)
+}
+
+/// What a Prepare has, and the base of each write.
+fn prepare_on_json(
+    alloc: Global,
+    e: Envelope,
+    stamp: Stamp,
+    writes: &[(ItemId, album_items::Value)],
+    items: &[ItemId],
+    bases: &[Stamp],
+) -> Result<Value, AllocError>
+    ensures { IfOk result (λ v. view v ≡ prepare_on_json e stamp writes.now items.now bases.now) }
+{
+    let fields = envelope_fields(alloc, e, "prepare");
+    let fields = with_member(alloc, fields, "bases", stamps_json(alloc, bases));
     let fields = with_member(alloc, fields, "items", item_list_json(alloc, items));
     let fields = with_member(alloc, fields, "stamp", Ok(Value::from(stamp.value())));
     let fields = with_member(alloc, fields, "writes", writes_json(alloc, writes));

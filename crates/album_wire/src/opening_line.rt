@@ -51,10 +51,21 @@ pub fn read_opening_line(
 pub fn worked_openings()
     ensures opens { opening_line_of
         (codes "{\"open\":{\"limit\":1000,\"parts\":3,\"trace\":true}}")
-        ≡ Ok (OpeningLine.Open (record { parts = 3; limit = 1000; policy = 1; trace = true })) }
+        ≡ Ok (OpeningLine.Open (record { parts = 3; limit = 1000; policy = 1; checked = false; trace = true })) }
     ensures open_with_parts_alone { opening_line_of
         (codes "{\"open\":{\"parts\":16}}")
-        ≡ Ok (OpeningLine.Open (record { parts = 16; limit = 100000; policy = 1; trace = false })) }
+        ≡ Ok (OpeningLine.Open (record { parts = 16; limit = 100000; policy = 1; checked = false; trace = false })) }
+    ensures open_checked { opening_line_of
+        (codes "{\"open\":{\"checked\":true,\"parts\":16}}")
+        ≡ Ok (OpeningLine.Open (record { parts = 16; limit = 100000; policy = 1; checked = true; trace = false })) }
+    ensures not_checked { opening_line_of
+        (codes "{\"open\":{\"checked\":false,\"parts\":16,\"trace\":true}}")
+        ≡ Ok (OpeningLine.Open (record { parts = 16; limit = 100000; policy = 1; checked = false; trace = true })) }
+    // What is no truth is none of the two.
+    ensures checked_by_number { opening_line_of (codes "{\"open\":{\"checked\":1,\"parts\":16}}")
+        ≡ Err Refusal.BadRequest }
+    ensures checked_by_nothing { opening_line_of (codes "{\"open\":{\"checked\":null,\"parts\":16}}")
+        ≡ Err Refusal.BadRequest }
     ensures picture_line { opening_line_of
         (codes "{\"item\":\"picture/0\",\"value\":{\"content\":\"736561\",\"group\":0,\"home\":0,\"list\":0,"
         ++ codes "\"owner\":\"amy@users\",\"title\":\"Sea\"}}")

@@ -1,6 +1,6 @@
 -- What a partition does with a message that is fine.
 use Rattle.std.proofs.Common.{◌≡◌, ℕ, ◌<◌, Bool, true, false, cond, eqb, ◌==◌, List, [], ◌∷◌, ◌++◌, Option, Some, None, is_some, option_to_list, ◌⊎◌, inl, inr, ⊎_elim, sym, ap, ◌∙◌, subst, refl, eqb-true, eq-eqb, if◌then◌else◌}
-use Rattle.std.proofs.lemmas.Bool.{eqb-false}
+use Rattle.std.proofs.lemmas.Bool.{eqb-false, false≢true}
 use Rattle.std.specs.List.{list_any, slice_get}
 use Rattle.std.specs.Option.{unwrap_or}
 use Rattle.album_items.specs.ItemIds.{place_of}
@@ -17,7 +17,7 @@ use Rattle.album_calls.specs.declared.nodes.Node.TheVariants.{Part, Client as To
 use Rattle.album_calls.specs.declared.nodes.Vote.{Vote}
 use Rattle.album_calls.specs.declared.nodes.Vote.TheVariants as vote
 use Rattle.album_calls.specs.declared.requests.Request.{Request}
-use Rattle.album_calls.specs.declared.requests.Request.TheVariants.{Prepare, Commit, Get, Check}
+use Rattle.album_calls.specs.declared.requests.Request.TheVariants.{Prepare, PrepareOn, Commit, Get, Check}
 use Rattle.album_calls.specs.declared.replies.Reply.{Reply}
 use Rattle.album_calls.specs.declared.replies.Reply.TheVariants as reply
 use Rattle.album_terminate.specs.Deciding.{have_voted}
@@ -27,12 +27,14 @@ use Rattle.album_terminate.specs.declared.deciding.StampState.TheVariants as sta
 use Rattle.album_partition.specs.declared.marks.Mark.{Mark}
 use Rattle.album_partition.specs.declared.marks.Mark.TheVariants.{Prepared, Committed, Discarded, Trimmed}
 use Rattle.album_partition.specs.Votes.{NotedVote, new_vote, heard, has_vote}
-use Rattle.album_partition.specs.Answers.{Action, nothing, says, marks, marks_and_says, prepare_by, commit_by, check_by, get_by, on_get, mark_by, on_vote_of, on_prepared, on_vote, on_status, on_request, on_reply, on_body, action_of}
+use Rattle.album_partition.specs.Answers.{Action, nothing, says, marks, marks_and_says, prepare_by, prepare_on_by, on_prepare, commit_by, check_by, get_by, on_get, mark_by, on_vote_of, on_prepared, on_vote, on_status, on_request, on_reply, on_body, action_of}
 use Rattle.album_partition.specs.Partition.{PartitionState, value_at, stamp_for, read_at}
-use Rattle.album_partition.specs.Proper.{is_proper}
+use Rattle.album_partition.specs.Bases.{are_bases}
+use Rattle.album_partition.specs.Proper.{is_proper, is_proper_on}
 use Rattle.album_partition.specs.Marks.{prepares, commits, state_by, state_of, is_pending, is_full, value_in, version, mark_items, items_at, IsPromisedAgainst}
 use Rattle.album_items.specs.Places.{lies_at, others_of}
 use Rattle.album_partition.proofs.StateLemmas.{unknown_tells, pending_tells, committed_tells, is_pending_tells}
+use Rattle.album_partition.proofs.BaseLemmas.{outdated_here}
 use Rattle.album_partition.proofs.LegalLemmas.{committed_was_prepared}
 use Rattle.album_partition.proofs.TrimLemmas.{read_high}
 use Rattle.album_items.specs.Transactions.{items_written}
@@ -41,10 +43,10 @@ use Rattle.album_world.proofs.ListLemmas.In.{here}
 use Rattle.album_world.specs.State.{marks_of}
 use Rattle.album_world.specs.Past.{World}
 use Rattle.album_world.specs.Committing.{history}
-use Rattle.album_world.proofs.ListLemmas.{in_right, any_in, same_or_not, some_same, none_some}
+use Rattle.album_world.proofs.ListLemmas.{within, in_right, any_in, same_or_not, some_same, none_some}
 use Rattle.album_world.proofs.MarkLemmas.{IsPreparedIn, prepared_in, wrote, version_wrote, some_is, stamp_for_is}
 use Rattle.album_world.proofs.PlaceLemmas.{item_in, other_in, given_is, IsNoted}
-use Rattle.album_world.proofs.Invariant.{IsKept, IsPrepareOf, IsSettled, IsAgainst, IsPlacedAt, IsVote, IsValue, IsSay, IsFine, IsSound, IsPlaced, SaysWith}
+use Rattle.album_world.proofs.Invariant.{IsKept, IsPrepareOf, IsPrepareOnOf, bases_for, IsSettled, IsAgainst, IsPlacedAt, IsVote, IsValue, IsSay, IsFine, IsSound, IsPlaced, SaysWith}
 use Rattle.album_world.proofs.GrowthLemmas.{Grows, prepared_grows, any_grows, settled_grows, against_grows, value_grows}
 use Rattle.album_world.proofs.WroteLemmas.{written_here}
 
@@ -58,7 +60,8 @@ discarded_tells false false false e = absurd (cc)
 pub data IsMarked (o : Opening) (w : World) (p : ℕ) (ms : List Mark) : Option Mark → Type 0 where
   no_mark : IsMarked o w p ms None
   made_prepared : {t : ℕ} {ws : List Row} {js : List ℕ} → state_of ms t ≡ state.Unknown → is_full o.limit ms ≡ false
-      → IsPrepareOf o w p t ws js → IsMarked o w p ms (Some (Prepared t ws js))
+      → (d : IsPrepareOf o w p t ws js) → (o.checked ≡ true → are_bases ms t ws (bases_for d.of.permit ws) ≡ true)
+      → IsMarked o w p ms (Some (Prepared t ws js))
   made_committed : {t : ℕ} → state_of ms t ≡ state.Pending → IsSettled o w t → IsMarked o w p ms (Some (Committed t))
   made_refused : {t : ℕ} → state_of ms t ≡ state.Unknown → is_full o.limit ms ≡ false → IsPlacedAt o w p t
       → IsMarked o w p ms (Some (Discarded t))
@@ -167,24 +170,29 @@ module _ (o : Opening) (some : 0 < o.parts) (w : World) (k : IsKept o w) (p : �
       }))
       (λ P. tt)
 
-  prepare_action : (t : ℕ) (ws : List Row) (js : List ℕ) → m.body ≡ body.Request (Prepare t ws js)
+  -- what is prepared is said so
+  says_prepared : (t : ℕ) (ws : List Row) (js : List ℕ) (v : World) → history v p ≡ h.marks ++ Prepared t ws js ∷ []
+      → IsSay o v (Part p) (reply.Prepared t)
+  says_prepared t ws js v q = prepared_in (history v p) t
+      (subst (λ (z : List Mark). list_any (prepares t) z ≡ true) (sym q)
+      (any_in (prepares t) (h.marks ++ Prepared t ws js ∷ []) (in_right h.marks here) (eq-eqb t t refl)))
+
+  prepare_action : (t : ℕ) (ws : List Row) (js : List ℕ) → m.body ≡ body.Request (Prepare t ws js) → h.checked ≡ false
       → (full same : Bool) → is_full h.limit h.marks ≡ full → (s : StampState) → state_of h.marks t ≡ s
       → IsAction o w p h.marks m (prepare_by full same s t ws js)
-  prepare_action t ws js e true same f state.Unknown u = no_room t u f
-  prepare_action t ws js e false same f state.Unknown u =
+  prepare_action t ws js e free true same f state.Unknown u = no_room t u f
+  prepare_action t ws js e free false same f state.Unknown u =
       marks_action o w p h.marks m (Prepared t ws js) (reply.Prepared t)
-      (made_prepared u (sym full_here ∙ f) (given (body.Request (Prepare t ws js)) e))
-      (λ v g q. prepared_in (history v p) t
-      (subst (λ (z : List Mark). list_any (prepares t) z ≡ true) (sym q)
-      (any_in (prepares t) (h.marks ++ Prepared t ws js ∷ []) (in_right h.marks here) (eq-eqb t t refl))))
-      (λ P. tt)
-  prepare_action t ws js e full same f state.Pending u =
+      (made_prepared u (sym full_here ∙ f) (given (body.Request (Prepare t ws js)) e)
+      (λ on. absurd (false≢true (sym free ∙ (placed.checked ∙ on)))))
+      (λ v g q. says_prepared t ws js v q) (λ P. tt)
+  prepare_action t ws js e free full same f state.Pending u =
       else_action o w p h.marks m same _ _ (λ q. did_prepare t (is_prepared t state.Pending u (inl refl)))
       (clash_action o w p h.marks m)
-  prepare_action t ws js e full same f state.Committed u =
+  prepare_action t ws js e free full same f state.Committed u =
       else_action o w p h.marks m same _ _ (λ q. did_prepare t (is_prepared t state.Committed u (inr refl)))
       (clash_action o w p h.marks m)
-  prepare_action t ws js e full same f state.Discarded u = did_discard t u
+  prepare_action t ws js e free full same f state.Discarded u = did_discard t u
 
   is_committed : (t : ℕ) → state_of h.marks t ≡ state.Committed → list_any (commits t) (history w p) ≡ true
   is_committed t e = subst (λ (z : List Mark). list_any (commits t) z ≡ true) (sym here_is) (committed_tells _ _ _ e)
@@ -214,6 +222,34 @@ module _ (o : Opening) (some : 0 < o.parts) (w : World) (k : IsKept o w) (p : �
     promised = subst (λ (z : ℕ). IsPromisedAgainst (history v z) t) (sym d.at)
         (record { before = h.marks; later = []; discarded = q; unprepared = (unknown_tells _ _ _ u).2 });
   }
+
+  -- a checked Prepare: one whose bases aren't the latest versions writes something here
+  prepare_on_action : (t : ℕ) (ws : List Row) (js bs : List ℕ) → m.body ≡ body.Request (PrepareOn t ws js bs)
+      → is_proper_on h.number h.parts t ws js bs ≡ true → (full based : Bool) → is_full h.limit h.marks ≡ full
+      → are_bases h.marks t ws bs ≡ based → (s : StampState) → state_of h.marks t ≡ s
+      → IsAction o w p h.marks m (prepare_on_by full based s t ws js)
+  prepare_on_action t ws js bs e l true based f b state.Unknown u = no_room t u f
+  prepare_on_action t ws js bs e l false true f b state.Unknown u =
+      let d : IsPrepareOnOf o w p t ws js bs = given (body.Request (PrepareOn t ws js bs)) e in
+      marks_action o w p h.marks m (Prepared t ws js) (reply.Prepared t)
+      (made_prepared u (sym full_here ∙ f) d.is (λ on. ap (are_bases h.marks t ws) (sym d.bases) ∙ b))
+      (λ v g q. says_prepared t ws js v q) (λ P. tt)
+  prepare_on_action t ws js bs e l false false f b state.Unknown u =
+      let d : IsPrepareOnOf o w p t ws js bs = given (body.Request (PrepareOn t ws js bs)) e in
+      let old = outdated_here h.marks h.number h.parts t ws js bs b l in
+      let at : IsPlacedAt o w p t = record {
+        of = d.is.of;
+        begun = d.is.begun;
+        stamp = d.is.stamp;
+        item = old.0;
+        in_them = subst (In old.0) d.is.items (within js old.1);
+        at = sym (ap (λ (z : ℕ). place_of z old.0) placed.parts) ∙ old.2 ∙ placed.number;
+      } in
+      marks_action o w p h.marks m (Discarded t) (reply.Discarded t) (made_refused u (sym full_here ∙ f) at)
+      (λ v g q. against_here v t g at u q) (λ P. tt)
+  prepare_on_action t ws js bs e l full based f b state.Pending u = clash_action o w p h.marks m
+  prepare_on_action t ws js bs e l full based f b state.Committed u = clash_action o w p h.marks m
+  prepare_on_action t ws js bs e l full based f b state.Discarded u = did_discard t u
 
   check_action : (t : ℕ) → m.body ≡ body.Request (Check t) → (full : Bool) → is_full h.limit h.marks ≡ full
       → (s : StampState) → state_of h.marks t ≡ s → IsAction o w p h.marks m (check_by full s t)
@@ -362,9 +398,18 @@ module _ (o : Opening) (some : 0 < o.parts) (w : World) (k : IsKept o w) (p : �
           }
 
   request_action : (r : Request) → m.body ≡ body.Request r → IsAction o w p h.marks m (on_request h r)
-  request_action (Prepare t ws js) e =
-      else_action o w p h.marks m (is_proper h.number h.parts t ws js) _ _
-      (λ l. prepare_action t ws js e _ _ refl _ refl)
+  request_action (Prepare t ws js) e = go h.checked refl
+    where
+      go : (b : Bool) → h.checked ≡ b
+          → IsAction o w p h.marks m (if b then says reply.Clash else on_prepare h t ws js)
+      go true on = clash_action o w p h.marks m
+      go false free = else_action o w p h.marks m (is_proper h.number h.parts t ws js) _ _
+          (λ l. prepare_action t ws js e free _ _ refl _ refl)
+          (clash_action o w p h.marks m)
+  request_action (PrepareOn t ws js bs) e = else_action o w p h.marks m h.checked _ _
+      (λ on. else_action o w p h.marks m (is_proper_on h.number h.parts t ws js bs) _ _
+      (λ l. prepare_on_action t ws js bs e l _ _ refl refl _ refl)
+      (clash_action o w p h.marks m))
       (clash_action o w p h.marks m)
   request_action (Commit t) e = else_action o w p h.marks m (t == 0) _ _ (λ l. clash_action o w p h.marks m)
       (commit_action t e _ refl)

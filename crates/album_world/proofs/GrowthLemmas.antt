@@ -12,7 +12,7 @@ use Rattle.album_calls.specs.declared.nodes.Node.TheVariants.{Part, Client as To
 use Rattle.album_calls.specs.declared.nodes.Vote.{Vote}
 use Rattle.album_calls.specs.declared.nodes.Vote.TheVariants as vote
 use Rattle.album_calls.specs.declared.requests.Request.{Request}
-use Rattle.album_calls.specs.declared.requests.Request.TheVariants.{Prepare, Commit, Get, Check}
+use Rattle.album_calls.specs.declared.requests.Request.TheVariants.{Prepare, PrepareOn, Commit, Get, Check}
 use Rattle.album_calls.specs.declared.replies.Reply.{Reply}
 use Rattle.album_calls.specs.declared.replies.Reply.TheVariants as reply
 use Rattle.album_partition.specs.declared.marks.Mark.{Mark}
@@ -29,7 +29,7 @@ use Rattle.album_world.specs.Past.{World}
 use Rattle.album_world.specs.Committing.{history, IsCommitted}
 use Rattle.album_world.proofs.ListLemmas.{any_more}
 use Rattle.album_world.proofs.MarkLemmas.{IsPreparedIn, prepared_more, wrote, wrote_more}
-use Rattle.album_world.proofs.Invariant.{IsPrepareOf, IsSettled, IsAgainst, IsPlacedAt, IsVote, IsFullFor, IsValue, IsZeroOrCommitted, IsNoLater, IsAsk, IsSay, IsFine, IsTagged, tag_at, HasBegun, FirstRound, SecondRound, IsCollectedStamp, HasFresh, AreFound, IsRead, IsAnswer, IsDrawn, IsSound, SaysWith, AnswersWith}
+use Rattle.album_world.proofs.Invariant.{IsPrepareOf, IsPrepareOnOf, IsBasedIn, IsSettled, IsAgainst, IsPlacedAt, IsVote, IsFullFor, IsValue, IsZeroOrCommitted, IsNoLater, IsAsk, IsSay, IsFine, IsTagged, tag_at, HasBegun, FirstRound, SecondRound, IsCollectedStamp, HasFresh, AreFound, IsRead, IsAnswer, IsDrawn, IsSound, SaysWith, AnswersWith}
 
 -- w2 comes after w1
 pub record Grows (o : Opening) (w1 w2 : World) : Type 0 where
@@ -64,6 +64,17 @@ module _ (o : Opening) (w1 w2 : World) (g : Grows o w1 w2) where
     writes = h.writes;
     items = h.items;
   }
+
+  prepare_on_grows : (p t : ℕ) (ws : List Row) (js bs : List ℕ) → IsPrepareOnOf o w1 p t ws js bs
+      → IsPrepareOnOf o w2 p t ws js bs
+  unfolding prepare_grows
+  prepare_on_grows p t ws js bs h = record { is = prepare_grows p t ws js h.is; bases = h.bases }
+
+  pub based_grows : (p : ℕ) (ms : List Mark) (t : ℕ) (ws : List Row) (js : List ℕ) → IsBasedIn o w1 p ms t ws js
+      → IsBasedIn o w2 p ms t ws js
+  unfolding prepare_grows
+  based_grows p ms t ws js h =
+      record { is = prepare_grows p t ws js h.is; before = h.before; later = h.later; all = h.all; based = h.based }
 
   pub settled_grows : (t : ℕ) → IsSettled o w1 t → IsSettled o w2 t
   settled_grows t h = record {
@@ -116,6 +127,8 @@ module _ (o : Opening) (w1 w2 : World) (g : Grows o w1 w2) where
   ask_grows : (to : Node) (r : Request) → IsAsk o w1 to r → IsAsk o w2 to r
   ask_grows (Part p) (Prepare t ws js) h = prepare_grows p t ws js h
   ask_grows (ToClient c) (Prepare t ws js) h = tt
+  ask_grows (Part p) (PrepareOn t ws js bs) h = prepare_on_grows p t ws js bs h
+  ask_grows (ToClient c) (PrepareOn t ws js bs) h = tt
   ask_grows to (Commit t) h = settled_grows t h
   ask_grows to (Get i ts) h = tt
   ask_grows (Part p) (Check t) h = placed_grows p t h
@@ -221,6 +234,7 @@ module _ (o : Opening) (w1 w2 : World) (g : Grows o w1 w2) where
     counter = h.counter;
     client = h.client;
     is = h.is;
+    rises = h.rises;
     low = h.low;
     high = h.high;
     old = le_trans h.old (g.clocks h.client);
@@ -231,6 +245,7 @@ module _ (o : Opening) (w1 w2 : World) (g : Grows o w1 w2) where
   sound_grows p ms h = record {
     legal = h.legal;
     prepared = λ t k. prepare_grows p t k.writes k.items (h.prepared t k);
+    based = λ on t k. based_grows p ms t k.writes k.items (h.based on t k);
     committed = λ t k. settled_grows t (h.committed t k);
     discarded = λ t k. against_grows t (h.discarded t k);
   }

@@ -1,5 +1,5 @@
 -- What is true of the world after each event.
-use Rattle.std.proofs.Common.{◌≡◌, ℕ, ◌<◌, ◌≤◌, ◌+◌, ◌*◌, true, List, [], ◌++◌, Option, Some, None, is_some, ◌⊎◌}
+use Rattle.std.proofs.Common.{◌≡◌, ℕ, ◌<◌, ◌≤◌, ◌+◌, ◌*◌, true, List, [], ◌∷◌, ◌++◌, map, Option, Some, None, is_some, ◌⊎◌}
 use Rattle.std.specs.List.{list_any, slice_get}
 use Rattle.album_stamps.specs.declared.refusals.Refusal.TheVariants as refusal
 use Rattle.album_items.specs.ItemIds.{place_of}
@@ -14,11 +14,13 @@ use Rattle.album_calls.specs.declared.nodes.Node.TheVariants.{Part, Client as To
 use Rattle.album_calls.specs.declared.nodes.Vote.{Vote}
 use Rattle.album_calls.specs.declared.nodes.Vote.TheVariants as vote
 use Rattle.album_calls.specs.declared.requests.Request.{Request}
-use Rattle.album_calls.specs.declared.requests.Request.TheVariants.{Prepare, Commit, Get, Check}
+use Rattle.album_calls.specs.declared.requests.Request.TheVariants.{Prepare, PrepareOn, Commit, Get, Check}
 use Rattle.album_calls.specs.declared.replies.Reply.{Reply}
 use Rattle.album_calls.specs.declared.replies.Reply.TheVariants as reply
 use Rattle.album_terminate.specs.declared.deciding.StampState.TheVariants as state
 use Rattle.album_partition.specs.declared.marks.Mark.{Mark}
+use Rattle.album_partition.specs.declared.marks.Mark.TheVariants.{Prepared}
+use Rattle.album_partition.specs.Bases.{are_bases}
 use Rattle.album_partition.specs.Votes.{NotedVote}
 use Rattle.album_partition.specs.Partition.{PartitionState, IsPartition}
 use Rattle.album_partition.specs.Marks.{commits, discards, state_of, is_full, value_in, first_value, is_legal, IsPromisedAgainst}
@@ -27,6 +29,8 @@ use Rattle.album_reader.specs.Rounds.{RoundState, are_in_order}
 use Rattle.album_items.specs.Places.{places_of, rows_placed_at}
 use Rattle.album_items.specs.Transactions.{items_written}
 use Rattle.album_writer.specs.Writing.{WritingState, places_in}
+use Rattle.album_listing.specs.ViewLookups.{stamp_seen}
+use Rattle.album_permits.specs.Permits.{PermitState}
 use Rattle.album_permits.specs.declared.answers.Answer.{Answer}
 use Rattle.album_permits.specs.declared.answers.Answer.TheVariants as answer
 use Rattle.album_client.specs.declared.clients.Phase.{Phase}
@@ -48,6 +52,23 @@ pub record IsPrepareOf (o : Opening) (w : World) (p t : ℕ) (ws : List Row) (js
   pub stamp : of.stamp ≡ t
   pub writes : ws ≡ rows_placed_at p o.parts of.writes
   pub items : js ≡ items_written of.writes
+
+-- the bases of these writes: of each the stamp at which the view of the permit shows its item
+abbrev pub bases_for : PermitState → List Row → List ℕ
+bases_for permit rows = map (λ (row : Row). stamp_seen permit.view.rows row.0) rows
+
+-- the same writes and items, on these bases
+pub record IsPrepareOnOf (o : Opening) (w : World) (p t : ℕ) (ws : List Row) (js bs : List ℕ) : Type 0 where
+  pub is : IsPrepareOf o w p t ws js
+  pub bases : bs ≡ bases_for is.of.permit ws
+
+-- these marks have prepared them on their bases: each was the latest version just then, and no other was pending
+pub record IsBasedIn (o : Opening) (w : World) (p : ℕ) (ms : List Mark) (t : ℕ) (ws : List Row) (js : List ℕ) : Type 0 where
+  pub is : IsPrepareOf o w p t ws js
+  pub before : List Mark
+  pub later : List Mark
+  pub all : ms ≡ before ++ Prepared t ws js ∷ later
+  pub based : are_bases before t ws (bases_for is.of.permit ws) ≡ true
 
 -- prepared at the partition of each of its items
 pub record IsSettled (o : Opening) (w : World) (t : ℕ) : Type 0 where
@@ -111,6 +132,7 @@ IsVote o w from t vote.Never = IsAgainst o w t
 
 abbrev pub IsAsk : Opening → World → Node → Request → Type 0
 IsAsk o w to (Prepare t ws js) = AtPart to (λ p. IsPrepareOf o w p t ws js)
+IsAsk o w to (PrepareOn t ws js bs) = AtPart to (λ p. IsPrepareOnOf o w p t ws js bs)
 IsAsk o w to (Commit t) = IsSettled o w t
 IsAsk o w to (Get i ts) = Unit {0}
 IsAsk o w to (Check t) = AtPart to (λ p. IsPlacedAt o w p t)
@@ -148,13 +170,15 @@ pub record IsPlaced (o : Opening) (p : ℕ) (h : PartitionState) : Type 0 where
   pub parts : h.parts ≡ o.parts
   pub limit : h.limit ≡ o.limit
   pub values : (i : ℕ) → place_of o.parts i ≡ p → value_in h.items i ≡ value_in o.items i
+  pub checked : h.checked ≡ o.checked
   pub is : IsPartition h
 
--- what is prepared belongs to a transaction, what is committed is prepared everywhere, and what is discarded never
--- will be committed
+-- What is prepared belongs to a transaction, and in a checked world is on the bases that the transaction's view shows.
+-- What is committed is prepared everywhere, and what is discarded never will be committed.
 pub record IsSound (o : Opening) (w : World) (p : ℕ) (ms : List Mark) : Type 0 where
   pub legal : is_legal ms ≡ true
   pub prepared : (t : ℕ) (h : IsPreparedIn ms t) → IsPrepareOf o w p t h.writes h.items
+  pub based : o.checked ≡ true → (t : ℕ) (h : IsPreparedIn ms t) → IsBasedIn o w p ms t h.writes h.items
   pub committed : (t : ℕ) → list_any (commits t) ms ≡ true → IsSettled o w t
   pub discarded : (t : ℕ) → list_any (discards t) ms ≡ true → IsAgainst o w t
 
@@ -163,6 +187,7 @@ pub record IsSound (o : Opening) (w : World) (p : ℕ) (ms : List Mark) : Type 0
 abbrev pub GetsWith : List ℕ → Body → Type 0
 GetsWith ts (body.Request (Get i ss)) = ss ≡ ts
 GetsWith ts (body.Request (Prepare t ws js)) = Unit {0}
+GetsWith ts (body.Request (PrepareOn t ws js bs)) = Unit {0}
 GetsWith ts (body.Request (Commit t)) = Unit {0}
 GetsWith ts (body.Request (Check t)) = Unit {0}
 GetsWith ts (body.Reply r) = Unit {0}
@@ -317,6 +342,7 @@ pub record IsDrawn (w : World) (r : Transaction) : Type 0 where
   pub counter : ℕ
   pub client : ℕ
   pub is : r.stamp ≡ counter * 65536 + client
+  pub rises : 0 < counter
   pub low : 0 < client
   pub high : client < 65536
   pub old : counter ≤ (client_at w.now.clients client).clock.counter

@@ -15,7 +15,13 @@ pub mod RunLemmas
 pub mod BookLemmas
 pub mod LedLemmas
 pub mod PromiseLemmas
+pub mod UpdateLemmas
 pub mod ShareLemmas
+pub mod ShownLemmas
+pub mod ValueLemmas
+pub mod AgeLemmas
+pub mod StayLemmas
+pub mod KeepLemmas
 pub mod EventLemmas
 pub mod RequestLemmas
 pub mod AskedLemmas

@@ -1,6 +1,6 @@
 -- What is kept as a partition takes a message, or is swept.
 use Rattle.std.proofs.Common.{◌≡◌, ℕ, ◌<◌, ◌≤◌, ◌+◌, Bool, true, false, eqb, ◌==◌, not, List, [], ◌∷◌, ◌++◌, Option, Some, None, option_to_list, option_map, Result, Ok, Err, ◌⊎◌, inl, inr, ⊎_elim, sym, ap, ◌∙◌, subst, refl, arith, append-nil, true≢false, le_refl, le_trans, ltb-true, lt-ltb, if◌then◌else◌}
-use Rattle.std.proofs.lemmas.List.{length-append}
+use Rattle.std.proofs.lemmas.List.{length-append, append_assoc}
 use Rattle.std.specs.List.{list_any, find, slice_get}
 use Rattle.album_stamps.specs.Outcome.{◌>>=◌}
 use Rattle.album_stamps.specs.declared.refusals.Refusal.{Refusal}
@@ -26,6 +26,7 @@ use Rattle.album_partition.specs.Votes.{NotedVote}
 use Rattle.album_partition.specs.Answers.{action_of, after, answer, reply_to}
 use Rattle.album_partition.specs.Sweeps.{sent_by}
 use Rattle.album_partition.specs.Trims.{with_mark}
+use Rattle.album_partition.specs.Bases.{are_bases}
 use Rattle.album_partition.specs.Partition.{PartitionState, IsPartition, stamp_for}
 use Rattle.album_partition.specs.Marks.{prepares, commits, discards, decided, state_of, is_pending, is_full, load, is_legal, has_version, latest, floor, version, value_in, items_at, mark_items, IsPromisedAgainst}
 use Rattle.album_items.specs.Places.{is_placed, others_of}
@@ -50,8 +51,8 @@ use Rattle.album_world.specs.Committing.{history}
 use Rattle.album_world.proofs.ListLemmas.{in_cases, in_map, in_nil, in_one, find_push, set_same, set_other, none_some, some_same, same_or_not, any_in, in_any, any_more, true_or_false}
 use Rattle.album_world.proofs.MarkLemmas.{IsPreparedIn, prepared_in, commits_is, discards_is, wrote, wrote_more, version_is, some_is, is_some_of, best_least, best_is, latest_least, latest_is, stamp_for_best}
 use Rattle.album_world.proofs.PlaceLemmas.{other_item, left_noted}
-use Rattle.album_world.proofs.Invariant.{IsKept, IsPlaced, IsPlacedAt, IsPrepareOf, IsSettled, IsAgainst, IsFine, IsTagged, IsSound, GetsWith, AnswersWith, IsAsked, IsAnswered, HasBegun, FirstRound, SecondRound, IsCollectedStamp, IsFetching, IsRound, IsWriting, HasPrepared, HasCommitted, IsDoing}
-use Rattle.album_world.proofs.GrowthLemmas.{Grows, any_grows, answers_more, prepared_grows, fine_grows, tagged_grows, begun_grows, first_round_grows, second_round_grows, founds_grows, stamp_grows, has_fresh_grows, read_grows, answer_grows, drawn_grows, sound_grows, settled_grows, against_grows, prepare_grows}
+use Rattle.album_world.proofs.Invariant.{IsKept, IsPlaced, IsPlacedAt, IsPrepareOf, IsBasedIn, IsSettled, IsAgainst, bases_for, IsFine, IsTagged, IsSound, GetsWith, AnswersWith, IsAsked, IsAnswered, HasBegun, FirstRound, SecondRound, IsCollectedStamp, IsFetching, IsRound, IsWriting, HasPrepared, HasCommitted, IsDoing}
+use Rattle.album_world.proofs.GrowthLemmas.{Grows, any_grows, answers_more, prepared_grows, fine_grows, tagged_grows, begun_grows, first_round_grows, second_round_grows, founds_grows, stamp_grows, has_fresh_grows, read_grows, answer_grows, drawn_grows, sound_grows, settled_grows, against_grows, prepare_grows, based_grows}
 use Rattle.album_world.proofs.WroteLemmas.{apart}
 use Rattle.album_world.proofs.ActLemmas.{IsMarked, action_is}
 use Rattle.album_world.proofs.ActLemmas.IsMarked.{no_mark, made_prepared, made_committed, made_refused, made_discarded, made_trimmed}
@@ -215,7 +216,7 @@ module _ (o : Opening) (w : World) (k : IsKept o w) (p : ℕ) (h : PartitionStat
       → is_full o.limit h.marks ≡ true → (state_of (h.marks ++ option_to_list z) t ≡ state.Unknown) ×
       (is_full o.limit (h.marks ++ option_to_list z) ≡ true)
   stays_full None no_mark t u f = rw append-nil (u, f)
-  stays_full z (made_prepared e n d) t u f = absurd (true≢false (sym f ∙ n))
+  stays_full z (made_prepared e n d b) t u f = absurd (true≢false (sym f ∙ n))
   stays_full z (made_refused e n d) t u f = absurd (true≢false (sym f ∙ n))
   stays_full z (made_committed {t = s} e d) t u f = (
     state_push_other h.marks (Committed s) t (pending_not h.marks s t e u)
@@ -261,15 +262,23 @@ module _ (o : Opening) (w : World) (k : IsKept o w) (p : ℕ) (h : PartitionStat
   -- a sound history with one more mark
   sound_push : (m : Mark) → is_legal (h.marks ++ m ∷ []) ≡ true
       → ((u : ℕ) (vs : List Row) (ks : List ℕ) → m ≡ Prepared u vs ks → IsPrepareOf o next p u vs ks)
+      → (o.checked ≡ true → (u : ℕ) (vs : List Row) (ks : List ℕ) → m ≡ Prepared u vs ks
+      → IsBasedIn o next p (h.marks ++ m ∷ []) u vs ks)
       → ((u : ℕ) → m ≡ Committed u → IsSettled o next u) → ((u : ℕ) → m ≡ Discarded u → IsAgainst o next u)
       → IsSound o next p (h.marks ++ m ∷ [])
-  sound_push m legal fp fc fd = record {
+  sound_push m legal fp fb fc fd = record {
     legal = legal;
     prepared = λ u l. ⊎_elim
         (λ (e : find (prepares u) h.marks ≡ Some (Prepared u l.writes l.items)).
         prepare_grows o w next grows p u l.writes l.items
         (sound_was.prepared u (record { writes = l.writes; items = l.items; found = e })))
         (λ (e : (m ≡ Prepared u l.writes l.items) × (prepares u m ≡ true)). fp u l.writes l.items e.0)
+        (find_push (prepares u) h.marks m (Prepared u l.writes l.items) l.found);
+    based = λ on u l. ⊎_elim
+        (λ (e : find (prepares u) h.marks ≡ Some (Prepared u l.writes l.items)).
+        based_push u l.writes l.items
+        (sound_was.based on u (record { writes = l.writes; items = l.items; found = e })))
+        (λ (e : (m ≡ Prepared u l.writes l.items) × (prepares u m ≡ true)). fb on u l.writes l.items e.0)
         (find_push (prepares u) h.marks m (Prepared u l.writes l.items) l.found);
     committed = λ u l. ⊎_elim
         (λ e. settled_grows o w next grows u (sound_was.committed u e))
@@ -281,6 +290,19 @@ module _ (o : Opening) (w : World) (k : IsKept o w) (p : ℕ) (h : PartitionStat
         (push_cases (discards u) h.marks m l);
   }
     where
+      based_push : (u : ℕ) (vs : List Row) (ks : List ℕ) → IsBasedIn o w p h.marks u vs ks
+          → IsBasedIn o next p (h.marks ++ m ∷ []) u vs ks
+      based_push u vs ks b =
+          let more = based_grows o w next grows p h.marks u vs ks b in
+          record {
+            is = more.is;
+            before = more.before;
+            later = more.later ++ m ∷ [];
+            all = ap (λ (z : List Mark). z ++ m ∷ []) more.all
+                ∙ append_assoc more.before (Prepared u vs ks ∷ more.later) (m ∷ []);
+            based = more.based;
+          }
+
       push_cases : (test : Mark → Bool) (ms : List Mark) (z : Mark) → list_any test (ms ++ z ∷ []) ≡ true
           → (list_any test ms ≡ true) ⊎ (test z ≡ true)
       push_cases test ms z l =
@@ -319,26 +341,40 @@ module _ (o : Opening) (w : World) (k : IsKept o w) (p : ℕ) (h : PartitionStat
   sound_here : (z : Option Mark) → IsMarked o w p h.marks z → history next p ≡ h.marks ++ option_to_list z
       → is_legal (h.marks ++ option_to_list z) ≡ true → IsSound o next p (h.marks ++ option_to_list z)
   sound_here None no_mark e l = rw append-nil (sound_grows o w next grows p h.marks sound_was)
-  sound_here z (made_prepared {t} {ws} {js} u n d) e l =
-      sound_push (Prepared t ws js) l
-      (λ u vs ks q. let r = prepared_same q in
+  sound_here z (made_prepared {t} {ws} {js} u n d b) e l =
+      sound_push (Prepared t ws js) l (λ u vs ks q. prepares_for u vs ks q)
+      (λ on u vs ks q. let r = prepared_same q in
       record {
-        of = d.of;
-        begun = d.begun;
-        stamp = d.stamp ∙ r.0;
-        writes = sym r.1 ∙ d.writes;
-        items = sym r.2
-            ∙ d.items;
+        is = prepares_for u vs ks q;
+        before = h.marks;
+        later = [];
+        all = ap (λ (m : Mark). h.marks ++ m ∷ []) q;
+        based = sym (ap (λ (x : ℕ × List Row). are_bases h.marks x.0 x.1 (bases_for d.of.permit x.1)) (λ i. (r.0 i, r.1 i)))
+            ∙ b on;
       })
       (λ u q. prepared_committed q) (λ u q. prepared_discarded q)
+    where
+      prepares_for : (u : ℕ) (vs : List Row) (ks : List ℕ) → Prepared t ws js ≡ Prepared u vs ks
+          → IsPrepareOf o next p u vs ks
+      prepares_for u vs ks q =
+          let r = prepared_same q in
+          record {
+            of = d.of;
+            begun = d.begun;
+            stamp = d.stamp ∙ r.0;
+            writes = sym r.1 ∙ d.writes;
+            items = sym r.2
+                ∙ d.items;
+          }
   sound_here z (made_committed {t} u d) e l =
       sound_push (Committed t) l
-      (λ u vs ks q. prepared_committed (sym q))
+      (λ u vs ks q. prepared_committed (sym q)) (λ on u vs ks q. prepared_committed (sym q))
       (λ u q. subst (λ (s : ℕ). IsSettled o next s) (committed_same q) (settled_grows o w next grows t d))
       (λ u q. committed_discarded q)
   sound_here z (made_refused {t} u n d) e l =
       sound_push (Discarded t) l
-      (λ u vs ks q. prepared_discarded (sym q)) (λ u q. committed_discarded (sym q))
+      (λ u vs ks q. prepared_discarded (sym q)) (λ on u vs ks q. prepared_discarded (sym q))
+      (λ u q. committed_discarded (sym q))
       (λ v q. subst (λ (s : ℕ). IsAgainst o next s) (discarded_same q) (refused t u d e))
     where
       refused : (t : ℕ) → state_of h.marks t ≡ state.Unknown → IsPlacedAt o w p t
@@ -354,9 +390,11 @@ module _ (o : Opening) (w : World) (k : IsKept o w) (p : ℕ) (h : PartitionStat
       }
   sound_here z (made_discarded {t} u d) e l =
       sound_push (Discarded t) l
-      (λ u vs ks q. prepared_discarded (sym q)) (λ u q. committed_discarded (sym q))
+      (λ u vs ks q. prepared_discarded (sym q)) (λ on u vs ks q. prepared_discarded (sym q))
+      (λ u q. committed_discarded (sym q))
       (λ v q. subst (λ (s : ℕ). IsAgainst o next s) (discarded_same q) (against_grows o w next grows t d))
   sound_here z (made_trimmed {i} n) e l = sound_push (Trimmed i) l (λ u vs ks q. trimmed_prepared q)
+      (λ on u vs ks q. trimmed_prepared q)
       (λ u q. trimmed_committed q) (λ u q. trimmed_discarded q)
 
   sound_all : (q : ℕ) → IsSound o next q (history next q)
@@ -508,6 +546,7 @@ placed_after o p h m d = record {
   parts = d.parts;
   limit = d.limit;
   values = d.values;
+  checked = d.checked;
   is = stays_after h m d.is;
 }
 
@@ -641,7 +680,7 @@ trim_kept o w k p i h got = go (is_placed h.number h.parts i) refl (floor h.mark
         → IsKept o (changed w (AtPart p (with_mark h x) []))
     makes x marked is =
         at_part_kept o w k p h got (with_mark h x) x None
-        (record { number = d.number; parts = d.parts; limit = d.limit; values = d.values; is = is })
+        (record { number = d.number; parts = d.parts; limit = d.limit; values = d.values; checked = d.checked; is = is })
         refl (no_more h.votes) marked (λ n e. none_some e) [] (λ n l. absurd (in_nil l))
 
     nothing_made : IsPartition (with_mark h None)

@@ -5,6 +5,7 @@ use Rattle.album_stamps.specs.declared.refusals.Refusal.{Refusal}
 use Rattle.album_stamps.specs.declared.refusals.Refusal.TheVariants as refusal
 use Rattle.album_stamps.specs.Clocks.{ClockState, clock_after_next, next_of}
 use Rattle.album_items.specs.ItemIds.{place_of}
+use Rattle.album_items.specs.Openings.{Row}
 use Rattle.album_items.specs.Places.{rows_placed_at}
 use Rattle.album_items.specs.Transactions.{items_written}
 use Rattle.album_items.specs.declared.openings.Opening.{Opening}
@@ -14,7 +15,7 @@ use Rattle.album_calls.specs.declared.messages.Body.TheVariants as body
 use Rattle.album_calls.specs.declared.messages.Message.{Message}
 use Rattle.album_calls.specs.declared.nodes.Node.{Node}
 use Rattle.album_calls.specs.declared.nodes.Node.TheVariants.{Part, Client as ToClient}
-use Rattle.album_calls.specs.declared.requests.Request.TheVariants.{Prepare, Commit, Get}
+use Rattle.album_calls.specs.declared.requests.Request.TheVariants.{Prepare, PrepareOn, Commit, Get}
 use Rattle.album_calls.specs.declared.replies.Reply.TheVariants as reply
 use Rattle.album_eval.specs.declared.facts.Principal.{Principal}
 use Rattle.album_partition.specs.Partition.{PartitionState}
@@ -38,7 +39,7 @@ use Rattle.album_permits.specs.declared.notes.Note.{Note}
 use Rattle.album_permits.specs.declared.serving.Served.{Served}
 use Rattle.album_writer.specs.Rounds.{answered_by, prepares_left, prepares_by, commits_left, commits_by}
 use Rattle.album_writer.specs.WriteReplies.{reply_in}
-use Rattle.album_writer.specs.Writing.{WritingState, places_in, prepare_to, commit_to, commit_round, commits_of}
+use Rattle.album_writer.specs.Writing.{WritingState, items_in, places_in, bases_of, prepare_request, prepare_to, commit_to, commit_round, commits_of}
 use Rattle.album_writer.specs.declared.write_replies.WriteReply.{WriteReply}
 use Rattle.album_writer.specs.declared.write_replies.WriteReply.TheVariants as write_reply
 use Rattle.album_permits.specs.declared.answers.Answer.{Answer}
@@ -61,7 +62,7 @@ use Rattle.album_world.proofs.ListLemmas.In.{here}
 use Rattle.album_world.proofs.MarkLemmas.{IsPreparedIn, prepared_in, wrote}
 use Rattle.album_world.proofs.PlaceLemmas.{place_in, item_in, stamp_in, in_stamps}
 use Rattle.album_world.proofs.ClientLemmas.{rows_client, rows_raise, draw_is, next_client, next_raise, each_item, own_nothing, none_found, there_in, IsFoundBy, found_is, put_cases, put_own, given_to_is}
-use Rattle.album_world.proofs.Invariant.{IsKept, IsSettled, IsValue, IsFine, IsTagged, GetsWith, AnswersWith, IsAsked, IsAnswered, FirstRound, SecondRound, IsCollectedStamp, HasFresh, IsAsking, IsFetching, IsRound, IsReading, IsWriting, HasPrepared, HasCommitted, IsDoing, IsAnswer, IsRead, IsDone}
+use Rattle.album_world.proofs.Invariant.{IsKept, IsPrepareOf, bases_for, IsAsk, IsSettled, IsValue, IsFine, IsTagged, GetsWith, AnswersWith, IsAsked, IsAnswered, FirstRound, SecondRound, IsCollectedStamp, HasFresh, IsAsking, IsFetching, IsRound, IsReading, IsWriting, HasPrepared, HasCommitted, IsDoing, IsAnswer, IsRead, IsDone}
 use Rattle.album_world.proofs.GrowthLemmas.{begun_grows, stamp_grows, has_fresh_grows, settled_grows}
 use Rattle.album_world.proofs.WroteLemmas.{written_here}
 use Rattle.album_world.proofs.TurnLemmas.{IsSent, IsNew, turn_kept, turn_grows, doing_lasts}
@@ -78,6 +79,16 @@ part_apart e = absurd (cc)
 -- a turn in which a read is over, and something is noted
 abbrev pub with_past : TransitionState → Option Ended → Option (List Note) → TransitionState
 with_past t e n = record t { over = e; noted = n }
+
+-- the Prepare of a write asks for what the write's transaction has there, on the bases of its view
+prepare_fine : (o : Opening) (w : World) (p : ℕ) (z : WritingState) (ws : List Row)
+    → (d : IsPrepareOf o w p z.stamp ws (items_in z)) → d.of.permit ≡ z.permit → IsAsk o w (Part p) (prepare_request z ws)
+prepare_fine o w p z ws d same = go z.checked
+  where
+    go : (b : Bool) → IsAsk o w (Part p) (if b then PrepareOn z.stamp ws (items_in z) (bases_of z ws) else
+        Prepare z.stamp ws (items_in z))
+    go true = record { is = d; bases = ap (λ (y : PermitState). bases_for y ws) (sym same) }
+    go false = d
 
 module _ (o : Opening) (some : 0 < o.parts) (w : World) (k : IsKept o w) (c : ℕ) where
   abbrev x : Client
@@ -234,19 +245,16 @@ module _ (o : Opening) (some : 0 < o.parts) (w : World) (k : IsKept o w) (c : �
         let mine : In r next.past.transactions = in_right w.past.transactions here in
         turn_kept o w k c t ny oy (tag_next tag was) up
         (λ m i. let q = in_map (prepare_to z) (places_in z) i in
+        let wants = prepare_request z (rows_placed_at q.0 o.parts (effect_of permit stamp)) in
+        let of : IsPrepareOf o next q.0 stamp (rows_placed_at q.0 o.parts (effect_of permit stamp))
+        (items_written (effect_of permit stamp)) =
+        record { of = r; begun = mine; stamp = refl; writes = refl; items = refl } in
         record {
           part = q.0;
-          body = body.Request (Prepare stamp (rows_placed_at q.0 o.parts (effect_of permit stamp))
-              (items_written (effect_of permit stamp)));
+          body = body.Request wants;
           is = q.2 ∙ ap (λ (i : ℕ). let s : Message =
-              record {
-                from = ToClient i;
-                to = Part q.0;
-                tag = tag + 1;
-                body = body.Request (Prepare stamp (rows_placed_at q.0 o.parts (effect_of permit stamp))
-                    (items_written (effect_of permit stamp)));
-              } in s) ny;
-          fine = record { of = r; begun = mine; stamp = refl; writes = refl; items = refl };
+              record { from = ToClient i; to = Part q.0; tag = tag + 1; body = body.Request wants } in s) ny;
+          fine = prepare_fine o next q.0 z (rows_placed_at q.0 o.parts (effect_of permit stamp)) of refl;
         })
         (record { of = r; begun = mine; stamp = refl; parts = refl; client = ny; given = λ p l. inl l })
         (λ s i. subst (λ (a : Transaction). IsNew c x.clock.counter t a) (some_same i)

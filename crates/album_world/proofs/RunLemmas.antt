@@ -63,8 +63,9 @@ opening_is o is =
 module _ (o : Opening) (is : IsOpening o) where
   placed_start : (p : ℕ) (h : PartitionState) → slice_get (start o).now.partitions p ≡ Some h → IsPlaced o p h
   placed_start p h e =
-      let r = range_got (first_partition o.parts o.limit o.items) 0 o.parts p h e in
-      let same : h ≡ first_partition o.parts o.limit o.items p = r.0 ∙ ap (first_partition o.parts o.limit o.items) (omega arith) in
+      let r = range_got (first_partition o.checked o.parts o.limit o.items) 0 o.parts p h e in
+      let same : h ≡ first_partition o.checked o.parts o.limit o.items p =
+      r.0 ∙ ap (first_partition o.checked o.parts o.limit o.items) (omega arith) in
       subst (λ (z : PartitionState). IsPlaced o p z) (sym same)
       (record {
         number = refl;
@@ -72,6 +73,7 @@ module _ (o : Opening) (is : IsOpening o) where
         limit = refl;
         values = λ i at. subst (λ (z : ℕ). value_in (rows_placed_at z o.parts o.items) i ≡ value_in o.items i) at
             (value_placed o.parts o.items i);
+        checked = refl;
         is = record {
           some = is.some;
           few = is.few;
@@ -81,6 +83,7 @@ module _ (o : Opening) (is : IsOpening o) where
           legal = refl;
           proper = refl;
           votes = record { once = refl; due = refl; pending = refl; open_still = λ t pending voted. absurd (true≢false (sym voted)) };
+          chained = λ on. refl;
         };
       })
 
@@ -89,7 +92,7 @@ module _ (o : Opening) (is : IsOpening o) where
     where
       go : (f : Option PartitionState) → slice_get (start o).now.partitions p ≡ f → marks_of f ≡ []
       go None e = refl
-      go (Some h) e = ap (λ (z : PartitionState). z.marks) (range_got (first_partition o.parts o.limit o.items) 0 o.parts p h e).0
+      go (Some h) e = ap (λ (z : PartitionState). z.marks) (range_got (first_partition o.checked o.parts o.limit o.items) 0 o.parts p h e).0
 
   pub start_kept : IsKept o (start o)
   start_kept = record {
@@ -98,11 +101,12 @@ module _ (o : Opening) (is : IsOpening o) where
         (record {
           legal = refl;
           prepared = λ t h. none_some h.found;
+          based = λ on t h. none_some h.found;
           committed = λ t h. absurd (true≢false (sym h));
           discarded = λ t h. absurd (true≢false (sym h));
         });
     noted = λ p h e n l. in_nil
-        (subst (λ (z : PartitionState). In n z.votes) (range_got (first_partition o.parts o.limit o.items) 0 o.parts p h e).0 l);
+        (subst (λ (z : PartitionState). In n z.votes) (range_got (first_partition o.checked o.parts o.limit o.items) 0 o.parts p h e).0 l);
     fine = λ m h. in_nil h;
     from = λ m h. in_nil h;
     to = λ m h. in_nil h;

@@ -39,7 +39,7 @@ module _ (world : World) (by : Transaction) where
       ap is_some (in_item by.writes item (within (items_written by.writes) written)).1
 
   -- what was drawn is no 0
-  drawn : (client : ℕ) → IsDrawnBy world client by.stamp → by.stamp ≡ 0 → ⊥
+  pub drawn : (client : ℕ) → IsDrawnBy world client by.stamp → by.stamp ≡ 0 → ⊥
   drawn client is none =
       let above = ltb-true 0 client (and_parts (nat_lt 0 client) (nat_lt client CLIENTS) is.known).0 in
       let same = is.is in

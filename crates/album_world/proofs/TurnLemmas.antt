@@ -200,6 +200,7 @@ module _ (o : Opening) (w : World) (k : IsKept o w) (c : ℕ) (t : TransitionSta
               counter = n.at;
               client = c;
               is = n.is;
+              rises = let a : old.clock.counter < n.at = n.above in omega (arith, a);
               low = n.low;
               high = n.high;
               old = subst (λ (z : Client). n.at ≤ z.clock.counter) (sym same_now) n.drawn;

@@ -1,5 +1,5 @@
 -- Short runs of a world, worked out by hand and computed.
-use Rattle.std.proofs.Common.{◌≡◌, ℕ, List, [], ◌∷◌, ◌++◌, map, Option, Some, None, option_map, Result, Err, refl}
+use Rattle.std.proofs.Common.{◌≡◌, ℕ, Bool, true, false, List, [], ◌∷◌, ◌++◌, map, Option, Some, None, option_map, Result, Err, refl}
 use Rattle.std.specs.List.{range_with_len}
 use Rattle.album_stamps.specs.declared.refusals.Refusal.TheVariants as refusal
 use Rattle.album_stamps.specs.declared.refusals.Refusal.{Refusal}
@@ -60,13 +60,14 @@ open_list =
     ∷ record { sort = sort.Allowed; who = who.Everyone; mask = record { 0 = 1 }; flags = record { 0 = 0 } }
     ∷ []
 
--- a picture in an album, each with the open list, over 3 partitions
-abbrev opening : ℕ → Opening
-opening limit =
+-- a picture in an album, each with the open list, over 3 partitions, which are checked or not
+abbrev opening_with : Bool → ℕ → Opening
+opening_with checked limit =
     record {
       parts = 3;
       limit = limit;
       policy = 1;
+      checked = checked;
       items = (picture 0, value.Picture (record { title = 83 ∷ []; content = []; head = head_with 0; home = 0 }))
           ∷ (
             album 0,
@@ -77,6 +78,9 @@ opening limit =
           ∷ (list 1, value.List open_list)
           ∷ [];
     }
+
+abbrev opening : ℕ → Opening
+opening limit = opening_with false limit
 
 abbrev delivers : ℕ → ℕ → List Event
 delivers first count = map event.Deliver (range_with_len first count)
@@ -143,6 +147,26 @@ gone : answers 1000 (
     ≡ answer.Committed 65537 ∷ answer.Served (served.Picture (picture 0) 65537 (66 ∷ []) []) ∷ []
 unfolding is_match is_given is_asked mentions first_mention verdict is_noted audited flaw_of first_names names_of seen is_closed groups_found
 gone = refl
+
+-- ---- two writes that race
+
+-- what is answered to writes that read the same, and of which the first is prepared first
+abbrev raced : Bool → List Event → List Answer
+raced checked asks =
+    map (λ (given : PastAnswer). given.answer) (run_of (opening_with checked 1000) (asks ++ delivers 1 60)).past.answers
+
+-- Amy gives the picture two other titles at once, by two clients. Where writes are checked, the second one is refused at
+-- its Prepare, before the first is committed.
+abbrev two_titles : List Event
+two_titles = retitle ∷ event.Ask 2 amy (ask.Retitle (picture 0) (67 ∷ [])) ∷ []
+
+both_titles : raced false two_titles ≡ answer.Committed 65537 ∷ answer.Committed 65538 ∷ []
+unfolding is_match is_given is_asked mentions first_mention verdict is_noted audited flaw_of first_names names_of seen is_closed groups_found
+both_titles = refl
+
+one_title : raced true two_titles ≡ answer.Aborted 65538 ∷ answer.Committed 65537 ∷ []
+unfolding is_match is_given is_asked mentions first_mention verdict is_noted audited flaw_of first_names names_of seen is_closed groups_found
+one_title = refl
 
 -- ---- the eighth read
 

@@ -10,6 +10,8 @@ pub mod Viewed
 pub mod Rulings
 pub mod Granted
 pub mod Outcomes
+pub mod Updates
+pub mod Staying
 pub mod Busy
 pub mod Requests
 pub mod OutputsOnce

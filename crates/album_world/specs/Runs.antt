@@ -182,7 +182,7 @@ abbrev pub start : Opening → World
 start opening =
     record {
       now = record {
-        partitions = first_partitions opening.parts opening.limit opening.items;
+        partitions = first_partitions opening.checked opening.parts opening.limit opening.items;
         messages = [];
         clients = [];
         stopped = [];

@@ -1,9 +1,18 @@
 //! What holds of every run of a world: of every list of events, from any opening.
-ghost use Rattle.std.specs.Prelude.{◌≡◌, ◌≤◌, ℕ, List, true, false, Ok, Some, Contains};
+ghost use Rattle.std.specs.Prelude.{◌≡◌, ◌≢◌, ◌≤◌, ℕ, Bool, List, [], ◌∷◌, true, false, Ok, Some, Contains};
 ghost use Rattle.std.specs.List.{list_any};
+ghost use Rattle.album_lists.specs.declared.lists.Ace.{Ace};
+ghost use Rattle.album_items.specs.ItemIds.{album, group, kind_of, list};
 ghost use Rattle.album_items.specs.Openings.{is_opening};
+ghost use Rattle.album_items.specs.Values.{children_of, head_of, home_of, members_of};
 ghost use Rattle.album_items.specs.declared.openings.Opening.{Opening};
+ghost use Rattle.album_items.specs.declared.values.Head.{Head};
+ghost use Rattle.album_items.specs.declared.values.Value.{Value};
+ghost use Rattle.album_items.specs.declared.values.Value.TheVariants as value;
 ghost use Rattle.album_partition.specs.Marks.{discards};
+ghost use Rattle.album_reader.specs.Answers.{ReadVersion};
+ghost use Rattle.album_views.specs.Seen.{seen};
+ghost use Rattle.album_listing.specs.Fields.{content_field, title_field};
 ghost use Rattle.album_permits.specs.Permits.{PermitState};
 ghost use Rattle.album_permits.specs.Serving.{IsServed};
 ghost use Rattle.album_permits.specs.declared.findings.Finding.{Finding};
@@ -20,17 +29,22 @@ ghost use Rattle.album_world.specs.Committing.{history, IsCommittedAt};
 ghost use Rattle.album_world.specs.Events.{IsNoteKept, IsRemembered, IsTidy};
 ghost use Rattle.album_world.specs.Fresh.{ViewsAreFresh};
 ghost use Rattle.album_world.specs.Granted.{WritesAreGranted};
-ghost use Rattle.album_world.specs.Outcomes.{OutcomesAreTrue};
-ghost use Rattle.album_world.specs.Past.{World, last_begun};
+ghost use Rattle.album_world.specs.Outcomes.{IsOfWrite, OutcomesAreTrue};
+ghost use Rattle.album_world.specs.Past.{PastAnswer, Read, World, last_begun};
 ghost use Rattle.album_world.specs.Requests.{AnswersAreToRequests};
 ghost use Rattle.album_world.specs.Rulings.{RulingsHold};
 ghost use Rattle.album_world.specs.Runs.{changed, happens, run, run_of, event_outputs, past_answer};
 ghost use Rattle.album_world.specs.State.{Now, client_at, is_stopped};
+ghost use Rattle.album_world.specs.Staying.{IsKeptBetween, IsKeptWhole, IsLaterVersion, IsMadeFrom, IsVersion};
+ghost use Rattle.album_world.specs.Staying.{NoneBetween, Passes};
+ghost use Rattle.album_world.specs.Staying.{HandsOver, SetsContent, SetsList, SetsMembers, SetsTitle, TakesOut};
+ghost use Rattle.album_world.specs.Updates.{NoUpdateIsLost};
 ghost use Rattle.album_world.specs.OutputsOnce.{AreGivenOnce, run_outputs};
 ghost use Rattle.album_permits.specs.Meaning.{Finds};
 ghost use Rattle.album_permits.specs.declared.events.Event.{Event as Happening};
 ghost use Rattle.album_permits.specs.declared.events.Event.TheVariants as Event;
 ghost use Rattle.album_permits.specs.declared.answers.Answer.{Answer as Answered};
+ghost use Rattle.album_permits.specs.declared.answers.Answer.TheVariants as answer;
 ghost use Rattle.album_permits.specs.declared.outs.Out.TheVariants as Out;
 
 /// A law: rulings hold. Each note, and each answer Served, Denied, Missing, Committed, Aborted, Unsettled or Refused,
@@ -89,6 +103,128 @@ pub fn views_are_fresh()
 pub fn outcomes_are_true()
     ensures { (opening : Opening) (events : List Happening) → is_opening opening ≡ true
         → OutcomesAreTrue (terms_of opening) (run_of opening events) }
+{}
+
+/// A law: no update is lost in a world that opened checked. Of each item at most one version is pending, and that is
+/// above the latest. Each committed version was made on the one that the view of its own write shows: that is the
+/// opening's or is committed, and is the next one below. So no write undoes one that its author did not see.
+pub fn no_update_is_lost()
+    ensures { (opening : Opening) (events : List Happening) → is_opening opening ≡ true
+        → NoUpdateIsLost opening (run_of opening events) }
+{}
+
+/// A law: what is committed stays in a world that opened checked. Each later version of an item is made from it, by one
+/// committed write after another, each on a view that shows the one before. So what a test finds true of it is true of
+/// each later one, unless a write in between makes it false: one whose view still shows it true. The opening's values
+/// stay in the same way.
+pub fn what_is_committed_stays()
+    ensures versions { (opening : Opening) (events : List Happening) (item first last : ℕ) (was is : Value)
+        → is_opening opening ≡ true
+        → opening.checked ≡ true
+        → IsLaterVersion opening (run_of opening events) item first last was is
+        → IsMadeFrom (terms_of opening) (run_of opening events) item first was last is }
+    ensures tests { (opening : Opening) (events : List Happening) (test : Value → Bool) (item first last : ℕ)
+        (was is : Value)
+        → is_opening opening ≡ true
+        → opening.checked ≡ true
+        → IsLaterVersion opening (run_of opening events) item first last was is
+        → IsKeptBetween (terms_of opening) (run_of opening events) (Passes test) item first last
+        → Passes test was
+        → Passes test is }
+{}
+
+/// A law: acknowledged writes stay in a world that opened checked. In any world an answer Committed acknowledges a
+/// committed version of each item that was written, and what a client reads is such a version, or the opening's. What
+/// one version has, each later one has too, unless a committed write in between is asked to change it. An album keeps a
+/// child that is neither deleted nor moved, and a picture its home. An object, which is no list, keeps its title, its
+/// content and its head, with the owner, the head group and the list, unless it is deleted or these are set. A list
+/// keeps its entries, and a group its members, unless they are set. What is deleted stays so.
+pub fn acknowledged_writes_stay()
+    ensures acknowledged { (opening : Opening) (events : List Happening) (given : PastAnswer) (stamp : ℕ)
+        → is_opening opening ≡ true
+        → Contains (run_of opening events).past.answers given
+        → given.answer ≡ answer.Committed stamp
+        → IsOfWrite (run_of opening events) given.client stamp
+        (IsKeptWhole (terms_of opening) (run_of opening events)) }
+    ensures read { (opening : Opening) (events : List Happening) (read : Read) (rows : List ReadVersion)
+        (row : ReadVersion)
+        → is_opening opening ≡ true
+        → Contains (run_of opening events).past.reads read
+        → read.rows ≡ Some rows
+        → Contains rows row
+        → IsVersion opening (run_of opening events) row.item row.stamp row.value }
+    ensures children { (opening : Opening) (events : List Happening) (number child first last : ℕ) (was is : Value)
+        → is_opening opening ≡ true
+        → opening.checked ≡ true
+        → IsLaterVersion opening (run_of opening events) (album number) first last was is
+        → NoneBetween (terms_of opening) (run_of opening events) (λ by. TakesOut child by.permit.view.ask)
+        (album number) first last
+        → Contains (children_of was) child
+        → Contains (children_of is) child }
+    ensures titles { (opening : Opening) (events : List Happening) (object first last : ℕ) (was is : Value)
+        (title : List ℕ)
+        → is_opening opening ≡ true
+        → opening.checked ≡ true
+        → kind_of object ≢ 2
+        → IsLaterVersion opening (run_of opening events) object first last was is
+        → NoneBetween (terms_of opening) (run_of opening events) (λ by. SetsTitle object by.permit.view.ask)
+        object first last
+        → title_field was ≡ Some title
+        → title_field is ≡ Some title }
+    ensures contents { (opening : Opening) (events : List Happening) (object first last : ℕ) (was is : Value)
+        (content : List ℕ)
+        → is_opening opening ≡ true
+        → opening.checked ≡ true
+        → kind_of object ≢ 2
+        → IsLaterVersion opening (run_of opening events) object first last was is
+        → NoneBetween (terms_of opening) (run_of opening events) (λ by. SetsContent object by.permit.view.ask)
+        object first last
+        → content_field was ≡ Some content
+        → content_field is ≡ Some content }
+    ensures homes { (opening : Opening) (events : List Happening) (object first last : ℕ) (was is : Value)
+        (home : ℕ)
+        → is_opening opening ≡ true
+        → opening.checked ≡ true
+        → kind_of object ≢ 2
+        → IsLaterVersion opening (run_of opening events) object first last was is
+        → NoneBetween (terms_of opening) (run_of opening events) (λ by. TakesOut object by.permit.view.ask)
+        object first last
+        → home_of was ≡ home ∷ []
+        → home_of is ≡ home ∷ [] }
+    ensures heads { (opening : Opening) (events : List Happening) (object first last : ℕ) (was is : Value)
+        (head : Head)
+        → is_opening opening ≡ true
+        → opening.checked ≡ true
+        → kind_of object ≢ 2
+        → IsLaterVersion opening (run_of opening events) object first last was is
+        → NoneBetween (terms_of opening) (run_of opening events) (λ by. HandsOver object by.permit.view.ask)
+        object first last
+        → head_of was ≡ Some head
+        → head_of is ≡ Some head }
+    ensures lists { (opening : Opening) (events : List Happening) (number first last : ℕ) (was is : Value)
+        (entries : List Ace)
+        → is_opening opening ≡ true
+        → opening.checked ≡ true
+        → IsLaterVersion opening (run_of opening events) (list number) first last was is
+        → NoneBetween (terms_of opening) (run_of opening events)
+        (λ by. SetsList (seen by.permit.view.rows) (list number) by.permit.view.ask) (list number) first last
+        → was ≡ value.List entries
+        → is ≡ value.List entries }
+    ensures members { (opening : Opening) (events : List Happening) (number first last : ℕ) (was is : Value)
+        → is_opening opening ≡ true
+        → opening.checked ≡ true
+        → IsLaterVersion opening (run_of opening events) (group number) first last was is
+        → NoneBetween (terms_of opening) (run_of opening events)
+        (λ by. SetsMembers (group number) by.permit.view.ask) (group number) first last
+        → members_of is ≡ members_of was }
+    ensures deleted { (opening : Opening) (events : List Happening) (object first last : ℕ) (was is : Value)
+        → is_opening opening ≡ true
+        → opening.checked ≡ true
+        → kind_of object ≢ 2
+        → first ≢ 0
+        → IsLaterVersion opening (run_of opening events) object first last was is
+        → was ≡ value.Missing
+        → is ≡ value.Missing }
 {}
 
 /// A law: Busy has its cause. It is Wide only where the read set after a finished read is too large. It is Rounds only

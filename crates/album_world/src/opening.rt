@@ -1,5 +1,5 @@
-//! What of an opening a world's clients go by: its partitions and its policy. First values and limits go to the
-//! partitions, in `World::open`. Each client begins with a fresh clock, whatever the opening.
+//! What of an opening a world's clients go by: its partitions, its policy, and whether it is checked. First values and
+//! limits go to the partitions, in `World::open`. Each client begins with a fresh clock, whatever the opening.
 ghost use Rattle.std.specs.Prelude.{◌≡◌, true};
 ghost use Rattle.album_items.specs.Openings.{is_opening};
 ghost use Rattle.album_client.specs.Terms.{terms_of};
@@ -15,5 +15,5 @@ pub(crate) fn terms_of(opening: &Opening) -> Terms
 {
     // The opening passes its check: its policy is known, and its partitions are at most `MAX_PARTS`.
     let policy = Policy::of(opening.policy).unwrap_or(Policy::One);
-    Terms::new(opening.parts as u16, policy)
+    Terms::new(opening.parts as u16, policy, opening.checked)
 }

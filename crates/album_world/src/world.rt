@@ -12,6 +12,7 @@ ghost use Rattle.album_world.specs.Requests.{AnswersAreToRequests};
 ghost use Rattle.album_world.specs.Rulings.{RulingsHold};
 ghost use Rattle.album_world.specs.Seen.{AreStepped, IsExtendedBy, IsDone, IsReached, OfEachPast, AreExtendedBy, opened};
 ghost use Rattle.album_world.specs.State.{message_of};
+ghost use Rattle.album_world.specs.Updates.{NoUpdateIsLost};
 
 use crate::clients::Clients;
 use crate::opening::terms_of;
@@ -117,6 +118,7 @@ impl World {
         ensures views_are_read_atomic { OfEachPast self.new ViewsAreReadAtomic }
         ensures views_are_fresh { OfEachPast self.new (λ opening past. ViewsAreFresh (terms_of opening) past) }
         ensures outcomes_are_true { OfEachPast self.new (λ opening past. OutcomesAreTrue (terms_of opening) past) }
+        ensures no_update_is_lost { OfEachPast self.new NoUpdateIsLost }
         ensures busy_has_its_cause { OfEachPast self.new (λ opening past. BusyHasItsCause past) }
         ensures answers_are_to_requests { OfEachPast self.new
             (λ opening past. AnswersAreToRequests (terms_of opening) past) }
@@ -146,6 +148,7 @@ impl World {
         ensures views_are_read_atomic { OfEachPast self.new ViewsAreReadAtomic }
         ensures views_are_fresh { OfEachPast self.new (λ opening past. ViewsAreFresh (terms_of opening) past) }
         ensures outcomes_are_true { OfEachPast self.new (λ opening past. OutcomesAreTrue (terms_of opening) past) }
+        ensures no_update_is_lost { OfEachPast self.new NoUpdateIsLost }
         ensures busy_has_its_cause { OfEachPast self.new (λ opening past. BusyHasItsCause past) }
         ensures answers_are_to_requests { OfEachPast self.new
             (λ opening past. AnswersAreToRequests (terms_of opening) past) }

@@ -80,13 +80,13 @@ module _ (counts : WriteReply → Bool) (x : WritingState) (given : List Message
 -- ---- how a round begins
 
 pub first-replied :
-    (permit : PermitState) (stamp client tag parts : ℕ)
-    → prepare_round permit stamp client tag parts
-    ≡ replied_round is_prepared_reply (prepare_round permit stamp client tag parts) []
-first-replied permit stamp client tag parts =
-    ap (λ (z : List ℕ). let a : WritingState = record (prepare_round permit stamp client tag parts) { outstanding = z }
-    in a)
-    (filter_all (λ place. true) (λ n. refl) (places_in (prepare_round permit stamp client tag parts)))
+    (checked : Bool) (permit : PermitState) (stamp client tag parts : ℕ)
+    → prepare_round checked permit stamp client tag parts
+    ≡ replied_round is_prepared_reply (prepare_round checked permit stamp client tag parts) []
+first-replied checked permit stamp client tag parts =
+    ap (λ (z : List ℕ).
+    let a : WritingState = record (prepare_round checked permit stamp client tag parts) { outstanding = z } in a)
+    (filter_all (λ place. true) (λ n. refl) (places_in (prepare_round checked permit stamp client tag parts)))
 
 pub second-replied : (x : WritingState) → commit_round x ≡ replied_round is_committed_reply (commit_round x) []
 second-replied x =

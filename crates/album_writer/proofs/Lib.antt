@@ -3,3 +3,5 @@ pub mod Giving
 pub mod Readiness
 pub mod Strays
 pub mod Lasts
+pub mod Viewing
+pub mod Basing

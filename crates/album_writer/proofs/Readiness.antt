@@ -54,11 +54,12 @@ some_ready x next node commits later ready answered h =
 
 -- a round that begins is ready
 pub begun-ready :
-    (permit : PermitState) (stamp client tag parts : ℕ) (x : WritingState) (commits : List Message) (later : List ℕ)
+    (checked : Bool) (permit : PermitState) (stamp client tag parts : ℕ)
+    (x : WritingState) (commits : List Message) (later : List ℕ)
     → 1 ≤ parts → tag + 1 < 2 ^ 64 → are_items (items_written (effect_of permit stamp)) ≡ true
-    → x ≡ prepare_round permit stamp client tag parts → commits ≡ commits_of (commit_round x) → later ≡ places_in x
+    → x ≡ prepare_round checked permit stamp client tag parts → commits ≡ commits_of (commit_round x) → later ≡ places_in x
     → IsReady x commits later
-begun-ready permit stamp client tag parts x commits later low high items is sent next = record {
+begun-ready checked permit stamp client tag parts x commits later low high items is sent next = record {
   outstanding = λ none.
       some-place parts (items_written (effect_of permit stamp)) low items
       (sym (ap (λ (z : WritingState). z.outstanding) is) ∙ none);

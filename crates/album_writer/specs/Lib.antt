@@ -1,4 +1,5 @@
 pub mod Writing
+pub mod Bases
 pub mod WriteReplies
 pub mod Rounds
 pub mod Given

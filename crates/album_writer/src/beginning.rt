@@ -1,5 +1,5 @@
 //! How a write begins.
-ghost use Rattle.std.specs.Prelude.{◌≡◌, ◌+◌, ◌<◌, ◌≤◌, ◌^◌, Some, IfOk, IfErr, IsTrue, IsOkUnless, false, if◌then◌else◌};
+ghost use Rattle.std.specs.Prelude.{◌≡◌, ◌+◌, ◌<◌, ◌≤◌, ◌^◌, Some, IfOk, IfErr, IsTrue, IsOkUnless, true, false, if◌then◌else◌};
 ghost use Rattle.album_stamps.specs.Stamps.{client_of};
 ghost use Rattle.album_stamps.specs.declared.refusals.Refusal.TheVariants.{OutOfMemory, AlbumFull};
 ghost use Rattle.album_permits.specs.Effects.{is_full_for};
@@ -41,15 +41,73 @@ impl Preparing {
         requires high { parts ≤ MAX_PARTS }
         requires low_tag { 1 ≤ tag }
         requires high_tag { tag + 1 < 2 ^ 64 }
-        ensures preparing { IfOk result (λ r. r.0 ≡ prepare_round permit stamp client tag parts) }
-        ensures messages { IfOk result (λ r. r.1.items ≡ prepares_of (prepare_round permit stamp client tag parts)) }
+        ensures preparing { IfOk result (λ r. r.0 ≡ prepare_round false permit stamp client tag parts) }
+        ensures messages { IfOk result (λ r.
+            r.1.items ≡ prepares_of (prepare_round false permit stamp client tag parts)) }
+        ensures room { IfOk result (λ _. is_full_for permit stamp ≡ false) }
+        ensures refusal { IfErr result (λ e.
+            e.refusal ≡ (if is_full_for permit stamp then AlbumFull else OutOfMemory)) }
+        ensures given { IfErr result (λ e. e.given ≡ permit) }
+    {
+        Preparing::spend(alloc, false, permit, stamp, client, tag, parts)
+    }
+
+    /// The same in a checked store. Each Prepare has the bases of its writes too: the stamps at which its author's view
+    /// had the items, and 0 for a new one. A partition keeps the writes only where each base is its item's latest
+    /// version still, so what came between is not overwritten.
+    ///
+    /// # Errors
+    ///
+    /// As of `begin`.
+    pub fn begin_checked(
+        alloc: Global,
+        permit: Permit,
+        stamp: Stamp,
+        client: ClientNo,
+        tag: u64,
+        parts: u16,
+    ) -> Result<(Preparing, Vec<Message>), Refused<Permit>>
+        requires change { IsTrue (is_write permit.view.ask) }
+        requires own { client_of stamp ≡ Some client }
+        requires low { 1 ≤ parts }
+        requires high { parts ≤ MAX_PARTS }
+        requires low_tag { 1 ≤ tag }
+        requires high_tag { tag + 1 < 2 ^ 64 }
+        ensures preparing { IfOk result (λ r. r.0 ≡ prepare_round true permit stamp client tag parts) }
+        ensures messages { IfOk result (λ r.
+            r.1.items ≡ prepares_of (prepare_round true permit stamp client tag parts)) }
+        ensures room { IfOk result (λ _. is_full_for permit stamp ≡ false) }
+        ensures refusal { IfErr result (λ e.
+            e.refusal ≡ (if is_full_for permit stamp then AlbumFull else OutOfMemory)) }
+        ensures given { IfErr result (λ e. e.given ≡ permit) }
+    {
+        Preparing::spend(alloc, true, permit, stamp, client, tag, parts)
+    }
+
+    /// Spends the permit on a write, checked or not.
+    fn spend(
+        alloc: Global,
+        checked: bool,
+        permit: Permit,
+        stamp: Stamp,
+        client: ClientNo,
+        tag: u64,
+        parts: u16,
+    ) -> Result<(Preparing, Vec<Message>), Refused<Permit>>
+        requires change { IsTrue (is_write permit.view.ask) }
+        requires low { 1 ≤ parts }
+        requires high { parts ≤ MAX_PARTS }
+        requires high_tag { tag + 1 < 2 ^ 64 }
+        ensures preparing { IfOk result (λ r. r.0 ≡ prepare_round checked permit stamp client tag parts) }
+        ensures messages { IfOk result (λ r.
+            r.1.items ≡ prepares_of (prepare_round checked permit stamp client tag parts)) }
         ensures room { IfOk result (λ _. is_full_for permit stamp ≡ false) }
         ensures refusal { IfErr result (λ e.
             e.refusal ≡ (if is_full_for permit stamp then AlbumFull else OutOfMemory)) }
         ensures given { IfErr result (λ e. e.given ≡ permit) }
     {
         let writes = permit.effect(alloc, stamp)?;
-        let writing = Writing::first(alloc, writes, client, tag, parts)?;
+        let writing = Writing::first(alloc, checked, writes, client, tag, parts)?;
         match plan_of(alloc, &writing) {
             Ok(
                 Plan {

@@ -1,19 +1,23 @@
 //! Laws of a write.
-ghost use Rattle.std.specs.Prelude.{◌≡◌, ◌≢◌, ◌<◌, ◌≤◌, ◌↔◌, ◌⊎◌, ◌++◌, ℕ, List, [], ◌∷◌, AllPairs, Contains};
+ghost use Rattle.std.specs.Prelude.{◌≡◌, ◌≢◌, ◌<◌, ◌≤◌, ◌↔◌, ◌⊎◌, ◌++◌, ℕ, Bool, false, List, [], ◌∷◌, IsTrue, AllPairs, Contains};
 ghost use Rattle.album_items.specs.ItemIds.{place_of};
 ghost use Rattle.album_items.specs.Openings.{Row};
 ghost use Rattle.album_items.specs.Places.{places_of, rows_placed_at};
 ghost use Rattle.album_calls.specs.declared.messages.Message.{Message};
 ghost use Rattle.album_calls.specs.declared.replies.Reply.TheVariants.{Prepared, Committed, Discarded, Full};
+ghost use Rattle.album_reader.specs.Snapshots.{items_read};
+ghost use Rattle.album_views.specs.Views.{IsView};
 ghost use Rattle.album_permits.specs.Permits.{PermitState};
+ghost use Rattle.album_permits.specs.Rights.{IsNew};
 ghost use Rattle.album_writer.specs.declared.outcomes.Outcome.{Outcome};
 ghost use Rattle.album_writer.specs.declared.outcomes.Outcome.TheVariants as outcome;
+ghost use Rattle.album_writer.specs.Bases.{IsOnBases, IsPlain};
 ghost use Rattle.album_writer.specs.Counting.{IsReplyTo, IsLastOf, IsStrayToPrepares, IsStrayToCommits};
 ghost use Rattle.album_writer.specs.Given.{replied_round, prepare_step_after, commit_step_after};
 ghost use Rattle.album_writer.specs.Rounds.{prepare_stepped, commit_stepped};
 ghost use Rattle.album_writer.specs.Rounds.WriteStep.{Waits, Commits, Ends};
 ghost use Rattle.album_writer.specs.WriteReplies.{is_prepared_reply, is_committed_reply};
-ghost use Rattle.album_writer.specs.Writing.{WritingState, prepare_round, commit_round, commits_of};
+ghost use Rattle.album_writer.specs.Writing.{WritingState, items_in, prepares_of, prepare_round, commit_round, commits_of};
 
 /// A law: each write goes where its item is placed, and all writes go. The participants rise, so each is there once;
 /// they are exactly the partitions of the items; and each write is at its own partition and at no other.
@@ -26,12 +30,25 @@ pub fn writes_go_to_their_places()
         ↔ (Contains writes write × (place_of parts write.0 ≡ place)) }
 {}
 
+/// A law: each Prepare of a checked write names the base of each of its writes, in their order: the stamp at which the
+/// view of the permit shows the item. One of a write that is not checked names none. What the view doesn't show has the
+/// base 0, and is new: so no base is a guess.
+pub fn checked_writes_name_their_bases()
+    ensures checked { (writing : WritingState) (message : Message) → IsTrue writing.checked
+        → Contains (prepares_of writing) message → IsOnBases writing message }
+    ensures plain { (writing : WritingState) (message : Message) → writing.checked ≡ false
+        → Contains (prepares_of writing) message → IsPlain writing message }
+    ensures shown { (writing : WritingState) (item : ℕ) → IsView writing.permit.view
+        → Contains (items_in writing) item
+        → Contains (items_read writing.permit.view.rows) item ⊎ IsNew writing.permit writing.stamp item }
+{}
+
 /// A law: each round begins as the round after no message. The step of a message is the step after all messages that
 /// were given in the round and this one. So a write's state depends on these messages alone.
 pub fn a_write_depends_on_its_replies()
-    ensures first { (permit : PermitState) (stamp client tag parts : ℕ)
-        → prepare_round permit stamp client tag parts
-        ≡ replied_round is_prepared_reply (prepare_round permit stamp client tag parts) [] }
+    ensures first { (checked : Bool) (permit : PermitState) (stamp client tag parts : ℕ)
+        → prepare_round checked permit stamp client tag parts
+        ≡ replied_round is_prepared_reply (prepare_round checked permit stamp client tag parts) [] }
     ensures second { (writing : WritingState)
         → commit_round writing ≡ replied_round is_committed_reply (commit_round writing) [] }
     ensures prepares { (writing : WritingState) (given : List Message) (message : Message)

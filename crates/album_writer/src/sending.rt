@@ -1,12 +1,16 @@
 //! What a write sends.
-ghost use Rattle.std.specs.Prelude.{◌≡◌, ◌≤◌, ◌+◌, ◌<◌, ◌^◌, IfOk, IsOkUnless};
+ghost use Rattle.std.specs.Prelude.{◌≡◌, ◌≤◌, ◌+◌, ◌<◌, ◌^◌, IfOk, IsOkUnless, map};
+ghost use Rattle.album_items.specs.Openings.{Row};
 ghost use Rattle.album_items.specs.Transactions.{items_written};
-ghost use Rattle.album_writer.specs.Writing.{prepare_to, prepares_of, commit_to, commit_round, commits_of};
+ghost use Rattle.album_listing.specs.ViewLookups.{stamp_seen};
+ghost use Rattle.album_writer.specs.Writing.{prepare_request, prepare_to, prepares_of, commit_to, commit_round, commits_of};
 
 use crate::writing::Writing;
-use album_calls::{Body, Message, Node, Request};
-use album_items::{ItemId, Items, Value, rows_placed_at};
+use album_calls::{Body, Message, Node, Request, Stamps};
+use album_items::{ItemId, ItemValues, Items, Value, rows_placed_at};
+use album_listing::ViewLookup;
 use album_stamps::{MAX_PARTS, Refusal};
+use album_views::View;
 use std::alloc::{AllocError, Global};
 
 impl Writing {
@@ -22,7 +26,7 @@ impl Writing {
         Ok(messages)
     }
 
-    /// The Prepare to a partition: exactly the writes that are placed there, with the items of the whole write.
+    /// The Prepare to a partition: exactly the writes that are placed there.
     fn prepare(&self, alloc: Global, place: u16) -> Result<Message, Refusal>
         requires low { 1 ≤ self.now.parts }
         requires high { self.now.parts ≤ MAX_PARTS }
@@ -30,14 +34,27 @@ impl Writing {
         ensures memory { IsOkUnless result Refusal.OutOfMemory }
     {
         let writes = rows_placed_at(alloc, place, self.parts(), self.list())?;
-        let items = items_written(alloc, self.list())?;
-        let body = Body::Request(Request::Prepare(self.stamp(), writes, items));
+        let body = Body::Request(self.prepare_request(alloc, writes)?);
         Ok(Message::new(
             Node::Client(self.client()),
             Node::Part(place),
             self.tag(),
             body,
         ))
+    }
+
+    /// The request to prepare these of the writes, with the items of the whole write: on their bases where the store is
+    /// checked.
+    fn prepare_request(&self, alloc: Global, writes: ItemValues) -> Result<Request, AllocError>
+        ensures { IfOk result (λ request. request ≡ prepare_request self.now writes) }
+    {
+        let items = items_written(alloc, self.list())?;
+        if self.is_checked() {
+            let bases = bases_of(alloc, self.permit().view(), writes.as_slice())?;
+            Ok(Request::PrepareOn(self.stamp(), writes, items, bases))
+        } else {
+            Ok(Request::Prepare(self.stamp(), writes, items))
+        }
     }
 
     /// The Commits: one for each participant, under the tag one above.
@@ -75,4 +92,17 @@ pub fn items_written(alloc: Global, writes: &[(ItemId, Value)]) -> Result<Items,
         items.push(write.0)?;
     }
     Ok(Items::of(items))
+}
+
+/// The bases of these writes, in order: the stamp at which the view shows each item, and 0 for one that it doesn't.
+fn bases_of(alloc: Global, view: &View, writes: &[(ItemId, Value)]) -> Result<Stamps, AllocError>
+    ensures { IfOk result (λ bases. bases ≡ map (λ (row : Row). stamp_seen view.now.rows row.0) writes.now) }
+{
+    let lookup = ViewLookup::of(alloc, view);
+    let mut bases = Vec::new(alloc);
+    for write in writes {
+        bases.push(lookup.stamp(write.0))?;
+    }
+    drop(lookup);
+    Ok(Stamps::of(bases))
 }

@@ -18,10 +18,11 @@ use album_stamps::{ClientNo, MAX_PARTS, Refusal, Refused, Stamp};
 use std::alloc::{AllocError, Global};
 use std::marker::Model;
 
-/// One round of a write. Contracts see its permit and its stamp, its client and its tag, how many partitions there are,
-/// and the participants whose replies are outstanding.
+/// One round of a write. Contracts see whether the store is checked, its permit and its stamp, its client and its tag,
+/// how many partitions there are, and the participants whose replies are outstanding.
 #[derive(Debug)]
 pub struct Writing {
+    checked: bool,
     writes: Writes,
     client: ClientNo,
     tag: u64,
@@ -37,6 +38,7 @@ impl Model for Writing {
     ghost Value = { WritingState };
 
     ghost view = { λ w. record {
+      checked = w.checked;
       permit = w.writes.permit;
       stamp = w.writes.stamp;
       client = w.client;
@@ -46,6 +48,7 @@ impl Model for Writing {
     } };
 
     ghost invariant = { λ w. HasPlaces (record {
+      checked = w.checked;
       permit = w.writes.permit;
       stamp = w.writes.stamp;
       client = w.client;
@@ -63,9 +66,10 @@ impl Drop for Writing {
 }
 
 impl Writing {
-    /// The round of the Prepares of these writes, or `OutOfMemory` and the permit.
+    /// The round of the Prepares of these writes, checked or not, or `OutOfMemory` and the permit.
     pub fn first(
         alloc: Global,
+        checked: bool,
         writes: Writes,
         client: ClientNo,
         tag: u64,
@@ -73,12 +77,14 @@ impl Writing {
     ) -> Result<Writing, Refused<Permit>>
         requires low { 1 ≤ parts }
         requires high { parts ≤ MAX_PARTS }
-        ensures writing { IfOk result (λ writing. writing ≡ prepare_round writes.permit writes.stamp client tag parts) }
+        ensures writing { IfOk result (λ writing.
+            writing ≡ prepare_round checked writes.permit writes.stamp client tag parts) }
         ensures refusal { IfErr result (λ e. e.refusal ≡ Refusal.OutOfMemory) }
         ensures given { IfErr result (λ e. e.given ≡ writes.permit) }
     {
         match places(alloc, &writes, parts) {
             Ok((places, outstanding)) => Ok(Writing {
+                checked,
                 writes,
                 client,
                 tag,
@@ -100,6 +106,7 @@ impl Writing {
         ensures { result ≡ commit_round self }
     {
         let Writing {
+            checked,
             writes,
             client,
             tag,
@@ -109,6 +116,7 @@ impl Writing {
         } = self;
         drop(answered);
         Writing {
+            checked,
             writes,
             client,
             tag: tag + 1,
@@ -156,6 +164,13 @@ impl Writing {
         ensures { result ≡ (length self.now.outstanding == 0) }
     {
         self.outstanding.is_empty()
+    }
+
+    /// Whether the store is checked.
+    pub fn is_checked(&self) -> bool
+        ensures { result ≡ self.now.checked }
+    {
+        self.checked
     }
 
     /// What is written, in order.
@@ -214,6 +229,7 @@ impl Writing {
         ensures { result ≡ self.permit }
     {
         let Writing {
+            checked: _,
             writes,
             client: _,
             tag: _,

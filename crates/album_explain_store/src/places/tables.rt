@@ -78,6 +78,7 @@ const OPEN: Rows = &[
     ("parts", Form::Whole),
     ("limit", Form::PerhapsWhole),
     ("policy", Form::PerhapsWhole),
+    ("checked", Form::PerhapsTruth),
     ("trace", Form::PerhapsTruth),
 ];
 

@@ -2,11 +2,12 @@
 ghost use Rattle.std.specs.Prelude.{◌≡◌, ◌≤◌, true, Bool, IfOk, if◌then◌else◌};
 ghost use Rattle.std.specs.Option.{option_copied, unwrap_or};
 ghost use Rattle.album_items.specs.declared.values.Value.TheVariants.{Missing};
-ghost use Rattle.album_partition.specs.Answers.{Does, nothing, says, marks, marks_and_says, prepare_by, commit_by, check_by, mark_by, is_same, says_version, on_body, on_request, on_prepare, on_commit, on_check, on_get, on_reply, on_status, on_vote, on_prepared, on_vote_of, mark_with};
+ghost use Rattle.album_partition.specs.Answers.{Does, nothing, says, marks, marks_and_says, prepare_by, prepare_on_by, on_prepare_on, commit_by, check_by, mark_by, is_same, says_version, on_body, on_request, on_prepare, on_commit, on_check, on_get, on_reply, on_status, on_vote, on_prepared, on_vote_of, mark_with};
+ghost use Rattle.album_partition.specs.Bases.{are_bases};
 ghost use Rattle.album_partition.specs.History.{is_kept};
 ghost use Rattle.album_partition.specs.Marks.{state_of, is_full, floor};
 ghost use Rattle.album_partition.specs.Partition.{value_at};
-ghost use Rattle.album_partition.specs.Proper.{is_proper};
+ghost use Rattle.album_partition.specs.Proper.{is_proper, is_proper_on};
 
 use crate::marks::Mark;
 use crate::partition::Partition;
@@ -92,7 +93,15 @@ impl Partition {
         ensures { Does result (on_request self.now request.now) }
     {
         match request {
-            Request::Prepare(stamp, writes, items) => self.on_prepare(*stamp, writes, items),
+            Request::Prepare(stamp, writes, items) if !self.checked => {
+                self.on_prepare(*stamp, writes, items)
+            }
+            Request::PrepareOn(stamp, writes, items, bases) if self.checked => {
+                self.on_prepare_on(*stamp, writes, items, bases)
+            }
+            Request::Prepare(_, _, _) | Request::PrepareOn(_, _, _, _) => {
+                Ok(Action::says(Reply::Clash))
+            }
             Request::Commit(stamp) => Ok(self.on_commit(*stamp)),
             Request::Get(item, stamps) => self.on_get(*item, stamps),
             Request::Check(stamp) => Ok(self.on_check(*stamp)),
@@ -158,6 +167,63 @@ impl Partition {
         } else {
             Action::says(Reply::Clash)
         }
+    }
+
+    /// A checked Prepare. It is sent once, so that a second one clashes.
+    fn on_prepare_on(
+        &self,
+        stamp: Stamp,
+        writes: &ItemValues,
+        items: &Items,
+        bases: &Stamps,
+    ) -> Result<Action, AllocError>
+        requires { self.now.checked ≡ true }
+        ensures { Does result (on_prepare_on self.now stamp writes.now items.now bases.now) }
+    {
+        if !self.is_proper_on(stamp, writes, items, bases) {
+            return Ok(Action::says(Reply::Clash));
+        }
+        let reply = match self.state(stamp) {
+            StampState::Unknown => return self.prepare_on(stamp, writes, items, bases),
+            StampState::Pending | StampState::Committed => Reply::Clash,
+            StampState::Discarded => Reply::Discarded(stamp),
+        };
+        Ok(Action::says(reply))
+    }
+
+    /// Whether the checked Prepare can be followed here.
+    fn is_proper_on(&self, stamp: Stamp, writes: &ItemValues, items: &Items, bases: &Stamps) -> bool
+        ensures { result
+            ≡ is_proper_on self.now.number self.now.parts stamp writes.now items.now bases.now }
+    {
+        self.is_proper(stamp, writes, items) && writes.as_slice().len() == bases.as_slice().len()
+    }
+
+    /// A stamp that is unknown here is prepared where its bases are the latest versions, and else promised
+    /// against, if there is room.
+    fn prepare_on(
+        &self,
+        stamp: Stamp,
+        writes: &ItemValues,
+        items: &Items,
+        bases: &Stamps,
+    ) -> Result<Action, AllocError>
+        requires { self.now.checked ≡ true }
+        ensures { Does result (prepare_on_by (is_full self.now.limit self.now.marks)
+            (are_bases self.now.marks stamp writes.now bases.now) StampState.Unknown stamp writes.now items.now) }
+    {
+        if self.is_full() {
+            return Ok(Action::says(Reply::Full(stamp)));
+        }
+        if !self
+            .stored
+            .are_bases(stamp, writes.as_slice(), bases.as_slice())
+        {
+            let discarded = Reply::Discarded(stamp);
+            return Ok(Action::marks_and_says(Mark::Discarded(stamp), discarded));
+        }
+        let mark = Mark::prepared(stamp, writes, items)?;
+        Ok(Action::marks_and_says(mark, Reply::Prepared(stamp)))
     }
 
     /// Whether there is no room for a stamp more.

@@ -10,7 +10,7 @@ use std::alloc::Global;
 
 impl Partition {
     /// All partitions of an opening that passes its check, in the order of their numbers, each with the first values
-    /// of the items that are placed at it.
+    /// of the items that are placed at it. They are checked where the opening is.
     ///
     /// # Errors
     ///
@@ -19,7 +19,7 @@ impl Partition {
     pub fn all_of(alloc: Global, opening: &Opening) -> Result<Vec<Partition>, Refusal>
         requires { is_opening opening.now ≡ true }
         ensures partitions { IfOk result (λ partitions. partitions.items
-            ≡ first_partitions opening.now.parts opening.now.limit opening.now.items) }
+            ≡ first_partitions opening.now.checked opening.now.parts opening.now.limit opening.now.items) }
         ensures memory { IsOkUnless result Refusal.OutOfMemory }
     {
         let mut partitions = Vec::new(alloc);
@@ -35,13 +35,13 @@ impl Partition {
         requires opening { is_opening opening.now ≡ true }
         requires here { number < opening.now.parts }
         ensures partition { IfOk result (λ partition. partition
-            ≡ first_partition opening.now.parts opening.now.limit opening.now.items number) }
+            ≡ first_partition opening.now.checked opening.now.parts opening.now.limit opening.now.items number) }
         ensures memory { IsOkUnless result Refusal.OutOfMemory }
     {
         let parts = opening.parts as u16;
         let items = rows_placed_at(alloc, number, parts, opening.items.as_slice())?;
         match Partition::new(alloc, number, parts, items, opening.limit) {
-            Ok(partition) => Ok(partition),
+            Ok(partition) => Ok(partition.with_checks(opening.checked)),
             Err(refused) => Err(refused.refusal),
         }
     }

@@ -6,7 +6,7 @@ use Rattle.album_keepers.proofs.start.last_keeper.Goals as goal
 
 pub new-requires-clause-number : goal.new-requires-clause-number
 new-requires-clause-number g c =
-    let partitions = first_partition g.J.DeskNames.terms.parts g.J.DeskNames.terms.limit g.J.DeskNames.terms.opening in
+    let partitions = first_partition g.J.DeskNames.terms.checked g.J.DeskNames.terms.parts g.J.DeskNames.terms.limit g.J.DeskNames.terms.opening in
     let p = last_of partitions (c.args.part + 1) c.args.partitions.now.items c.pop-2.new.self.items c.pop-2.result c.in_ok-partition.partition
     c.requires.partitions.count_is c.requires.partitions.each c.pop-2.ensures.items (search rules) in
     let at_p : c.args.part ≡ length c.pop-2.new.self.items = (let one = p.0 in omega arith) in
@@ -14,7 +14,7 @@ new-requires-clause-number g c =
 
 pub new-requires-clause-is : goal.new-requires-clause-is
 new-requires-clause-is g c =
-    let partitions = first_partition g.J.DeskNames.terms.parts g.J.DeskNames.terms.limit g.J.DeskNames.terms.opening in
+    let partitions = first_partition g.J.DeskNames.terms.checked g.J.DeskNames.terms.parts g.J.DeskNames.terms.limit g.J.DeskNames.terms.opening in
     let owners = first_owner (record { table = g.J.BoardNames.table; terms = g.J.DeskNames.terms }) in
     let p = last_of partitions (c.args.part + 1) c.args.partitions.now.items c.pop-2.new.self.items c.pop-2.result c.in_ok-partition.partition
     c.requires.partitions.count_is c.requires.partitions.each c.pop-2.ensures.items (search rules) in
@@ -38,7 +38,7 @@ returns-clause-owners g c =
 
 pub returns-clause-partitions : goal.returns-clause-partitions
 returns-clause-partitions g c =
-    let first = first_partition g.J.DeskNames.terms.parts g.J.DeskNames.terms.limit g.J.DeskNames.terms.opening in
+    let first = first_partition g.J.DeskNames.terms.checked g.J.DeskNames.terms.parts g.J.DeskNames.terms.limit g.J.DeskNames.terms.opening in
     let there : c.pop-2.result ≡ Some c.in_ok-partition.partition = search rules in
     let t = last_of first (c.args.part + 1) c.args.partitions.now.items c.pop-2.new.self.items c.pop-2.result c.in_ok-partition.partition
     c.requires.partitions.count_is c.requires.partitions.each c.pop-2.ensures.items there in

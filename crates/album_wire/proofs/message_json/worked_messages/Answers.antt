@@ -18,6 +18,10 @@ pub returns-clause-prepare : goal.returns-clause-prepare
 unfolding lines_on_literals
 returns-clause-prepare c = refl
 
+pub returns-clause-prepare_on : goal.returns-clause-prepare_on
+unfolding lines_on_literals
+returns-clause-prepare_on c = refl
+
 pub returns-clause-status : goal.returns-clause-status
 unfolding lines_on_literals
 returns-clause-status c = refl

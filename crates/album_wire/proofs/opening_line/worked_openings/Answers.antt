@@ -10,6 +10,22 @@ pub returns-clause-open_with_parts_alone : goal.returns-clause-open_with_parts_a
 unfolding lines_on_literals
 returns-clause-open_with_parts_alone c = refl
 
+pub returns-clause-open_checked : goal.returns-clause-open_checked
+unfolding lines_on_literals
+returns-clause-open_checked c = refl
+
+pub returns-clause-not_checked : goal.returns-clause-not_checked
+unfolding lines_on_literals
+returns-clause-not_checked c = refl
+
+pub returns-clause-checked_by_number : goal.returns-clause-checked_by_number
+unfolding lines_on_literals
+returns-clause-checked_by_number c = refl
+
+pub returns-clause-checked_by_nothing : goal.returns-clause-checked_by_nothing
+unfolding lines_on_literals
+returns-clause-checked_by_nothing c = refl
+
 pub returns-clause-picture_line : goal.returns-clause-picture_line
 unfolding lines_on_literals
 returns-clause-picture_line c = refl

@@ -1,13 +1,13 @@
-use Rattle.std.proofs.Common.{◌+◌}
-use Rattle.album_writer.specs.Writing.{prepare_round}
 use Rattle.album_client.proofs.MoveLemmas.{few_prepares, full_refused, memory_refused}
+use Rattle.album_client.specs.Steps.{round_for}
+use Rattle.album_client.specs.Transitions.{client_of}
 use Rattle.album_permits.specs.Effects.{is_full_for}
 use Rattle.album_client.proofs.transitions.ClientStep.begin_write.Goals as goal
 
 pub with-requires : goal.with-requires
 with-requires c =
-    let round = prepare_round c.args.permit c.args.stamp c.args.self.number (c.args.tag + 1) c.parts-parts.result in
-    rw c.in-Ok.ensures.messages (few_prepares round c.parts-parts.ensures.high)
+    let round = round_for c.args.self.terms (client_of c.args.self) c.args.tag c.args.permit c.args.stamp in
+    rw c.in-Ok.ensures.messages (few_prepares round c.begin_round.ensures.few)
 
 -- the album is full
 pub returns-in-AlbumFull-clause-transition : goal.returns-in-AlbumFull-clause-transition

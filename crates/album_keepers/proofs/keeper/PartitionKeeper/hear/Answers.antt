@@ -13,6 +13,6 @@ invariant_of-self g c =
     let marks : p.marks ≡ prefix_at cut p.number =
     k.shown.marks ∙ (ap (prefix_at c.self.inside.owner.cut) (sym k.own) ∙ (sym j.history ∙ ap (prefix_at cut) k.own)) in (
       c.self.invariant.0,
-      keeper_on g.J.BoardNames.table g.J.DeskNames.terms.limit _ p c.join.new.self k j.table j.part j.grown refl refl refl refl marks
+      keeper_on g.J.BoardNames.table g.J.DeskNames.terms.limit _ p c.join.new.self k j.table j.part j.grown refl refl refl refl refl marks
           (shown_more c.self.inside.owner.cut cut j.grown p.votes k.voted),
     )

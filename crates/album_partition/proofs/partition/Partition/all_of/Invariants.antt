@@ -7,4 +7,4 @@ use Rattle.album_partition.proofs.partition.Partition.all_of.Given as goal
 abbrev pub invariant-loop-number : goal.invariant-loop-number
 invariant-loop-number l =
     l.partitions.items
-    ≡ map (first_partition l.opening.parts l.opening.limit l.opening.items) (range_with_len 0 l.number)
+    ≡ map (first_partition l.opening.checked l.opening.parts l.opening.limit l.opening.items) (range_with_len 0 l.number)

@@ -1,5 +1,5 @@
-use Rattle.std.proofs.Common.{rules, ◌≡◌, ◌<◌, ◌≤◌, true, length, sym, subst, ap, ◌∙◌, arith, ℕ, ◌-◌, ◌+◌}
-use Rattle.album_partition.specs.Marks.{may_follow}
+use Rattle.std.proofs.Common.{rules, ◌≡◌, ◌<◌, ◌≤◌, length, sym, subst, ap, ◌∙◌, arith, ℕ, ◌-◌, ◌+◌}
+use Rattle.album_partition.specs.Bases.{MayAppend}
 use Rattle.album_passes.specs.Cuts.{IsBacked, prefix_at}
 use Rattle.album_passes.specs.Changes.{marked_cut}
 use Rattle.album_passes.specs.Desk.{DeskState}
@@ -15,7 +15,7 @@ pub fetch_add-requires : goal.fetch_add-requires
 fetch_add-requires g c =
     let p = c.args.part in
     let m = g.N.NamesMark.mark in
-    let P : Held × DeskState → Type 0 = λ y. (y.0.seat.low ≤ p) × (p < y.0.seat.high) × (p < y.1.terms.parts) × (length (prefix_at (known y.0.seat) p) < y.1.terms.limit) × (may_follow (prefix_at (known y.0.seat) p) m ≡ true) × IsBacked (marked_cut (known y.0.seat) p m) m in
+    let P : Held × DeskState → Type 0 = λ y. (y.0.seat.low ≤ p) × (p < y.0.seat.high) × (p < y.1.terms.parts) × (length (prefix_at (known y.0.seat) p) < y.1.terms.limit) × MayAppend (known y.0.seat).checked (prefix_at (known y.0.seat) p) m × IsBacked (marked_cut (known y.0.seat) p m) m in
     let r = c.requires in
     let a = c.self.view_is in
     let b = c.desk.view_is in
@@ -27,7 +27,7 @@ pub invariant_of-self : goal.invariant_of-self
 invariant_of-self g c =
     let p = c.args.part in
     let m = g.N.NamesMark.mark in
-    let P : Held → Type 0 = λ y. (p < (known y.seat).parts) × (may_follow (prefix_at (known y.seat) p) m ≡ true) × IsBacked (marked_cut (known y.seat) p m) m in
+    let P : Held → Type 0 = λ y. (p < (known y.seat).parts) × MayAppend (known y.seat).checked (prefix_at (known y.seat) p) m × IsBacked (marked_cut (known y.seat) p m) m in
     let r = c.requires in
     let q = subst P (sym c.self.view_is) (r.inside, r.follows, r.backed) in
     let same_part : p + 1 - 1 ≡ p = omega arith in (

@@ -1,9 +1,9 @@
 use Rattle.std.proofs.Common.{sym, subst, ap, ◌∙◌}
 use Rattle.album_passes.specs.Cuts.{Extends}
 use Rattle.album_passes.proofs.CutLemmas.{extends_trans}
-use Rattle.album_sessions.specs.Resting.{RestsOn}
+use Rattle.album_sessions.specs.Attempts.{RestsOnLast}
 use Rattle.album_sessions.specs.Sessions.{SessionState}
-use Rattle.album_sessions.proofs.InOrderLemmas.{rests_still}
+use Rattle.album_sessions.proofs.AttemptLemmas.{last_still}
 use Rattle.album_sessions.proofs.session.Session.ask_in_order.Goals as goal
 
 -- it is refused
@@ -22,7 +22,7 @@ returns-clause-in_order g c =
       still = c.listen-listened.ensures.still;
       has_listened = c.listen-listened.ensures.listened;
       rests = subst
-          (λ (s : SessionState). RestsOn g.J.DeskNames.terms.limit g.J.ServiceNames.policy c.args.principal.now
+          (λ (s : SessionState). RestsOnLast g.J.DeskNames.terms.limit g.J.ServiceNames.policy c.args.principal.now
           c.args.ask begun s c.in_ok-answer.answer)
           (sym same) c.in_ok-answer.ensures.rests;
       published_all = c.publish-published.ensures.cut ∙ sym (ap (λ (s : SessionState). s.cut) same);
@@ -34,11 +34,10 @@ returns-clause-rests g c =
     let policy = g.J.ServiceNames.policy in
     let answer = c.in_ok-answer.answer in
     let old = c.args.self.now in
-    subst (λ (s : SessionState). RestsOn limit policy c.args.principal.now c.args.ask old s answer)
+    subst (λ (s : SessionState). RestsOnLast limit policy c.args.principal.now c.args.ask old s answer)
     (sym c.publish-published.ensures.same)
-    (rests_still old c.listen-listened.new.self c.ask.new.self c.listen-listened.ensures.still
-    c.ask.ensures.grown c.ask.ensures.sound policy c.args.principal.now c.args.ask limit answer
-    c.in_ok-answer.ensures.rests)
+    (last_still limit policy c.args.principal.now c.args.ask old c.listen-listened.new.self c.listen-listened.ensures.still
+    c.ask.new.self answer c.ask.ensures.grown c.ask.ensures.sound c.in_ok-answer.ensures.rests)
 
 pub returns-clause-grown : goal.returns-clause-grown
 returns-clause-grown g c =

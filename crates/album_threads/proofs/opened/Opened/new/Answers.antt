@@ -10,6 +10,7 @@ use Rattle.album_threads.proofs.opened.Opened.new.Goals as goal
 pub invariant_of-result : goal.invariant_of-result
 invariant_of-result c = record {
   parts_are = ap (λ (t : Terms). t.parts) c.in_ok-desk.ensures.terms;
+  checked_is = ap (λ (t : Terms). t.checked) c.in_ok-desk.ensures.terms;
   some = subst (λ (t : Terms). 1 ≤ t.parts) (sym c.in_ok-desk.ensures.terms) (some_parts c.args.opening.now (search rules));
   few = subst (λ (t : Terms). t.parts ≤ MAX_PARTS) (sym c.in_ok-desk.ensures.terms) (few_parts c.args.opening.now (search rules));
   owned = c.in_ok-desk.ensures.owners;

@@ -1,6 +1,7 @@
 use Rattle.std.proofs.Common.{◌≡◌, ◌<◌, length, get_or, rules}
 use Rattle.std.proofs.lemmas.List.{take_all}
 use Rattle.album_world.proofs.AnsweredLemmas.{answers_are_to_requests}
+use Rattle.album_world.proofs.UpdateLemmas.{no_update_is_lost}
 use Rattle.album_world.proofs.PromiseLemmas.{rulings_hold, writes_are_granted, views_are_read_atomic, views_are_fresh, outcomes_are_true, busy_has_its_cause}
 use Rattle.album_world.proofs.StoryLemmas.{next_stepped, run_extended}
 use Rattle.album_world.proofs.world.World.run.Goals as goal
@@ -53,6 +54,12 @@ returns-in_err-results-clause-outcomes_are_true c = λ opening events behind. ou
 
 pub returns-clause-outcomes_are_true : goal.returns-clause-outcomes_are_true
 returns-clause-outcomes_are_true c = λ opening events behind. outcomes_are_true opening events behind.passes
+
+pub returns-in_err-results-clause-no_update_is_lost : goal.returns-in_err-results-clause-no_update_is_lost
+returns-in_err-results-clause-no_update_is_lost c = λ opening events behind. no_update_is_lost opening events behind.passes
+
+pub returns-clause-no_update_is_lost : goal.returns-clause-no_update_is_lost
+returns-clause-no_update_is_lost c = λ opening events behind. no_update_is_lost opening events behind.passes
 
 pub returns-in_err-results-clause-busy_has_its_cause : goal.returns-in_err-results-clause-busy_has_its_cause
 returns-in_err-results-clause-busy_has_its_cause c = λ opening events behind. busy_has_its_cause opening events behind.passes

@@ -1,4 +1,5 @@
 use Rattle.album_world.proofs.AnsweredLemmas.{answers_are_to_requests}
+use Rattle.album_world.proofs.UpdateLemmas.{no_update_is_lost}
 use Rattle.album_world.proofs.PromiseLemmas.{rulings_hold, writes_are_granted, views_are_read_atomic, views_are_fresh, outcomes_are_true, busy_has_its_cause}
 use Rattle.std.proofs.Common.{◌≡◌, ◌≢◌, Err, IfOk, IfErr, subst, rules}
 use Rattle.album_stamps.specs.declared.refusals.Refusal.TheVariants.{OutOfMemory}
@@ -48,6 +49,9 @@ returns-clause-views_are_fresh c = λ opening events behind. views_are_fresh ope
 
 pub returns-clause-outcomes_are_true : goal.returns-clause-outcomes_are_true
 returns-clause-outcomes_are_true c = λ opening events behind. outcomes_are_true opening events behind.passes
+
+pub returns-clause-no_update_is_lost : goal.returns-clause-no_update_is_lost
+returns-clause-no_update_is_lost c = λ opening events behind. no_update_is_lost opening events behind.passes
 
 pub returns-clause-busy_has_its_cause : goal.returns-clause-busy_has_its_cause
 returns-clause-busy_has_its_cause c = λ opening events behind. busy_has_its_cause opening events behind.passes

@@ -8,6 +8,7 @@ use Rattle.album_writer.proofs.writing.Writing.answered_by.Goals as goal
 pub returns : goal.returns
 returns c =
     let round : List ℕ → WritingState = λ outstanding. record {
+      checked = c.self.inside.checked;
       permit = c.self.inside.writes.permit;
       stamp = c.self.inside.writes.stamp;
       client = c.self.inside.client;
