@@ -64,6 +64,7 @@ fn opened(alloc: Global) -> Result<Opened, Refusal> {
         parts: 2,
         limit: 1000,
         policy: 1,
+        checked: false,
         items: ItemValues::of(Vec::new(alloc)),
     };
     Opened::new(alloc, &opening, 1)

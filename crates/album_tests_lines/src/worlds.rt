@@ -49,6 +49,7 @@ fn opened(alloc: Global) -> Result<World, Refusal> {
         parts: 1,
         limit: 10,
         policy: 2,
+        checked: false,
         items: items(alloc)?,
     };
     let world = World::open(alloc, &opening);

@@ -1,6 +1,7 @@
 //! The answers to clients, as texts, and what was audited.
 use crate::refused::whole_text;
 use album_eval::Verdict;
+use album_items::ItemId;
 use album_listing::{Reason, Row};
 use album_permits::{Note, Served};
 use album_stamps::Refusal;
@@ -59,12 +60,19 @@ fn served_text(alloc: Global, served: &Served) -> Result<String, Refusal> {
     }
 }
 
+fn missing_text(alloc: Global, object: ItemId) -> Result<String, Refusal> {
+    let object = object.text(alloc)?;
+    Ok(format!(in alloc; "missing {}", object.as_str())?)
+}
+
 /// The answer as a short text.
 pub fn text_of(alloc: Global, answer: &Answer) -> Result<String, Refusal> {
     match answer {
         Answer::Served(served) => served_text(alloc, served),
         Answer::Denied(denial) => denied_text(alloc, denial.as_slice()),
         Answer::Committed(stamp) => Ok(format!(in alloc; "committed at {}", stamp.value())?),
+        Answer::Aborted(stamp) => Ok(format!(in alloc; "aborted at {}", stamp.value())?),
+        Answer::Missing(object) => missing_text(alloc, *object),
         Answer::Refused(refusal) => Ok(String::from_str(alloc, refusal.name())?),
         Answer::Unsettled(stamp, refusal) => {
             Ok(format!(in alloc; "{} at {}", refusal.name(), stamp.value())?)

@@ -1,4 +1,4 @@
-//! What a session asks, the answers to it, and how many messages partitions take for that.
+//! What a client or a session asks, the answers to a session, and how many messages partitions take for that.
 use crate::answers::text_of;
 use crate::gates::Counts;
 use crate::messages::{item_of, same, stamp_of};
@@ -6,11 +6,12 @@ use crate::scripts::new_lists;
 use crate::sessions::{OWNED, READABLE};
 use crate::values::Entry;
 use album_eval::Principal;
-use album_items::{Members, Title};
+use album_items::{Content, Members, Title};
 use album_lists::{Member, Name};
 use album_stamps::Refusal;
 use album_threads::{ServiceNames, Session};
 use album_views::Ask;
+use bytes::Bytes;
 use std::alloc::Global;
 use std::process::Abort;
 use std::sync::Wait;
@@ -22,8 +23,8 @@ use std::time;
 pub enum Wish {
     /// To read the object, for whom this is.
     Read(&'static str, &'static str),
-    /// To list album/0, for whom this is.
-    List(&'static str),
+    /// To list the album, for whom this is.
+    List(&'static str, &'static str),
     /// That the picture has this title.
     Retitle(&'static str, &'static str),
     /// That picture/0 has this head group.
@@ -32,38 +33,53 @@ pub enum Wish {
     SetList,
     /// The same, and that all may read picture/1.
     SetLists,
+    /// That the owner alone may do anything with picture/1, and that all may read picture/0.
+    SwapLists,
     /// That bo alone is in group/7.
     SetMembers,
+    /// That the object is bo's.
+    Give(&'static str),
+    /// A picture of this title more in album/0.
+    Add(&'static str),
+    /// That the picture is in album/1.
+    Move(&'static str),
     /// To delete the picture.
     Delete(&'static str),
 }
 
 impl Wish {
-    fn principal(self) -> Result<Principal, Refusal> {
+    pub fn principal(self) -> Result<Principal, Refusal> {
         match self {
-            Wish::Read(who, _) | Wish::List(who) => Principal::read(who),
+            Wish::Read(who, _) | Wish::List(who, _) => Principal::read(who),
             _ => Principal::read("amy@users"),
         }
     }
 
-    fn ask(self, alloc: Global) -> Result<Ask, Refusal> {
+    pub fn ask(self, alloc: Global) -> Result<Ask, Refusal> {
         match self {
             Wish::Read(_, object) => Ok(Ask::Read {
                 object: item_of(object)?,
             }),
-            Wish::List(_) => Ok(Ask::List {
-                album: item_of("album/0")?,
+            Wish::List(_, album) => Ok(Ask::List {
+                album: item_of(album)?,
             }),
             Wish::Retitle(object, title) => Ok(Ask::Retitle {
                 object: item_of(object)?,
                 title: Title::of(alloc, title)?,
             }),
-            Wish::SetGroup(group) => set_group(group),
+            Wish::SetGroup(group) => set_owner("picture/0", "amy", group),
             Wish::SetList => set_lists(alloc, &[("picture/0", OWNED)]),
             Wish::SetLists => set_lists(alloc, &[("picture/0", OWNED), ("picture/1", READABLE)]),
+            Wish::SwapLists => set_lists(alloc, &[("picture/0", READABLE), ("picture/1", OWNED)]),
             Wish::SetMembers => Ok(Ask::SetMembers {
                 object: item_of("group/7")?,
                 members: member(alloc, "bo@users")?,
+            }),
+            Wish::Give(object) => set_owner(object, "bo", 0),
+            Wish::Add(title) => added(alloc, title),
+            Wish::Move(picture) => Ok(Ask::Move {
+                object: item_of(picture)?,
+                to: item_of("album/1")?,
             }),
             Wish::Delete(object) => Ok(Ask::Delete {
                 object: item_of(object)?,
@@ -72,11 +88,19 @@ impl Wish {
     }
 }
 
-fn set_group(group: u64) -> Result<Ask, Refusal> {
+fn set_owner(object: &str, owner: &str, group: u64) -> Result<Ask, Refusal> {
     Ok(Ask::SetOwner {
-        object: item_of("picture/0")?,
-        owner: Name::of("amy")?,
+        object: item_of(object)?,
+        owner: Name::of(owner)?,
         group,
+    })
+}
+
+fn added(alloc: Global, title: &str) -> Result<Ask, Refusal> {
+    Ok(Ask::AddPicture {
+        album: item_of("album/0")?,
+        title: Title::of(alloc, title)?,
+        content: Content::of(Bytes::new())?,
     })
 }
 

@@ -1,14 +1,14 @@
 //! Mails that are held on their way from a session to a partition, as in a network: a read that is under way while a
-//! list and its group change, and a write that is committed at one partition and not yet at another
-//! (docs/PROTOCOL.md, "Settling" and "Causality").
+//! list and its group change, a write that is committed at one partition and not yet at another, and a write that comes
+//! when another has been committed (docs/PROTOCOL.md, "Settling", "Causality" and "Attempts").
 ghost use Rattle.std.specs.Prelude.{◌≡◌};
 ghost use Rattle.album_threads.specs.Opened.{opened_as};
 
-use crate::asked::Wish::{List, Read, SetList, SetLists, SetMembers};
+use crate::asked::Wish::{Add, List, Read, Retitle, SetList, SetLists, SetMembers};
 use crate::asked::{Wish, answer_to, member};
 use crate::gates::{Hold, Watching};
 use crate::messages::{item_of, same};
-use crate::sessions::{OWNED, READABLE, list};
+use crate::sessions::{OWNED, list};
 use crate::values::{Entry, album_of_two, head, picture};
 use album_access::AceType;
 use album_items::{Group, ItemValues, Opening, Value};
@@ -29,8 +29,14 @@ const SHARED: &[Entry] = &[
     (AceType::Allowed, "7@groups", 129, 64),
 ];
 
+/// All others may read; and the owner may do anything, with the pictures that are added too.
+const PASSED_ON: &[Entry] = &[
+    (AceType::Allowed, "OWNER@", 2_032_127, 1),
+    (AceType::Allowed, "EVERYONE@", 129, 0),
+];
+
 /// amy's group/7, in which cy is.
-fn group(alloc: Global) -> Result<Value, Refusal> {
+pub(crate) fn group(alloc: Global) -> Result<Value, Refusal> {
     Ok(Value::Group(Group {
         head: head(7)?,
         members: member(alloc, "cy@users")?,
@@ -39,28 +45,29 @@ fn group(alloc: Global) -> Result<Value, Refusal> {
 
 /// Three partitions. picture/0 and the lists 1 and 7 are placed at 0; picture/1, album/0, list/2 and group/7 at 1;
 /// list/0 at 2. Group 0, which heads all, is missing and would be placed at 0.
-fn opening(alloc: Global) -> Result<Opening, Refusal> {
+fn opening(alloc: Global, checked: bool) -> Result<Opening, Refusal> {
     let mut items = Vec::new(alloc);
     items.push((item_of("picture/0")?, picture(alloc, 0)?))?;
     items.push((item_of("picture/1")?, picture(alloc, 1)?))?;
     items.push((item_of("album/0")?, album_of_two(alloc)?))?;
     items.push((item_of("list/0")?, list(alloc, SHARED)?))?;
     items.push((item_of("list/1")?, list(alloc, OWNED)?))?;
-    items.push((item_of("list/2")?, list(alloc, READABLE)?))?;
+    items.push((item_of("list/2")?, list(alloc, PASSED_ON)?))?;
     items.push((item_of("list/7")?, list(alloc, OWNED)?))?;
     items.push((item_of("group/7")?, group(alloc)?))?;
     Ok(Opening {
         parts: 3,
         limit: 1000,
         policy: 1,
+        checked,
         items: ItemValues::of(items),
     })
 }
 
 /// This for two sessions, with hints or as a plain service.
-fn opened(alloc: Global, plain: bool) -> Result<Opened, Refusal> {
-    let opened = Opened::new(alloc, &opening(alloc)?, 2)?;
-    if plain {
+fn opened(alloc: Global, case: Delayed) -> Result<Opened, Refusal> {
+    let opened = Opened::new(alloc, &opening(alloc, case.checked)?, 2)?;
+    if case.plain {
         return Ok(opened.plain());
     }
     Ok(opened)
@@ -71,16 +78,21 @@ fn opened(alloc: Global, plain: bool) -> Result<Opened, Refusal> {
 #[derive(Clone, Copy)]
 struct Delayed {
     plain: bool,
+    checked: bool,
     wish: Wish,
+    /// What the session asks afterwards.
+    then: Option<Wish>,
     part: u16,
     /// Which of the session's mails to the partition is held, from 0.
     held: u64,
+    /// Whether that is the last mail which the partition ever gets of it.
+    is_last: bool,
     /// How many messages were taken once the rest of what it sent by then is.
     until: (u64, u64),
     meanwhile: &'static [(Wish, &'static str)],
-    /// The answer to it once the mail is passed on, and how many messages that takes.
+    /// The answers to it once the mail is passed on, and how many messages that takes, where it is known.
     answer: &'static str,
-    after: (u64, u64),
+    after: Option<(u64, u64)>,
 }
 
 /// bo's read: of picture/0; with it list/0 and group/0; with them group/7, which waits. Each read has two rounds in a
@@ -90,23 +102,26 @@ struct Delayed {
 /// which lets nobody in.
 const NEW_ENEMY: Delayed = Delayed {
     plain: false,
+    checked: false,
     wish: Read("bo@users", "picture/0"),
+    then: None,
     part: 1,
     held: 0,
+    is_last: false,
     until: (5, 2),
     meanwhile: &[
         (SetList, "committed at 65538"),
         (SetMembers, "committed at 131074"),
     ],
     answer: "denied picture/0 at the end",
-    after: (5, 2),
+    after: Some((5, 2)),
 };
 
 /// The same of a plain service: so the mails are those of examples/new_enemy.jsonl, in their order.
 const PLAIN_NEW_ENEMY: Delayed = Delayed {
     plain: true,
     until: (8, 3),
-    after: (8, 3),
+    after: Some((8, 3)),
     ..NEW_ENEMY
 };
 
@@ -115,17 +130,20 @@ const PLAIN_NEW_ENEMY: Delayed = Delayed {
 /// list/0 alone.
 const HALF_COMMITTED: Delayed = Delayed {
     plain: false,
+    checked: false,
     wish: SetLists,
+    then: None,
     part: 2,
     held: 3,
+    is_last: false,
     until: (9, 3),
     meanwhile: &[
-        (List("cy@users"), "listed picture/1"),
+        (List("cy@users", "album/0"), "listed picture/1"),
         (Read("cy@users", "picture/0"), "denied picture/0 at the end"),
         (Read("cy@users", "picture/1"), "Sea at 0"),
     ],
     answer: "committed at 65537",
-    after: (0, 1),
+    after: Some((0, 1)),
 };
 
 /// The same of a plain service.
@@ -134,6 +152,64 @@ const PLAIN_HALF_COMMITTED: Delayed = Delayed {
     held: 5,
     until: (16, 5),
     ..HALF_COMMITTED
+};
+
+/// amy sets a title, after three reads. Before her Prepare comes, another session has set one. In a checked store hers
+/// is refused, and her session attempts it anew.
+const OVERTAKEN: Delayed = Delayed {
+    plain: false,
+    checked: true,
+    wish: Retitle("picture/0", "Ash"),
+    then: Some(Read("cy@users", "picture/0")),
+    part: 0,
+    held: 3,
+    is_last: false,
+    until: (5, 2),
+    meanwhile: &[
+        (Retitle("picture/0", "Bay"), "committed at 65538"),
+        (Read("cy@users", "picture/0"), "Bay at 65538"),
+    ],
+    answer: "committed at 131073; Ash at 131073",
+    after: None,
+};
+
+/// Without the key both are committed, and the one of the greater stamp stays.
+const LOST: Delayed = Delayed {
+    checked: false,
+    answer: "committed at 65537; Bay at 65538",
+    ..OVERTAKEN
+};
+
+/// Where the partition gets no other mail of hers, there is no second attempt: what the first has written is aborted.
+const CUT_OFF: Delayed = Delayed {
+    then: None,
+    is_last: true,
+    answer: "aborted at 65537",
+    ..OVERTAKEN
+};
+
+/// The same of a plain service, which has no hints: an attempt has reads of two rounds.
+const PLAIN_OVERTAKEN: Delayed = Delayed {
+    plain: true,
+    held: 6,
+    until: (10, 4),
+    ..OVERTAKEN
+};
+
+/// Two pictures are added to one album, which is placed at 1 with amy's new list. Her new picture is prepared at 2, and
+/// is discarded there before she asks anew. Both are listed.
+const ADDED: Delayed = Delayed {
+    plain: false,
+    checked: true,
+    wish: Add("Ash"),
+    then: Some(List("amy@users", "album/0")),
+    part: 1,
+    held: 2,
+    is_last: false,
+    until: (1, 1),
+    meanwhile: &[(Add("Bay"), "committed at 65538")],
+    answer: "committed at 131073; listed picture/0 picture/1 picture/65538 picture/131073",
+    after: None,
 };
 
 /// Where a session's mails to a partition come, and where they are passed on to.
@@ -157,8 +233,14 @@ fn relay_for<J: ServiceNames, R: Wait + Copy>(
     Ok(Relay { mails, to })
 }
 
-/// Passes each mail on, the one of this number once it is released, until the session has ended.
-fn pass_on<J: ServiceNames, R: Wait + Copy>(rt: R, relay: Relay<J>, held: u64, hold: &Hold) {
+/// Passes each mail on, the one of this number once it is released. It ends with the session, or after that mail if it
+/// is the last.
+fn pass_on<J: ServiceNames, R: Wait + Copy>(
+    rt: R,
+    relay: Relay<J>,
+    (held, is_last): (u64, bool),
+    hold: &Hold,
+) {
     let mut number: u64 = 0;
     for _ in rt.forever() {
         let Ok(mail) = relay.mails.recv(&rt) else {
@@ -167,21 +249,30 @@ fn pass_on<J: ServiceNames, R: Wait + Copy>(rt: R, relay: Relay<J>, held: u64, h
         if number == held {
             hold.wait();
         }
-        number = number.wrapping_add(1);
         drop(relay.to.send(&rt, mail));
+        if is_last && number == held {
+            return;
+        }
+        number = number.wrapping_add(1);
     }
     // `forever` has no end.
     unreachable!()
 }
 
-/// The answer to the session, which ends then.
+/// The answers to the session, which ends then.
 fn late_answer<J: ServiceNames, R: Wait + time::Clock + Copy>(
     alloc: Global,
     mut owned: OwnedSession<J, R>,
     wish: Wish,
+    then: Option<Wish>,
 ) -> Result<String, Refusal> {
     let rt = owned.rt;
-    answer_to(&rt, alloc, &mut owned.session, wish)
+    let answer = answer_to(&rt, alloc, &mut owned.session, wish)?;
+    let Some(then) = then else {
+        return Ok(answer);
+    };
+    let next = answer_to(&rt, alloc, &mut owned.session, then)?;
+    Ok(format!(in alloc; "{answer}; {next}")?)
 }
 
 /// The other session gets these answers, and ends.
@@ -225,9 +316,9 @@ fn both_answered<
         thread::scope_env(),
         rt,
         |scope| -> Result<Both, AllocError> {
-            let (own, held) = (*rt, case.held);
+            let (own, held) = (*rt, (case.held, case.is_last));
             let relaying = scope.spawn(move || pass_on(own, relay, held, hold))?;
-            let late = scope.spawn(move || late_answer(alloc, owned, case.wish))?;
+            let late = scope.spawn(move || late_answer(alloc, owned, case.wish, case.then))?;
             hold.wait_for(case.until.0, case.until.1);
             let meanwhile = assert_meanwhile(alloc, other, case.meanwhile);
             let before = hold.counts.so_far();
@@ -260,7 +351,9 @@ fn assert_all<J: ServiceNames + Send, R: Threads + Wait + time::Clock + Abort + 
     } = both_answered(rt, alloc, hold, case, relay, owned, other)?;
     meanwhile?;
     same(rt, late, case.answer)?;
-    assert_eq!(rt; after, case.after);
+    if let Some(expected) = case.after {
+        assert_eq!(rt; after, expected);
+    }
     Ok(())
 }
 
@@ -288,7 +381,7 @@ fn assert_case<R: Threads + Wait + time::Clock + Abort + Copy + Send + Sync + 's
     alloc: Global,
     case: Delayed,
 ) -> Result<(), Fail> {
-    let opened = opened(alloc, case.plain)?;
+    let opened = opened(alloc, case)?;
     assert_by::<Brand, R>(rt, alloc, opened, case)
 }
 
@@ -302,4 +395,17 @@ fn no_new_enemy_is_served(rt: HostRuntime) -> Result<(), Fail> {
 fn a_write_that_is_half_committed(rt: HostRuntime) -> Result<(), Fail> {
     assert_case(rt, rt.alloc(), HALF_COMMITTED)?;
     assert_case(rt, rt.alloc(), PLAIN_HALF_COMMITTED)
+}
+
+#[test]
+fn a_write_that_is_overtaken(rt: HostRuntime) -> Result<(), Fail> {
+    assert_case(rt, rt.alloc(), OVERTAKEN)?;
+    assert_case(rt, rt.alloc(), PLAIN_OVERTAKEN)?;
+    assert_case(rt, rt.alloc(), LOST)?;
+    assert_case(rt, rt.alloc(), CUT_OFF)
+}
+
+#[test]
+fn two_pictures_for_one_album(rt: HostRuntime) -> Result<(), Fail> {
+    assert_case(rt, rt.alloc(), ADDED)
 }

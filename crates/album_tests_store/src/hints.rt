@@ -47,6 +47,7 @@ fn opened(alloc: Global, plain: bool) -> Result<Opened, Refusal> {
         parts: 3,
         limit: 1000,
         policy: 1,
+        checked: false,
         items: items(alloc)?,
     };
     let opened = Opened::new(alloc, &opening, 1)?;
@@ -83,14 +84,24 @@ const WIDE: &[Twice] = &[
 /// names it and list/0, at partition 2: both are read, and not listed.
 const LISTED: &[Twice] = &[
     (
-        List("amy@users"),
+        List("amy@users", "album/0"),
         "listed picture/0 picture/1",
         (5, 1),
         (10, 2),
     ),
     (Delete("picture/0"), "committed at 65537", (7, 4), (12, 6)),
-    (List("amy@users"), "listed picture/1", (3, 1), (6, 0)),
-    (List("amy@users"), "listed picture/1", (3, 1), (6, 0)),
+    (
+        List("amy@users", "album/0"),
+        "listed picture/1",
+        (3, 1),
+        (6, 0),
+    ),
+    (
+        List("amy@users", "album/0"),
+        "listed picture/1",
+        (3, 1),
+        (6, 0),
+    ),
 ];
 
 /// The head group becomes group/1, of partition 1. So what the hint names lacks it, and a read begins anew: after the

@@ -26,11 +26,15 @@ mod refused;
 #[cfg(test)]
 mod terminate;
 
-// What sessions ask, and what holds a thread or a mail.
+// What is asked, and what holds a thread or a mail.
 #[cfg(test)]
 mod asked;
 #[cfg(test)]
 mod gates;
+
+// Tests of writes that race in a world.
+#[cfg(test)]
+mod checked;
 
 // Tests of sessions of a service.
 #[cfg(test)]

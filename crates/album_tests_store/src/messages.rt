@@ -184,6 +184,7 @@ fn reply_text(alloc: Global, reply: &Reply) -> Result<String, Refusal> {
 fn request_text(alloc: Global, request: &Request) -> Result<String, Refusal> {
     match request {
         Request::Prepare(stamp, _, _) => with_stamp(alloc, "prepare", *stamp),
+        Request::PrepareOn(stamp, _, _, _) => with_stamp(alloc, "prepare", *stamp),
         Request::Commit(stamp) => with_stamp(alloc, "commit", *stamp),
         Request::Get(item, _) => item.text(alloc),
         Request::Check(stamp) => with_stamp(alloc, "check", *stamp),

@@ -13,6 +13,7 @@ fn opening(alloc: Global) -> Opening {
         parts: 3,
         limit: 2,
         policy: 1,
+        checked: false,
         items: ItemValues::of(Vec::new(alloc)),
     }
 }

@@ -135,6 +135,7 @@ pub fn opening(alloc: Global) -> Result<Opening, Refusal> {
         parts: u64::from(PARTS),
         limit: 1000,
         policy: 1,
+        checked: false,
         items: items(alloc)?,
     })
 }

@@ -52,6 +52,7 @@ fn opening(alloc: Global, entries: &[Entry]) -> Result<Opening, Refusal> {
         parts: 3,
         limit: 1000,
         policy: 1,
+        checked: false,
         items: ItemValues::of(items),
     })
 }

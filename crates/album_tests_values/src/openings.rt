@@ -29,6 +29,7 @@ fn checked(items: ItemValues) -> Result<(), Refusal> {
         parts: 3,
         limit: 1000,
         policy: 1,
+        checked: false,
         items,
     };
     opening.check()
@@ -54,6 +55,7 @@ fn under_policy(alloc: Global, policy: u64) -> Result<(), Refusal> {
         parts: 1,
         limit: 2,
         policy,
+        checked: false,
         items: ItemValues::of(Vec::new(alloc)),
     };
     opening.check()
