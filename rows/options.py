@@ -88,7 +88,8 @@ def explained_files(program, folder):
     texts = {
         "bad": ["", question % 0, question % 1], "good": [question % 2],
         "silent": ['{"pending":0}', '{"who":"amy@users"}'], "talk": ['{"who":"bo@users"}', '{"pending":1}'],
-        "begun": ['{"open":{"parts":1}}', '{"begin":true}', '{"stop":1}'], "ended": ['{"open":{"parts":2}}'],
+        "begun": ['{"open":{"checked":true,"parts":1}}', '{"begin":true}', '{"stop":1}'],
+        "ended": ['{"open":{"checked":true,"parts":2}}'],
     }
     wanted = {
         "bad": ['{"at":"mask","line":2,"name":"BadMask","refused":5,"value":0}',
