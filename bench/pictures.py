@@ -65,17 +65,17 @@ def items(is_audited=False):
         yield f"list/{head['list']}", {"entries": entries(head["list"], 2, is_audited)}
 
 
-def opening_of(made, parts):
+def opening_of(made, parts, is_checked=True):
     """The lines of the opening of a service with these items."""
-    yield line({"open": {"limit": 1000000, "parts": parts}})
+    yield line({"open": {"checked": is_checked, "limit": 1000000, "parts": parts}})
     for item, value in made:
         yield line({"item": item, "value": value})
     yield line({"begin": True})
 
 
-def opening(parts, is_audited=False):
+def opening(parts, is_audited=False, is_checked=True):
     """The lines of the opening of a service with this store."""
-    return opening_of(items(is_audited), parts)
+    return opening_of(items(is_audited), parts, is_checked)
 
 
 def command(*words):

@@ -1,8 +1,8 @@
 -- One request, judged by the access lists that Redis keeps as the store judges it: who asks, what (read, retitle,
--- set_lists or list), the number of the picture, or of the album that is listed, and for a write the title, or the new
--- lists of the picture and its album.
+-- set_lists, list or add), the number of the picture, or of the album that is listed or gets one, and for a write the
+-- title, or the new lists of the picture and its album.
 local who, verb, picture = ARGV[1], ARGV[2], "picture:" .. ARGV[3]
-local MASKS = { read = 1, retitle = 256, set_lists = 262144, list = 1, row = 128 }
+local MASKS = { read = 1, retitle = 256, set_lists = 262144, list = 1, row = 128, add = 2 }
 local GROUP, INHERIT_ONLY = 64, 8
 local is_in = {}
 
@@ -70,6 +70,20 @@ if verb == "list" then
         return { ok = "denied" }
     end
     return { ok = "listed " .. table.concat(rows_of(album), " ") }
+end
+
+if verb == "add" then
+    local album = "album:" .. ARGV[3]
+    local owner, group, list = unpack(redis.call("HMGET", album, "owner", "group", "list"))
+    if not grants(MASKS[verb], owner, group, list) then
+        return { ok = "denied" }
+    end
+    local made = "new:" .. redis.call("INCR", "stamp")
+    redis.call("SET", "list:" .. made, redis.call("GET", "list:" .. list))
+    redis.call("HSET", "picture:" .. made, "title", ARGV[4], "content", "", "home", ARGV[3], "owner", who, "group", group,
+        "list", made)
+    redis.call("RPUSH", album .. ":children", "picture:" .. made)
+    return { ok = "committed" }
 end
 
 local title, content, home, list = unpack(redis.call("HMGET", picture, "title", "content", "home", "list"))
