@@ -67,7 +67,7 @@ def items(is_audited=False):
 
 def opening_of(made, parts, is_checked=True):
     """The lines of the opening of a service with these items."""
-    yield line({"open": {"checked": is_checked, "limit": 1000000, "parts": parts}})
+    yield line({"open": {**({"checked": True} if is_checked else {}), "limit": 1000000, "parts": parts}})
     for item, value in made:
         yield line({"item": item, "value": value})
     yield line({"begin": True})

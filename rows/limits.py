@@ -1,5 +1,6 @@
 """A service at its limits: of files, of connections, of time, and of what is read of it."""
 import fcntl
+import itertools
 import json
 import os
 import signal
@@ -12,6 +13,7 @@ from serving import SECONDS, Connection, Differs, Service, free_port, joined, wa
 from talks import ONE_PIECE
 
 OPENING = joined(TRIP)
+CHECKED = joined([json.dumps({"open": json.loads(TRIP[0])["open"] | {"checked": True}}), *TRIP[1:]])
 HELLO = {"who": "amy@users"}
 PENDING = {"answer": "pending", "stamps": []}
 CLOSED = b'{"name":"Closed","refused":21}\n'
@@ -144,10 +146,10 @@ def writes_until_it_ends(service, client):
 
 def memory_that_runs_out(program):
     """With so few megabytes some connections aren't served, or a partition's thread ends. No connection hangs, and the
-    service has ended by itself, with the fault, or serves on."""
-    for megabytes in (40, 64, 96, 160):
+    service has ended by itself, with the fault, or serves on. So it is where writes that race are attempted anew."""
+    for megabytes, opening in itertools.product((40, 64, 96, 160), (OPENING, CHECKED)):
         try:
-            with Service(program, OPENING, 65535, memory=megabytes << 20) as service:
+            with Service(program, opening, 65535, memory=megabytes << 20) as service:
                 at_once(*[(writes_until_it_ends, service, client) for client in range(12)])
                 status = service.run.poll()
                 if status is None:

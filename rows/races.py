@@ -6,7 +6,8 @@ import sys
 import time
 
 from crowds import at_once, connected
-from serving import Differs, Service, joined, want, wrong_of
+from serving import SECONDS, Connection, Differs, Service, joined, want, wrong_of
+from talks import ONE_PIECE
 
 ALL = 2032127
 EVERYONE = ["allow", "EVERYONE@", ALL, 3]
@@ -199,6 +200,78 @@ def one_hot_picture(program, is_checked=True, seconds=3.0, count=64):
     serves(is_checked, program, items, count, hold)
 
 
+def hot_picture(is_checked):
+    return opening(is_checked, picture(0, 0, "Sea"), entries(0, ["allow", "EVERYONE@", ALL, 0]))
+
+
+def greeted(service):
+    """A connection that has said who it is, whoever came before it."""
+    connection = Connection(service.port, ONE_PIECE)
+    want("hello", connection.ask({"who": "amy@users"})["answer"], "a hello")
+    return connection
+
+
+def retitle(title):
+    return {"ask": {"do": "retitle", "object": "picture/0", "title": title}}
+
+
+def clients_that_go(program, is_checked=True):
+    """Clients break off while their writes race with others: these are answered, and what was answered last is there."""
+    def goes(service, client):
+        for n in range(ROUNDS // 4):
+            connection = greeted(service)
+            connection.send((json.dumps(retitle(f"{client}, {n}, gone")) + "\n").encode())
+            connection.breaks()
+
+    def stays(connection, client):
+        for n in range(ROUNDS):
+            began = time.monotonic()
+            insists(connection, retitle(f"{client}, {n}")["ask"])
+            want(True, time.monotonic() - began < 5, "whether the answer came soon")
+
+    with Service(program, hot_picture(is_checked), 4 + 4 * (ROUNDS // 4)) as service:
+        steady = [greeted(service) for _ in range(4)]
+        at_once(*((stays, connection, n) for n, connection in enumerate(steady)),
+                *((goes, service, n) for n in range(4)))
+        last, _ = insists(steady[0], retitle("last")["ask"])
+        want(("committed", "last"), (last["answer"], steady[1].ask({"ask": {"do": "read", "object": "picture/0"}})["title"]),
+             "the last title")
+        for connection in steady:
+            connection.finish()
+        want(b'{"alarms":[0,0],"audits":[0,0]}\n', service.run.stdout.read(), "the end")
+        want(0, service.run.wait(SECONDS), "the status")
+
+
+def a_service_that_closes(program, is_checked=True):
+    """The input of a service ends while writes race. Each line is answered, or its connection ends; none hangs."""
+    def ends(service):
+        time.sleep(0.2)
+        service.run.stdin.close()
+
+    def answer_to(connection, asked):
+        try:
+            connection.send((json.dumps(asked) + "\n").encode())
+            return connection.answer()
+        except (ConnectionResetError, BrokenPipeError):
+            return b""
+
+    def writes(connection, client):
+        for n in range(1_000_000):
+            answer = answer_to(connection, retitle(f"{client}, {n}"))
+            if not answer:
+                connection.close()
+                return n
+            want(True, json.loads(answer).get("answer") in ("committed", "aborted"), f"the answer {answer}")
+        raise Differs("the service goes on after the end of its input")
+
+    with Service(program, hot_picture(is_checked), 65535, "--until-eof", goes_on=True) as service:
+        connections = [greeted(service) for _ in range(12)]
+        *counts, _ = at_once(*((writes, connection, n) for n, connection in enumerate(connections)), (ends, service))
+        want(True, min(counts) > 0, "whether each was answered before the end")
+        want(b'{"alarms":[0,0],"audits":[0,0]}\n', service.run.stdout.read(), "the end")
+        want(0, service.run.wait(SECONDS), "the status")
+
+
 RACES = {
     "500 pictures that 20 clients add to four albums": five_hundred_pictures,
     "500 pictures for an album of 128": full_album,
@@ -208,6 +281,8 @@ RACES = {
     "two lists": two_lists,
     "the members and the owner of a group": members_and_owner,
     "64 clients and one picture": one_hot_picture,
+    "clients that break off": clients_that_go,
+    "a service that closes": a_service_that_closes,
 }
 
 
