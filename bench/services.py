@@ -103,13 +103,15 @@ def fill(port, commands):
 
 
 def split(folder, requests, connections, greeting, spell, sign):
-    """Writes what each connection sends into a file of its own: what it says first, and its share of the requests."""
+    """Writes what each connection sends into a file of its own: what it says first, and its share of the requests. A
+    write may be answered `aborted` by a checked store, so of its answer the sign alone is wanted."""
     paths = []
     for n in range(connections):
         who = ASKERS[n % len(ASKERS)]
         paths.append(os.path.join(folder, "requests%d" % n))
         with open(paths[-1], "wb") as file:
-            share = [(sign + request.answer(), spell(request, who)) for request in requests[n::connections]]
+            share = [(sign + (request.answer() if request.verb == "read" else ""), spell(request, who))
+                     for request in requests[n::connections]]
             for prefix, text in [greeting(who)] + share:
                 file.write(b"%d %s\n%s" % (len(text), prefix.encode(), text))
     return paths

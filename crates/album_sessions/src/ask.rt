@@ -46,8 +46,8 @@ pub(crate) enum Way {
 }
 
 impl<J: ServiceNames> Session<J> {
-    /// Reads what the ask looks at, rules on it by the service's policy, and serves it or writes it. In a checked store a
-    /// write that is aborted is attempted anew: `MAX_ATTEMPTS` times in all at most.
+    /// Reads what the ask looks at, rules on it by the service's policy, and serves it or writes it. In a checked store
+    /// a write that is aborted is attempted anew: `MAX_ATTEMPTS` times in all at most.
     ///
     /// # Errors
     ///

@@ -27,8 +27,8 @@ pub const MAX_ATTEMPTS: u8 = 8;
 
 impl<J: ServiceNames> Session<J> {
     /// Answers the ask. In a checked store it is attempted anew where its write is aborted, with a new view, ruling and
-    /// stamp: what came between is seen then. From the second attempt on it queues. Where a later attempt is refused, the
-    /// write is aborted still.
+    /// stamp: what came between is seen then. From the second attempt on it queues. Where a later attempt is refused,
+    /// the write is aborted still.
     ///
     /// # Errors
     ///
@@ -62,8 +62,8 @@ impl<J: ServiceNames> Session<J> {
         Ok(answer)
     }
 
-    /// Attempts the ask. A write in a checked store queues already where somebody has the stripe of its first object: so
-    /// who queues isn't overtaken again and again.
+    /// Attempts the ask. A write in a checked store queues already where somebody has the stripe of its first object:
+    /// so who queues isn't overtaken again and again.
     ///
     /// # Errors
     ///
@@ -141,8 +141,8 @@ impl<J: ServiceNames> Session<J> {
         }
     }
 
-    /// Has each participant of the aborted write ask the others for their votes, one of which is that the stamp is never
-    /// prepared. In a store that isn't checked a pending version is in nobody's way, and nothing is done.
+    /// Has each participant of the aborted write ask the others for their votes, one of which is that the stamp is
+    /// never prepared. In a store that isn't checked a pending version is in nobody's way, and nothing is done.
     fn settle<R: Wait + time::Clock>(&mut self, rt: &R, stamp: Stamp)
         ensures { IsStill self.old self.new }
     {

@@ -64,8 +64,8 @@ impl<J: ServiceNames> Model for Session<J> {
 }
 
 impl<J: ServiceNames> Session<J> {
-    /// The session of this channel, whose client has announced no stamp yet. The board, the book, the hints and the stripes
-    /// are the service's.
+    /// The session of this channel, whose client has announced no stamp yet. The board, the book, the hints and the
+    /// stripes are the service's.
     #[tactic(auto, using(crate::proofs::SessionLemmas::ahead_new, crate::proofs::GrantedLemmas::granted_new))]
     pub fn new(
         alloc: Global,

@@ -2,8 +2,8 @@
 //!
 //! In a checked store a write is aborted where something came between its view and its Prepare. Where many write one
 //! item and all ask again at once, they keep aborting each other. So whoever asks again first takes the stripes of its
-//! first object and of the items that it wants to write, and has them until that attempt is over. Nothing that is promised
-//! rests on them.
+//! first object and of the items that it wants to write, and has them until that attempt is over. Nothing that is
+//! promised rests on them.
 use album_items::ItemId;
 use std::alloc::{AllocError, Global};
 use std::sync::{Mutex, MutexGuard, Wait};
