@@ -109,7 +109,8 @@ fn is_same_request(one: &Request, other: &Request) -> bool
                 && same_values(writes.as_slice(), other_writes.as_slice()))
         }
         Request::PrepareOn(stamp, writes, items, bases) => {
-            matches!(other, Request::PrepareOn(of, other_writes, other_items, other_bases) if of.value() == stamp.value()
+            matches!(other, Request::PrepareOn(of, other_writes, other_items, other_bases)
+                if of.value() == stamp.value()
                 && same_items(items.as_slice(), other_items.as_slice())
                 && same_values(writes.as_slice(), other_writes.as_slice())
                 && are_same_stamps(bases.as_slice(), other_bases.as_slice()))

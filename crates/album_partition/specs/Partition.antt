@@ -46,7 +46,7 @@ abbrev pub opening_state : ℕ → ℕ → List Row → ℕ → PartitionState
 opening_state number parts items limit =
     record { number = number; parts = parts; limit = limit; items = items; marks = []; votes = []; checked = false }
 
--- the same, checked or not, among so many partitions with these rows of first values: it has those that are placed at it
+-- the same, checked or not, among so many partitions with these rows of first values: it has those placed at it
 abbrev pub first_partition : Bool → ℕ → ℕ → List Row → ℕ → PartitionState
 first_partition checked parts limit rows number =
     record (opening_state number parts (rows_placed_at number parts rows) limit) { checked = checked }

@@ -248,7 +248,8 @@ pub fn no_update_is_lost()
     ensures bases { (marks : List Mark) (stamp : ℕ) (writes : List Row) (bases : List ℕ) (pair : Row × ℕ)
         → are_bases marks stamp writes bases ≡ true → Contains (zip writes bases) pair
         → pair.1 ≡ latest marks pair.0.0 }
-    ensures replied { (partition : PartitionState) (message : Message) (stamp : ℕ) (writes : List Row) (items bases : List ℕ) (t : ℕ)
+    ensures replied { (partition : PartitionState) (message : Message) (stamp : ℕ) (writes : List Row)
+        (items bases : List ℕ) (t : ℕ)
         → message.body ≡ Body.Request (Request.PrepareOn stamp writes items bases)
         → (action_of partition message).reply ≡ Some (Reply.Prepared t)
         → ((after partition message).marks ≡ partition.marks ++ Made.Prepared stamp writes items ∷ [])

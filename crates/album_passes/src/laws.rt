@@ -123,8 +123,8 @@ pub fn reads_are_atomic_and_fresh()
         → IsFreshFrom (writes_in_cut new) (IsCommittedFor earlier) answers }
 {}
 
-/// A law: no update is lost in what a cut of a checked store has. A version that is committed at its item's partition was made on the one
-/// right below it, the latest there as it was prepared, and at most one version of an item is pending.
+/// A law: no update is lost in what a cut of a checked store has. A version that is committed at its item's partition was
+/// made on the one right below it, the latest there as it was prepared. At most one version of an item is pending.
 pub fn cuts_lose_no_update()
     ensures made_on { (cut : Cut) (before later : List Mark) (stamp item : ℕ) (writes : List Row) (items : List ℕ)
         → IsSound cut → cut.checked ≡ true → prefix_for cut item ≡ before ++ Made.Prepared stamp writes items ∷ later
@@ -132,5 +132,6 @@ pub fn cuts_lose_no_update()
         → IsMadeOn (prefix_for cut item) item stamp (latest before item) }
     ensures one_pending { (cut : Cut) (item t u : ℕ) → IsSound cut → cut.checked ≡ true
         → state_of (prefix_for cut item) t ≡ StampState.Pending → has_version (prefix_for cut item) item t ≡ true
-        → state_of (prefix_for cut item) u ≡ StampState.Pending → has_version (prefix_for cut item) item u ≡ true → t ≡ u }
+        → state_of (prefix_for cut item) u ≡ StampState.Pending → has_version (prefix_for cut item) item u ≡ true
+        → t ≡ u }
 {}
