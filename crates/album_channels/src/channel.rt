@@ -11,13 +11,12 @@ ghost use Rattle.album_channels.specs.Sightings.{IfSighted};
 
 use crate::sightings::{Sighting, clear, put};
 use album_board::{Board, Listened, Published, listen, publish};
-use album_items::ItemId;
 use album_keepers::{
     Breakage, Control, ControlAnswer, ControlReply, ControlRequest, DeskNames, Inbox,
     PartitionMail, ReplyEnvelope, SessionMail,
 };
-use album_passes::{Desk, Pass, meet};
-use album_stamps::{ClientNo, Refusal, Stamp};
+use album_passes::{Desk, NamesWrites, Pass, meet};
+use album_stamps::{ClientNo, Refusal};
 use crossbeam_channel::{Receiver, SendError, Sender};
 use std::alloc::Global;
 use std::collections::VecDeque;
@@ -343,16 +342,16 @@ impl<J: DeskNames> PartitionChannel<J> {
         put(&mut self.sightings, index, sighting);
     }
 
-    /// Announces the items for the client's stamp.
-    pub(crate) fn announce_items(&mut self, stamp: Stamp, items: &[ItemId])
-        requires own { client_number stamp ≡ self.old.client }
-        requires fresh { announced_for self.old.cut stamp ≡ None }
-        ensures announced { announced_for self.new.cut stamp ≡ Some items.now }
-        ensures cut { self.new.cut ≡ announced_cut self.old.cut stamp items.now }
+    /// Announces what N names for its stamp, which is one of the client's: a whole write, before the first message of
+    /// it leaves.
+    pub fn announce<N: NamesWrites>(&mut self)
+        requires own { client_number N.stamp ≡ self.old.client }
+        requires fresh { announced_for self.old.cut N.stamp ≡ None }
+        ensures cut { self.new.cut ≡ announced_cut self.old.cut N.stamp N.announced }
         ensures grown { Extends self.old.cut self.new.cut }
         ensures client { self.new.client ≡ self.old.client }
     {
-        self.pass.announce(&self.desk, stamp, items);
+        self.pass.announce::<N>(&self.desk);
     }
 
     /// Both take in all that the other has seen, and then have one cut.

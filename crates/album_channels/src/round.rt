@@ -1,16 +1,16 @@
 //! Rounds: messages that a session sends, and the replies to them.
 ghost use Rattle.std.specs.Prelude.{◌≡◌, All, None, IfOk, IfErr, OnOk, IfSome, IfNone, IsOkUnless};
-ghost use Rattle.album_passes.specs.Cuts.{Extends, IsSound};
+ghost use Rattle.album_passes.specs.Cuts.{IsSound};
 ghost use Rattle.album_keepers.specs.Envelopes.{Shows};
 ghost use Rattle.album_keepers.specs.Replies.{IsReplied};
-ghost use Rattle.album_channels.specs.Sending.{announced_with, prepared_first, prepared_in, sent_at, sent_last, IsUnused};
+ghost use Rattle.album_channels.specs.Sending.{sent_at, sent_last};
 ghost use Rattle.album_channels.specs.Channels.{IsLater, IsClosedOrOutOfMemory, IsNoReply};
 
 use crate::asked::{Asked, NoReply};
 use crate::channel::PartitionChannel;
 use crate::reads::begins_read;
 use crate::sightings::sighting_of;
-use album_calls::{Body, Message, Request};
+use album_calls::Message;
 use album_keepers::{DeskNames, PartitionMail, ReplyEnvelope, RequestEnvelope};
 use album_passes::Pass;
 use album_stamps::Refusal;
@@ -72,35 +72,6 @@ impl<J: DeskNames> PartitionChannel<J> {
             return Ok(asked);
         }
         self.send_round(rt, sent)
-    }
-
-    /// Announces what the first of the messages prepares, if it prepares anything.
-    pub fn announce_first(&mut self, messages: &[Message])
-        requires unused { IsUnused self.old (prepared_first messages.now) }
-        ensures cut { self.new.cut ≡ announced_with self.old.cut (prepared_first messages.now) }
-        ensures grown { Extends self.old.cut self.new.cut }
-        ensures client { self.new.client ≡ self.old.client }
-    {
-        if let Some(first) = messages.first() {
-            self.announce(first);
-        }
-    }
-
-    /// Announces what the message prepares, if it prepares anything.
-    fn announce(&mut self, message: &Message)
-        requires unused { IsUnused self.old (prepared_in message.now.body) }
-        ensures cut { self.new.cut ≡ announced_with self.old.cut (prepared_in message.now.body) }
-        ensures grown { Extends self.old.cut self.new.cut }
-        ensures client { self.new.client ≡ self.old.client }
-    {
-        match message.body() {
-            Body::Request(
-                Request::Prepare(stamp, _, items) | Request::PrepareOn(stamp, _, items, _),
-            ) => {
-                self.announce_items(*stamp, items.as_slice());
-            }
-            Body::Request(_) | Body::Reply(_) => {}
-        }
     }
 
     /// Sends the messages: to each partition one mail, with those that go there.

@@ -115,7 +115,7 @@ value_written (row ∷ rows) i (suc k, l, same) = go (row.0 == i) (value_written
     go true f = refl
     go false f = f
 
-kept_written : (c : Cut) (permit : PermitState) (t i : ℕ) → IsSound c → 1 ≤ c.parts → IsKept c permit t → Contains (items_of permit t) i
+pub kept_written : (c : Cut) (permit : PermitState) (t i : ℕ) → IsSound c → 1 ≤ c.parts → IsKept c permit t → Contains (items_of permit t) i
     → (list_any (commits t) (prefix_for c i) ≡ true) × (is_some (written_value c i t) ≡ true)
 kept_written c permit t i s low kept n =
     let place = place_of c.parts i in
@@ -139,7 +139,7 @@ own_writes c l d permit t ys s r low x y kept k = λ row n of.
 
 -- ---- no update is lost
 
-is_committed : (ms : List Mark) (t : ℕ) → list_any (commits t) ms ≡ true → state_of ms t ≡ state.Committed
+pub is_committed : (ms : List Mark) (t : ℕ) → list_any (commits t) ms ≡ true → state_of ms t ≡ state.Committed
 is_committed ms t e = rw e refl
 
 -- a row of an item, with what is made of it

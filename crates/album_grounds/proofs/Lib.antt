@@ -5,3 +5,4 @@ pub mod TrimLemmas
 pub mod EndLemmas
 pub mod LookLemmas
 pub mod WriteLemmas
+pub mod GrantedLemmas

@@ -1,7 +1,7 @@
 -- What the replies to a write's Prepares and Commits bring: `prepare_tells` and `commit_tells`. What its messages show:
 -- `shows_prepares`, and `shows_commits` by `prepared_all`. And how it ends: `end_all`.
 use Rattle.std.proofs.Common.{◌≡◌, ℕ, zero, suc, ◌≤◌, Bool, true, false, not, ◌==◌, ◌&&◌, ◌⊎◌, inl, inr, ⊎_elim, List, [], ◌∷◌, ◌++◌, append-nil, filter, map, All, Contains, Option, Some, None, option_map, option_to_list, if◌then◌else◌, refl, sym, ap, ◌∙◌, subst, arith, get_or}
-use Rattle.std.specs.List.{list_any, find}
+use Rattle.std.specs.List.{list_any, find, zip}
 use Rattle.std.proofs.lemmas.Bool.{and_parts, false≢true}
 use Rattle.std.proofs.lemmas.Bool.Decides.{Decides-eqb}
 use Rattle.std.proofs.lemmas.List.Elements.{All-map, All-contains_itself, Contains-append_right}
@@ -9,8 +9,8 @@ use Rattle.std.proofs.lemmas.List.Folds.{list_any_at}
 use Rattle.std.proofs.lemmas.Slice.Eq.{slice_eq-Decides}
 use Rattle.album_items.specs.ItemIds.{place_of}
 use Rattle.album_items.specs.Openings.{Row}
-use Rattle.album_items.specs.Places.{places_of, rows_placed_at}
-use Rattle.album_items.specs.Transactions.{are_items}
+use Rattle.album_items.specs.Places.{is_placed, places_of, rows_placed_at}
+use Rattle.album_items.specs.Transactions.{items_written, are_items}
 use Rattle.album_calls.specs.Nodes.{is_part}
 use Rattle.album_calls.specs.Same.{same_rows, same_numbers}
 use Rattle.album_calls.specs.declared.messages.Body.{Body}
@@ -32,14 +32,16 @@ use Rattle.album_partition.specs.Proper.{is_proper, are_own_writes}
 use Rattle.album_partition.specs.declared.marks.Mark.{Mark}
 use Rattle.album_partition.specs.declared.marks.Mark.TheVariants.{Prepared}
 use Rattle.album_partition.proofs.ChainLemmas.{replied_on}
+use Rattle.album_partition.proofs.ListLemmas.{one_before, kept_in}
 use Rattle.album_partition.proofs.LawLemmas.{replies_are_true, to_the_sender, full_only}
 use Rattle.album_partition.proofs.StateLemmas.{same_stamp, committed_tells}
-use Rattle.album_passes.specs.Cuts.{Cut, prefix_at, announced_for, IsPreparedFor, IsPreparedThroughout, IsPromisedSomewhere, IsSound, IsPrefix, Extends}
+use Rattle.album_passes.specs.Cuts.{Cut, Announced, prefix_at, announced_for, IsNamed, IsPreparedFor, IsPreparedThroughout, IsPromisedSomewhere, IsSound, IsPrefix, Extends}
 use Rattle.album_passes.proofs.ClosedLemmas.{found_in, prepares_is, discarded_tells as promised_for}
 use Rattle.album_passes.proofs.PrefixLemmas.{prefix_trans, any_more}
+use Rattle.album_listing.specs.ViewLookups.{stamp_seen}
 use Rattle.album_permits.specs.Permits.{PermitState}
 use Rattle.album_reader.proofs.Others.{is_part-own}
-use Rattle.album_grounds.specs.Grounds.{items_of, IsPreparedOn, IsKept, IsWithoutRoom}
+use Rattle.album_grounds.specs.Grounds.{items_of, write_of, IsPreparedOn, IsKept, IsWithoutRoom}
 use Rattle.album_keepers.specs.Envelopes.{Shows, ShowsRequest}
 use Rattle.album_keepers.specs.Replies.{IsReplied}
 use Rattle.album_grounds.specs.Writes.{rows_for, IsPreparedIn, IsPreparedAt, IsCommittedAt, IsFurther, IsEndOf, AreCommits, AreAllCommitted, PrepareShows, CommitShows}
@@ -352,19 +354,51 @@ begun_further begun P all = record {
 
 -- ---- what a cut shows about the messages of a write
 
-pub shows_prepares : (c : Cut) (w : WritingState) → announced_for c w.stamp ≡ Some (items_in w) → All (Shows c) (prepares_of w)
+-- each write has the base that is given for it
+pub pair_has : (f : Row → ℕ) (ws : List Row) (w : Row) → Contains ws w → Contains (zip ws (map f ws)) (w, f w)
+pair_has f [] w (k, l, at) = absurd (omega arith)
+pair_has f (x ∷ ws) w (zero, l, at) = (zero, omega arith, ap (λ (y : Row). (y, f y)) at)
+pair_has f (x ∷ ws) w (suc k, l, at) = one_before (x, f x) (w, f w) (zip ws (map f ws)) (pair_has f ws w (k, omega arith, at))
+
+pub pair_is : (f : Row → ℕ) (ws : List Row) (w : Row) (b : ℕ) → Contains (zip ws (map f ws)) (w, b) → Contains ws w × (f w ≡ b)
+pair_is f [] w b (k, l, at) = absurd (omega arith)
+pair_is f (x ∷ ws) w b (zero, l, at) =
+    let first : x ≡ w = ap (λ (y : Row × ℕ). y.0) at in
+    let second : f x ≡ b = ap (λ (y : Row × ℕ). y.1) at in
+    ((zero, omega arith, first), ap f (sym first) ∙ second)
+pair_is f (x ∷ ws) w b (suc k, l, at) =
+    let r = pair_is f ws w b (k, omega arith, at) in (one_before x w ws r.0, r.1)
+
+-- what is prepared at a partition is of what is announced
+pub shows_prepares : (c : Cut) (w : WritingState) → announced_for c w.stamp ≡ Some (write_of w.permit w.stamp) → All (Shows c) (prepares_of w)
 shows_prepares c w h = All-map (Shows c) (prepare_to w) (places_in w) (λ k e l. one (get_or (places_in w) k e) w.checked)
   where
+    named : (n : ℕ) → IsNamed c w.stamp (rows_for w n) (items_in w)
+    named n = record {
+      all = write_of w.permit w.stamp;
+      announced = h;
+      items_are = refl;
+      within = λ row k. (kept_in (λ (y : Row). is_placed n w.parts y.0) (writes_in w) row k).1;
+    }
+
+    seen : Row → ℕ
+    seen row = stamp_seen w.permit.view.rows row.0
+
     one : (n : ℕ) (b : Bool)
         → ShowsRequest c (Part n) (if b then PrepareOn w.stamp (rows_for w n) (items_in w) (bases_of w (rows_for w n)) else Prepare w.stamp (rows_for w n) (items_in w))
-    one n true = h
-    one n false = h
+    one n true = record {
+      named = named n;
+      based = λ row base k. (let r = pair_is seen (rows_for w n) row base k in
+          subst (λ (y : ℕ). Contains (zip (writes_in w) (map seen (writes_in w))) (row, y)) r.1
+          (pair_has seen (writes_in w) row ((named n).within row r.0)));
+    }
+    one n false = named n
 
-pub prepared_all : (c : Cut) (w : WritingState) → w.parts ≡ c.parts → 1 ≤ w.parts → announced_for c w.stamp ≡ Some (items_in w)
+pub prepared_all : (c : Cut) (w : WritingState) → w.parts ≡ c.parts → 1 ≤ w.parts → announced_for c w.stamp ≡ Some (write_of w.permit w.stamp)
     → ((n : ℕ) → Contains (places_in w) n → IsPreparedAt c w n) → IsPreparedThroughout c w.stamp
 prepared_all c w parts some announced all = record {
   items = items_in w;
-  announced = announced;
+  announced = ap (option_map (λ (a : Announced). items_written a.writes)) announced;
   prepared = λ k e l. one (get_or (items_in w) k e) (All-contains_itself (items_in w) k e l);
 }
   where

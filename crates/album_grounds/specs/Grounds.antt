@@ -22,7 +22,7 @@ use Rattle.album_views.specs.declared.asks.Ask.{Ask}
 use Rattle.album_listing.specs.ViewLookups.{stamp_seen}
 use Rattle.album_permits.specs.Effects.{effect_of}
 use Rattle.album_permits.specs.Permits.{PermitState, permit_on}
-use Rattle.album_passes.specs.Cuts.{Cut, prefix_at, prefix_for, IsSound, IsPrefix, Extends}
+use Rattle.album_passes.specs.Cuts.{Cut, Announced, prefix_at, prefix_for, IsSound, IsPrefix, Extends}
 use Rattle.album_passes.specs.Reads.{IsCommitted, IsCommittedFor, writes_in_cut}
 
 -- ---- a view
@@ -99,6 +99,11 @@ rows_at cut permit stamp place = rows_placed_at place cut.parts (effect_of permi
 
 abbrev pub bases_for : PermitState → List Row → List ℕ
 bases_for permit rows = map (λ (row : Row). stamp_seen permit.view.rows row.0) rows
+
+-- all that a permit writes at a stamp, each on the base that its view shows
+abbrev pub write_of : PermitState → ℕ → Announced
+write_of permit stamp =
+    record { writes = effect_of permit stamp; bases = bases_for permit (effect_of permit stamp) }
 
 -- The stamp's rows were prepared on these bases. Each was the latest version of its item just then, and no other was
 -- pending.

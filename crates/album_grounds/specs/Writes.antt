@@ -7,13 +7,17 @@ use Rattle.album_items.specs.Places.{rows_placed_at}
 use Rattle.album_partition.specs.Marks.{commits}
 use Rattle.album_partition.specs.declared.marks.Mark.{Mark}
 use Rattle.album_partition.specs.declared.marks.Mark.TheVariants.{Prepared}
-use Rattle.album_passes.specs.Cuts.{Cut, prefix_at, IsPromisedSomewhere}
-use Rattle.album_grounds.specs.Grounds.{IsPreparedOn, IsKept, IsWithoutRoom}
+use Rattle.album_passes.specs.Cuts.{Cut, Announcement, prefix_at, IsPromisedSomewhere}
+use Rattle.album_grounds.specs.Grounds.{write_of, IsPreparedOn, IsKept, IsWithoutRoom}
 use Rattle.album_writer.specs.Rounds.{WriteStep}
 use Rattle.album_writer.specs.Rounds.WriteStep.{Waits, Commits, Ends}
 use Rattle.album_writer.specs.Writing.{WritingState, writes_in, items_in, places_in, bases_of, commit_round, commits_of}
 use Rattle.album_writer.specs.declared.outcomes.Outcome.{Outcome}
 use Rattle.album_writer.specs.declared.outcomes.Outcome.TheVariants as outcome
+
+-- what is announced before its Prepares leave: all that it writes
+abbrev pub announcement_of : WritingState → Announcement
+announcement_of writing = (writing.stamp, write_of writing.permit writing.stamp)
 
 -- ---- a round
 

@@ -12,4 +12,5 @@ mod laws;
 
 pub use laws::{
     grounds_stay, kept_writes_lose_no_update, no_new_enemy, reads_are_stable, reads_go_on,
+    what_is_kept_was_asked_for, what_was_acknowledged_is_known,
 };

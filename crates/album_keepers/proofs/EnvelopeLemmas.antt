@@ -20,7 +20,7 @@ use Rattle.album_partition.specs.declared.marks.Mark.TheVariants.{Committed}
 use Rattle.album_partition.proofs.LawLemmas.{replies_are_true, to_the_sender}
 use Rattle.album_partition.proofs.StateLemmas.{pending_tells, committed_tells}
 use Rattle.album_passes.specs.Cuts.{Cut, prefix_at, Extends}
-use Rattle.album_passes.proofs.CutLemmas.{backed_more}
+use Rattle.album_passes.proofs.CutLemmas.{items_more, named_more, backed_more}
 use Rattle.album_passes.proofs.PrefixLemmas.{any_more}
 use Rattle.album_items.specs.Places.{lies_at}
 use Rattle.album_keepers.specs.Envelopes.{is_mark_for, ShowsVote, ShowsCheck, ShowsRequest, ShowsReply, ShowsBody, Shows, IsAnswered}
@@ -65,14 +65,22 @@ more_check c d x (Part p) t h = record {
   at = h.at;
   prepared = any_more (prepares t) (prefix_at c h.at) (prefix_at d h.at) (x.prefixes h.at) h.prepared;
   items = h.items;
-  announced = x.announced t h.items h.announced;
+  announced = items_more c d x t h.items h.announced;
   placed = subst (λ (n : ℕ). lies_at p n h.items ≡ true) (sym x.parts) h.placed;
 }
 more_check c d x (Client k) t h = tt
 
 more_request : (c d : Cut) → Extends c d → (n : Node) (r : Request) → ShowsRequest c n r → ShowsRequest d n r
-more_request c d x n (Prepare t ws is) h = x.announced t is h
-more_request c d x n (PrepareOn t ws is bs) h = x.announced t is h
+more_request c d x n (Prepare t ws is) h = named_more c d x t ws is h
+more_request c d x n (PrepareOn t ws is bs) h = record {
+  named = record {
+    all = h.named.all;
+    announced = x.announced t h.named.all h.named.announced;
+    items_are = h.named.items_are;
+    within = h.named.within;
+  };
+  based = h.based;
+}
 more_request c d x n (Commit t) h = backed_more c d x (Committed t) h
 more_request c d x n (Get i ts) h = λ k e l nz. let was = h k e l nz in
     (was.0, any_more (commits (get_or ts k e)) (prefix_at c was.0) (prefix_at d was.0) (x.prefixes was.0) was.1)

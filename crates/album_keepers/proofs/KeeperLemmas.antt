@@ -19,9 +19,9 @@ use Rattle.album_calls.specs.declared.nodes.Vote.TheVariants as vote
 use Rattle.album_calls.specs.declared.requests.Request.TheVariants.{Prepare, PrepareOn, Commit, Check}
 use Rattle.album_calls.specs.declared.replies.Reply.TheVariants as reply
 use Rattle.album_partition.specs.Answers.{Action, nothing, on_body, action_of, after}
-use Rattle.album_partition.specs.Bases.{extends, MayAppend}
+use Rattle.album_partition.specs.Bases.{are_bases, extends, MayAppend}
 use Rattle.album_partition.specs.Laws.{IsCause, IsBased, IsOutdated}
-use Rattle.album_partition.specs.Proper.{is_proper_on}
+use Rattle.album_partition.specs.Proper.{is_proper, is_proper_on}
 use Rattle.album_partition.proofs.BaseLemmas.{outdated_here, asked_extends}
 use Rattle.album_partition.specs.Marks.{prepares, decided, items_at, is_legal, load}
 use Rattle.album_partition.specs.Partition.{PartitionState}
@@ -35,8 +35,9 @@ use Rattle.album_partition.proofs.StateLemmas.{unknown_tells, pending_tells}
 use Rattle.album_partition.proofs.VoteLemmas.{All-votes_left}
 use Rattle.album_passes.specs.Cuts.{Cut, prefix_at, IsBacked, IsSound, Extends}
 use Rattle.album_passes.specs.Changes.{marked_cut}
-use Rattle.album_passes.proofs.ClosedLemmas.{committed_tells, discarded_tells, proper_within, discarded_backs, votes_back}
+use Rattle.album_passes.proofs.ClosedLemmas.{items_of_named, committed_tells, discarded_tells, discarded_backs, votes_back}
 use Rattle.album_passes.proofs.CutLemmas.{backed_marked}
+use Rattle.album_passes.proofs.PreparedLemmas.{plain_backs, checked_backs}
 use Rattle.album_passes.proofs.PrefixLemmas.{any_more}
 use Rattle.album_passes.specs.Owner.{OwnerState}
 use Rattle.album_keepers.specs.Keepers.{AreShown, IsNext, KeeperState, IsKeeper}
@@ -89,14 +90,18 @@ check_here c (Part q) p t e h = subst (λ (x : ℕ). ShowsCheck c (Part x) t) ((
 check_here c (Client k) p t e h = absurd (cc (e))
 
 cause_backs : (limit : ℕ) (c : Cut) (p : PartitionState) (m : Message) → IsSound c → p.number < c.parts → IsShown limit c p
-    → AreShown c p.votes → Shows c m → (mark : Mark) → is_part m.to p.number ≡ true → IsCause p m mark
+    → p.checked ≡ c.checked → AreShown c p.votes → Shows c m → (mark : Mark) → is_part m.to p.number ≡ true → IsCause p m mark
     → IsBacked (marked_cut c p.number mark) mark
-cause_backs limit c p m s inside shown votes h (Prepared t ws is) here a =
-    let announced = ⊎_elim (λ plain. shown_as c m (body.Request (Prepare t ws is)) plain.0 h)
-    (λ (on : IsBased p m.body t ws is). shown_as c m (body.Request (PrepareOn t ws is on.bases)) on.asked h) a.asked in
-    backed_marked c p.number (Prepared t ws is)
-    (record { announced = announced; within = proper_within p.number p.parts t ws is a.proper })
-cause_backs limit c p m s inside shown votes h (Committed t) here why =
+cause_backs limit c p m s inside shown same votes h (Prepared t ws is) here a = ⊎_elim
+    (λ plain. plain_backs c p.number t ws is (sym same ∙ plain.1) (shown_as c m (body.Request (Prepare t ws is)) plain.0 h))
+    (λ (on : IsBased p m.body t ws is).
+    let wide = s.wide in
+    checked_backs c p.number t ws is on.bases (omega arith)
+    (subst (λ (n : ℕ). is_proper p.number n t ws is ≡ true) shown.parts a.proper)
+    (shown_as c m (body.Request (PrepareOn t ws is on.bases)) on.asked h)
+    (subst (λ (ms : List Mark). are_bases ms t ws on.bases ≡ true) shown.marks on.based))
+    a.asked
+cause_backs limit c p m s inside shown same votes h (Committed t) here why =
     backed_marked c p.number (Committed t) (⊎_elim
     (λ asked. shown_as c m (body.Request (Commit t)) asked h)
     (λ voted. ⊎_elim
@@ -117,7 +122,7 @@ cause_backs limit c p m s inside shown votes h (Committed t) here why =
     (λ i. (shown.parts i, shown.marks i)) others))
     voted)
     why.1)
-cause_backs limit c p m s inside shown votes h (Discarded t) here why = ⊎_elim
+cause_backs limit c p m s inside shown same votes h (Discarded t) here why = ⊎_elim
     (λ checked.
     let k = check_here c m.to p.number t here (shown_as c m (body.Request (Check t)) checked.asked h) in
     let i = item_there p.number c.parts k.items k.placed in
@@ -131,20 +136,21 @@ cause_backs limit c p m s inside shown votes h (Discarded t) here why = ⊎_elim
     let none : list_any (prepares t) (prefix_at c p.number) ≡ false = ap (list_any (prepares t)) (sym shown.marks) ∙ (unknown_tells _ _ _ old.unknown).2 in
     let wide = s.wide in
     discarded_backs c p.number t old.items i.0 (omega arith)
-    (shown_as c m (body.Request (PrepareOn t old.writes old.items old.bases)) old.asked h) i.1 i.2 none)
+    (items_of_named c t old.writes old.items (shown_as c m (body.Request (PrepareOn t old.writes old.items old.bases)) old.asked h).named)
+    i.1 i.2 none)
     (λ voted.
     let v = voter c m.from t vote.Never (shown_as c m (body.Reply (reply.Status t vote.Never)) voted.1 h) in
     backed_marked c p.number (Discarded t) (discarded_tells c v.0 t s.closed v.2))
     rest)
     why
-cause_backs limit c p m s inside shown votes h (Trimmed i) here a = absurd a
+cause_backs limit c p m s inside shown same votes h (Trimmed i) here a = absurd a
 
 -- each mark that a message makes is backed, where the message's cut shows what it has to
 pub mark_backed : (limit : ℕ) (c : Cut) (p : PartitionState) (m : Message) → IsSound c → p.number < c.parts → IsShown limit c p
-    → AreShown c p.votes → Shows c m → (mark : Mark) → (action_of p m).mark ≡ Some mark
+    → p.checked ≡ c.checked → AreShown c p.votes → Shows c m → (mark : Mark) → (action_of p m).mark ≡ Some mark
     → IsBacked (marked_cut c p.number mark) mark
-mark_backed limit c p m s inside shown votes h mark e =
-    cause_backs limit c p m s inside shown votes h mark (is_here p m mark e) (marks_are_caused p m mark e)
+mark_backed limit c p m s inside shown same votes h mark e =
+    cause_backs limit c p m s inside shown same votes h mark (is_here p m mark e) (marks_are_caused p m mark e)
 
 -- ---- the votes that are noted
 
@@ -290,7 +296,7 @@ message_next table limit k m q is sound inside shows done =
       added = ap (λ (x : PartitionState). x.marks) done
           ∙ ap (λ (ms : List Mark). ms ++ option_to_list (action_of k.partition m).mark) (is.shown.marks ∙ ap (prefix_at k.owner.cut) own);
       backed = λ made e. subst (λ (n : ℕ). IsBacked (marked_cut k.owner.cut n made) made) own
-          (mark_backed limit k.owner.cut k.partition m sound (subst (λ (n : ℕ). n < k.owner.cut.parts) is.own inside) is.shown is.voted shows made e);
+          (mark_backed limit k.owner.cut k.partition m sound (subst (λ (n : ℕ). n < k.owner.cut.parts) is.own inside) is.shown is.checked is.voted shows made e);
       chained = λ made e on. subst (λ (ms : List Mark). extends ms made ≡ true) (is.shown.marks ∙ ap (prefix_at k.owner.cut) own)
           (message_extends k.partition m (is.checked ∙ on) made e);
     }

@@ -25,10 +25,10 @@ use Rattle.album_partition.proofs.ListLemmas.{kept_in}
 use Rattle.album_partition.proofs.StateLemmas.{pending_tells, is_pending_tells}
 use Rattle.album_partition.proofs.TrimLemmas.{floor_trimmed}
 use Rattle.album_partition.proofs.VersionLemmas.{latest_trimmed}
-use Rattle.album_passes.specs.Cuts.{Cut, prefix_at, announced_for, IsBacked, IsSound, Extends}
+use Rattle.album_passes.specs.Cuts.{Cut, prefix_at, items_announced, IsBacked, IsSound, Extends}
 use Rattle.album_passes.specs.Changes.{marked_cut}
 use Rattle.album_passes.specs.Owner.{OwnerState}
-use Rattle.album_passes.proofs.ClosedLemmas.{found, found_in, prepares_is, backed_there}
+use Rattle.album_passes.proofs.ClosedLemmas.{found, found_in, prepares_is, backed_there, items_of_named}
 use Rattle.album_keepers.specs.Controls.{IsUntrimmed}
 use Rattle.album_keepers.specs.Controls.IsUntrimmed.{Elsewhere, NoRoom}
 use Rattle.album_keepers.specs.Keepers.{AreShown, IsNext, KeeperState, IsKeeper}
@@ -38,16 +38,16 @@ use Rattle.album_keepers.proofs.KeeperLemmas.{shown_more, keeper_on}
 -- ---- a sweep
 
 -- the items of a stamp that is prepared are those that are announced
-items_announced : (c : Cut) (p t : ℕ) → IsSound c → list_any (prepares t) (prefix_at c p) ≡ true
-    → announced_for c t ≡ Some (items_at (prefix_at c p) t)
-items_announced c p t s own =
+prepared_items : (c : Cut) (p t : ℕ) → IsSound c → list_any (prepares t) (prefix_at c p) ≡ true
+    → items_announced c t ≡ Some (items_at (prefix_at c p) t)
+prepared_items c p t s own =
     let f = found (prepares t) (prefix_at c p) own in
     let r = found_in (prepares t) (prefix_at c p) f.0 f.1 in
     let x = prepares_is t f.0 r.1 in
     let is : List ℕ = x.1 in
     let named = backed_there c p (Prepared t x.0 is) s.closed (subst (λ (y : Mark). Contains (prefix_at c p) y) x.2 r.0) in
     let items : items_at (prefix_at c p) t ≡ is = ap mark_items f.1 ∙ ap (λ (y : Mark). mark_items (Some y)) x.2 in
-    named.announced ∙ ap (λ (js : List ℕ). Some js) (sym items)
+    items_of_named c t x.0 is named.named ∙ ap (λ (js : List ℕ). Some js) (sym items)
 
 -- what passes a test, passes it
 all_kept : (test : ℕ → Bool) (xs : List ℕ) → All (λ (q : ℕ). test q ≡ true) (filter test xs)
@@ -64,7 +64,7 @@ checks_shown c p t s own qs h = All-map (Shows c) (check_to p t) qs
       at = p;
       prepared = own;
       items = items_at (prefix_at c p) t;
-      announced = items_announced c p t s own;
+      announced = prepared_items c p t s own;
       placed = h k d l;
     })
 

@@ -20,7 +20,7 @@ use Rattle.album_partition.specs.Marks.{prepares, commits, discards, latest, sta
 use Rattle.album_partition.specs.Partition.{PartitionState, IsPartition}
 use Rattle.album_partition.specs.declared.marks.Mark.{Mark}
 use Rattle.album_terminate.specs.declared.deciding.StampState.TheVariants as state
-use Rattle.album_passes.specs.Cuts.{Cut, prefix_at, announced_for, IsPreparedThroughout}
+use Rattle.album_passes.specs.Cuts.{Cut, prefix_at, items_announced, IsNamed, IsNamedOn, IsPreparedThroughout}
 use Rattle.album_passes.specs.Pass.{PassState}
 use Rattle.album_keepers.specs.Settling.{stamps_in, AreCommitted, AreSettledIn}
 
@@ -42,7 +42,7 @@ pub record IsOfPart (cut : Cut) (stamp part : ℕ) : Type 0 where
   pub at : ℕ
   pub prepared : list_any (prepares stamp) (prefix_at cut at) ≡ true
   pub items : List ℕ
-  pub announced : announced_for cut stamp ≡ Some items
+  pub announced : items_announced cut stamp ≡ Some items
   pub placed : lies_at part cut.parts items ≡ true
 
 -- so the cut of a Check shows of the partition to which it is sent
@@ -50,11 +50,12 @@ abbrev pub ShowsCheck : Cut → Node → ℕ → Type 0
 ShowsCheck cut (Part part) stamp = IsOfPart cut stamp part
 ShowsCheck cut (Client client) stamp = Unit {0}
 
--- The cut of a Prepare announces its items, that of a Commit shows that each partition of the items has prepared the
--- stamp, that of a Get that each of its stamps is committed somewhere, that of a Check as above.
+-- The cut of a Prepare announces its items, and its writes with their values and their bases. That of a Commit shows that
+-- each partition of the items has prepared the stamp, that of a Get that each of its stamps is committed somewhere, that
+-- of a Check as above.
 abbrev pub ShowsRequest : Cut → Node → Request → Type 0
-ShowsRequest cut to (Prepare stamp writes items) = announced_for cut stamp ≡ Some items
-ShowsRequest cut to (PrepareOn stamp writes items bases) = announced_for cut stamp ≡ Some items
+ShowsRequest cut to (Prepare stamp writes items) = IsNamed cut stamp writes items
+ShowsRequest cut to (PrepareOn stamp writes items bases) = IsNamedOn cut stamp writes items bases
 ShowsRequest cut to (Commit stamp) = IsPreparedThroughout cut stamp
 ShowsRequest cut to (Get item stamps) = AreCommitted cut stamps
 ShowsRequest cut to (Check stamp) = ShowsCheck cut to stamp

@@ -10,7 +10,7 @@ use std::marker::{Model, PhantomData};
 /// A message to a partition, with a pass of the desk that J names. The pass has no number. Its cut shows what the
 /// message needs:
 ///
-/// - a Prepare: its items are announced;
+/// - a Prepare: its items are announced, and its writes with their values and bases;
 /// - a Commit: each participant has prepared its stamp;
 /// - a Get: each of its stamps is committed somewhere;
 /// - a Check: an item of its stamp is placed at the receiver;

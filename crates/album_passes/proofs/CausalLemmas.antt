@@ -9,11 +9,11 @@ use Rattle.album_partition.specs.Marks.{commits}
 use Rattle.album_reader.specs.Answers.{ReadVersion}
 use Rattle.album_reader.specs.Atomic.{IsFreshFrom}
 use Rattle.album_passes.specs.Changes.{lengths_in, announced_cut}
-use Rattle.album_passes.specs.Cuts.{Cut, prefix_at, prefix_for, announced_for, dependencies_of, HasReached, IsSound, IsPrefix, Extends}
+use Rattle.album_passes.specs.Cuts.{Cut, Announced, prefix_at, prefix_for, announced_for, dependencies_of, HasReached, IsSound, IsPrefix, Extends}
 use Rattle.album_passes.specs.Reads.{IsCommitted, IsCommittedFor, writes_in_cut, HadSeenCommitted}
 use Rattle.album_passes.proofs.AnnouncedLemmas.{some_too, announced_here}
 use Rattle.album_passes.proofs.CutLemmas.{prefix_for_more}
-use Rattle.album_passes.proofs.ClosedLemmas.{committed_tells}
+use Rattle.album_passes.proofs.ClosedLemmas.{committed_tells, announced_some}
 
 -- what is found among the first marks of a history, is found in a prefix that has as many
 any_within : (test : Mark → Bool) (n : ℕ) (ms ns : List Mark) → IsPrefix ms ns → n ≤ length ms
@@ -36,11 +36,12 @@ pub depended_on : (c : Cut) (t : ℕ) → IsSound c → IsCommitted c t
     → (ls : List ℕ) × (dependencies_of c t ≡ Some ls) × HasReached ls c
 depended_on c t s h =
     let w = committed_tells c h.0 t s.closed h.1 in
-    let d = some_too (dependencies_of c t) (announced_for c t) w.items (s.depends t) w.announced in
+    let a = announced_some c t w.items w.announced in
+    let d = some_too (dependencies_of c t) (announced_for c t) a.0 (s.depends t) a.1 in
     (d.0, d.1, s.causal t d.0 d.1)
 
 -- a stamp depends on all that its author has seen
-pub depended_lengths : (c : Cut) (t p : ℕ) (is ls : List ℕ) → dependencies_of (announced_cut c t is) t ≡ Some ls
+pub depended_lengths : (c : Cut) (t p : ℕ) (is : Announced) (ls : List ℕ) → dependencies_of (announced_cut c t is) t ≡ Some ls
     → slice_index ls p ≡ length (prefix_at c p)
 depended_lengths c t p is ls e =
     let here : dependencies_of (announced_cut c t is) t ≡ Some (lengths_in c) = announced_here (dependencies_of c) t (lengths_in c) t refl in

@@ -1,6 +1,6 @@
 -- What a closed cut has of each stamp, and the least cut that extends two. The laws of closed cuts cite the
 -- lemmas that are `pub`.
-use Rattle.std.proofs.Common.{rules, ◌≡◌, ℕ, zero, suc, ◌<◌, ◌+◌, Bool, true, false, not, ◌&&◌, ◌||◌, cond, List, [], ◌∷◌, length, get_or, All, Contains, IsSome, Some, Option, refl, ap, sym, ◌∙◌, subst, ⊎_elim, arith, ne_eqb}
+use Rattle.std.proofs.Common.{rules, ◌≡◌, ℕ, zero, suc, ◌<◌, ◌+◌, Bool, true, false, not, ◌&&◌, ◌||◌, cond, List, [], ◌∷◌, length, get_or, All, Contains, IsSome, Some, None, Option, option_map, refl, ap, sym, ◌∙◌, subst, ⊎_elim, arith, ne_eqb}
 use Rattle.std.specs.List.{list_any, list_all, find, range_with_len}
 use Rattle.std.proofs.lemmas.Bool.{and_parts}
 use Rattle.std.proofs.lemmas.Bool.Decides.{Decides-eqb}
@@ -11,6 +11,7 @@ use native.Mathlib.Decide.{ℕ_discrete}
 use mathlib.Core.Logic.{dite}
 use Rattle.album_items.specs.ItemIds.{kind_of, number_of, place_of}
 use Rattle.album_items.specs.Openings.{Row}
+use Rattle.album_items.specs.Transactions.{items_written}
 use Rattle.album_partition.specs.declared.marks.Mark.{Mark}
 use Rattle.album_partition.specs.declared.marks.Mark.TheVariants.{Prepared, Committed, Discarded, Trimmed}
 use Rattle.album_partition.specs.Marks.{is_mark_of, prepares, commits, discards, mark_items, items_at}
@@ -18,7 +19,7 @@ use Rattle.album_items.specs.Places.{is_placed, lies_at, placed_at, is_other, ot
 use Rattle.album_partition.specs.Proper.{is_among, is_proper}
 use Rattle.album_partition.proofs.GrowthLemmas.{promised_unprepared}
 use Rattle.album_partition.proofs.ListLemmas.{list_all-weaker, contains_from_any, any_from_contains, kept_in, kept_out}
-use Rattle.album_passes.specs.Cuts.{Cut, prefix_at, prefix_for, announced_for, dependencies_of, IsPreparedFor, IsPreparedThroughout, IsPromisedSomewhere, IsBacked, IsClosedCut, IsSound, IsPrefix, Extends}
+use Rattle.album_passes.specs.Cuts.{Cut, Announced, prefix_at, prefix_for, announced_for, items_announced, dependencies_of, IsPreparedFor, IsNamed, IsNamedOn, IsPreparedThroughout, IsPromisedSomewhere, IsBacked, IsClosedCut, IsSound, IsPrefix, Extends}
 use Rattle.album_passes.specs.Changes.{merged, marked_cut}
 use Rattle.album_passes.proofs.PrefixLemmas.{longer_cases}
 use Rattle.album_passes.proofs.AnnouncedLemmas.{listed_each}
@@ -86,20 +87,35 @@ discarded_tells c p t closed e =
     let x = marked (discards t) (prefix_at c p) e in
     subst (IsBacked c) (discards_is t x.0 x.2) (backed_there c p x.0 closed x.1)
 
--- the list of a mark's stamp
-listed_for : (c : Cut) (t : ℕ) (m : Mark) → is_mark_of t m ≡ true → IsBacked c m → (is : List ℕ) × (announced_for c t ≡ Some is)
-listed_for c t (Prepared u ws is) e b = (is, subst (λ (x : ℕ). announced_for c x ≡ Some is) ((Decides-eqb u t).0 e) b.announced)
-listed_for c t (Committed u) e b = (b.items, subst (λ (x : ℕ). announced_for c x ≡ Some b.items) ((Decides-eqb u t).0 e) b.announced)
-listed_for c t (Discarded u) e b = (b.items, subst (λ (x : ℕ). announced_for c x ≡ Some b.items) ((Decides-eqb u t).0 e) b.announced)
+-- where the items are announced, the writes are
+pub announced_some : (c : Cut) (t : ℕ) (is : List ℕ) → items_announced c t ≡ Some is
+    → (a : Announced) × (announced_for c t ≡ Some a) × (items_written a.writes ≡ is)
+announced_some c t is e = go (announced_for c t) refl e
+  where
+    go : (o : Option Announced) → announced_for c t ≡ o → option_map (λ (a : Announced). items_written a.writes) o ≡ Some is
+        → (a : Announced) × (announced_for c t ≡ Some a) × (items_written a.writes ≡ is)
+    go (Some a) f g = (a, f, cc (g))
+    go None f g = absurd (cc (g))
+
+pub items_of_named : (c : Cut) (t : ℕ) (ws : List Row) (is : List ℕ) → IsNamed c t ws is → items_announced c t ≡ Some is
+items_of_named c t ws is n =
+    ap (option_map (λ (a : Announced). items_written a.writes)) n.announced ∙ ap (λ (js : List ℕ). Some js) (sym n.items_are)
+
+-- the items of a mark's stamp
+listed_for : (c : Cut) (t : ℕ) (m : Mark) → is_mark_of t m ≡ true → IsBacked c m → (is : List ℕ) × (items_announced c t ≡ Some is)
+listed_for c t (Prepared u ws is) e b = (is, subst (λ (x : ℕ). items_announced c x ≡ Some is) ((Decides-eqb u t).0 e) (items_of_named c u ws is b.named))
+listed_for c t (Committed u) e b = (b.items, subst (λ (x : ℕ). items_announced c x ≡ Some b.items) ((Decides-eqb u t).0 e) b.announced)
+listed_for c t (Discarded u) e b = (b.items, subst (λ (x : ℕ). items_announced c x ≡ Some b.items) ((Decides-eqb u t).0 e) b.announced)
 listed_for c t (Trimmed i) e b = absurd (cc (e))
 
 pub announced_tells : (c : Cut) (p t : ℕ) → IsClosedCut c → list_any (is_mark_of t) (prefix_at c p) ≡ true → IsSome (announced_for c t)
 announced_tells c p t closed e =
     let x = marked (is_mark_of t) (prefix_at c p) e in
-    let a = listed_for c t x.0 x.2 (backed_there c p x.0 closed x.1) in
-    subst (λ (o : Option (List ℕ)). IsSome o) (sym a.1) (search rules)
+    let l = listed_for c t x.0 x.2 (backed_there c p x.0 closed x.1) in
+    let a = announced_some c t l.0 l.1 in
+    subst (λ (o : Option Announced). IsSome o) (sym a.1) (search rules)
 
-pub same_list : (c : Cut) (t : ℕ) (is js : List ℕ) → announced_for c t ≡ Some is → announced_for c t ≡ Some js → is ≡ js
+pub same_list : (c : Cut) (t : ℕ) (is js : List ℕ) → items_announced c t ≡ Some is → items_announced c t ≡ Some js → is ≡ js
 same_list c t is js e f = cc (e, f)
 
 pub never_discarded : (c : Cut) (p q t : ℕ) → IsSound c → list_any (commits t) (prefix_at c p) ≡ true → list_any (discards t) (prefix_at c q) ≡ false
@@ -117,21 +133,8 @@ never_discarded c p q t s done = go (list_any (discards t) (prefix_at c q)) refl
 
 -- ---- what backs a mark
 
--- a row of one of the items that are placed at a partition is of one of the items
-among_placed : (number parts : ℕ) (is : List ℕ) (w : Row) → is_among (placed_at number parts is) w ≡ true → is_among is w ≡ true
-among_placed number parts is w e =
-    any_from_contains is w.0 (kept_in (is_placed number parts) is w.0 (contains_from_any (placed_at number parts is) w.0 e)).1
-
-pub proper_within : (number parts t : ℕ) (ws : List Row) (is : List ℕ) → is_proper number parts t ws is ≡ true → list_all (is_among is) ws ≡ true
-proper_within number parts t ws is e =
-    let own = proper_rows number parts t ws is e in
-    list_all-weaker (is_among (placed_at number parts is)) (is_among is) (among_placed number parts is) ws own
-  where
-    proper_rows : (number parts t : ℕ) (ws : List Row) (is : List ℕ) → is_proper number parts t ws is ≡ true → list_all (is_among (placed_at number parts is)) ws ≡ true
-    proper_rows number parts t ws is e = search (and_parts, rules)
-
 -- a Discarded of a stamp that is unknown backs itself, where the stamp's list has an item that is placed here
-pub discarded_backs : (c : Cut) (p t : ℕ) (is : List ℕ) (i : ℕ) → p < length c.prefixes → announced_for c t ≡ Some is → Contains is i
+pub discarded_backs : (c : Cut) (p t : ℕ) (is : List ℕ) (i : ℕ) → p < length c.prefixes → items_announced c t ≡ Some is → Contains is i
     → place_of c.parts i ≡ p → list_any (prepares t) (prefix_at c p) ≡ false
     → IsBacked (marked_cut c p (Discarded t)) (Discarded t)
 discarded_backs c p t is i l announced n placed none = record {
@@ -171,7 +174,7 @@ votes_back c p t s inside own others =
     let had : All (λ (q : ℕ). list_any (prepares t) (prefix_at c q) ≡ true) (others_of p c.parts is) = subst (λ (js : List ℕ). All (λ (q : ℕ). list_any (prepares t) (prefix_at c q) ≡ true) (others_of p c.parts js)) items others in
     record {
       items = is;
-      announced = named.announced;
+      announced = items_of_named c t x.0 is named.named;
       prepared = λ k i l. at is had (get_or is k i) (All-contains_itself is k i l);
     }
   where

@@ -1,19 +1,21 @@
 -- What is sound stays so as a cut grows. The proofs of the steps and of what a seat holds cite `sound_merged`,
 -- `sound_marked` and `sound_announced`; the main lemma is `backed_more`, that a mark stays backed.
-use Rattle.std.proofs.Common.{◌≡◌, ◌≢◌, ℕ, zero, suc, ◌<◌, ◌≤◌, ◌==◌, true, List, [], ◌∷◌, ◌++◌, length, get_or, set, All, Some, None, is_some, refl, ap, sym, ◌∙◌, subst, ⊎_elim, arith, length-set, get_or-set_other, get_or-set_same}
+use Rattle.std.proofs.Common.{◌≡◌, ◌≢◌, ℕ, zero, suc, ◌<◌, ◌≤◌, ◌==◌, true, List, [], ◌∷◌, ◌++◌, length, get_or, set, All, Option, Some, None, is_some, option_map, refl, ap, sym, ◌∙◌, subst, ⊎_elim, arith, length-set, get_or-set_other, get_or-set_same}
 use Rattle.std.proofs.lemmas.List.Elements.{All-push}
 use Rattle.std.proofs.lemmas.Bool.{cases_lt}
 use Rattle.std.proofs.Math.ListN.{get_or-map}
 use native.Mathlib.Decide.{ℕ_discrete}
 use mathlib.Core.Logic.{dite}
 use Rattle.album_items.specs.ItemIds.{place_of}
+use Rattle.album_items.specs.Openings.{Row}
+use Rattle.album_items.specs.Transactions.{items_written}
 use Rattle.album_partition.specs.declared.marks.Mark.{Mark}
 use Rattle.album_partition.specs.declared.marks.Mark.TheVariants.{Prepared, Committed, Discarded, Trimmed}
 use Rattle.album_partition.specs.Bases.{MayAppend, IsChainedIf, is_chained}
 use Rattle.album_partition.specs.Marks.{prepares, is_legal}
 use Rattle.album_partition.proofs.BaseLemmas.{is_chained-push}
 use Rattle.album_partition.proofs.LegalLemmas.{is_legal-push}
-use Rattle.album_passes.specs.Cuts.{Cut, marks_at, prefix_at, prefix_for, announced_for, dependencies_of, HasReached, IsPreparedFor, IsBacked, IsSound, IsPrefix, Extends}
+use Rattle.album_passes.specs.Cuts.{Cut, Announced, marks_at, prefix_at, prefix_for, announced_for, items_announced, dependencies_of, HasReached, IsPreparedFor, IsNamed, IsPreparedOver, IsOverItsBase, IsBacked, IsSound, IsPrefix, Extends}
 use Rattle.album_passes.specs.Changes.{longer, longer_each, lengths_in, merged, marked_cut, announced_cut}
 use Rattle.album_passes.proofs.PrefixLemmas.{prefix_self, prefix_trans, prefix_length, any_more, promised_more, longer_cases}
 use Rattle.album_passes.proofs.AnnouncedLemmas.{listed-append, listed_each, both_some, also_some, none_too, announced_here, announced_else, announced_more}
@@ -44,16 +46,56 @@ prefix_for_more c d x i = subst (λ (n : ℕ). IsPrefix (prefix_for c i) (prefix
 prepared_more : (c d : Cut) → Extends c d → (t i : ℕ) → IsPreparedFor c t i → IsPreparedFor d t i
 prepared_more c d x t i e = any_more (prepares t) (prefix_for c i) (prefix_for d i) (prefix_for_more c d x i) e
 
+pub items_more : (c d : Cut) → Extends c d → (t : ℕ) (is : List ℕ) → items_announced c t ≡ Some is → items_announced d t ≡ Some is
+items_more c d x t is e = go (announced_for c t) refl e
+  where
+    items : Option Announced → Option (List ℕ)
+    items = option_map (λ (a : Announced). items_written a.writes)
+
+    go : (o : Option Announced) → announced_for c t ≡ o → items o ≡ Some is → items_announced d t ≡ Some is
+    go (Some a) f g = ap items (x.announced t a f) ∙ g
+    go None f g = absurd (cc (g))
+
+pub named_more : (c d : Cut) → Extends c d → (t : ℕ) (ws : List Row) (is : List ℕ) → IsNamed c t ws is → IsNamed d t ws is
+named_more c d x t ws is n = record {
+  all = n.all;
+  announced = x.announced t n.all n.announced;
+  items_are = n.items_are;
+  within = n.within;
+}
+
+pub over_more : (ms ns : List Mark) → IsPrefix ms ns → (t i b : ℕ) → IsPreparedOver ms t i b → IsPreparedOver ns t i b
+over_more ms ns x t i b h = record {
+  before = h.before;
+  writes = h.writes;
+  items = h.items;
+  had = prefix_trans (h.before ++ Prepared t h.writes h.items ∷ []) ms ns h.had x;
+  wrote = h.wrote;
+  latest_is = h.latest_is;
+}
+
+pub over_base_more : (c d : Cut) → Extends c d → (t : ℕ) (w : Row) → IsOverItsBase c t w → IsOverItsBase d t w
+over_base_more c d x t w h = record {
+  all = h.all;
+  announced = x.announced t h.all h.announced;
+  base = h.base;
+  of = h.of;
+  over = over_more (prefix_for c w.0) (prefix_for d w.0) (prefix_for_more c d x w.0) t w.0 h.base h.over;
+}
+
 pub backed_more : (c d : Cut) → Extends c d → (m : Mark) → IsBacked c m → IsBacked d m
-backed_more c d x (Prepared t ws is) b = record { announced = x.announced t is b.announced; within = b.within }
+backed_more c d x (Prepared t ws is) b = record {
+  named = named_more c d x t ws is b.named;
+  based = λ on w k. over_base_more c d x t w (b.based (sym x.checked ∙ on) w k);
+}
 backed_more c d x (Committed t) b = record {
   items = b.items;
-  announced = x.announced t b.items b.announced;
+  announced = items_more c d x t b.items b.announced;
   prepared = λ k i l. prepared_more c d x t (get_or b.items k i) (b.prepared k i l);
 }
 backed_more c d x (Discarded t) b = record {
   items = b.items;
-  announced = x.announced t b.items b.announced;
+  announced = items_more c d x t b.items b.announced;
   item = b.item;
   listed = b.listed;
   promised = promised_more t (prefix_for c b.item) (prefix_for d b.item) (prefix_for_more c d x b.item) b.promised;
@@ -144,7 +186,7 @@ set-past (h ∷ hs) zero ms l = absurd (omega arith)
 set-past (h ∷ hs) (suc p) ms l = ap (λ (ks : List (List Mark)). h ∷ ks) (set-past hs p ms (omega arith))
 
 -- at any partition, be it none
-extends_marked_any : (c : Cut) (p : ℕ) (m : Mark) → Extends c (marked_cut c p m)
+pub extends_marked_any : (c : Cut) (p : ℕ) (m : Mark) → Extends c (marked_cut c p m)
 extends_marked_any c p m = ⊎_elim
     (λ l. extends_marked c p m l)
     (λ l. subst (λ (hs : List (List Mark)). Extends c (record c { prefixes = hs })) (sym (set-past c.prefixes p (prefix_at c p ++ m ∷ []) l)) (extends_self c))
@@ -154,13 +196,13 @@ extends_marked_any c p m = ⊎_elim
 pub backed_marked : (c : Cut) (p : ℕ) (m : Mark) → IsBacked c m → IsBacked (marked_cut c p m) m
 backed_marked c p m b = backed_more c (marked_cut c p m) (extends_marked_any c p m) m b
 
--- ---- one list more
+-- ---- one announcement more
 
 -- where nothing is announced for a stamp, nothing is known of what it depends on
 undepended : (c : Cut) (t : ℕ) → announced_for c t ≡ None → IsSound c → dependencies_of c t ≡ None
 undepended c t none x = none_too (dependencies_of c t) (announced_for c t) (x.depends t) none
 
-pub extends_announced : (c : Cut) (t : ℕ) (is : List ℕ) → announced_for c t ≡ None → IsSound c → Extends c (announced_cut c t is)
+pub extends_announced : (c : Cut) (t : ℕ) (is : Announced) → announced_for c t ≡ None → IsSound c → Extends c (announced_cut c t is)
 extends_announced c t is none x = record {
   opening = refl;
   parts = refl;
@@ -177,7 +219,7 @@ same_listed is js e = cc (e)
 reached_self : (c : Cut) → HasReached (lengths_in c) c
 reached_self c p = let e = get_or-map length c.prefixes p [] in omega arith
 
-pub sound_announced : (c : Cut) (t : ℕ) (is : List ℕ) → announced_for c t ≡ None → IsSound c → IsSound (announced_cut c t is)
+pub sound_announced : (c : Cut) (t : ℕ) (is : Announced) → announced_for c t ≡ None → IsSound c → IsSound (announced_cut c t is)
 sound_announced c t is none x = record {
   wide = x.wide;
   legal = x.legal;

@@ -63,8 +63,7 @@ held_empty key v k is few = subst (λ (x : Knowledge). IsHeld x (replicate {A = 
 pub begins : (key : Terms) (words : List ℕ) → words ≡ 0 ∷ replicate key.parts 0 → Agree key words (first_seat key ∷ [])
 begins key words is =
     let hs : List (List Mark) = replicate key.parts [] in
-    let none : ℕ → Option (List ℕ) = λ _. None in
-    let run : Run = record { histories = hs; drawn = 0; announced = none; depended = none; owner = λ _. 0; holder = λ _. 0 } in
+    let run : Run = record { histories = hs; drawn = 0; announced = λ _. None; depended = λ _. None; owner = λ _. 0; holder = λ _. 0 } in
     let cut : IsCutOf key run (empty_cut key.opening key.parts key.checked) = record {
       opening = refl;
       parts = refl;

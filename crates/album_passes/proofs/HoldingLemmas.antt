@@ -5,7 +5,7 @@ use mathlib.Core.Logic.{dite}
 use Rattle.album_stamps.specs.declared.limits.TheConstants.{MAX_PARTS}
 use Rattle.album_partition.specs.declared.marks.Mark.{Mark}
 use Rattle.album_partition.specs.Bases.{MayAppend}
-use Rattle.album_passes.specs.Cuts.{Cut, prefix_at, announced_for, IsBacked, IsSound}
+use Rattle.album_passes.specs.Cuts.{Cut, Announced, prefix_at, announced_for, IsBacked, IsSound}
 use Rattle.album_passes.specs.Changes.{merged, marked_cut, announced_cut}
 use Rattle.album_passes.specs.Knowledge.{Knowledge, known, last_known, first_of, last_of}
 use Rattle.album_passes.specs.Steps.{beside, with_cut, merged_seat, IsMerged}
@@ -78,7 +78,7 @@ held_marked v w ls p m is h len inside may back =
     }
 
 -- one list more
-pub held_announced : (v w : Knowledge) (ls : List ℕ) (t : ℕ) (is : List ℕ) → w ≡ with_cut v (announced_cut (known v) t is) → IsHeld v ls → announced_for (known v) t ≡ None → IsHeld w ls
+pub held_announced : (v w : Knowledge) (ls : List ℕ) (t : ℕ) (is : Announced) → w ≡ with_cut v (announced_cut (known v) t is) → IsHeld v ls → announced_for (known v) t ≡ None → IsHeld w ls
 held_announced v w ls t is e h fresh = subst (λ (x : Knowledge). IsHeld x ls) (sym e) record {
   one = refl;
   alone = h.alone;

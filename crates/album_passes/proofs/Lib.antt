@@ -8,4 +8,5 @@ pub mod HoldingLemmas
 pub mod DeskLemmas
 pub mod ClosedLemmas
 pub mod ReadLemmas
+pub mod PreparedLemmas
 pub mod CausalLemmas

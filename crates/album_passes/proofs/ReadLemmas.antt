@@ -11,22 +11,22 @@ use native.Mathlib.Decide.{ℕ_discrete}
 use mathlib.Core.Logic.{dite}
 use Rattle.album_items.specs.ItemIds.{place_of}
 use Rattle.album_items.specs.Openings.{Row}
+use Rattle.album_items.specs.Transactions.{items_written}
 use Rattle.album_items.specs.declared.values.Value.{Value}
 use Rattle.album_terminate.specs.declared.deciding.StampState.TheVariants as state
 use Rattle.album_partition.specs.declared.marks.Mark.{Mark}
 use Rattle.album_partition.specs.declared.marks.Mark.TheVariants.{Prepared, Committed, Discarded, Trimmed}
 use Rattle.album_partition.specs.Laws.{IsLatest, IsBest, IsReadAt}
 use Rattle.album_partition.specs.Marks.{prepares, commits, discards, state_by, state_of, mark_writes, writes_at, value_in, version, has_version, committed_stamps, latest, first_value}
-use Rattle.album_partition.specs.Proper.{is_among}
-use Rattle.album_partition.proofs.ListLemmas.{contains_from_any}
+use Rattle.album_partition.proofs.ListLemmas.{one_before, contains_from_any}
 use Rattle.album_versions.proofs.Greatest.{All-best_of}
 use Rattle.album_reader.specs.Answers.{ReadVersion}
 use Rattle.album_reader.specs.Atomic.{IsFracturedBy, IsWrittenBy, IsWritten, IsReadAtomic, IsFreshFrom}
 use Rattle.album_passes.specs.Cuts.{Cut, prefix_at, prefix_for, IsPreparedFor, IsSound, IsPrefix, Extends}
 use Rattle.album_passes.specs.Reads.{IsCommitted, IsCommittedFor, written_value, writes_in_cut, IsAnsweredBetween, IsReadInTwoRounds}
 use Rattle.album_passes.proofs.PrefixLemmas.{any_more}
-use Rattle.album_passes.proofs.CutLemmas.{extends_trans, prefix_for_more}
-use Rattle.album_passes.proofs.ClosedLemmas.{found, found_in, any_found, prepares_is, backed_there, committed_tells, never_discarded, same_list}
+use Rattle.album_passes.proofs.CutLemmas.{extends_trans, prefix_for_more, items_more}
+use Rattle.album_passes.proofs.ClosedLemmas.{found, found_in, any_found, prepares_is, backed_there, items_of_named, committed_tells, never_discarded, same_list}
 
 -- ---- what is found in a list, and in a longer one
 
@@ -37,7 +37,7 @@ find_more test ms ns p e =
 
 -- ---- a version, in a history and in a longer one
 
-version_parts : (ms : List Mark) (i t : ℕ) (v : Value) → version ms i t ≡ Some v → (list_any (discards t) ms ≡ false) × (value_in (writes_at ms t) i ≡ Some v)
+pub version_parts : (ms : List Mark) (i t : ℕ) (v : Value) → version ms i t ≡ Some v → (list_any (discards t) ms ≡ false) × (value_in (writes_at ms t) i ≡ Some v)
 version_parts ms i t v e = go (list_any (discards t) ms) e
   where
     go : (b : Bool) → (if b then None else value_in (writes_at ms t) i) ≡ Some v → (b ≡ false) × (value_in (writes_at ms t) i ≡ Some v)
@@ -45,7 +45,7 @@ version_parts ms i t v e = go (list_any (discards t) ms) e
     go false h = (refl, h)
 
 -- the Prepared that wrote it
-version_prepared : (ms : List Mark) (i t : ℕ) (v : Value) → value_in (writes_at ms t) i ≡ Some v
+pub version_prepared : (ms : List Mark) (i t : ℕ) (v : Value) → value_in (writes_at ms t) i ≡ Some v
     → (ws : List Row) × (is : List ℕ) × Contains ms (Prepared t ws is) × (value_in ws i ≡ Some v) × (list_any (prepares t) ms ≡ true)
 version_prepared ms i t v e = go (find (prepares t) ms) refl e
   where
@@ -78,16 +78,23 @@ version_back ms ns i t v p had e =
     ap (λ (b : Bool). if b then None else value_in (writes_at ms t) i) (discards_back ms ns t p w.0)
     ∙ (ap (λ (o : Option Mark). value_in (mark_writes o) i) (sym (find_more (prepares t) ms ns p had)) ∙ w.1)
 
--- a written item is on the list, where each is
-written_listed : (ws : List Row) (is : List ℕ) (i : ℕ) (v : Value) → list_all (is_among is) ws ≡ true → value_in ws i ≡ Some v → Contains is i
-written_listed [] is i v a e = absurd (cc (e))
-written_listed (w ∷ ws) is i v a e =
-    let parts = and_parts (is_among is w) (list_all (is_among is) ws) a in
-    go (w.0 == i) refl e parts.0 (written_listed ws is i v parts.1)
+-- the value that rows give an item is in one of them
+pub value_has : (ws : List Row) (i : ℕ) (v : Value) → value_in ws i ≡ Some v → Contains ws (i, v)
+value_has [] i v e = absurd (cc (e))
+value_has (w ∷ ws) i v e = go (w.0 == i) refl e (value_has ws i v)
   where
-    go : (b : Bool) → (w.0 == i) ≡ b → cond b (Some w.1) (value_in ws i) ≡ Some v → is_among is w ≡ true → (value_in ws i ≡ Some v → Contains is i) → Contains is i
-    go true f g a h = subst (λ (x : ℕ). Contains is x) ((Decides-eqb w.0 i).0 f) (contains_from_any is w.0 a)
-    go false f g a h = h g
+    same : Some w.1 ≡ Some v → w.1 ≡ v
+    same h = cc (h)
+
+    go : (b : Bool) → (w.0 == i) ≡ b → cond b (Some w.1) (value_in ws i) ≡ Some v → (value_in ws i ≡ Some v → Contains ws (i, v)) → Contains (w ∷ ws) (i, v)
+    go true f g h = (zero, omega arith, λ j. ((Decides-eqb w.0 i).0 f j, same g j))
+    go false f g h = one_before w (i, v) ws (h g)
+
+-- the item of each row is one of theirs
+item_written : (ws : List Row) (w : Row) → Contains ws w → Contains (items_written ws) w.0
+item_written [] w (k, l, at) = absurd (omega arith)
+item_written (x ∷ ws) w (zero, l, at) = (zero, omega arith, ap (λ (y : Row). y.0) at)
+item_written (x ∷ ws) w (suc k, l, at) = one_before x.0 w.0 (items_written ws) (item_written ws w (k, omega arith, at))
 
 -- ---- what a committed stamp wrote
 
@@ -104,8 +111,10 @@ written_back c d s r x t h i v e =
     let own = committed_tells c h.0 t s.closed h.1 in
     let w = version_prepared (prefix_for d i) i t v (version_parts (prefix_for d i) i t v e).1 in
     let named = backed_there d (place_of d.parts i) (Prepared t w.0 w.1) r.closed w.2 in
-    let same : w.1 ≡ own.items = same_list d t w.1 own.items named.announced (x.announced t own.items own.announced) in
-    let on : Contains own.items i = subst (λ (is : List ℕ). Contains is i) same (written_listed w.0 w.1 i v named.within w.3) in
+    let n = named.named in
+    let same : w.1 ≡ own.items = same_list d t w.1 own.items (items_of_named d t w.0 w.1 n) (items_more c d x t own.items own.announced) in
+    let on : Contains own.items i = subst (λ (is : List ℕ). Contains is i) (sym n.items_are ∙ same)
+    (item_written n.all.writes (i, v) (n.within (i, v) (value_has w.0 i v w.3))) in
     let had : IsPreparedFor c t i = All-contains (IsPreparedFor c t) own.items i own.prepared on in
     version_back (prefix_for c i) (prefix_for d i) i t v (prefix_for_more c d x i) had e
 

@@ -4,7 +4,7 @@ use mathlib.Core.Option.{some, some-ne-none, some-injective}
 use lib.ListN.{get_elem?}
 use Rattle.atomic_table.proofs.Lists.{at_set}
 use Rattle.album_partition.specs.declared.marks.Mark.{Mark}
-use Rattle.album_passes.specs.Cuts.{Cut}
+use Rattle.album_passes.specs.Cuts.{Cut, Announced}
 use Rattle.album_passes.specs.Knowledge.{Terms, Knowledge, known}
 use Rattle.album_passes.specs.Rule.{Run, IsCutOf, Owns, Holds, Fits, Agree}
 
@@ -85,7 +85,7 @@ pub same_cut : (key : Terms) (r : Run) (drawn : ℕ) (owner holder : ℕ → ℕ
     → IsCutOf key (record r { drawn = drawn; owner = owner; holder = holder }) c
 same_cut key r drawn owner holder c C = record { opening = C.opening; parts = C.parts; checked = C.checked; prefixes = C.prefixes; announced = C.announced; depended = C.depended; sound = C.sound }
 
-pub same_owner : (r : Run) (drawn : ℕ) (lists : ℕ → Option (List ℕ)) (holder : ℕ → ℕ) (id : ℕ) (c : Cut) (p : ℕ) → Owns r id c p
+pub same_owner : (r : Run) (drawn : ℕ) (lists : ℕ → Option Announced) (holder : ℕ → ℕ) (id : ℕ) (c : Cut) (p : ℕ) → Owns r id c p
     → Owns (record r { drawn = drawn; announced = lists; holder = holder }) id c p
 same_owner r drawn lists holder id c p o = record { alone = o.alone; whole = o.whole }
 

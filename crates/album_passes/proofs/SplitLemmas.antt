@@ -8,7 +8,7 @@ use lib.Seq.{set-get_or}
 use Rattle.atomic_table.specs.Table.{State, step, keeps, stepped, Allows, Splits, Joins}
 use Rattle.atomic_table.proofs.Lists.{set_else}
 use Rattle.album_partition.specs.declared.marks.Mark.{Mark}
-use Rattle.album_passes.specs.Cuts.{Cut, marks_at, prefix_at, announced_for, IsPrefix, Extends}
+use Rattle.album_passes.specs.Cuts.{Cut, Announced, marks_at, prefix_at, announced_for, IsPrefix, Extends}
 use Rattle.album_passes.specs.Changes.{merged}
 use Rattle.album_passes.specs.Knowledge.{Terms, Knowledge, known, last_known, first_of, last_of, spent_seat}
 use Rattle.album_passes.specs.Rule.{Run, IsCutOf, Holds, Fits, Agree, Keeps}
@@ -209,7 +209,7 @@ module _ (key : Terms) where
       let C : IsCutOf key k.run c = mine.cuts 0 c (ap (λ cs. get_elem? cs 0) two) in
       let D : IsCutOf key k.run d = mine.cuts 1 d (ap (λ cs. get_elem? cs 1) two) in
       let all : (t : ℕ) → announced_for m t ≡ option_or (announced_for c t) (announced_for d t) = listed-append c.announced d.announced in
-      let ours : (t : ℕ) (is : List ℕ) → announced_for c t ≡ Some is → announced_for m t ≡ Some is = listed_first c.announced d.announced in
+      let ours : (t : ℕ) (is : Announced) → announced_for c t ≡ Some is → announced_for m t ≡ Some is = listed_first c.announced d.announced in
       let theirs : (t : ℕ) → announced_for c t ≡ None → announced_for m t ≡ announced_for d t = λ t e. all t ∙ ap (λ o. option_or o (announced_for d t)) e in
       let first_on : Extends c m = record {
         opening = refl;
@@ -260,9 +260,9 @@ module _ (key : Terms) where
           positive = o.positive;
           counted = o.counted;
           heard = λ t h. ⊎_elim
-              (λ (q : (js : List ℕ) × (announced_for c t ≡ Some js)). ours t q.0 q.1 ∙ (sym q.1 ∙ o.heard t h))
+              (λ (q : (js : Announced) × (announced_for c t ≡ Some js)). ours t q.0 q.1 ∙ (sym q.1 ∙ o.heard t h))
               (λ (q : announced_for c t ≡ None). theirs t q ∙ ⊎_elim
-              (λ (r : (js : List ℕ) × (announced_for d t ≡ Some js)). r.1 ∙ sym (D.announced t r.0 r.1))
+              (λ (r : (js : Announced) × (announced_for d t ≡ Some js)). r.1 ∙ sym (D.announced t r.0 r.1))
               (λ (r : announced_for d t ≡ None). r ∙ (sym q ∙ o.heard t h))
               (some_or_none (announced_for d t)))
               (some_or_none (announced_for c t));
@@ -272,7 +272,7 @@ module _ (key : Terms) where
           positive = o.positive;
           counted = o.counted;
           heard = λ t h. ⊎_elim
-              (λ (q : (js : List ℕ) × (announced_for c t ≡ Some js)). ours t q.0 q.1 ∙ sym (C.announced t q.0 q.1))
+              (λ (q : (js : Announced) × (announced_for c t ≡ Some js)). ours t q.0 q.1 ∙ sym (C.announced t q.0 q.1))
               (λ (q : announced_for c t ≡ None). theirs t q ∙ o.heard t h)
               (some_or_none (announced_for c t));
         });

@@ -14,7 +14,7 @@ use Rattle.album_partition.specs.Marks.{may_follow, is_legal}
 use Rattle.album_partition.proofs.BaseLemmas.{is_chained-push}
 use Rattle.album_partition.proofs.LegalLemmas.{is_legal-push}
 use Rattle.album_stamps.specs.Stamps.{client_number}
-use Rattle.album_passes.specs.Cuts.{Cut, marks_at, prefix_at, announced_for, dependencies_of, IsBacked, IsPrefix}
+use Rattle.album_passes.specs.Cuts.{Cut, Announced, marks_at, prefix_at, announced_for, dependencies_of, IsBacked, IsPrefix}
 use Rattle.album_passes.specs.Changes.{lengths_in, marked_cut, announced_cut, IsUnheard}
 use Rattle.album_passes.specs.Knowledge.{Terms, Knowledge, known, last_known}
 use Rattle.album_passes.specs.Rule.{Run, IsCutOf, Holds, Fits, Agree, Keeps}
@@ -28,7 +28,7 @@ use Rattle.album_passes.proofs.SplitLemmas.{unmoved}
 module _ (key : Terms) where
   -- ---- a seat announces
 
-  pub announces : (slots id : ℕ) (v : Knowledge) (x : List (ℕ × ℕ)) (n t : ℕ) (is : List ℕ)
+  pub announces : (slots id : ℕ) (v : Knowledge) (x : List (ℕ × ℕ)) (n t : ℕ) (is : Announced)
       → v.cuts ≡ known v ∷ [] → v.guest ≡ None → v.number ≡ Some n → client_number t ≡ n → announced_for (known v) t ≡ None
       → Allows {S = ℕ} (Keeps key) slots id (v, x) 0 (λ m. m) (Announces t is (step slots 0 0 0 none) (v, x))
   announces slots id v x n t is one alone number mine_is fresh s k _ at _ =
@@ -37,7 +37,7 @@ module _ (key : Terms) where
       let C : IsCutOf key k.run c = mine.cuts 0 c (ap (λ cs. get_elem? cs 0) one) in
       let o = mine.number n number in
       let unannounced : k.run.announced t ≡ None = sym (o.heard t mine_is) ∙ fresh in
-      let lists : ℕ → Option (List ℕ) = also_announced k.run.announced t is in
+      let lists : ℕ → Option Announced = also_announced k.run.announced t is in
       let more = announced_more k.run.announced t is unannounced in
       let deps : List ℕ = lengths_in c in
       let undepended : k.run.depended t ≡ None = none_too (k.run.depended t) (k.run.announced t) (k.depends t) unannounced in
@@ -172,9 +172,9 @@ module _ (key : Terms) where
                 positive = omega arith;
                 counted = omega arith;
                 heard = λ t h. ⊎_elim
-                    (λ (o : (js : List ℕ) × (announced_for c t ≡ Some js)). o.1 ∙ sym (C.announced t o.0 o.1))
+                    (λ (o : (js : Announced) × (announced_for c t ≡ Some js)). o.1 ∙ sym (C.announced t o.0 o.1))
                     (λ (o : announced_for c t ≡ None). o ∙ ⊎_elim
-                    (λ (r : (js : List ℕ) × (k.run.announced t ≡ Some js)). (let le = subst (λ (y : ℕ). y ≤ k.run.drawn) h (k.named t r.0 r.1) in absurd (omega arith)))
+                    (λ (r : (js : Announced) × (k.run.announced t ≡ Some js)). (let le = subst (λ (y : ℕ). y ≤ k.run.drawn) h (k.named t r.0 r.1) in absurd (omega arith)))
                     (λ (r : k.run.announced t ≡ None). sym r)
                     (some_or_none (k.run.announced t)))
                     (some_or_none (announced_for c t));
@@ -188,7 +188,7 @@ module _ (key : Terms) where
   -- nothing is announced of a client before its number is drawn
   unheard : (s : State ℕ Knowledge) (k : Keeps key s) (id : ℕ) (v : Knowledge) (new : ℕ) → get_elem? s.views id ≡ some v → v.cuts ≡ known v ∷ [] → k.run.drawn < new → IsUnheard new (known v)
   unheard s k id v new at one later t h = ⊎_elim
-      (λ (o : (js : List ℕ) × (announced_for (known v) t ≡ Some js)). (let C = (k.each id v at).cuts 0 (known v) (ap (λ cs. get_elem? cs 0) one) in let le = subst (λ (y : ℕ). y ≤ k.run.drawn) h (k.named t o.0 (C.announced t o.0 o.1)) in absurd (omega arith)))
+      (λ (o : (js : Announced) × (announced_for (known v) t ≡ Some js)). (let C = (k.each id v at).cuts 0 (known v) (ap (λ cs. get_elem? cs 0) one) in let le = subst (λ (y : ℕ). y ≤ k.run.drawn) h (k.named t o.0 (C.announced t o.0 o.1)) in absurd (omega arith)))
       (λ (o : announced_for (known v) t ≡ None). o)
       (some_or_none (announced_for (known v) t))
 

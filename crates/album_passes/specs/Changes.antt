@@ -3,7 +3,7 @@ use Rattle.std.specs.Prelude.{◌≡◌, ℕ, Bool, nat_lt, List, [], ◌∷◌,
 use Rattle.album_items.specs.Openings.{Row}
 use Rattle.album_stamps.specs.Stamps.{client_number}
 use Rattle.album_partition.specs.declared.marks.Mark.{Mark}
-use Rattle.album_passes.specs.Cuts.{Cut, prefix_at, announced_for}
+use Rattle.album_passes.specs.Cuts.{Cut, Announced, prefix_at, announced_for}
 
 -- of no marks, and with nothing announced
 abbrev pub empty_cut : List Row → ℕ → Bool → Cut
@@ -25,10 +25,10 @@ marked_cut cut part mark =
 abbrev pub lengths_in : Cut → List ℕ
 lengths_in cut = map length cut.prefixes
 
--- with the items announced for the stamp, whose author has seen exactly this cut
-abbrev pub announced_cut : Cut → ℕ → List ℕ → Cut
-announced_cut cut stamp items = record cut {
-  announced = (stamp, items) ∷ cut.announced;
+-- with this announced for the stamp, whose author has seen exactly this cut
+abbrev pub announced_cut : Cut → ℕ → Announced → Cut
+announced_cut cut stamp announced = record cut {
+  announced = (stamp, announced) ∷ cut.announced;
   depended = (stamp, lengths_in cut) ∷ cut.depended;
 }
 

@@ -8,16 +8,16 @@ use Rattle.album_stamps.specs.Stamps.{client_number}
 use Rattle.album_partition.specs.declared.marks.Mark.{Mark}
 use Rattle.album_partition.specs.Bases.{IsChainedIf}
 use Rattle.album_partition.specs.Marks.{is_legal}
-use Rattle.album_passes.specs.Cuts.{Cut, marks_at, prefix_at, announced_for, dependencies_of, IsSound, IsPrefix}
+use Rattle.album_passes.specs.Cuts.{Cut, Announced, marks_at, prefix_at, announced_for, dependencies_of, IsSound, IsPrefix}
 use Rattle.album_passes.specs.Knowledge.{Terms, Knowledge, known, last_known, AreApart}
 
--- What the words and the seats are all of: the history of each partition, how many numbers were drawn, the items that
--- were announced for each stamp, what each depends on, the seat that owns each partition, and the seat that holds each
+-- What the words and the seats are all of: the history of each partition, how many numbers were drawn, what was
+-- announced for each stamp, what each depends on, the seat that owns each partition, and the seat that holds each
 -- number.
 pub record Run : Type 0 where
   pub histories : List (List Mark)
   pub drawn : ℕ
-  pub announced : ℕ → Option (List ℕ)
+  pub announced : ℕ → Option Announced
   pub depended : ℕ → Option (List ℕ)
   pub owner : ℕ → ℕ
   pub holder : ℕ → ℕ
@@ -28,7 +28,7 @@ pub record IsCutOf (terms : Terms) (run : Run) (cut : Cut) : Type 0 where
   pub parts : cut.parts ≡ terms.parts
   pub checked : cut.checked ≡ terms.checked
   pub prefixes : (part : ℕ) → IsPrefix (prefix_at cut part) (marks_at run.histories part)
-  pub announced : (stamp : ℕ) (items : List ℕ) → announced_for cut stamp ≡ Some items → run.announced stamp ≡ Some items
+  pub announced : (stamp : ℕ) (all : Announced) → announced_for cut stamp ≡ Some all → run.announced stamp ≡ Some all
   pub depended : (stamp : ℕ) (lengths : List ℕ) → dependencies_of cut stamp ≡ Some lengths
       → run.depended stamp ≡ Some lengths
   pub sound : IsSound cut
@@ -65,7 +65,7 @@ pub record Agree (terms : Terms) (words : List ℕ) (seats : List Knowledge) : T
   pub chained : (part : ℕ) → IsChainedIf terms.checked (marks_at run.histories part)
   pub few : (part : ℕ) → length (marks_at run.histories part) ≤ terms.limit
   pub most : run.drawn ≤ terms.sessions
-  pub named : (stamp : ℕ) (items : List ℕ) → run.announced stamp ≡ Some items → client_number stamp ≤ run.drawn
+  pub named : (stamp : ℕ) (all : Announced) → run.announced stamp ≡ Some all → client_number stamp ≤ run.drawn
   pub depends : (stamp : ℕ) → is_some (run.depended stamp) ≡ is_some (run.announced stamp)
   pub each : (id : ℕ) (seat : Knowledge) → get_elem? seats id ≡ some seat → Fits terms run id seat
 

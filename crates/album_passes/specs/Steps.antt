@@ -2,7 +2,7 @@
 use Rattle.std.specs.Prelude.{◌≡◌, ℕ, ◌+◌, ◌-◌, ◌≤◌, ◌<◌, ◌==◌, max, List, [], ◌∷◌, ◌++◌, Some, None, MatchBool}
 use Rattle.atomic_table.specs.Table.{Me, Step}
 use Rattle.album_partition.specs.declared.marks.Mark.{Mark}
-use Rattle.album_passes.specs.Cuts.{Cut, Extends, prefix_at}
+use Rattle.album_passes.specs.Cuts.{Cut, Announced, Extends, prefix_at}
 use Rattle.album_passes.specs.Changes.{merged, marked_cut, announced_cut, IsUnheard, KeepsOwn}
 use Rattle.album_passes.specs.Knowledge.{Knowledge, known, last_known, AreApart}
 
@@ -81,10 +81,10 @@ abbrev pub Appends : {S : Type 0} → Mark → Step S → Me S Knowledge → ℕ
 Appends mark step old found new =
     new ≡ (with_cut old.0 (marked_cut (known old.0) (step.word - 1) mark), old.1)
 
--- the items are announced for the stamp
-abbrev pub Announces : {S : Type 0} → ℕ → List ℕ → Step S → Me S Knowledge → ℕ → Me S Knowledge → Type 0
-Announces stamp items step old found new =
-    new ≡ (with_cut old.0 (announced_cut (known old.0) stamp items), old.1)
+-- this is announced for the stamp
+abbrev pub Announces : {S : Type 0} → ℕ → Announced → Step S → Me S Knowledge → ℕ → Me S Knowledge → Type 0
+Announces stamp announced step old found new =
+    new ≡ (with_cut old.0 (announced_cut (known old.0) stamp announced), old.1)
 
 -- a number is drawn, where the word was as the seat guessed, and nothing is announced of it
 abbrev pub Draws : {S : Type 0} → Step S → Me S Knowledge → ℕ → Me S Knowledge → Type 0

@@ -1,7 +1,7 @@
 //! A seat of the desk's table that knows one cut, with the lengths of its prefixes as numbers.
 //!
 //! Each pass and each owner has one. All steps on the desk's table are made here, so that `pass` and `owner` speak of
-//! cuts alone. A holding is split and joined, appends a mark, announces items, or draws a number. Contracts see the
+//! cuts alone. A holding is split and joined, appends a mark, announces writes, or draws a number. Contracts see the
 //! seat, which allows it to do so. When the program runs, the lengths are all that a holding has.
 ghost use Rattle.std.specs.Prelude.{◌≡◌, ◌<◌, ◌≤◌, true, [], ◌∷◌, length, replicate, Some, None, IfSome, IfNone};
 ghost use Rattle.album_partition.specs.Bases.{MayAppend};
@@ -15,12 +15,11 @@ ghost use Rattle.album_passes.specs.Steps.{IsMerged, beside, merged_seat, cut_al
 use crate::desk::Desk;
 use crate::lengths::{PARTS, greater_each};
 use crate::rule::{
-    Announce, Append, Beside, CutAlone, Draw, FirstAlone, GuestAlone, Merge, NamesItems, NamesMark,
-    SeatView,
+    Announce, Append, Beside, CutAlone, Draw, FirstAlone, GuestAlone, Merge, NamesMark,
+    NamesWrites, SeatView,
 };
-use album_items::ItemId;
 use album_partition::Mark;
-use album_stamps::{CLIENTS, ClientNo, MAX_PARTS, Stamp};
+use album_stamps::{CLIENTS, ClientNo, MAX_PARTS};
 use atomic_table::Seat;
 use std::marker::{Brand, Model};
 use std::sync::Wait;
@@ -170,29 +169,14 @@ impl Holding {
         self.lengths[part] += 1;
     }
 
-    /// Announces the items for a stamp of its own client, for which nothing was.
-    pub fn announce(&mut self, desk: &Desk, stamp: Stamp, items: &[ItemId])
-        requires table { self.old.table ≡ desk.now.table }
-        requires number { self.old.seat.number ≡ Some (client_number stamp) }
-        requires fresh { announced_for (known self.old.seat) stamp ≡ None }
-        ensures table { self.new.table ≡ self.old.table }
-        ensures seat { self.new.seat
-            ≡ with_cut self.old.seat (announced_cut (known self.old.seat) stamp items.now) }
-        ensures sound { IsSound (known self.old.seat) }
-    {
-        self.announce_as::<Brand>(desk, stamp, items)
-    }
-
-    /// The same, of the stamp and the items that N names.
-    fn announce_as<N: NamesItems>(&mut self, desk: &Desk, _stamp: Stamp, _items: &[ItemId])
-        requires stamp { N.stamp ≡ _stamp }
-        requires items { N.items ≡ _items.now }
+    /// Announces what N names for its stamp, which is one of the seat's own client, and for which nothing was.
+    pub fn announce<N: NamesWrites>(&mut self, desk: &Desk)
         requires table { self.old.table ≡ desk.now.table }
         requires number { self.old.seat.number ≡ Some (client_number N.stamp) }
         requires fresh { announced_for (known self.old.seat) N.stamp ≡ None }
         ensures table { self.new.table ≡ self.old.table }
         ensures seat { self.new.seat
-            ≡ with_cut self.old.seat (announced_cut (known self.old.seat) N.stamp N.items) }
+            ≡ with_cut self.old.seat (announced_cut (known self.old.seat) N.stamp N.announced) }
         ensures sound { IsSound (known self.old.seat) }
     {
         // For contracts alone: the number that is read is dropped.

@@ -1,23 +1,24 @@
 //! What follows of cuts: of closed ones, of ones that grow and are merged, and of reads over them.
 ghost use Rattle.std.specs.Prelude.{is_some, ◌++◌, ◌∷◌, ◌≡◌, ◌≢◌, ◌<◌, ◌≤◌, ℕ, List, true, false, Some, IsSome, All, Contains, length, slice_index};
+ghost use Rattle.album_items.specs.declared.values.Value.{Value};
 ghost use Rattle.std.specs.List.{list_any};
 ghost use Rattle.album_items.specs.ItemIds.{place_of};
 ghost use Rattle.album_items.specs.Openings.{Row};
 ghost use Rattle.album_terminate.specs.declared.deciding.StampState.TheVariants as StampState;
 ghost use Rattle.album_partition.specs.declared.marks.Mark.{Mark};
 ghost use Rattle.album_partition.specs.declared.marks.Mark.TheVariants as Made;
-ghost use Rattle.album_partition.specs.Bases.{IsMadeOn};
+ghost use Rattle.album_partition.specs.Bases.{are_bases, IsMadeOn};
 ghost use Rattle.album_partition.specs.Marks.{has_version, value_in, is_mark_of, prepares, commits, discards, state_of, items_at, first_value, latest};
 ghost use Rattle.album_items.specs.Places.{others_of};
 ghost use Rattle.album_partition.specs.Proper.{is_proper};
 ghost use Rattle.album_reader.specs.Answers.{ReadVersion};
 ghost use Rattle.album_reader.specs.Atomic.{IsReadAtomic, IsFreshFrom};
-ghost use Rattle.album_passes.specs.Cuts.{Cut, prefix_at, prefix_for, announced_for, dependencies_of, HasReached, IsNamed, IsPreparedThroughout, IsPromisedSomewhere, IsBacked, IsClosedCut, IsSound, Extends};
+ghost use Rattle.album_passes.specs.Cuts.{Cut, Announced, prefix_at, prefix_for, announced_for, items_announced, dependencies_of, HasReached, IsNamed, IsNamedOn, IsBaseOf, IsPreparedThroughout, IsPromisedSomewhere, IsBacked, IsClosedCut, IsSound, Extends};
 ghost use Rattle.album_passes.specs.Changes.{marked_cut, announced_cut, merged};
 ghost use Rattle.album_passes.specs.Reads.{IsCommitted, IsCommittedFor, written_value, writes_in_cut, HadSeenCommitted, IsReadInTwoRounds};
 
-/// A law: what a closed cut has of each stamp that has a mark in it. Its items are announced; a
-/// mark that prepares it names these, and writes only them; where it is committed, each item's
+/// A law: what a closed cut has of each stamp that has a mark in it. Its writes are announced; a
+/// mark that prepares it names their items, and prepares none but them; where it is committed, each item's
 /// partition has prepared it; where it is discarded, one of them will never prepare it. So no stamp
 /// is committed at one partition and discarded at another.
 pub fn what_closed_cuts_have()
@@ -34,21 +35,39 @@ pub fn what_closed_cuts_have()
         → list_any (discards stamp) (prefix_at cut other) ≡ false }
 {}
 
-/// A law: what backs each mark that a partition makes. The announced list backs a Prepared that could
-/// be followed. A Committed is backed where the stamp is prepared here and at each other partition of
-/// its items. A Discarded of a stamp that was unknown backs itself, where an item of the list is
-/// placed here. What backs a mark already does so once the mark is made; nothing has to back a trim.
+/// A law: what was written is what its author announced. Each version that a partition has prepared is announced, with
+/// its value. In a checked store each one that is committed was made on the version at the base that is announced for
+/// it.
+pub fn versions_are_as_announced()
+    ensures value { (cut : Cut) (item stamp : ℕ) (value : Value) → IsSound cut
+        → written_value cut item stamp ≡ Some value
+        → (all : Announced) × (announced_for cut stamp ≡ Some all) × Contains all.writes (item, value) }
+    ensures base { (cut : Cut) (item stamp : ℕ) (value : Value) → IsSound cut → cut.checked ≡ true
+        → written_value cut item stamp ≡ Some value → state_of (prefix_for cut item) stamp ≡ StampState.Committed
+        → (all : Announced) × (announced_for cut stamp ≡ Some all)
+        × ((base : ℕ) × IsBaseOf all (item, value) base × IsMadeOn (prefix_for cut item) item stamp base) }
+{}
+
+/// A law: what backs each mark that a partition makes. What is announced backs a Prepared that has its items, and of
+/// its writes those that are placed here, with their values; in a checked store with the bases that are announced, too,
+/// where these are the latest versions. A Committed is backed where the stamp is prepared here and at each other
+/// partition of its items. A Discarded of a stamp that was unknown backs itself, where an item of the list is placed
+/// here. What backs a mark already does so once the mark is made; nothing has to back a trim.
 pub fn marks_are_backed()
-    ensures prepared { (cut : Cut) (number parts stamp : ℕ) (writes : List Row) (items : List ℕ)
-        → announced_for cut stamp ≡ Some items → is_proper number parts stamp writes items ≡ true
-        → IsBacked cut (Made.Prepared stamp writes items) }
+    ensures plain { (cut : Cut) (part stamp : ℕ) (writes : List Row) (items : List ℕ)
+        → cut.checked ≡ false → IsNamed cut stamp writes items
+        → IsBacked (marked_cut cut part (Made.Prepared stamp writes items)) (Made.Prepared stamp writes items) }
+    ensures checked { (cut : Cut) (part stamp : ℕ) (writes : List Row) (items bases : List ℕ)
+        → IsSound cut → part < cut.parts → is_proper part cut.parts stamp writes items ≡ true
+        → IsNamedOn cut stamp writes items bases → are_bases (prefix_at cut part) stamp writes bases ≡ true
+        → IsBacked (marked_cut cut part (Made.Prepared stamp writes items)) (Made.Prepared stamp writes items) }
     ensures committed { (cut : Cut) (part stamp : ℕ) → IsSound cut → part < cut.parts
         → list_any (prepares stamp) (prefix_at cut part) ≡ true
         → All (λ other. list_any (prepares stamp) (prefix_at cut other) ≡ true)
         (others_of part cut.parts (items_at (prefix_at cut part) stamp))
         → IsBacked cut (Made.Committed stamp) }
     ensures discarded { (cut : Cut) (part stamp item : ℕ) (items : List ℕ) → IsSound cut → part < cut.parts
-        → announced_for cut stamp ≡ Some items → Contains items item → place_of cut.parts item ≡ part
+        → items_announced cut stamp ≡ Some items → Contains items item → place_of cut.parts item ≡ part
         → state_of (prefix_at cut part) stamp ≡ StampState.Unknown
         → IsBacked (marked_cut cut part (Made.Discarded stamp)) (Made.Discarded stamp) }
     ensures already { (cut : Cut) (part : ℕ) (mark : Mark)
@@ -77,8 +96,8 @@ pub fn what_is_committed_is_there()
 /// A law: a cut is causal. A stamp depends on all marks that its author has seen when it is announced.
 /// Of each write that a cut knows as committed, it knows what that is, and has all of it.
 pub fn cuts_are_causal()
-    ensures announced { (cut : Cut) (stamp part : ℕ) (items lengths : List ℕ)
-        → dependencies_of (announced_cut cut stamp items) stamp ≡ Some lengths
+    ensures announced { (cut : Cut) (stamp part : ℕ) (all : Announced) (lengths : List ℕ)
+        → dependencies_of (announced_cut cut stamp all) stamp ≡ Some lengths
         → slice_index lengths part ≡ length (prefix_at cut part) }
     ensures known { (cut : Cut) (stamp : ℕ) → IsSound cut → IsCommitted cut stamp
         → (lengths : List ℕ) × (dependencies_of cut stamp ≡ Some lengths) × HasReached lengths cut }
@@ -123,8 +142,8 @@ pub fn reads_are_atomic_and_fresh()
         → IsFreshFrom (writes_in_cut new) (IsCommittedFor earlier) answers }
 {}
 
-/// A law: no update is lost in what a cut of a checked store has. A version that is committed at its item's partition was
-/// made on the one right below it, the latest there as it was prepared. At most one version of an item is pending.
+/// A law: no update is lost in what a cut of a checked store has. A version that is committed at its item's partition
+/// was made on the one right below it, the latest there as it was prepared. At most one version of an item is pending.
 pub fn cuts_lose_no_update()
     ensures made_on { (cut : Cut) (before later : List Mark) (stamp item : ℕ) (writes : List Row) (items : List ℕ)
         → IsSound cut → cut.checked ≡ true → prefix_for cut item ≡ before ++ Made.Prepared stamp writes items ∷ later

@@ -1,13 +1,12 @@
 //! Passes: what was seen of the partitions' histories, in tokens that travel with messages.
 //!
-//! What comes in: an opening, and then the marks that partitions make and the items that clients
+//! What comes in: an opening, and then the marks that partitions make and the writes that clients
 //! announce. What goes out: passes, whose cuts are closed (consistent), and the clients' numbers.
 //!
-//! A `Desk` opens with an `Owner` for each partition and a first `Pass`. A partition's thread
-//! appends each mark that it makes. A client draws its number, and announces the items of each
-//! write. Each splits a pass off for every message that it sends, and joins the pass of every
-//! message that it takes. What a pass has seen is a cut: a prefix of each history, and the lists
-//! that were announced.
+//! A `Desk` opens with an `Owner` for each partition and a first `Pass`. A partition's thread appends each mark that it
+//! makes. A client draws its number, and announces each write with its values and its bases. Each splits a pass off for
+//! every message that it sends, and joins the pass of every message that it takes. What a pass has seen is a cut: a
+//! prefix of each history, and the writes that were announced.
 //!
 //! The cut is there for contracts alone. When the program runs, a pass is the lengths of its
 //! prefixes: a version vector. What the threads share is then a word for each partition, and one
@@ -37,7 +36,9 @@ mod laws;
 pub use desk::Desk;
 pub use laws::{
     cuts_are_causal, cuts_lose_no_update, cuts_only_grow, fresh_as_authors_saw, marks_are_backed,
-    reads_are_atomic_and_fresh, what_closed_cuts_have, what_is_committed_is_there,
+    reads_are_atomic_and_fresh, versions_are_as_announced, what_closed_cuts_have,
+    what_is_committed_is_there,
 };
 pub use owner::Owner;
 pub use pass::{Pass, meet};
+pub use rule::NamesWrites;

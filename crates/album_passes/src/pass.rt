@@ -9,13 +9,13 @@ ghost use Rattle.album_passes.specs.Pass.{pass_of, unnumbered, drawn_by};
 
 use crate::desk::Desk;
 use crate::holding::Holding;
-use album_items::ItemId;
-use album_stamps::{ClientNo, Stamp};
+use crate::rule::NamesWrites;
+use album_stamps::ClientNo;
 use std::marker::Model;
 use std::mem;
 use std::sync::Wait;
 
-/// What was seen of the partitions' histories and of the announced lists: a cut. When the program
+/// What was seen of the partitions' histories and of the announced writes: a cut. When the program
 /// runs it is a version vector. It may hold a client's number, which no other pass of its desk holds
 /// then. Contracts see its desk's table, the cut, the number, and what was drawn.
 pub struct Pass {
@@ -78,23 +78,23 @@ impl Pass {
         self.holding.draw(rt, desk)
     }
 
-    /// Announces the items of a write, before the first message of it leaves. The stamp is one of
-    /// the pass's own client, for which nothing is announced yet. What the pass has seen goes with
-    /// it: the stamp depends on that.
+    /// Announces a write, before the first message of it leaves: N names the stamp, all that is written, and the bases.
+    /// The stamp is one of the pass's own client, for which nothing is announced yet. What the pass has seen goes with
+    /// it: the stamp depends on that. When the program runs nothing is kept of it, so nothing is given.
     #[tactic(auto, using(crate::proofs::CutLemmas::extends_announced))]
-    pub fn announce(&mut self, desk: &Desk, stamp: Stamp, items: &[ItemId])
+    pub fn announce<N: NamesWrites>(&mut self, desk: &Desk)
         requires table { self.old.table ≡ desk.now.table }
-        requires number { self.old.number ≡ Some (client_number stamp) }
-        requires fresh { announced_for self.old.cut stamp ≡ None }
-        ensures cut { self.new.cut ≡ announced_cut self.old.cut stamp items.now }
-        ensures announced { announced_for self.new.cut stamp ≡ Some items.now }
-        ensures depended { dependencies_of self.new.cut stamp ≡ Some (lengths_in self.old.cut) }
+        requires number { self.old.number ≡ Some (client_number N.stamp) }
+        requires fresh { announced_for self.old.cut N.stamp ≡ None }
+        ensures cut { self.new.cut ≡ announced_cut self.old.cut N.stamp N.announced }
+        ensures announced { announced_for self.new.cut N.stamp ≡ Some N.announced }
+        ensures depended { dependencies_of self.new.cut N.stamp ≡ Some (lengths_in self.old.cut) }
         ensures grown { Extends self.old.cut self.new.cut }
         ensures table { self.new.table ≡ self.old.table }
         ensures number { self.new.number ≡ self.old.number }
         ensures drawn { self.new.drawn ≡ self.old.drawn }
     {
-        self.holding.announce(desk, stamp, items)
+        self.holding.announce::<N>(desk)
     }
 
     /// Takes in all that the other pass has seen, which has no number: the pass's version vector

@@ -142,30 +142,31 @@ impl<N: NamesMark> Play<u8, SeatView> for Append<N> {
     ghost then = { Appends N.mark };
 }
 
-/// Names what is announced, for a proof.
-pub trait NamesItems {
-    ghost use Rattle.std.specs.Prelude.{ℕ, List};
+/// Names a stamp and what is announced for it, for a proof. Nothing of it is there when the program runs.
+pub trait NamesWrites {
+    ghost use Rattle.std.specs.Prelude.{ℕ};
+    ghost use Rattle.album_passes.specs.Cuts.{Announced};
 
     ghost stamp: { ℕ };
 
-    ghost items: { List ℕ };
+    ghost announced: { Announced };
 }
 
-impl NamesItems for Brand {
+impl NamesWrites for Brand {
     ghost use Rattle.std.specs.Prelude.{[]};
 
     ghost stamp = { 0 };
 
-    ghost items = { [] };
+    ghost announced = { record { writes = []; bases = [] } };
 }
 
-/// The items that N names are announced for its stamp.
+/// What N names is announced for its stamp.
 pub struct Announce<N> {
     names: PhantomData<N>,
 }
 
-impl<N: NamesItems> Play<u8, SeatView> for Announce<N> {
+impl<N: NamesWrites> Play<u8, SeatView> for Announce<N> {
     ghost use Rattle.album_passes.specs.Steps.{Announces};
 
-    ghost then = { Announces N.stamp N.items };
+    ghost then = { Announces N.stamp N.announced };
 }

@@ -1,8 +1,9 @@
 -- An ask that is attempted again: what is still so of a session that has only seen more (`still_on`), that an answer Aborted
 -- rests then on what it did (`aborted_later`), and how the last answer rests (`rests_first`, `rests_again`). `Session` of
 -- `attempts` cites these, and `ask_in_order` the last (`last_still`).
-use Rattle.std.proofs.Common.{◌≡◌, ◌⊎◌, ⊎_elim, inl, inr, ℕ, ◌+◌, ◌<◌, ◌≤◌, true, refl, sym, ap, ◌∙◌, subst, arith}
+use Rattle.std.proofs.Common.{◌≡◌, ◌⊎◌, ⊎_elim, inl, inr, ℕ, ◌+◌, ◌<◌, ◌≤◌, true, Result, Ok, Err, IfOk, OnErr, refl, sym, ap, ◌∙◌, subst, arith}
 use Rattle.album_eval.specs.declared.facts.Principal.{Principal}
+use Rattle.album_stamps.specs.declared.refusals.Refusal.{Refusal}
 use Rattle.album_eval.specs.declared.policies.Policy.{Policy}
 use Rattle.album_partition.specs.declared.marks.Mark.TheVariants.{Discarded}
 use Rattle.album_passes.specs.Cuts.{IsSound, Extends, IsPromisedSomewhere}
@@ -50,6 +51,35 @@ module _ (limit : ℕ) (policy : Policy) (principal : Principal) (ask : Ask) whe
         view = m.view;
         holds = (m.holds.0, m.holds.1, (m.holds.2.0, backed_more a.cut b.cut still.on.grown (Discarded t) m.holds.2.1));
       }
+
+  -- it isn't answered that the write is aborted
+  abbrev IsElse : Result Answer Refusal → Type 0
+  IsElse r = (t : ℕ) → r ≡ Ok (answer.Aborted t) → ⊥
+
+  -- where a write that was aborted was settled since, and nothing else was done
+  pub settled_rests : (old a b : SessionState) (r : Result Answer Refusal) → IsOn old a → IsStill a b
+      → (IsElse r → b ≡ a) → IfOk r (Rests old a) → IfOk r (Rests old b)
+  settled_rests old a b (Err e) on still others h = tt
+  settled_rests old a b (Ok given) on still others h = go given others h
+    where
+      stays : (x : Answer) → (IsElse (Ok x) → b ≡ a) → IsElse (Ok x)
+          → Rests old a x → Rests old b x
+      stays x same apart rests = subst (λ (s : SessionState). Rests old s x) (sym (same apart)) rests
+
+      go : (x : Answer) → (IsElse (Ok x) → b ≡ a) → Rests old a x → Rests old b x
+      go (answer.Aborted t) same rests = aborted_later old a b t on still rests
+      go (answer.Served served) same rests = stays (answer.Served served) same (λ t e. absurd (cc (e))) rests
+      go (answer.Denied denial) same rests = stays (answer.Denied denial) same (λ t e. absurd (cc (e))) rests
+      go (answer.Missing object) same rests = stays (answer.Missing object) same (λ t e. absurd (cc (e))) rests
+      go (answer.Busy why) same rests = stays (answer.Busy why) same (λ t e. absurd (cc (e))) rests
+      go (answer.Committed u) same rests = stays (answer.Committed u) same (λ t e. absurd (cc (e))) rests
+      go (answer.Unsettled u why) same rests = stays (answer.Unsettled u why) same (λ t e. absurd (cc (e))) rests
+      go (answer.Refused why) same rests = stays (answer.Refused why) same (λ t e. absurd (cc (e))) rests
+
+  pub settled_adds : (old a b : SessionState) (r : Result Answer Refusal) → (IsElse r → b ≡ a)
+      → OnErr r (AddsNothing old a) → OnErr r (AddsNothing old b)
+  settled_adds old a b (Ok given) others h = tt
+  settled_adds old a b (Err e) others h = subst (AddsNothing old) (sym (others (λ t f. absurd (cc (f))))) h
 
   -- ---- attempt by attempt
 

@@ -9,7 +9,7 @@ use Rattle.album_client.specs.declared.clients.Phase.TheVariants as phase
 use Rattle.album_eval.specs.declared.policies.Policy.{Policy}
 use Rattle.album_items.specs.Transactions.{items_written, are_items}
 use Rattle.album_passes.proofs.CutLemmas.{extends_trans}
-use Rattle.album_passes.specs.Cuts.{Cut, announced_for, IsPromisedSomewhere, IsSound, Extends}
+use Rattle.album_passes.specs.Cuts.{Cut, Announced, announced_for, IsPromisedSomewhere, IsSound, Extends}
 use Rattle.album_permits.specs.Effects.{effect_of}
 use Rattle.album_permits.specs.Permits.{PermitState, permit_on}
 use Rattle.album_permits.specs.declared.findings.Finding.{Finding}
@@ -44,7 +44,7 @@ begun_on checked permit stamp client tag parts c on same some items = record {
 pub none_before : (c d : Cut) (t : ℕ) → Extends c d → announced_for d t ≡ None → announced_for c t ≡ None
 none_before c d t x none = go (announced_for c t) refl
   where
-    go : (o : Option (List ℕ)) → announced_for c t ≡ o → announced_for c t ≡ None
+    go : (o : Option Announced) → announced_for c t ≡ o → announced_for c t ≡ None
     go None e = e
     go (Some items) e = absurd (let now : announced_for d t ≡ Some items = x.announced t items e in let both : None ≡
         Some items = sym none ∙ now in cc)

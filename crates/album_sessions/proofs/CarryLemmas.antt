@@ -12,7 +12,7 @@ use Rattle.album_passes.specs.Cuts.{Cut, announced_for, IsPreparedThroughout, Ex
 use Rattle.album_passes.proofs.CutLemmas.{extends_self, extends_trans}
 use Rattle.album_permits.specs.Permits.{PermitState}
 use Rattle.album_sessions.specs.Asks.{IsOn}
-use Rattle.album_grounds.specs.Grounds.{items_of}
+use Rattle.album_grounds.specs.Grounds.{write_of}
 use Rattle.album_keepers.specs.Envelopes.{Shows}
 use Rattle.album_sessions.specs.Phases.{Outset, IsPreparing, IsCommitting, IsPhase, IsUnderWay}
 use Rattle.album_keepers.specs.Replies.{IsReplied}
@@ -27,7 +27,8 @@ use Rattle.album_sessions.proofs.SendLemmas.{commits_plain, some_commits}
 use Rattle.album_grounds.proofs.WriteLemmas.{prepare_tells, commit_tells, begun_further, end_all, prepared_all, shows_commits}
 use Rattle.album_writer.specs.Rounds.{WriteStep, prepare_stepped, commit_stepped}
 use Rattle.album_writer.specs.Rounds.WriteStep.{Waits as Still, Commits as Decides, Ends as IsDone}
-use Rattle.album_writer.specs.Writing.{WritingState, items_in, commit_round, commits_of, places_in}
+use Rattle.album_sessions.specs.Sending.{to_announce}
+use Rattle.album_writer.specs.Writing.{WritingState, commit_round, commits_of, places_in}
 use Rattle.album_writer.specs.declared.outcomes.Outcome.{Outcome}
 
 module _ (limit : ℕ) (policy : Policy) (o : Outset) (now next noted : SessionState) (at : Cut) (sent : List Message)
@@ -53,8 +54,8 @@ module _ (limit : ℕ) (policy : Policy) (o : Outset) (now next noted : SessionS
         N.on.client N.heard.silent N.on.grown N.heard.grown
         N.sound_before N.heard.sound granted_before
 
-    announced : announced_for d begun.stamp ≡ Some (items_in begun)
-    announced = granted.holds.2.0.announced ∙ ap (λ (p : PermitState). Some (items_of p begun.stamp)) granted.holds.2.1
+    announced : announced_for d begun.stamp ≡ Some (write_of begun.permit begun.stamp)
+    announced = granted.holds.2.0.announced ∙ ap (λ (p : PermitState). Some (write_of p begun.stamp)) granted.holds.2.1
 
     -- of a write nothing more is noted, and the clock stays
     module _ (none : transition.notes.items ≡ []) (clock : transition.client.clock.counter ≡ next.counter) where
@@ -81,7 +82,8 @@ module _ (limit : ℕ) (policy : Policy) (o : Outset) (now next noted : SessionS
           → transition.answer ≡ None → transition.client.phase ≡ phase.Commits other → transition.sent.items ≡ messages → After
       decides other messages over are quiet is sends =
           goes_sent limit policy o noted at sent transition quiet (commits_of commits) (sends ∙ are.messages_are)
-          (some_commits commits over.some) (commits_plain commits)
+          (some_commits commits over.some)
+          (ap (to_announce (commits_of commits)) is ∙ commits_plain (commits_of commits) other)
           (subst (λ (e : Cut). All (Shows e) (commits_of commits)) (sym N.cut) (shows_commits d commits throughout))
           (subst (λ (z : SessionState × Phase). IsUnderWay policy o z.0 z.0.cut (commits_of commits) z.1)
           (λ i. (sym same i, sym is i))

@@ -4,7 +4,7 @@
 use Rattle.std.proofs.Common.{◌≡◌, ℕ, arith, Bool, true, false, List, Option, Some, None, eqb, eqb-true, if◌then◌else◌, refl, sym, ap, ◌∙◌, subst}
 use Rattle.album_eval.specs.declared.policies.Policy.{Policy}
 use Rattle.album_passes.specs.Changes.{IsUnheard}
-use Rattle.album_passes.specs.Cuts.{Cut, Announcement, announced_for, Extends}
+use Rattle.album_passes.specs.Cuts.{Cut, Announced, Announcement, announced_for, Extends}
 use Rattle.album_passes.proofs.CutLemmas.{extends_trans}
 use Rattle.album_stamps.specs.Clocks.{ClockState}
 use Rattle.album_stamps.specs.Stamps.{client_number, counter_of}
@@ -17,7 +17,7 @@ use Rattle.album_sessions.proofs.SendLemmas.{announced_else}
 use Rattle.album_sessions.proofs.SessionLemmas.{ahead_later}
 
 -- it was, as more is seen
-still : (policy : Policy) (a b : Cut) (t : ℕ) (is : List ℕ) → Extends a b → IsGrantedWrite policy a t is
+still : (policy : Policy) (a b : Cut) (t : ℕ) (is : Announced) → Extends a b → IsGrantedWrite policy a t is
     → IsGrantedWrite policy b t is
 still policy a b t is x w = record {
   principal = w.principal;
@@ -38,12 +38,12 @@ granted_later policy a b x h = λ t is own e.
     let mine : client_number t ≡ a.client = own ∙ x.client in
     still policy a.cut b.cut t is x.grown (h t is mine (sym (x.own a.client t refl mine) ∙ e))
 
-announced_by_case : (policy : Policy) (c d : Cut) (t u : ℕ) (is us : List ℕ) → Extends c d → IsGrantedWrite policy c t is
+announced_by_case : (policy : Policy) (c d : Cut) (t u : ℕ) (is us : Announced) → Extends c d → IsGrantedWrite policy c t is
     → (announced_for c u ≡ Some us → IsGrantedWrite policy c u us)
     → (b : Bool) → eqb t u ≡ b → (if b then Some is else announced_for c u) ≡ Some us → IsGrantedWrite policy d u us
 announced_by_case policy c d t u is us x w h true e there =
     let same : is ≡ us = cc in
-    subst (λ (z : ℕ × List ℕ). IsGrantedWrite policy d z.0 z.1) (λ i. (eqb-true t u e i, same i)) (still policy c d t is x w)
+    subst (λ (z : ℕ × Announced). IsGrantedWrite policy d z.0 z.1) (λ i. (eqb-true t u e i, same i)) (still policy c d t is x w)
 announced_by_case policy c d t u is us x w h false e there = still policy c d u us x (h there)
 
 pub granted_announced : (policy : Policy) (a b : ChannelState) (o : Option Announcement) → b.cut ≡ announced_with a.cut o

@@ -38,7 +38,7 @@ use Rattle.album_sessions.specs.Phases.IsRound.{First, Second}
 use Rattle.album_keepers.specs.Replies.{IsReplied}
 use Rattle.album_grounds.specs.Replies.{IsFirstOver, IsReadOf, IsTrimmedAway, Leads}
 use Rattle.album_sessions.specs.Resting.{RestsOn}
-use Rattle.album_channels.specs.Sending.{prepared_first}
+use Rattle.album_sessions.specs.Sending.{to_announce}
 use Rattle.album_sessions.specs.Sessions.{SessionState, AddsNothing}
 use Rattle.album_keepers.specs.Settling.{AreCommitted}
 use Rattle.album_sessions.specs.Steps.{client_step_in, terms_in, IsBegunFor, IsStarted, IsStill}
@@ -287,8 +287,7 @@ module _ (limit : ℕ) (policy : Policy) (o : Outset) (now next noted : SessionS
         → IsReading o.hinted o.principal o.ask a d d messages pending_ask round → After
     asks pending_ask round messages quiet is sends some w =
         goes_sent limit policy o noted at sent transition quiet messages sends some
-        (subst (λ (ms : List Message). prepared_first ms ≡ None) (sym w.asks)
-        (gets_plain w.begun.asker (asked_stamps w.begun) w.begun.items))
+        (ap (to_announce messages) is ∙ gets_plain messages pending_ask round)
         (subst (λ (z : Cut × List Message). All (Shows z.0) z.1) (λ i. (sym N.cut i, sym w.asks i))
         (gets_shown d w.begun.asker (asked_stamps w.begun) w.begun.items (asked_committed w.start d w.begun w.which)))
         (subst (λ (z : SessionState × Phase). IsUnderWay policy o z.0 z.0.cut messages z.1)

@@ -35,23 +35,23 @@ use Rattle.album_stamps.specs.declared.refusals.Refusal.TheVariants.{AlbumFull, 
 use Rattle.album_grounds.specs.Looks.{IsViewOf}
 use Rattle.album_sessions.specs.Asks.{AreShared, counter_after}
 use Rattle.album_grounds.specs.Granted.{IsGrantedWrite}
-use Rattle.album_grounds.specs.Grounds.{AreSettled, IsSeen}
+use Rattle.album_grounds.specs.Grounds.{AreSettled, IsSeen, write_of}
 use Rattle.album_keepers.specs.Envelopes.{Shows}
 use Rattle.album_sessions.specs.Phases.{Outset, IsUnderWay}
 use Rattle.album_sessions.specs.Resting.{HasSeen, IsDrawn, IsAnnounced, IsFoundOnView, IsBegun, IsRefusedBy}
-use Rattle.album_channels.specs.Sending.{prepared_first, announced_with, sent_last, sent_at}
-use Rattle.album_sessions.specs.Sending.{announced_by, IsFreeFor, IsFree, IsAnnouncedBy}
+use Rattle.album_channels.specs.Sending.{announced_with, sent_last, sent_at}
+use Rattle.album_sessions.specs.Sending.{to_announce, announced_by, IsFreeFor, IsFree, IsAnnouncedBy}
 use Rattle.album_sessions.specs.Sessions.{SessionState, AnnouncesNothing, AddsNothing}
 use Rattle.album_sessions.specs.Steps.{client_step_in, terms_in}
-use Rattle.album_grounds.specs.Writes.{IsBegunOn, IsPreparedAt}
+use Rattle.album_grounds.specs.Writes.{announcement_of, IsBegunOn, IsPreparedAt}
 use Rattle.album_sessions.proofs.BegunLemmas.{begun_on, none_before, found_more}
 use Rattle.album_sessions.proofs.ClockLemmas.{rows_client, rows_rise, rows_counter, rows_seen, number_own, number_counter, number_above}
 use Rattle.album_sessions.proofs.TransitionLemmas.{IsNoted, IsMovedOn}
 use Rattle.album_sessions.proofs.TransitionLemmas.IsMovedOn.{Told, Goes}
-use Rattle.album_sessions.proofs.SendLemmas.{prepares_first, some_prepares, last_sent, last_at, announced_here, announced_else, depended_here}
+use Rattle.album_sessions.proofs.SendLemmas.{prepares_announce, some_prepares, last_sent, last_at, announced_here, announced_else, depended_here}
 use Rattle.album_grounds.proofs.WriteLemmas.{begun_further, shows_prepares}
 use Rattle.album_views.specs.Asks.{is_write}
-use Rattle.album_writer.specs.Writing.{WritingState, items_in, places_in, prepare_round, prepares_of}
+use Rattle.album_writer.specs.Writing.{WritingState, places_in, prepare_round, prepares_of}
 use Rattle.album_permits.specs.declared.answers.Answer.TheVariants as answer
 
 module _ (limit : ℕ) (policy : Policy) (o : Outset) (now next noted : SessionState) (at : Cut) (sent : List Message)
@@ -173,13 +173,15 @@ module _ (limit : ℕ) (policy : Policy) (o : Outset) (now next noted : SessionS
     module _ (quiet : transition.answer ≡ None)
         (is : transition.client ≡ record y { clock = record k { counter = k.counter + 1 }; phase = phase.Prepares w })
         (sends : transition.sent.items ≡ prepares_of w) where
-      first : prepared_first transition.sent.items ≡ Some (stamp, items_in w)
-      first = ap prepared_first sends ∙ prepares_first w some
+      first : to_announce transition.sent.items transition.client.phase ≡ Some (announcement_of w)
+      first =
+          ap (to_announce transition.sent.items) (ap (λ (z : Client). z.phase) is)
+          ∙ prepares_announce transition.sent.items w (λ none. some_prepares w some (sym sends ∙ none))
 
       counted : noted.counter ≡ k.counter + 1
       counted = N.counter ∙ ap (λ (z : Client). z.clock.counter) is
 
-      granted_write : IsGrantedWrite policy noted.cut stamp (items_in w)
+      granted_write : IsGrantedWrite policy noted.cut stamp (write_of case stamp)
       unfolding found
       granted_write =
           let view = found finding.Granted (λ _. Unit {0}) e noted_is tt in
@@ -193,30 +195,30 @@ module _ (limit : ℕ) (policy : Policy) (o : Outset) (now next noted : SessionS
               rows = rows;
               seen = view.seen;
               view = view.view;
-              holds = record { granted = view.holds.0; above = above; items_are = refl };
+              holds = record { granted = view.holds.0; above = above; writes = refl };
             };
           }
 
-      free : IsFree policy noted transition.sent.items
+      free : IsFree policy noted transition.sent.items transition.client.phase
       free = subst (IsFreeFor policy noted) (sym first) (record {
         granted = granted_write;
         unused = (stamp_own ∙ sym N.client, unused);
         reached = (let a = stamp_counter in let b = counted in omega arith);
       })
 
-      shows : All (Shows (announced_by noted.cut transition.sent.items)) transition.sent.items
+      shows : All (Shows (announced_by noted.cut transition.sent.items transition.client.phase)) transition.sent.items
       shows =
           subst (λ (z : Cut × List Message). All (Shows z.0) z.1)
           (λ i. (announced_with noted.cut (sym first i), sym sends i))
-          (shows_prepares (announced_cut noted.cut stamp (items_in w)) w (announced_here noted.cut stamp (items_in w)))
+          (shows_prepares (announced_cut noted.cut stamp (write_of case stamp)) w (announced_here noted.cut stamp (write_of case stamp)))
 
       some_sent : transition.sent.items ≡ [] → ⊥
       some_sent none = some_prepares w some (sym sends ∙ none)
 
-      module _ (new : SessionState) (a : IsAnnouncedBy noted new transition.sent.items) where
-        here : announced_for new.cut stamp ≡ Some (items_in w)
+      module _ (new : SessionState) (a : IsAnnouncedBy noted new transition.sent.items transition.client.phase) where
+        here : announced_for new.cut stamp ≡ Some (write_of case stamp)
         here = ap (λ (c : Cut). announced_for c stamp) (a.cut ∙ ap (announced_with noted.cut) first) ∙ announced_here
-            noted.cut stamp (items_in w)
+            noted.cut stamp (write_of case stamp)
 
         announced : IsAnnounced o.session new case stamp
         announced = record {
@@ -229,10 +231,10 @@ module _ (limit : ℕ) (policy : Policy) (o : Outset) (now next noted : SessionS
             until = a.grown;
             settled = subst (λ (c : Cut). AreSettled c rows) (sym N.cut) V.seen.settled;
             depended = ap (λ (c : Cut). dependencies_of c stamp) (a.cut ∙ ap (announced_with noted.cut) first)
-                ∙ depended_here noted.cut stamp (items_in w);
+                ∙ depended_here noted.cut stamp (write_of case stamp);
           };
           alone = λ other own differs. ap (λ (c : Cut). announced_for c other) (a.cut ∙ ap (announced_with noted.cut) first)
-              ∙ announced_else noted.cut stamp other (items_in w) differs ∙ silent_noted other own;
+              ∙ announced_else noted.cut stamp other (write_of case stamp) differs ∙ silent_noted other own;
         }
 
         granted_here : IsBegun policy o.principal o.ask o.session new stamp (λ permit. permit ≡ case)
@@ -267,7 +269,7 @@ module _ (limit : ℕ) (policy : Policy) (o : Outset) (now next noted : SessionS
           };
         }
 
-      goes : (new : SessionState) → IsAnnouncedBy noted new transition.sent.items
+      goes : (new : SessionState) → IsAnnouncedBy noted new transition.sent.items transition.client.phase
           → IsUnderWay policy o new (sent_at at new.cut transition.sent.items) (sent_last sent transition.sent.items)
           transition.client.phase
       goes new a =

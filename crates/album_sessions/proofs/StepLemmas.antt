@@ -103,8 +103,8 @@ on_moved limit policy next noted at sent d transition t client cut counter s = r
 }
 
 -- it announces and sends
-pub on_announced : (a b : SessionState) (messages : List Message) → IsAnnouncedBy a b messages → IsOn a b
-on_announced a b messages x = record {
+pub on_announced : (a b : SessionState) (messages : List Message) (current : Phase) → IsAnnouncedBy a b messages current → IsOn a b
+on_announced a b messages current x = record {
   client = x.client;
   grown = x.grown;
   risen = let n : b.counter ≡ a.counter = x.counter in omega (arith, n);

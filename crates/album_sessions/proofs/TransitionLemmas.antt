@@ -15,8 +15,8 @@ use Rattle.album_sessions.specs.Asks.{IsOn, IsHeard, AreShared}
 use Rattle.album_keepers.specs.Envelopes.{Shows}
 use Rattle.album_sessions.specs.Phases.{Outset, IsUnderWay}
 use Rattle.album_sessions.specs.Resting.{RestsOn}
-use Rattle.album_channels.specs.Sending.{prepared_first, announced_with, sent_last, sent_at}
-use Rattle.album_sessions.specs.Sending.{announced_by, IsFreeFor, IsFree, IsAnnouncedBy}
+use Rattle.album_channels.specs.Sending.{announced_with, sent_last, sent_at}
+use Rattle.album_sessions.specs.Sending.{to_announce, announced_by, IsFreeFor, IsFree, IsAnnouncedBy}
 use Rattle.album_sessions.specs.Sessions.{SessionState, AddsNothing}
 use Rattle.album_sessions.proofs.SendLemmas.{last_sent, last_at}
 use Rattle.album_views.specs.Checks.{refusal_of}
@@ -41,9 +41,9 @@ pub data IsMovedOn
     : Type 0 where
   Told : (told : Answer) → transition.answer ≡ Some told → RestsOn limit policy o.principal o.ask o.session noted told
       → IsMovedOn limit policy o noted at sent transition
-  Goes : transition.answer ≡ None → IsFree policy noted transition.sent.items
-      → All (Shows (announced_by noted.cut transition.sent.items)) transition.sent.items
-      → ((new : SessionState) → IsAnnouncedBy noted new transition.sent.items
+  Goes : transition.answer ≡ None → IsFree policy noted transition.sent.items transition.client.phase
+      → All (Shows (announced_by noted.cut transition.sent.items transition.client.phase)) transition.sent.items
+      → ((new : SessionState) → IsAnnouncedBy noted new transition.sent.items transition.client.phase
       → IsUnderWay policy o new (sent_at at new.cut transition.sent.items) (sent_last sent transition.sent.items)
       transition.client.phase)
       → IsMovedOn limit policy o noted at sent transition
@@ -100,23 +100,23 @@ module _ (limit : ℕ) (policy : Policy) (o : Outset) (noted : SessionState) (at
     (transition : Transition)
     (quiet : transition.answer ≡ None) where
   -- these are sent, and none of them prepares anything
-  pub goes_plain : (messages : List Message) → transition.sent.items ≡ messages → prepared_first messages ≡ None
+  pub goes_plain : (messages : List Message) → transition.sent.items ≡ messages → to_announce messages transition.client.phase ≡ None
       → All (Shows noted.cut) messages
       → IsUnderWay policy o noted (sent_at at noted.cut messages) (sent_last sent messages) transition.client.phase
       → IsMovedOn limit policy o noted at sent transition
   goes_plain messages e plain shown w = Goes quiet free shows goes
     where
-      none : prepared_first transition.sent.items ≡ None
-      none = ap prepared_first e ∙ plain
+      none : to_announce transition.sent.items transition.client.phase ≡ None
+      none = ap (λ (ms : List Message). to_announce ms transition.client.phase) e ∙ plain
 
-      free : IsFree policy noted transition.sent.items
+      free : IsFree policy noted transition.sent.items transition.client.phase
       free = subst (IsFreeFor policy noted) (sym none) (record { granted = tt; unused = tt; reached = tt })
 
-      shows : All (Shows (announced_by noted.cut transition.sent.items)) transition.sent.items
+      shows : All (Shows (announced_by noted.cut transition.sent.items transition.client.phase)) transition.sent.items
       shows = subst (λ (y : Cut × List Message). All (Shows y.0) y.1)
           (λ i. (announced_with noted.cut (sym none i), sym e i)) shown
 
-      goes : (new : SessionState) → IsAnnouncedBy noted new transition.sent.items
+      goes : (new : SessionState) → IsAnnouncedBy noted new transition.sent.items transition.client.phase
           → IsUnderWay policy o new (sent_at at new.cut transition.sent.items) (sent_last sent transition.sent.items)
           transition.client.phase
       goes new a =
@@ -133,7 +133,7 @@ module _ (limit : ℕ) (policy : Policy) (o : Outset) (noted : SessionState) (at
           (λ i. (sym same i, sym e i)) w
 
   pub goes_sent : (messages : List Message) → transition.sent.items ≡ messages → (messages ≡ [] → ⊥)
-      → prepared_first messages ≡ None
+      → to_announce messages transition.client.phase ≡ None
       → All (Shows noted.cut) messages → IsUnderWay policy o noted noted.cut messages transition.client.phase
       → IsMovedOn limit policy o noted at sent transition
   goes_sent messages e some plain shown w =
@@ -153,17 +153,17 @@ module _ (limit : ℕ) (policy : Policy) (o : Outset) (noted : SessionState) (at
       subst (RestsOn limit policy o.principal o.ask o.session noted) one h
   told_rests told is (Goes none free shown goes) = absurd (cc)
 
-  pub free_of : transition.answer ≡ None → IsMovedOn limit policy o noted at sent transition → IsFree policy noted transition.sent.items
+  pub free_of : transition.answer ≡ None → IsMovedOn limit policy o noted at sent transition → IsFree policy noted transition.sent.items transition.client.phase
   free_of is (Told other same h) = absurd (cc)
   free_of is (Goes none free shown goes) = free
 
   pub shown_of : transition.answer ≡ None → IsMovedOn limit policy o noted at sent transition
-      → All (Shows (announced_by noted.cut transition.sent.items)) transition.sent.items
+      → All (Shows (announced_by noted.cut transition.sent.items transition.client.phase)) transition.sent.items
   shown_of is (Told other same h) = absurd (cc)
   shown_of is (Goes none free shown goes) = shown
 
   pub goes_of : transition.answer ≡ None → IsMovedOn limit policy o noted at sent transition
-      → (new : SessionState) → IsAnnouncedBy noted new transition.sent.items
+      → (new : SessionState) → IsAnnouncedBy noted new transition.sent.items transition.client.phase
       → IsUnderWay policy o new (sent_at at new.cut transition.sent.items) (sent_last sent transition.sent.items)
       transition.client.phase
   goes_of is (Told other same h) new a = absurd (cc)

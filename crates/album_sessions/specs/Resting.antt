@@ -17,7 +17,7 @@ use Rattle.album_permits.specs.declared.findings.Finding.{Finding}
 use Rattle.album_permits.specs.declared.findings.Finding.TheVariants as finding
 use Rattle.album_permits.specs.declared.notes.Note.{Note}
 use Rattle.album_permits.specs.Meaning.{Finds, Notes}
-use Rattle.album_grounds.specs.Grounds.{AreSettled, IsOnView, items_of, IsKept, IsWithoutRoom, IsWide, IsOutOfReads}
+use Rattle.album_grounds.specs.Grounds.{AreSettled, IsOnView, write_of, IsKept, IsWithoutRoom, IsWide, IsOutOfReads}
 use Rattle.album_sessions.specs.Asks.{counter_after}
 use Rattle.album_sessions.specs.Sessions.{SessionState, AnnouncesNothing, AddsNothing}
 use Rattle.album_permits.specs.declared.answers.Answer.{Answer}
@@ -60,12 +60,12 @@ pub record IsDepended (old new : SessionState) (permit : PermitState) (stamp : �
   pub settled : AreSettled seen permit.view.rows
   pub depended : dependencies_of new.cut stamp ≡ Some (lengths_in seen)
 
--- The stamp was drawn in this ask, and is above all that was read. It was announced with exactly the items that are
--- written and with what it depends on, and no other stamp of the client's was.
+-- The stamp was drawn in this ask, and is above all that was read. It was announced with exactly what is written, value
+-- by value and each on its base, and with what it depends on; and no other stamp of the client's was.
 pub record IsAnnounced (old new : SessionState) (permit : PermitState) (stamp : ℕ) : Type 0 where
   pub drawn : IsDrawn old new permit stamp
   pub above : All (λ row. row.stamp < stamp) permit.view.rows
-  pub announced : announced_for new.cut stamp ≡ Some (items_of permit stamp)
+  pub announced : announced_for new.cut stamp ≡ Some (write_of permit stamp)
   pub depends : IsDepended old new permit stamp
   pub alone : (other : ℕ) → client_number other ≡ old.client → other ≢ stamp
       → announced_for new.cut other ≡ announced_for old.cut other

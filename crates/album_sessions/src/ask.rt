@@ -28,6 +28,7 @@ use album_calls::Message;
 use album_channels::{Asked, NoReply};
 use album_client::{Client, ClientStep, Phase, Terms, Transition};
 use album_eval::Principal;
+use album_items::Items;
 use album_permits::Answer;
 use album_stamps::Refusal;
 use album_views::Ask;
@@ -69,6 +70,7 @@ impl<J: ServiceNames> Session<J> {
     {
         self.channel.is_sound();
         ask.check(principal)?;
+        self.contested = Items::of(Vec::new(self.alloc));
         let answer = self.answer_at_last(rt, principal, &ask);
         drop(ask);
         answer

@@ -1,5 +1,5 @@
 //! Attempts: an ask whose write is aborted in a checked store asks again.
-ghost use Rattle.std.specs.Prelude.{◌≡◌, None, IfOk, IfErr, OnErr};
+ghost use Rattle.std.specs.Prelude.{◌≡◌, ℕ, None, Ok, IfOk, IfErr, OnErr};
 ghost use Rattle.album_views.specs.Checks.{refusal_of};
 ghost use Rattle.album_channels.specs.Channels.{IsClosedOrOutOfMemory};
 ghost use Rattle.album_permits.specs.declared.answers.Answer.TheVariants.{Aborted};
@@ -9,7 +9,6 @@ ghost use Rattle.album_sessions.specs.Resting.{RestsOn};
 ghost use Rattle.album_sessions.specs.Sessions.{SessionState, AddsNothing};
 ghost use Rattle.album_sessions.specs.Steps.{IsStill};
 
-use crate::hints::first_object;
 use crate::service_names::ServiceNames;
 use crate::session::Session;
 use album_calls::{Body, Message, Request};
@@ -27,8 +26,8 @@ pub const MAX_ATTEMPTS: u8 = 8;
 
 impl<J: ServiceNames> Session<J> {
     /// Answers the ask. In a checked store it is attempted anew where its write is aborted, with a new view, ruling and
-    /// stamp: what came between is seen then. From the second attempt on it queues. Where a later attempt is refused,
-    /// the write is aborted still.
+    /// stamp: what came between is seen then. From the second attempt on it queues, and before that where others do.
+    /// Where a later attempt is refused, the write is aborted still.
     ///
     /// # Errors
     ///
@@ -46,7 +45,8 @@ impl<J: ServiceNames> Session<J> {
         ensures on { IsOn self.old self.new }
     {
         self.channel.is_sound();
-        let mut answer = self.attempt_first(rt, principal, ask)?;
+        let queues = self.is_contended(ask);
+        let mut answer = self.attempt(rt, principal, ask, queues)?;
         if !self.channel.checked() {
             return Ok(answer);
         }
@@ -54,7 +54,7 @@ impl<J: ServiceNames> Session<J> {
             let Answer::Aborted(stamp) = answer else {
                 return Ok(answer);
             };
-            match self.attempt_queued(rt, principal, ask) {
+            match self.attempt(rt, principal, ask, true) {
                 Ok(next) => answer = next,
                 Err(_) => return Ok(Answer::Aborted(stamp)),
             }
@@ -62,60 +62,21 @@ impl<J: ServiceNames> Session<J> {
         Ok(answer)
     }
 
-    /// Attempts the ask. A write in a checked store queues already where somebody has the stripe of its first object:
-    /// so who queues isn't overtaken again and again.
-    ///
-    /// # Errors
-    ///
-    /// `Closed` or `OutOfMemory`.
-    fn attempt_first<R: Wait + time::Clock>(
-        &mut self,
-        rt: &R,
-        principal: &Principal,
-        ask: &Ask,
-    ) -> Result<Answer, Refusal>
-        requires taken { refusal_of ask.now principal.now ≡ None }
-        ensures rests { IfOk result (RestsOn J.terms.limit J.policy principal.now ask.now self.old self.new) }
-        ensures refused { IfErr result IsClosedOrOutOfMemory }
-        ensures unbegun { OnErr result (AddsNothing self.old self.new) }
-        ensures on { IsOn self.old self.new }
-    {
-        self.contested = Items::of(Vec::new(self.alloc));
-        if ask.is_write() && self.channel.checked() && self.stripes.is_taken(first_object(ask)) {
-            return self.attempt_queued(rt, principal, ask);
+    /// Whether a write in a checked store queues already for its first attempt: where somebody has the stripe of one of
+    /// the ask's objects. So who queues isn't overtaken again and again. Without memory nobody is looked for.
+    fn is_contended(&self, ask: &Ask) -> bool {
+        if !ask.is_write() || !self.channel.checked() {
+            return false;
         }
-        self.attempt(rt, principal, ask)
+        match ask.objects(self.alloc) {
+            Ok(objects) => objects.iter().any(|object| self.stripes.is_taken(*object)),
+            Err(_) => false,
+        }
     }
 
-    /// Attempts the ask while it has the stripes of its first object, and of the items that the last attempt wanted to
-    /// write. Without memory it doesn't wait for them.
-    ///
-    /// # Errors
-    ///
-    /// `Closed` or `OutOfMemory`.
-    fn attempt_queued<R: Wait + time::Clock>(
-        &mut self,
-        rt: &R,
-        principal: &Principal,
-        ask: &Ask,
-    ) -> Result<Answer, Refusal>
-        requires taken { refusal_of ask.now principal.now ≡ None }
-        ensures rests { IfOk result (RestsOn J.terms.limit J.policy principal.now ask.now self.old self.new) }
-        ensures refused { IfErr result IsClosedOrOutOfMemory }
-        ensures unbegun { OnErr result (AddsNothing self.old self.new) }
-        ensures on { IsOn self.old self.new }
-    {
-        let Ok(stripes) = Arc::try_clone(&self.stripes) else {
-            return self.attempt(rt, principal, ask);
-        };
-        let taken = stripes.take(rt, self.alloc, first_object(ask), self.contested.as_slice());
-        let answer = self.attempt(rt, principal, ask);
-        drop(taken);
-        drop(stripes);
-        answer
-    }
-
-    /// Attempts the ask once. What an aborted write has prepared is settled, so that it is in nobody's way.
+    /// Attempts the ask once. Where it queues, it has the stripes of its objects, and of the items that the last
+    /// attempt wanted to write, until it is over; without memory it doesn't wait for them. What an aborted write has
+    /// prepared is settled, so that it is in nobody's way.
     ///
     /// # Errors
     ///
@@ -125,6 +86,7 @@ impl<J: ServiceNames> Session<J> {
         rt: &R,
         principal: &Principal,
         ask: &Ask,
+        queues: bool,
     ) -> Result<Answer, Refusal>
         requires taken { refusal_of ask.now principal.now ≡ None }
         ensures rests { IfOk result (RestsOn J.terms.limit J.policy principal.now ask.now self.old self.new) }
@@ -132,12 +94,33 @@ impl<J: ServiceNames> Session<J> {
         ensures unbegun { OnErr result (AddsNothing self.old self.new) }
         ensures on { IsOn self.old self.new }
     {
-        match self.answer(rt, principal, ask)? {
-            Answer::Aborted(stamp) => {
-                self.settle(rt, stamp);
-                Ok(Answer::Aborted(stamp))
-            }
-            answer => Ok(answer),
+        let stripes = if queues {
+            Arc::try_clone(&self.stripes).ok()
+        } else {
+            None
+        };
+        let taken = match &stripes {
+            Some(stripes) => stripes
+                .take(rt, self.alloc, ask, self.contested.as_slice())
+                .ok(),
+            None => None,
+        };
+        let answer = self.answer(rt, principal, ask);
+        self.settle_after(rt, &answer);
+        drop(taken);
+        drop(stripes);
+        answer
+    }
+
+    /// Settles the write that is aborted, if the answer says so.
+    fn settle_after<R: Wait + time::Clock>(&mut self, rt: &R, answer: &Result<Answer, Refusal>)
+        ensures still { IsStill self.old self.new }
+        ensures others { ((t : ℕ) → answer.now ≡ Ok (Aborted t) → ⊥) → self.new ≡ self.old }
+    {
+        self.channel.is_sound();
+        match answer {
+            Ok(Answer::Aborted(stamp)) => self.settle(rt, *stamp),
+            Ok(_) | Err(_) => {}
         }
     }
 

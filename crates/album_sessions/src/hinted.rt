@@ -132,7 +132,7 @@ impl<J: ServiceNames> Session<J> {
             .ok()
     }
 
-    /// Keeps the items of a read as a hint, where the read has led to a view.
+    /// Keeps the items of a read as a hint, where the read has led to a view. What is denied replaces no hint.
     pub(crate) fn remember(
         &self,
         course: &Course,
@@ -150,7 +150,8 @@ impl<J: ServiceNames> Session<J> {
             return;
         }
         if let Ok(items) = items_asked(self.alloc, &asked.sent) {
-            self.hints.keep(Hint::new(course.topic, items));
+            let is_denied = matches!(transition.answer, Some(Answer::Denied(_)));
+            self.hints.keep(Hint::new(course.topic, items), !is_denied);
         }
     }
 }

@@ -24,7 +24,8 @@ enum Relatives {
     Children,
 }
 
-/// What asks have in common that look at the same items: their first object, and which relatives they look at.
+/// What asks have in common that look at the same items: their object, and which relatives they look at. An ask of
+/// several objects has none, and so no hint: what it looks at for one object is nothing that another ask needs.
 #[derive(Clone, Copy)]
 pub(crate) struct Topic {
     object: Option<ItemId>,
@@ -35,7 +36,7 @@ impl Topic {
     /// The topic of the ask.
     pub(crate) fn of(ask: &Ask) -> Topic {
         Topic {
-            object: first_object(ask),
+            object: only_object(ask),
             relatives: relatives_of(ask),
         }
     }
@@ -140,13 +141,19 @@ impl Hints {
         }
     }
 
-    /// Keeps the hint, in place of one that was there.
-    pub(crate) fn keep(&self, hint: Hint) {
+    /// Keeps the hint, in place of one that was there. One of the same topic stays, unless this one replaces it.
+    pub(crate) fn keep(&self, hint: Hint, replaces: bool) {
+        if hint.topic.object.is_none() {
+            return;
+        }
         let Some(slot) = self.slots.get(hint.topic.slot()) else {
             return;
         };
         if let Some(mut kept) = slot.try_lock() {
-            *kept = Some(hint);
+            let stays = matches!(&*kept, Some(other) if other.topic.is(&hint.topic));
+            if replaces || !stays {
+                *kept = Some(hint);
+            }
         }
     }
 
@@ -163,8 +170,8 @@ impl Hints {
     }
 }
 
-/// The first of the ask's objects. An ask without one is refused by its check.
-pub(crate) fn first_object(ask: &Ask) -> Option<ItemId> {
+/// The ask's object, where it has one alone.
+fn only_object(ask: &Ask) -> Option<ItemId> {
     match ask {
         Ask::Read { object } => Some(*object),
         Ask::List { album } => Some(*album),
@@ -174,26 +181,25 @@ pub(crate) fn first_object(ask: &Ask) -> Option<ItemId> {
         Ask::Retitle { object, .. } => Some(*object),
         Ask::Replace { object, .. } => Some(*object),
         Ask::Delete { object } => Some(*object),
-        Ask::Move { object, .. } => Some(*object),
-        Ask::SetLists { lists } => lists.as_slice().first().map(|new| new.object),
+        Ask::Move { .. } | Ask::Share { .. } => None,
+        Ask::SetLists { lists } => match lists.as_slice() {
+            [new] => Some(new.object),
+            _ => None,
+        },
         Ask::SetOwner { object, .. } => Some(*object),
         Ask::SetMembers { object, .. } => Some(*object),
-        Ask::Share { lists, members } => match lists.as_slice().first() {
-            Some(new) => Some(new.object),
-            None => members.as_slice().first().map(|new| new.object),
-        },
     }
 }
 
 /// Which relatives of its objects the ask looks at.
 fn relatives_of(ask: &Ask) -> Relatives {
     match ask {
-        Ask::Delete { .. } | Ask::Move { .. } => Relatives::Home,
+        Ask::Delete { .. } => Relatives::Home,
         Ask::List { .. } => Relatives::Children,
         Ask::Read { .. } | Ask::GetList { .. } => Relatives::None,
         Ask::AddPicture { .. } | Ask::AddAlbum { .. } => Relatives::None,
         Ask::Retitle { .. } | Ask::Replace { .. } => Relatives::None,
         Ask::SetLists { .. } | Ask::SetOwner { .. } | Ask::SetMembers { .. } => Relatives::None,
-        Ask::Share { .. } => Relatives::None,
+        Ask::Move { .. } | Ask::Share { .. } => Relatives::None,
     }
 }

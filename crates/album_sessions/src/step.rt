@@ -9,7 +9,10 @@ ghost use Rattle.album_sessions.specs.Asks.{IsHeard, IsOn, AreShared};
 ghost use Rattle.album_keepers.specs.Envelopes.{Shows};
 ghost use Rattle.album_sessions.specs.Phases.{Outset, IsUnderWay};
 ghost use Rattle.album_keepers.specs.Replies.{IsReplied};
-ghost use Rattle.album_sessions.specs.Sending.{announced_by, IsFree, IsAnnouncedBy};
+ghost use Rattle.album_passes.specs.Cuts.{Extends, IsSound};
+ghost use Rattle.album_channels.specs.Sending.{announced_with};
+ghost use Rattle.album_grounds.specs.Writes.{announcement_of};
+ghost use Rattle.album_sessions.specs.Sending.{announced_by, to_announce, IsFree, IsFreeFor, IsAnnouncedBy};
 ghost use Rattle.album_channels.specs.Channels.{IsClosedOrOutOfMemory, IsNoReply};
 ghost use Rattle.album_sessions.specs.Steps.{client_step_in, terms_in, IsTaken, IsWaited, IsReaction, IsSent};
 
@@ -20,8 +23,11 @@ use crate::session::Session;
 use album_calls::Message;
 use album_channels::{Asked, NoReply};
 use album_client::{Client, ClientStep, Phase, Transition};
+use album_passes::NamesWrites;
 use album_permits::Answer;
 use album_stamps::{Clock, Refusal, Stamp};
+use album_writer::Preparing;
+use std::marker::Brand;
 use std::sync::Wait;
 use std::time;
 
@@ -182,8 +188,8 @@ impl<J: ServiceNames> Session<J> {
         Ok(reaction)
     }
 
-    /// Sends the messages, once what the first of them prepares is announced. Where there are none, replies to what was
-    /// asked stay outstanding. Once a write has begun, what cuts it off is its answer.
+    /// Sends the messages, once the write is announced whose Prepares they are, if they are. Where there are none,
+    /// replies to what was asked stay outstanding. Once a write has begun, what cuts it off is its answer.
     ///
     /// # Errors
     ///
@@ -195,28 +201,61 @@ impl<J: ServiceNames> Session<J> {
         phase: Phase,
         sent: Vec<Message>,
     ) -> Result<Way, Refusal>
-        requires free { IsFree J.policy self.old sent.items }
-        requires shown { All (Shows (announced_by self.old.cut sent.items)) sent.items }
+        requires free { IsFree J.policy self.old sent.items phase }
+        requires shown { All (Shows (announced_by self.old.cut sent.items phase)) sent.items }
         ensures way { IfOk result (IsSent asked phase sent.items self.new.cut) }
         ensures refused { IfErr result IsClosedOrOutOfMemory }
         ensures unbegun { OnErr result (stamp_at_work phase ≡ None) }
-        ensures announced { IsAnnouncedBy self.old self.new sent.items }
+        ensures announced { IsAnnouncedBy self.old self.new sent.items phase }
     {
-        self.announce(&sent);
+        self.announce(&sent, &phase);
         match self.channel.send_next_round(rt, asked, sent) {
             Ok(more) => Ok(Way::Awaits(more, phase)),
             Err(why) => cut_off(stamp_of(phase), why),
         }
     }
 
-    /// Announces what the first of the messages prepares, if it prepares anything.
-    fn announce(&mut self, sent: &[Message])
-        requires { IsFree J.policy self.old sent.now }
-        ensures { IsAnnouncedBy self.old self.new sent.now }
+    /// Announces the write whose Prepares these messages are, if they are.
+    fn announce(&mut self, sent: &[Message], phase: &Phase)
+        requires { IsFree J.policy self.old sent.now phase.now }
+        ensures { IsAnnouncedBy self.old self.new sent.now phase.now }
     {
         contest(self.alloc, &mut self.contested, sent);
-        self.channel.announce_first(sent);
         self.channel.is_sound();
+        match begun(sent, phase) {
+            Some(writing) => self.announce_write::<Brand>(writing),
+            None => {}
+        }
+    }
+
+    /// Announces the write, which N names: a proof finds it among the arguments.
+    fn announce_write<N: NamesWrites>(&mut self, _writing: &Preparing)
+        requires stamp { N.stamp ≡ (announcement_of _writing.now).0 }
+        requires announced { N.announced ≡ (announcement_of _writing.now).1 }
+        requires free { IsFreeFor J.policy self.old (Some (announcement_of _writing.now)) }
+        ensures cut { self.new.cut ≡ announced_with self.old.cut (Some (announcement_of _writing.now)) }
+        ensures grown { Extends self.old.cut self.new.cut }
+        ensures client { self.new.client ≡ self.old.client }
+        ensures counter { self.new.counter ≡ self.old.counter }
+        ensures share { self.new.share ≡ self.old.share }
+        ensures sound { IsSound self.new.cut }
+    {
+        self.channel.announce::<N>();
+        self.channel.is_sound();
+    }
+}
+
+/// The write whose Prepares these messages are, if they are: then it is to be announced before they leave.
+fn begun<'a>(sent: &[Message], phase: &'a Phase) -> Option<&'a Preparing>
+    ensures write { IfSome result (λ writing. to_announce sent.now phase.now ≡ Some (announcement_of writing.now)) }
+    ensures none { IfNone result (to_announce sent.now phase.now ≡ None) }
+{
+    if sent.is_empty() {
+        return None;
+    }
+    match phase {
+        Phase::Prepares(writing) => Some(writing),
+        Phase::Idle(_) | Phase::Reads(_, _) | Phase::Commits(_) => None,
     }
 }
 

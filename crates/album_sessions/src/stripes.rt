@@ -5,6 +5,7 @@
 //! first object and of the items that it wants to write, and has them until that attempt is over. Nothing that is
 //! promised rests on them.
 use album_items::ItemId;
+use album_views::Ask;
 use std::alloc::{AllocError, Global};
 use std::sync::{Mutex, MutexGuard, Wait};
 
@@ -36,19 +37,16 @@ impl Stripes {
         Stripes { stripes }
     }
 
-    /// Whether somebody has the stripe of the item, if there is one.
-    pub(crate) fn is_taken(&self, item: Option<ItemId>) -> bool {
-        let Some(item) = item else {
-            return false;
-        };
+    /// Whether somebody has the stripe of the item.
+    pub(crate) fn is_taken(&self, item: ItemId) -> bool {
         match self.stripes.get(index_of(item)) {
             Some(stripe) => stripe.try_lock().is_none(),
             None => false,
         }
     }
 
-    /// Waits for the stripes of these items, and takes them. Each thread takes its own in rising order, so no two wait
-    /// for each other; and whoever has them waits for partitions alone.
+    /// Waits for the stripes of the ask's objects and of these items, and takes them. Each thread takes its own in
+    /// rising order, so no two wait for each other; and whoever has them waits for partitions alone.
     ///
     /// # Errors
     ///
@@ -57,11 +55,11 @@ impl Stripes {
         &self,
         rt: &R,
         alloc: Global,
-        object: Option<ItemId>,
+        ask: &Ask,
         items: &[ItemId],
     ) -> Result<Vec<MutexGuard<'_, ()>>, AllocError> {
         let mut taken = Vec::new(alloc);
-        for index in indices_of(alloc, object, items)? {
+        for index in indices_of(alloc, ask, items)? {
             if let Some(stripe) = self.stripes.get(index) {
                 taken.push(stripe.lock(rt))?;
             }
@@ -71,16 +69,10 @@ impl Stripes {
 }
 
 /// The indices of their stripes, rising, each once.
-fn indices_of(
-    alloc: Global,
-    object: Option<ItemId>,
-    items: &[ItemId],
-) -> Result<Vec<usize>, AllocError> {
+fn indices_of(alloc: Global, ask: &Ask, items: &[ItemId]) -> Result<Vec<usize>, AllocError> {
+    let objects = ask.objects(alloc)?;
     let mut indices = Vec::new(alloc);
-    if let Some(object) = object {
-        indices.push(index_of(object))?;
-    }
-    for item in items {
+    for item in objects.iter().chain(items) {
         indices.push(index_of(*item))?;
     }
     indices.sort()?;

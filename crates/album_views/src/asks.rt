@@ -173,7 +173,7 @@ pub enum Ask {
 impl Ask {
     /// The objects, in the order of the fields, each once.
     #[tactic(auto, using(crate::proofs::Flaws::objects_lists))]
-    pub(crate) fn objects(&self, alloc: Global) -> Result<Vec<ItemId>, AllocError>
+    pub fn objects(&self, alloc: Global) -> Result<Vec<ItemId>, AllocError>
         ensures { IfOk result (λ objects. objects.items ≡ objects_of self.now) }
     {
         match self {

@@ -11,18 +11,18 @@ use Rattle.album_sessions.proofs.session.Session.answer_at_last.Goals as goal
 pub returns-then-not-checked-clause-rests : goal.returns-then-not-checked-clause-rests
 returns-then-not-checked-clause-rests g c =
     let old = c.args.self.now in
-    attempted_last g.J.DeskNames.terms.limit g.J.ServiceNames.policy c.args.principal.now c.args.ask.now old c.attempt_first.new.self c.in_ok-answer.answer 1 (omega arith)
-    (attempted_first g.J.DeskNames.terms.limit g.J.ServiceNames.policy c.args.principal.now c.args.ask.now old c.attempt_first.new.self c.in_ok-answer.answer
-    (on_self old (subst (λ (s : SessionState). IsSound s.cut) c.self.view_is c.is_sound.ensures)) c.attempt_first.ensures.on c.in_ok-answer.ensures.rests)
+    attempted_last g.J.DeskNames.terms.limit g.J.ServiceNames.policy c.args.principal.now c.args.ask.now old c.attempt.new.self c.in_ok-answer.answer 1 (omega arith)
+    (attempted_first g.J.DeskNames.terms.limit g.J.ServiceNames.policy c.args.principal.now c.args.ask.now old c.attempt.new.self c.in_ok-answer.answer
+    (on_self old (subst (λ (s : SessionState). IsSound s.cut) c.self.view_is c.is_sound.ensures)) c.attempt.ensures.on c.in_ok-answer.ensures.rests)
 
 pub loop-made-init : goal.loop-made-init
 loop-made-init g c =
     let old = c.args.self.now in
     record {
-      attempted = attempted_first g.J.DeskNames.terms.limit g.J.ServiceNames.policy c.args.principal.now c.args.ask.now old c.attempt_first.new.self c.in_ok-answer.answer
-          (on_self old (subst (λ (s : SessionState). IsSound s.cut) c.self.view_is c.is_sound.ensures)) c.attempt_first.ensures.on c.in_ok-answer.ensures.rests;
+      attempted = attempted_first g.J.DeskNames.terms.limit g.J.ServiceNames.policy c.args.principal.now c.args.ask.now old c.attempt.new.self c.in_ok-answer.answer
+          (on_self old (subst (λ (s : SessionState). IsSound s.cut) c.self.view_is c.is_sound.ensures)) c.attempt.ensures.on c.in_ok-answer.ensures.rests;
       checked = ap (λ (s : SessionState). s.cut.checked) (sym c.self-2.view_is) ∙ (sym c.checked.ensures ∙ c.if-not-checked.false);
-      on = c.attempt_first.ensures.on;
+      on = c.attempt.ensures.on;
     }
 
 -- the write was aborted, and is attempted again
@@ -31,12 +31,12 @@ loop-made-preserved g c =
     let old = c.args.self.now in
     let was = c.loop-made.invariant in
     record {
-      attempted = attempted_again g.J.DeskNames.terms.limit g.J.ServiceNames.policy c.args.principal.now c.args.ask.now old c.loop-made.self c.attempt_queued.new.self
+      attempted = attempted_again g.J.DeskNames.terms.limit g.J.ServiceNames.policy c.args.principal.now c.args.ask.now old c.loop-made.self c.attempt-in-loop-made.new.self
           c.in-Aborted.stamp c.in-Ok.next c.loop-made._made
           (subst (λ (a : Answer). IsAttempted g.J.DeskNames.terms.limit g.J.ServiceNames.policy c.args.principal.now c.args.ask.now old c.loop-made.self a c.loop-made._made) c.in-Aborted.is was.attempted)
-          was.checked c.attempt_queued.ensures.on c.in-Ok.ensures.rests;
-      checked = c.attempt_queued.ensures.on.grown.checked ∙ was.checked;
-      on = on_trans old c.loop-made.self c.attempt_queued.new.self was.on c.attempt_queued.ensures.on;
+          was.checked c.attempt-in-loop-made.ensures.on c.in-Ok.ensures.rests;
+      checked = c.attempt-in-loop-made.ensures.on.grown.checked ∙ was.checked;
+      on = on_trans old c.loop-made.self c.attempt-in-loop-made.new.self was.on c.attempt-in-loop-made.ensures.on;
     }
 
 -- the answer is another one
@@ -54,16 +54,16 @@ pub returns-in-Err-clause-rests : goal.returns-in-Err-clause-rests
 returns-in-Err-clause-rests g c =
     let old = c.args.self.now in
     let was = c.loop-made.invariant in
-    attempted_last g.J.DeskNames.terms.limit g.J.ServiceNames.policy c.args.principal.now c.args.ask.now old c.attempt_queued.new.self (answer.Aborted c.in-Aborted.stamp)
+    attempted_last g.J.DeskNames.terms.limit g.J.ServiceNames.policy c.args.principal.now c.args.ask.now old c.attempt-in-loop-made.new.self (answer.Aborted c.in-Aborted.stamp)
     c.loop-made._made (omega (arith, c.loop-made-test.true))
-    (attempted_refused g.J.DeskNames.terms.limit g.J.ServiceNames.policy c.args.principal.now c.args.ask.now old c.loop-made.self c.attempt_queued.new.self
+    (attempted_refused g.J.DeskNames.terms.limit g.J.ServiceNames.policy c.args.principal.now c.args.ask.now old c.loop-made.self c.attempt-in-loop-made.new.self
     c.in-Aborted.stamp c.loop-made._made
     (subst (λ (a : Answer). IsAttempted g.J.DeskNames.terms.limit g.J.ServiceNames.policy c.args.principal.now c.args.ask.now old c.loop-made.self a c.loop-made._made) c.in-Aborted.is was.attempted)
-    (record { sound = was.on.sound; on = c.attempt_queued.ensures.on; adds = c.in-Err.ensures.unbegun }))
+    (record { sound = was.on.sound; on = c.attempt-in-loop-made.ensures.on; adds = c.in-Err.ensures.unbegun }))
 
 pub returns-in-Err-clause-on : goal.returns-in-Err-clause-on
 returns-in-Err-clause-on g c =
-    on_trans c.args.self.now c.loop-made.self c.attempt_queued.new.self c.loop-made.invariant.on c.attempt_queued.ensures.on
+    on_trans c.args.self.now c.loop-made.self c.attempt-in-loop-made.new.self c.loop-made.invariant.on c.attempt-in-loop-made.ensures.on
 
 -- all attempts were made
 pub returns-clause-rests : goal.returns-clause-rests

@@ -1,20 +1,18 @@
-use Rattle.std.proofs.Common.{subst}
-use Rattle.album_permits.specs.declared.answers.Answer.{Answer}
-use Rattle.album_sessions.specs.Resting.{RestsOn}
-use Rattle.album_sessions.proofs.AttemptLemmas.{aborted_later}
+use Rattle.album_sessions.proofs.AttemptLemmas.{settled_rests, settled_adds}
 use Rattle.album_sessions.proofs.SessionLemmas.{on_trans}
 use Rattle.album_sessions.proofs.session.Session.attempt.Goals as goal
 
 -- what the aborted write has prepared was settled since
-pub returns-in-Aborted-clause-rests : goal.returns-in-Aborted-clause-rests
-returns-in-Aborted-clause-rests g c =
-    let limit = g.J.DeskNames.terms.limit in
-    let policy = g.J.ServiceNames.policy in
-    aborted_later limit policy c.args.principal.now c.args.ask.now c.args.self.now c.answer.new.self c.settle.new.self c.in-Aborted.stamp
-    c.answer.ensures.on c.settle.ensures
-    (subst (λ (a : Answer). RestsOn limit policy c.args.principal.now c.args.ask.now c.args.self.now c.answer.new.self a) c.in-Aborted.is
-    c.in_ok-answer.ensures.rests)
+pub returns-clause-rests : goal.returns-clause-rests
+returns-clause-rests g c =
+    settled_rests g.J.DeskNames.terms.limit g.J.ServiceNames.policy c.args.principal.now c.args.ask.now c.args.self.now c.answer-answer.new.self
+    c.settle_after.new.self c.answer-answer.result c.answer-answer.ensures.on c.settle_after.ensures.still c.settle_after.ensures.others c.answer-answer.ensures.rests
 
-pub returns-in-Aborted-clause-on : goal.returns-in-Aborted-clause-on
-returns-in-Aborted-clause-on g c =
-    on_trans c.args.self.now c.answer.new.self c.settle.new.self c.answer.ensures.on c.settle.ensures.on
+pub returns-clause-unbegun : goal.returns-clause-unbegun
+returns-clause-unbegun g c =
+    settled_adds g.J.DeskNames.terms.limit g.J.ServiceNames.policy c.args.principal.now c.args.ask.now c.args.self.now c.answer-answer.new.self
+    c.settle_after.new.self c.answer-answer.result c.settle_after.ensures.others c.answer-answer.ensures.unbegun
+
+pub returns-clause-on : goal.returns-clause-on
+returns-clause-on g c =
+    on_trans c.args.self.now c.answer-answer.new.self c.settle_after.new.self c.answer-answer.ensures.on c.settle_after.ensures.still.on

@@ -91,9 +91,9 @@ send-requires g c =
     (view_by c.requires.way.0 c.args.course.now.hinted c.is_reading-reads.result c.tries-tries.result c.is_in_vain.result c.args.phase
     c.in-Ok.transition c.requires.way.1 c.is_reading-reads.ensures.reads c.tries-tries.ensures c.is_in_vain.ensures c.if-is_in_vain.false) in
     record {
-      free = subst (IsFree g.J.ServiceNames.policy c.take_over.new.self) (sym turned.2)
+      free = subst (λ (z : List Message × Phase). IsFree g.J.ServiceNames.policy c.take_over.new.self z.0 z.1) (λ i. (sym turned.2 i, sym turned.1 i))
           (free_of g.J.DeskNames.terms.limit g.J.ServiceNames.policy c.requires.way.0 c.take_over.new.self c.args.asked.begun.cut c.args.asked.sent.items c.in-Ok.transition turned.0 led);
-      shown = subst (λ (ms : List Message). All (Shows (announced_by c.take_over.new.self.cut ms)) ms) (sym turned.2)
+      shown = subst (λ (z : List Message × Phase). All (Shows (announced_by c.take_over.new.self.cut z.0 z.1)) z.0) (λ i. (sym turned.2 i, sym turned.1 i))
           (shown_of g.J.DeskNames.terms.limit g.J.ServiceNames.policy c.requires.way.0 c.take_over.new.self c.args.asked.begun.cut c.args.asked.sent.items c.in-Ok.transition turned.0 led);
     }
 
@@ -107,7 +107,7 @@ returns-in-Sends-clause-way g c = λ outset by w.
     (view_by outset c.args.course.now.hinted c.is_reading-reads.result c.tries-tries.result c.is_in_vain.result c.args.phase
     c.in-Ok.transition by c.is_reading-reads.ensures.reads c.tries-tries.ensures c.is_in_vain.ensures c.if-is_in_vain.false) in
     let goes = goes_of g.J.DeskNames.terms.limit g.J.ServiceNames.policy outset c.take_over.new.self c.args.asked.begun.cut c.args.asked.sent.items c.in-Ok.transition turned.0 led
-    c.send.new.self (subst (IsAnnouncedBy c.take_over.new.self c.send.new.self) turned.2 c.send.ensures.announced) in
+    c.send.new.self (subst (λ (z : List Message × Phase). IsAnnouncedBy c.take_over.new.self c.send.new.self z.0 z.1) (λ i. (turned.2 i, turned.1 i)) c.send.ensures.announced) in
     all_led g.J.DeskNames.terms.limit g.J.ServiceNames.policy outset c.args.asked c.in-Sends.phase c.in-Sends.sent.items c.send.new.self
     (subst (λ (z : List Message × Phase). IsUnderWay g.J.ServiceNames.policy outset c.send.new.self (sent_at c.args.asked.begun.cut c.send.new.self.cut z.0)
     (sent_last c.args.asked.sent.items z.0) z.1) (λ i. (sym turned.2 i, sym turned.1 i)) goes)
@@ -120,7 +120,7 @@ returns-in-Sends-clause-on g c =
     (on_moved g.J.DeskNames.terms.limit g.J.ServiceNames.policy c.args.self.now c.take_over.new.self c.args.asked.begun.cut c.args.asked.sent.items
     c.args.phase c.in-Ok.transition c.in-Ok.ensures.taken c.take_over.ensures.client c.take_over.ensures.cut o.counter
     (subst (λ (s : SessionState). IsSound s.cut) c.self.view_is c.is_sound.ensures))
-    (on_announced c.take_over.new.self c.send.new.self c.in-Sends.sent.items c.send.ensures.announced)
+    (on_announced c.take_over.new.self c.send.new.self c.in-Sends.sent.items c.in-Sends.phase c.send.ensures.announced)
 
 pub returns-in-Sends-clause-unbegun : goal.returns-in-Sends-clause-unbegun
 returns-in-Sends-clause-unbegun g c = λ outset by w.
@@ -132,7 +132,7 @@ returns-in-Sends-clause-unbegun g c = λ outset by w.
     (view_by outset c.args.course.now.hinted c.is_reading-reads.result c.tries-tries.result c.is_in_vain.result c.args.phase
     c.in-Ok.transition by c.is_reading-reads.ensures.reads c.tries-tries.ensures c.is_in_vain.ensures c.if-is_in_vain.false) in
     let goes = goes_of g.J.DeskNames.terms.limit g.J.ServiceNames.policy outset c.take_over.new.self c.args.asked.begun.cut c.args.asked.sent.items c.in-Ok.transition turned.0 led
-    c.send.new.self (subst (IsAnnouncedBy c.take_over.new.self c.send.new.self) turned.2 c.send.ensures.announced) in
+    c.send.new.self (subst (λ (z : List Message × Phase). IsAnnouncedBy c.take_over.new.self c.send.new.self z.0 z.1) (λ i. (turned.2 i, turned.1 i)) c.send.ensures.announced) in
     unbegun_sent g.J.DeskNames.terms.limit g.J.ServiceNames.policy outset c.send.new.self
     (sent_at c.args.asked.begun.cut c.send.new.self.cut c.in-Sends.sent.items) (sent_last c.args.asked.sent.items c.in-Sends.sent.items) c.in-Sends.phase c.send.result
     (subst (λ (z : List Message × Phase). IsUnderWay g.J.ServiceNames.policy outset c.send.new.self (sent_at c.args.asked.begun.cut c.send.new.self.cut z.0)

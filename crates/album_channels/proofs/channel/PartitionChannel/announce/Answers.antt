@@ -1,6 +1,6 @@
 use Rattle.std.proofs.Common.{rules}
 use Rattle.album_channels.proofs.SightingLemmas.{all_sighted}
-use Rattle.album_channels.proofs.channel.PartitionChannel.announce_items.Goals as goal
+use Rattle.album_channels.proofs.channel.PartitionChannel.announce.Goals as goal
 
 -- what was sighted is so of the longer cut
 pub invariant_of-self : goal.invariant_of-self
