@@ -3,6 +3,7 @@
 //! and `album ask` is a client of it. The command line and all but `serve` are album_commands'.
 #![tactic(auto)]
 
+mod audit_files;
 mod serving;
 
 use crate::serving::serve;

@@ -1,5 +1,6 @@
 //! The subcommand `serve`: a service of the port that the command line names.
 
+use crate::audit_files::audit_file;
 use album_commands::{TURNS, open, status};
 use album_judge::Fault;
 use album_port::{AuditFile, Host, Served, Serving, serve_beside, serve_until};
@@ -7,7 +8,7 @@ use album_stamps::Refusal;
 use album_talk::Admins;
 use clap::ArgMatches;
 use std::alloc::Global;
-use std::fs::{File, OpenOptions};
+use std::fs::File;
 use std::io::{Read, Write};
 use std::net::{Net, TcpListener, TcpStream};
 use std::process::ExitCode;
@@ -15,6 +16,9 @@ use std::rt::Files;
 use std::sync::Wait;
 use std::thread::Threads;
 use std::time;
+
+/// How many seconds `--hello` and `--grace` are with `--until-eof`, where they aren't given.
+const LIMIT: u32 = 10;
 
 /// Runs the service that the command line names, to its end. The bound has that of `Host`, written out: the borrow
 /// checker wants the types that it names where `main` calls this.
@@ -61,8 +65,8 @@ fn serve_port<T: Host + Files, R: Read + Send + Drop, W: Write>(
     admins: Admins,
     audit: Option<AuditFile>,
 ) -> Result<Served, Fault> {
-    let serving = serving_of(matches, admins);
     let until_eof = matches.is_some_and(|m| m.get_flag("until-eof"));
+    let serving = serving_of(matches, admins, until_eof);
     match matches.and_then(|m| m.get_str("opening")) {
         None => serve_input(rt, alloc, reader, writer, serving, audit, until_eof),
         Some(path) => {
@@ -90,40 +94,25 @@ fn serve_input<T: Host, R: Read + Send + Drop, W: Write>(
     serve_beside(rt, alloc, &mut reader, None::<R>, writer, serving, audit)
 }
 
-/// What the command line says of the service.
-fn serving_of(matches: Option<&ArgMatches<'_>>, admins: Admins) -> Serving {
+/// What the command line says of the service. Where it ends by its input, whoever connects has a limit of time.
+fn serving_of(matches: Option<&ArgMatches<'_>>, admins: Admins, until_eof: bool) -> Serving {
     let conns = matches.and_then(|m| m.get_one::<u16>("conns"));
+    let limit = if until_eof { LIMIT } else { 0 };
     Serving {
         port: matches.and_then(|m| m.get_one::<u16>("PORT")).unwrap_or(0),
         conns: conns.unwrap_or(u16::MAX),
         turns: TURNS,
-        idle: matches.and_then(|m| m.get_one::<u32>("idle")).unwrap_or(0),
-        stats: matches.and_then(|m| m.get_one::<u32>("stats")).unwrap_or(0),
+        idle: seconds_of(matches, "idle").unwrap_or(0),
+        hello: seconds_of(matches, "hello").unwrap_or(limit),
+        grace: seconds_of(matches, "grace").unwrap_or(limit),
+        stats: seconds_of(matches, "stats").unwrap_or(0),
         admins,
     }
 }
 
-/// The audit file that the command line names.
-fn audit_file<T: Files<File = File> + Eprint>(
-    rt: &T,
-    alloc: Global,
-    matches: Option<&ArgMatches<'_>>,
-) -> Result<Option<AuditFile>, Fault> {
-    let Some(name) = matches.and_then(|m| m.get_str("audit")) else {
-        return Ok(None);
-    };
-    let path = String::from_str(alloc, name).map_err(|_| Fault::Memory)?;
-    let file = open_to_append(rt, name)?;
-    Ok(Some(AuditFile { path, file }))
-}
-
-/// The file at the path, made where there is none, to be appended to. Where that fails, standard error says why.
-fn open_to_append<T: Files + Eprint>(rt: &T, path: &str) -> Result<T::File, Fault> {
-    let opened = OpenOptions::new().append(true).create(true).open(rt, path);
-    opened.map_err(|error| {
-        let _ = eprintln!(rt; "album: {path}: {error}");
-        Fault::Writing
-    })
+/// So many seconds, where the option is given.
+fn seconds_of(matches: Option<&ArgMatches<'_>>, option: &str) -> Option<u32> {
+    matches.and_then(|m| m.get_one::<u32>(option))
 }
 
 /// Who may do more than ask, by the command line.

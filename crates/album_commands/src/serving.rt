@@ -18,6 +18,8 @@ pub(crate) fn serve_command<'a>(alloc: Global) -> Result<Command<'a>, AllocError
     let command = with_arg(command, conns_arg(alloc));
     let command = with_arg(command, idle_arg(alloc));
     let command = with_arg(command, until_eof_arg(alloc));
+    let command = with_arg(command, hello_arg(alloc));
+    let command = with_arg(command, grace_arg(alloc));
     let command = with_arg(command, opening_arg(alloc));
     let command = with_arg(command, admin_arg(alloc));
     let command = with_arg(command, stats_arg(alloc));
@@ -37,7 +39,7 @@ fn idle_arg<'a>(alloc: Global) -> Arg<'a> {
     Arg::new(alloc, "idle")
         .long("idle")
         .value_name("SECONDS")
-        .help("A connection that says nothing for so long ends")
+        .help("A connection that says nothing, or takes no answer, for so long ends")
         .value_parser(value_parser!(u32).range(1..))
 }
 
@@ -46,6 +48,22 @@ fn until_eof_arg<'a>(alloc: Global) -> Arg<'a> {
         .long("until-eof")
         .help("Serves until standard input ends, and then lets what has begun be answered")
         .action(ArgAction::SetTrue)
+}
+
+fn hello_arg<'a>(alloc: Global) -> Arg<'a> {
+    Arg::new(alloc, "hello")
+        .long("hello")
+        .value_name("SECONDS")
+        .help("A connection that doesn't say who it is for so long ends; with --until-eof 10")
+        .value_parser(value_parser!(u32).range(1..))
+}
+
+fn grace_arg<'a>(alloc: Global) -> Arg<'a> {
+    Arg::new(alloc, "grace")
+        .long("grace")
+        .value_name("SECONDS")
+        .help("With --until-eof: how long what has begun may take once standard input has ended; 10 where it isn't given")
+        .value_parser(value_parser!(u32).range(1..))
 }
 
 fn opening_arg<'a>(alloc: Global) -> Arg<'a> {

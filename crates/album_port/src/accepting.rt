@@ -10,7 +10,7 @@ use std::io::ErrorKind;
 use std::net::{TcpListener, TcpStream};
 use std::sync::{Arc, Wait};
 use std::thread::{Scope, Threads};
-use std::time::Duration;
+use std::time::{Duration, Instant};
 use std::{thread, time};
 
 /// How many milliseconds the thread that accepts sleeps, where it has to look whether something has changed.
@@ -26,17 +26,23 @@ pub(crate) struct Limits {
     pub conns: u16,
     /// How many reads each may make.
     pub turns: u64,
-    /// How long one may say nothing.
+    /// How long one may say nothing, or take no answer.
     pub idle: Option<Duration>,
+    /// How long one may take to say who it is.
+    pub hello: Option<Duration>,
+    /// How long those that are open may go on once the service is closed.
+    pub grace: Option<Duration>,
     /// Whether the service ends once its connections are closed, and not before.
     pub until_closed: bool,
 }
 
-/// How many connections were counted, and how many had ended as one last failed to come.
+/// How many connections were counted, how many had ended as one last failed to come, and when those that are open are
+/// ended, once the service is closed.
 #[derive(Drop)]
 struct Count {
     counted: u16,
     failed_at: Option<u64>,
+    until: Option<Instant>,
 }
 
 /// Accepts connections until all that are counted have ended, or they are closed.
@@ -46,7 +52,7 @@ pub(crate) fn accept_all<'s, J, T, E>(
     scope: &'s Scope<'s, E>,
     service: &Service<J>,
     listener: &TcpListener,
-    shared: &'s Shared<J>,
+    shared: &'s Shared<J, T>,
 )
 where
     J: ServiceNames + Send + Sync + 's,
@@ -55,13 +61,17 @@ where
     let mut count = Count {
         counted: 0,
         failed_at: None,
+        until: None,
     };
     if shared.limits.until_closed {
         let _ = listener.set_nonblocking(true);
     }
     for _ in rt.forever() {
         let is_closed = is_closed(&rt, service, &shared.connections);
-        let is_full = is_closed || count.counted >= shared.limits.conns;
+        let is_full = is_closed || count.is_full(shared);
+        if is_closed {
+            count.cut_late(&rt, shared);
+        }
         if is_full {
             if shared.connections.have_ended() && (is_closed || !shared.limits.until_closed) {
                 return;
@@ -84,7 +94,7 @@ fn accept_one<'s, J, T, E>(
     scope: &'s Scope<'s, E>,
     service: &Service<J>,
     listener: &TcpListener,
-    shared: &'s Shared<J>,
+    shared: &'s Shared<J, T>,
     is_full: bool,
     count: &mut Count,
 )
@@ -116,6 +126,29 @@ where
 }
 
 impl Count {
+    /// Whether as many have come as are served. Where the service doesn't end by their number, those count that have said
+    /// who they are, and else those that failed to come too.
+    fn is_full<J: ServiceNames, T: Host>(&self, shared: &Shared<J, T>) -> bool {
+        if shared.limits.until_closed {
+            let connections = &shared.connections;
+            return !connections.is_unlimited() && connections.counted() >= connections.most();
+        }
+        self.counted >= shared.limits.conns
+    }
+
+    /// Ends the connections that are open still, where the service was closed so long ago as they are given.
+    fn cut_late<J: ServiceNames, T: Host>(&mut self, rt: &T, shared: &Shared<J, T>) {
+        let (Some(grace), Ok(now)) = (shared.limits.grace, Instant::now(rt)) else {
+            return;
+        };
+        let until = self.until;
+        match until {
+            None => self.until = now.checked_add(grace),
+            Some(until) if now >= until => shared.connections.cut(rt),
+            Some(_) => {}
+        }
+    }
+
     /// A connection fails to come. It counts, unless the one before failed too and none has ended since: where there
     /// are no more files to be had, waiting for an end is all that helps.
     fn fail<T: Wait + time::Clock>(&mut self, rt: &T, connections: &Connections) {
@@ -149,7 +182,7 @@ fn welcome<'s, J, T, E>(
     alloc: Global,
     scope: &'s Scope<'s, E>,
     service: &Service<J>,
-    shared: &'s Shared<J>,
+    shared: &'s Shared<J, T>,
     stream: TcpStream,
 )
 where
@@ -157,6 +190,7 @@ where
     T: Host + 's,
 {
     let _ = stream.set_read_timeout(shared.limits.idle);
+    let _ = stream.set_write_timeout(shared.limits.idle);
     let Ok(stream) = Arc::new(alloc, stream) else {
         return;
     };
@@ -175,14 +209,14 @@ fn begin<'s, J, T, E>(
     alloc: Global,
     scope: &'s Scope<'s, E>,
     service: &Service<J>,
-    shared: &'s Shared<J>,
+    shared: &'s Shared<J, T>,
     stream: &Arc<TcpStream, Global>,
 ) -> Result<(), Refusal>
 where
     J: ServiceNames + Send + Sync + 's,
     T: Host + 's,
 {
-    let connection = open_connection(&rt, service, &shared.connections, stream)?;
+    let connection = open_connection(&rt, service, shared, stream)?;
     let client = connection.owned.session.client();
     let thread = scope.spawn(move || attend(alloc, shared, connection));
     if thread.is_err() {
@@ -192,11 +226,11 @@ where
     Ok(())
 }
 
-/// The connection is open, and has a session.
+/// The connection is open, and has a session: one that rests, if there is any.
 fn open_connection<J: ServiceNames, T: Host>(
     rt: &T,
     service: &Service<J>,
-    connections: &Connections,
+    shared: &Shared<J, T>,
     stream: &Arc<TcpStream, Global>,
 ) -> Result<OpenConnection<J, T>, Refusal> {
     let from = Resumed {
@@ -204,8 +238,13 @@ fn open_connection<J: ServiceNames, T: Host>(
         stream: Arc::try_clone(stream)?,
     };
     let stream = Arc::try_clone(stream)?;
-    let owned = OwnedSession::begin(rt, service)?;
-    connections.begin(rt, owned.session.client(), &stream)?;
+    let owned = match shared.rested(rt) {
+        Some(owned) => owned,
+        None => OwnedSession::begin(rt, service)?,
+    };
+    shared
+        .connections
+        .begin(rt, owned.session.client(), &stream)?;
     Ok(OpenConnection {
         owned,
         from,

@@ -1,4 +1,7 @@
 //! The connections of a service that are open. Each has a session and a thread of its own.
+use crate::accepting::Limits;
+use crate::first_line::FirstLine;
+use crate::first_words::{FirstWords, Hearing};
 use crate::notices::Notice;
 use crate::port::{Host, Shared};
 use crate::resumed::Resumed;
@@ -10,9 +13,10 @@ use crossbeam_channel::Sender;
 use std::alloc::Global;
 use std::collections::BTreeMap;
 use std::net::{Shutdown, TcpStream};
-use std::sync::atomic::{AtomicU64, Ordering};
+use std::sync::atomic::{AtomicBool, AtomicU64, Ordering};
 use std::sync::{Arc, Mutex, Wait};
 use std::time;
+use std::time::Instant;
 
 /// The streams of the connections that are open, by the numbers of their sessions.
 #[derive(Drop)]
@@ -32,6 +36,9 @@ pub(crate) struct Connections {
     begun: AtomicU64,
     ended: AtomicU64,
     most: u16,
+    /// How many have said who they are, and whether these alone count.
+    named: AtomicU64,
+    counts_named: bool,
     /// Takes what is to be printed on standard error.
     notices: Sender<Notice>,
     /// Who may do more than ask.
@@ -45,6 +52,7 @@ impl Connections {
         notices: Sender<Notice>,
         port: u16,
         most: u16,
+        counts_named: bool,
         admins: Admins,
     ) -> Connections {
         Connections {
@@ -56,6 +64,8 @@ impl Connections {
             begun: AtomicU64::new(0),
             ended: AtomicU64::new(0),
             most,
+            named: AtomicU64::new(0),
+            counts_named,
             notices,
             admins,
         }
@@ -87,6 +97,25 @@ impl Connections {
         let stream = self.streams.lock(rt).open.remove(&client.number());
         drop(stream);
         self.ended.fetch_add(1, Ordering::SeqCst);
+    }
+
+    /// A connection has said who it is.
+    pub(crate) fn name(&self) {
+        self.named.fetch_add(1, Ordering::SeqCst);
+    }
+
+    /// How many count: those that have begun, or those that have said who they are.
+    pub(crate) fn counted(&self) -> u64 {
+        if self.counts_named {
+            return self.named.load(Ordering::SeqCst);
+        }
+        self.begun()
+    }
+
+    /// Whether any number of them may count: where those alone count that have said who they are, the greatest number is
+    /// no limit.
+    pub(crate) fn is_unlimited(&self) -> bool {
+        self.counts_named && self.most == u16::MAX
     }
 
     /// How many have begun.
@@ -128,6 +157,14 @@ impl Connections {
         is_first
     }
 
+    /// Ends the connections that are open still, also those whose client takes no answer.
+    pub(crate) fn cut<T: Wait>(&self, rt: &T) {
+        let streams = self.streams.lock(rt);
+        for (_, stream) in &streams.open {
+            let _ = stream.shutdown(Shutdown::Both);
+        }
+    }
+
     /// Has the notice printed on standard error, some time.
     pub(crate) fn notify<T: Wait>(&self, rt: &T, notice: Notice) {
         let _ = self.notices.send(rt, notice);
@@ -156,7 +193,7 @@ pub(crate) struct OpenConnection<J: ServiceNames, T: Wait + Copy> {
 }
 
 /// Answers the lines of a connection, to its end. Where a note can't be written, no connection is answered any more.
-pub(crate) fn attend<J, T>(alloc: Global, shared: &Shared<J>, connection: OpenConnection<J, T>)
+pub(crate) fn attend<J, T>(alloc: Global, shared: &Shared<J, T>, connection: OpenConnection<J, T>)
 where
     J: ServiceNames + Send + Sync,
     T: Host,
@@ -169,11 +206,18 @@ where
     } = shared;
     let OpenConnection {
         mut owned,
-        mut from,
+        from,
         stream,
     } = connection;
     let _ = stream.set_nodelay(true);
     let (rt, client) = (owned.rt, owned.session.client());
+    let said = AtomicBool::new(false);
+    let hearing = Hearing {
+        journal,
+        connections,
+        said: &said,
+    };
+    let mut from = first_words(&rt, from, &said, limits);
     let mut to: &TcpStream = &stream;
     let done = converse_with(
         &rt,
@@ -182,16 +226,39 @@ where
         &mut to,
         &mut owned.session,
         &connections.admins,
-        journal,
+        &hearing,
         limits.turns,
     );
-    if let Err(fault) = done {
+    if from.first.is_request() {
+        connections.notify(&rt, Notice::Http);
+    } else if let Err(fault) = done {
         connections.notify(&rt, Notice::Fault(fault));
     }
+    drop(from);
     journal.forget(&rt, &owned.session);
     if journal.has_failed() {
         connections.close(&rt);
     }
-    drop(owned);
     connections.end(&rt, client);
+    shared.rest(owned);
+}
+
+/// What the connection is read by until it has said who it is, within the limits.
+fn first_words<'a, T: Host>(
+    rt: &T,
+    from: Resumed<T>,
+    said: &'a AtomicBool,
+    limits: &Limits,
+) -> FirstWords<'a, T> {
+    let until = match limits.hello {
+        Some(hello) => Instant::now(rt).ok().and_then(|now| now.checked_add(hello)),
+        None => None,
+    };
+    FirstWords {
+        from,
+        said,
+        until,
+        idle: limits.idle,
+        first: FirstLine::new(),
+    }
 }

@@ -5,7 +5,7 @@
 //!
 //! Read `port` first: it opens a service (`opening`), gives each connection a thread (`accepting`, `connections`),
 //! writes its notes to a file (`audit`, `log`) and prints its figures (`watch`). `resumed` reads anew after an
-//! interruption. specs/Audits.antt says what the audit file has.
+//! interruption, and `first_words` reads until it is said who talks. specs/Audits.antt says what the audit file has.
 //!
 //! `serve` ends with its connections; `serve_for` has options; `serve_until` ends with its input; `serve_beside` takes
 //! the opening from another input.
@@ -19,9 +19,11 @@ mod opening;
 mod audit;
 mod log;
 
-// The connections, and what wakes the thread that accepts them.
+// The connections, what they say first, and what wakes the thread that accepts them.
 mod accepting;
 mod connections;
+mod first_line;
+mod first_words;
 mod resumed;
 mod waker;
 

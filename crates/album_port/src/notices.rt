@@ -17,6 +17,8 @@ const LAST: u64 = 1;
 pub(crate) enum Notice {
     /// A connection ended by a fault.
     Fault(Fault),
+    /// A connection ended, since its first line begins like a request of HTTP.
+    Http,
     /// Why the service is about to end, or is soon to refuse.
     Warning(String),
     /// The figures of the service, a line.
@@ -66,6 +68,9 @@ fn print_all<T: Wait + Eprint>(rt: &T, from: &Receiver<Notice>, end: Sender<Noti
 fn print<T: Eprint>(rt: &T, notice: &Notice) {
     let _ = match notice {
         Notice::Fault(fault) => eprintln!(rt; "album: {fault}"),
+        Notice::Http => eprintln!(rt;
+            "album: a request of HTTP came, and nothing after its first line was read"
+        ),
         Notice::Warning(text) => eprintln!(rt; "album: {text}"),
         Notice::Figures(line) => eprint!(rt; "{line}"),
     };

@@ -25,14 +25,14 @@ use album_items::Opening;
 use album_judge::{Fault, PIECE, write_refused, write_text};
 use album_stamps::Refusal;
 use album_talk::Admins;
-use album_threads::{Gauge, Opened, Service, ServiceNames};
+use album_threads::{Gauge, Opened, OwnedSession, Service, ServiceNames};
 use album_wire::{Counted, TalkOut, write_talk};
 use crossbeam_channel::{Receiver, Sender, unbounded};
 use std::alloc::Global;
 use std::io::{Read, Write};
 use std::marker::Brand;
 use std::net::{Net, TcpListener, TcpStream};
-use std::sync::Wait;
+use std::sync::{Mutex, Wait};
 use std::thread::{Scope, Threads};
 use std::time::Duration;
 use std::{thread, time};
@@ -57,8 +57,13 @@ pub struct Serving {
     pub conns: u16,
     /// How many reads the opening may take, and each connection may make.
     pub turns: u64,
-    /// A connection that says nothing for so many seconds ends, by the fault `Reading`. 0 is no limit.
+    /// A connection that says nothing for so many seconds ends, by the fault `Reading`, and one that takes no answer, by
+    /// `Writing`. 0 is no limit.
     pub idle: u32,
+    /// A connection that doesn't say who it is for so many seconds ends, by the fault `Reading`. 0 is no limit.
+    pub hello: u32,
+    /// Where the service ends by its input, connections that are open so many seconds later are ended. 0 is no limit.
+    pub grace: u32,
     /// Each so many seconds the figures of the service are printed on standard error. 0 is never.
     pub stats: u32,
     /// Who may sweep, trim and ask what is pending.
@@ -111,6 +116,8 @@ pub fn serve<T: Host, R: Read, W: Write>(
         conns,
         turns,
         idle: 0,
+        hello: 0,
+        grace: 0,
         stats: 0,
         admins: Admins::Anyone,
     };
@@ -132,7 +139,7 @@ pub fn serve_for<T: Host, R: Read, W: Write>(
     serving: Serving,
     audit: Option<AuditFile>,
 ) -> Result<Served, Fault> {
-    let begun = begin(&rt, alloc, reader, writer, &serving)?;
+    let begun = begin(&rt, alloc, reader, writer, &serving, serving.conns)?;
     let setup = Setup::<&[u8]> {
         input: None,
         serving,
@@ -155,7 +162,7 @@ pub fn serve_until<T: Host, R: Read + Send + Drop, W: Write>(
     serving: Serving,
     audit: Option<AuditFile>,
 ) -> Result<Served, Fault> {
-    let begun = begin(&rt, alloc, &mut reader, writer, &serving)?;
+    let begun = begin(&rt, alloc, &mut reader, writer, &serving, u16::MAX)?;
     let setup = Setup {
         input: Some(reader),
         serving,
@@ -179,7 +186,12 @@ pub fn serve_beside<T: Host, O: Read, R: Read + Send + Drop, W: Write>(
     serving: Serving,
     audit: Option<AuditFile>,
 ) -> Result<Served, Fault> {
-    let begun = begin(&rt, alloc, opening, writer, &serving)?;
+    let sessions = if input.is_some() {
+        u16::MAX
+    } else {
+        serving.conns
+    };
+    let begun = begin(&rt, alloc, opening, writer, &serving, sessions)?;
     let setup = Setup {
         input,
         serving,
@@ -220,15 +232,17 @@ impl<R: Drop> Setup<R> {
 /// What was opened, and its port; or how `serve` ends without them.
 type Begun = Result<(Opened, TcpListener), Served>;
 
-/// Reads the opening, opens the service's state by it, and listens at the port; or else answers why not.
+/// Reads the opening, opens the service's state by it for so many sessions, and listens at the port; or else answers why
+/// not.
 fn begin<T: Host, R: Read, W: Write>(
     rt: &T,
     alloc: Global,
     reader: &mut R,
     writer: &mut W,
     serving: &Serving,
+    sessions: u16,
 ) -> Result<Begun, Fault> {
-    match open(rt, alloc, reader, writer, serving)? {
+    match open(rt, alloc, reader, writer, serving.turns, sessions)? {
         Ok(opened) => Ok(listen(rt, opened, serving.port)),
         Err(served) => Ok(Err(served)),
     }
@@ -240,10 +254,11 @@ fn open<T: Host, R: Read, W: Write>(
     alloc: Global,
     reader: &mut R,
     writer: &mut W,
-    serving: &Serving,
+    turns: u64,
+    sessions: u16,
 ) -> Result<Result<Opened, Served>, Fault> {
-    match read_opening(alloc, reader, serving.turns)? {
-        Ok(opening) => open_by(rt, alloc, &opening, writer, serving.conns),
+    match read_opening(alloc, reader, turns)? {
+        Ok(opening) => open_by(rt, alloc, &opening, writer, sessions),
         Err(Unopened { line, why }) => {
             let _ = eprintln!(rt; "album: opening, line {line}: {}", why.name());
             refuse(alloc, why, writer)
@@ -257,9 +272,9 @@ fn open_by<T: Host, W: Write>(
     alloc: Global,
     opening: &Opening,
     writer: &mut W,
-    conns: u16,
+    sessions: u16,
 ) -> Result<Result<Opened, Served>, Fault> {
-    match Opened::new(alloc, opening, conns.max(1)) {
+    match Opened::new(alloc, opening, sessions.max(1)) {
         Ok(opened) => Ok(Ok(opened)),
         Err(why) => {
             let _ = eprintln!(rt; "album: opening: {}", why.name());
@@ -441,13 +456,31 @@ where
 
 /// What the threads of a service share.
 #[derive(Drop)]
-pub(crate) struct Shared<J: ServiceNames> {
+pub(crate) struct Shared<J: ServiceNames, T: Wait + Copy> {
     pub gauge: Gauge<J>,
     pub connections: Connections,
     pub journal: AuditJournal,
     pub limits: Limits,
     /// Each so many seconds the figures are printed. 0 is never.
     pub stats: u32,
+    /// The sessions of connections that have ended, for later ones.
+    resting: Mutex<Vec<OwnedSession<J, T>>>,
+}
+
+impl<J: ServiceNames, T: Wait + Copy> Shared<J, T> {
+    /// A session that rests, if there is one.
+    pub(crate) fn rested(&self, rt: &T) -> Option<OwnedSession<J, T>> {
+        self.resting.lock(rt).pop()
+    }
+
+    /// The session's connection has ended. Where the service ends by its input, the next one has it: so there is no
+    /// number of connections after which no session is to be had. Else it ends, and each connection has a new number.
+    pub(crate) fn rest(&self, owned: OwnedSession<J, T>) {
+        let rt = owned.rt;
+        if self.limits.until_closed {
+            let _ = self.resting.lock(&rt).push(owned);
+        }
+    }
 }
 
 /// What one thread of a service alone has. The one that reads the input to its end has `input`, and the one that
@@ -476,13 +509,13 @@ struct Ends<J: ServiceNames> {
 /// # Errors
 ///
 /// `OutOfMemory`.
-fn parts_of<J: ServiceNames, T: Wait, R: Drop>(
+fn parts_of<J: ServiceNames, T: Wait + Copy, R: Drop>(
     rt: &T,
     alloc: Global,
     service: &Service<J>,
     setup: Setup<R>,
     notices: Sender<Notice>,
-) -> Result<(Shared<J>, Own<R>), Refusal> {
+) -> Result<(Shared<J, T>, Own<R>), Refusal> {
     let ends = ends_of(alloc, service, notices)?;
     if setup.audit.is_some() {
         service.keep_records(rt);
@@ -513,11 +546,11 @@ fn ends_of<J: ServiceNames>(
 }
 
 /// Parts the setup and the ends into what the threads of a service share, and what one of them alone has.
-fn parted<J: ServiceNames, R: Drop>(
+fn parted<J: ServiceNames, T: Wait + Copy, R: Drop>(
     alloc: Global,
     setup: Setup<R>,
     ends: Ends<J>,
-) -> (Shared<J>, Own<R>) {
+) -> (Shared<J, T>, Own<R>) {
     let (input, serving, audit) = setup.into_parts();
     let Ends {
         gauge,
@@ -528,7 +561,14 @@ fn parted<J: ServiceNames, R: Drop>(
     } = ends;
     let limits = limits_of(&serving, input.is_some());
     let stats = serving.stats;
-    let connections = Connections::new(alloc, notices, serving.port, limits.conns, serving.admins);
+    let connections = Connections::new(
+        alloc,
+        notices,
+        serving.port,
+        limits.conns,
+        limits.until_closed,
+        serving.admins,
+    );
     let journal = AuditJournal::new(alloc, unwritten, audit);
     let shared = Shared {
         gauge,
@@ -536,6 +576,7 @@ fn parted<J: ServiceNames, R: Drop>(
         journal,
         limits,
         stats,
+        resting: Mutex::new(Vec::new(alloc)),
     };
     (shared, Own { input, end, ended })
 }
@@ -547,7 +588,7 @@ fn attend_within<J, T, R>(
     alloc: Global,
     service: &Service<J>,
     listener: &TcpListener,
-    shared: &Shared<J>,
+    shared: &Shared<J, T>,
     own: Own<R>,
 )
 where
@@ -570,7 +611,7 @@ fn watch_within<'s, J, T, E>(
     rt: T,
     alloc: Global,
     scope: &'s Scope<'s, E>,
-    shared: &'s Shared<J>,
+    shared: &'s Shared<J, T>,
     ended: Receiver<()>,
 )
 where
@@ -590,7 +631,7 @@ where
 fn read_within<'s, J, T, R, E>(
     rt: T,
     scope: &'s Scope<'s, E>,
-    shared: &'s Shared<J>,
+    shared: &'s Shared<J, T>,
     input: Option<R>,
 )
 where
@@ -613,13 +654,15 @@ fn limits_of(serving: &Serving, until_closed: bool) -> Limits {
     Limits {
         conns: serving.conns,
         turns: serving.turns,
-        idle: idle_of(serving.idle),
+        idle: seconds_of(serving.idle),
+        hello: seconds_of(serving.hello),
+        grace: seconds_of(serving.grace),
         until_closed,
     }
 }
 
 /// So many seconds, or no limit.
-fn idle_of(seconds: u32) -> Option<Duration> {
+fn seconds_of(seconds: u32) -> Option<Duration> {
     if seconds == 0 {
         return None;
     }

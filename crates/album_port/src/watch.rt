@@ -131,9 +131,9 @@ impl Warned {
                 connections.notify(rt, Notice::Warning(text));
             }
         }
-        let (begun, most) = (figures.begun, figures.most);
-        if is_nearly_spent(begun, most) && !self.connections {
-            let text = format!(in alloc; "{begun} of {most} connections")?;
+        let (counted, most) = (connections.counted(), connections.most());
+        if is_nearly_spent(counted, most) && !connections.is_unlimited() && !self.connections {
+            let text = format!(in alloc; "{counted} of {most} connections")?;
             self.connections = true;
             connections.notify(rt, Notice::Warning(text));
         }

@@ -1,0 +1,101 @@
+//! What a connection says until it has said who it is: how long that may take, and what it may not be.
+use crate::connections::Connections;
+use crate::first_line::FirstLine;
+use crate::notices::Notice;
+use crate::resumed::Resumed;
+use album_eval::Principal;
+use album_judge::Fault;
+use album_talk::Journal;
+use album_threads::{ServiceNames, Session};
+use std::io::{ErrorKind, Read};
+use std::sync::Wait;
+use std::sync::atomic::{AtomicBool, Ordering};
+use std::time::{Duration, Instant};
+use std::{io, time};
+
+/// Reads a connection. Until it has said who it is, it is read until that time alone, and no further than a first line
+/// that begins like a request of HTTP.
+#[derive(Drop)]
+pub(crate) struct FirstWords<'a, T> {
+    pub from: Resumed<T>,
+    /// Whether it has said who it is.
+    pub said: &'a AtomicBool,
+    /// By when it has to, if there is a limit.
+    pub until: Option<Instant>,
+    /// How long it may say nothing afterwards.
+    pub idle: Option<Duration>,
+    pub first: FirstLine,
+}
+
+impl<T: Wait + time::Clock> Read for FirstWords<'_, T> {
+    fn read(&mut self, buf: &mut [u8]) -> io::Result<usize> {
+        if self.first.is_request() {
+            return Err(io::Error::from(ErrorKind::InvalidData));
+        }
+        if self.said.load(Ordering::SeqCst) {
+            self.lift_limit();
+            return self.from.read(buf);
+        }
+        self.limit()?;
+        let len = self.from.read(buf)?;
+        match buf.get(..len) {
+            Some(piece) => Ok(self.first.admit(piece)),
+            None => Ok(len),
+        }
+    }
+}
+
+impl<T: Wait + time::Clock> FirstWords<'_, T> {
+    /// The next read ends by the limit, or by the one of each silence, whichever comes first.
+    ///
+    /// # Errors
+    ///
+    /// `TimedOut`, where the limit has passed.
+    fn limit(&self) -> io::Result<()> {
+        let Some(until) = self.until else {
+            return Ok(());
+        };
+        let left = until.saturating_duration_since(Instant::now(&self.from.rt)?);
+        if left.is_zero() {
+            return Err(io::Error::from(ErrorKind::TimedOut));
+        }
+        let most = match self.idle {
+            Some(idle) => left.min(idle),
+            None => left,
+        };
+        self.from.stream.set_read_timeout(Some(most))
+    }
+
+    /// From now on each silence alone is limited.
+    fn lift_limit(&mut self) {
+        if self.until.take().is_some() {
+            let _ = self.from.stream.set_read_timeout(self.idle);
+        }
+    }
+}
+
+/// A journal that notes when a connection has said who it is: it is told before each answer.
+#[derive(Drop)]
+pub(crate) struct Hearing<'a, A> {
+    pub journal: &'a A,
+    pub connections: &'a Connections,
+    pub said: &'a AtomicBool,
+}
+
+impl<A: Journal> Journal for Hearing<'_, A> {
+    ghost use Rattle.std.specs.Prelude.{⊤};
+
+    ghost recorded = { λ _ _. ⊤ };
+
+    fn settle<J: ServiceNames, T: Wait>(
+        &self,
+        rt: &T,
+        session: &Session<J>,
+        who: Option<&Principal>,
+    ) -> Result<(), Fault> {
+        if who.is_some() && !self.said.swap(true, Ordering::SeqCst) {
+            self.connections.name();
+        }
+        self.journal.settle(rt, session, who)
+    }
+}

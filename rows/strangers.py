@@ -1,0 +1,254 @@
+"""What a running service does with whoever never says who it is, never listens, or speaks something else; and with an
+audit file that isn't one. `serve PORT` without these options does what it always did."""
+import http.client
+import json
+import os
+import shutil
+import subprocess
+import sys
+import tempfile
+import time
+import urllib.error
+import urllib.request
+
+from options import ALLOWED, NOTHING_NOTED, READ, opening, talker
+from serving import SECONDS, Connection, Service, free_port, joined, want, wrong_of
+from talks import ONE_PIECE
+
+OWNED = opening([["allow", "OWNER@", 2032127, 0], ["allow", "EVERYONE@", 257, 0]])
+BAD_LINE = b'{"name":"BadLine","refused":2}\n'
+CLOSED = b'{"name":"Closed","refused":21}\n'
+HTTP = b"album: a request of HTTP came, and nothing after its first line was read\n"
+BIG = "x" * 4_000
+
+
+def until_eof(program, opened, *words, conns=65535):
+    return Service(program, opened, conns, "--until-eof", *words, goes_on=True)
+
+
+def closes(service, said=(b"",)):
+    """Its input ends, and it ends well."""
+    service.run.stdin.close()
+    service.end(NOTHING_NOTED, list(said))
+
+
+def seconds_of(act):
+    began = time.monotonic()
+    act()
+    return time.monotonic() - began
+
+
+def requests_of_http(program, folder):
+    """A page that somebody looks at sends lines in the body of a request, by curl, where that is there, and by Python's
+    client. The request's first line is answered, and no other is read."""
+    body = os.path.join(folder, "body")
+    retitle = {"ask": {"do": "retitle", "object": "picture/0", "title": "Mine"}}
+    lines = joined([json.dumps({"who": "amy@users"}), json.dumps(retitle)])
+    with open(body, "wb") as file:
+        file.write(lines)
+    by_curl = [["-X", "POST", "-H", "Content-Type: text/plain", "--data-binary", f"@{body}"], [],
+               ["-X", "PUT", "--data-binary", f"@{body}"]] if shutil.which("curl") else []
+    with Service(program, OWNED, len(by_curl) + 3) as service:
+        address = f"http://127.0.0.1:{service.port}/"
+        for words in by_curl:
+            done = subprocess.run(["curl", "-s", "--http0.9", *words, address], capture_output=True, timeout=SECONDS)
+            want(True, BAD_LINE.startswith(done.stdout), f"that the first line alone is answered: {done.stdout!r}")
+        for given in (lines, None):
+            try:
+                urllib.request.urlopen(address, given, SECONDS)
+                want("an error", None, "what Python's client has")
+            except (http.client.BadStatusLine, ConnectionError, urllib.error.URLError):
+                pass
+        reader = talker(service, "bo@users")
+        want("Sea", reader.ask(READ)["title"], "the title afterwards")
+        reader.finish()
+        service.end(NOTHING_NOTED, [HTTP * (len(by_curl) + 2)])
+
+
+def what_is_like_a_request(program, _folder):
+    """A first line ends the connection where it begins like a request, whatever pieces it comes in, and each other one
+    is refused by itself."""
+    hello = json.dumps({"who": "amy@users"}).encode() + b"\n"
+    for first in (b"GET / HTTP/1.1\r\n", b"\r\n \tGET /x HTTP/1.1\n", b"OPTIONS * HTTP/1.1\n", b"PRI * HTTP/2.0\n",
+                  b"CONNECT album:80 HTTP/1.1\n", b"POST http://a/ HTTP/1.1\n", b"GET [::1] \n"):
+        with Service(program, ALLOWED, 1) as service:
+            stranger = Connection(service.port, 1 if len(first) % 2 else ONE_PIECE)
+            try:
+                stranger.send(first + hello)
+            except OSError:
+                pass  # it is closed in the midst of what is sent
+            want(True, first_answer(stranger) in (BAD_LINE, b""), f"the answer to {first!r}")
+            stranger.close()
+            service.end(NOTHING_NOTED, [HTTP])
+    for first in (b"GET  / HTTP/1.1\n", b"GET\n", b"GET \n", b"get / HTTP/1.1\n", b"GE1 /\n", b"{} GET / HTTP/1.1\n", b" / \n"):
+        with Service(program, ALLOWED, 1) as service:
+            talking = Connection(service.port, 1)
+            talking.send(first + hello)
+            want(BAD_LINE, talking.answer(), f"the answer to {first!r}")
+            want("hello", json.loads(talking.answer())["answer"], "the answer to the line after it")
+            talking.finish()
+            service.end(NOTHING_NOTED, [b""])
+
+
+def first_answer(connection):
+    try:
+        return connection.answer()
+    except ConnectionResetError:
+        return b""
+
+
+def who_counts(program, _folder):
+    """Where a service ends by its input, those count that have said who they are."""
+    with until_eof(program, ALLOWED, conns=2) as service:
+        for _ in range(5):
+            Connection(service.port, ONE_PIECE).finish()
+        silent = Connection(service.port, ONE_PIECE)
+        first, second = talker(service, "bo@users"), talker(service, "eve@users")
+        late = Connection(service.port, ONE_PIECE)
+        want(CLOSED, late.answer(), "what the third is answered")
+        want("Sea", first.ask(READ)["title"], "a title")
+        for connection in (late, silent, first, second):
+            connection.close()
+        closes(service)
+
+
+def no_last_number(program, _folder):
+    """There is no number of connections after which nobody is served: a session serves one connection after another."""
+    with until_eof(program, ALLOWED) as service:
+        for turn in range(300):
+            connection = Connection(service.port, ONE_PIECE)
+            hello = connection.ask({"who": f"user{turn}@users"})
+            want({"answer": "hello", "client": 1}, hello, "a hello")
+            want("Sea", connection.ask(READ)["title"], "a title")
+            connection.finish()
+        closes(service)
+    with Service(program, ALLOWED, 2) as service:
+        for number in (1, 2):
+            connection = Connection(service.port, ONE_PIECE)
+            want({"answer": "hello", "client": number}, connection.ask({"who": "bo@users"}), "a hello without the option")
+            connection.finish()
+        service.end(NOTHING_NOTED, [b""])
+
+
+def time_to_say_who(program, _folder):
+    """Whoever doesn't say who it is has so many seconds, and blank lines are no word; who has said it stays."""
+    with until_eof(program, ALLOWED, "--hello", "1") as service:
+        known, silent, blank = talker(service, "bo@users"), Connection(service.port, 1), Connection(service.port, 1)
+        refused = Connection(service.port, ONE_PIECE)
+        began = time.monotonic()
+        want(BAD_LINE, (refused.send(b"?\n"), refused.answer())[1], "a line that isn't one")
+        while time.monotonic() - began < 0.8:
+            blank.send(b"\n")
+            time.sleep(0.05)
+        for connection in (silent, blank, refused):
+            want(b"", first_answer(connection), "what is said at the limit")
+            connection.close()
+        want(True, 0.8 < time.monotonic() - began < 5, "that the limit is about a second")
+        time.sleep(1)
+        want("Sea", known.ask(READ)["title"], "a title, later")
+        known.finish()
+        closes(service, [b"album: reading failed\n" * 3])
+
+
+def fills(service, who):
+    """A connection that asks again and again, and reads no answer, until it can send no more."""
+    deaf = Connection(service.port, ONE_PIECE, room=4_096)
+    want("hello", deaf.ask({"who": who})["answer"], "a hello")
+    deaf.socket.settimeout(2)
+    line = (json.dumps(READ) + "\n").encode() * 100
+    try:
+        while True:
+            deaf.socket.sendall(line)
+    except OSError:
+        return deaf
+
+
+def big_opening():
+    return OWNED.replace(b'"content":""', f'"content":"{BIG.encode().hex()}"'.encode())
+
+
+def a_client_that_takes_no_answer(program, _folder):
+    """It holds nobody up at the end: once the input has ended, what is open has so many seconds. With --idle it is
+    ended before that."""
+    with until_eof(program, big_opening(), "--grace", "1") as service:
+        deaf = fills(service, "bo@users")
+        reader = talker(service, "eve@users")
+        want("Sea", reader.ask(READ)["title"], "a title beside it")
+        reader.finish()
+        took = seconds_of(lambda: closes(service, [b"album: writing failed\n"]))
+        want(True, took < 8, f"that the end comes soon: {took:.1f} s")
+        deaf.close()
+    with Service(program, big_opening(), 1, "--idle", "1") as service:
+        deaf = fills(service, "bo@users")
+        took = seconds_of(lambda: service.end(NOTHING_NOTED, [b"album: writing failed\n", b"album: reading failed\n"]))
+        want(True, took < 8, f"that the end comes soon: {took:.1f} s")
+        deaf.close()
+
+
+def no_audit_file(program, folder):
+    """A pipe, which nobody may read, and the opening are refused, and nothing is served."""
+    pipe, opened = os.path.join(folder, "pipe"), os.path.join(folder, "opening")
+    os.mkfifo(pipe)
+    with open(opened, "wb") as file:
+        file.write(ALLOWED)
+    os.symlink(opened, os.path.join(folder, "link"))
+    for words, path, why in ((["--audit", pipe], pipe, "a pipe or a socket is no audit file"),
+                             (["--opening", opened, "--audit", opened], opened, "the opening is no audit file"),
+                             (["--opening", opened, "--audit", os.path.join(folder, "link")],
+                              os.path.join(folder, "link"), "the opening is no audit file")):
+        done = subprocess.run([program, "serve", str(free_port()), *words], input=ALLOWED, capture_output=True,
+                              timeout=SECONDS)
+        said = f"album: {path}: {why}\nalbum: writing failed\n".encode()
+        want((1, b"", said), (done.returncode, done.stdout, done.stderr), "the run")
+    with open(opened, "rb") as file:
+        want(ALLOWED, file.read(), "the opening afterwards")
+
+
+def a_torn_line(program, folder):
+    """A line that a kill or a full disk has torn is ended before the first note, so no note is lost in it."""
+    path = os.path.join(folder, "notes")
+    audited = opening([["allow", "EVERYONE@", 257, 0], ["audit", "EVERYONE@", 1, 16]])
+    whole = b'{"alarm":false,"audit":1,"client":1,"mask":1,"object":"picture/0","success":true,"who":"bo@users"}\n'
+    for torn, kept, said in ((b'{"alarm":fal', b'{"alarm":fal\n', f"album: {path}: the last line was torn, and is ended\n"),
+                             (whole, whole, ""), (b"", b"", "")):
+        with open(path, "wb") as file:
+            file.write(torn)
+        with Service(program, audited, 1, "--audit", path) as service:
+            reader = talker(service, "bo@users")
+            want("served", reader.ask(READ)["answer"], "a read")
+            with open(path, "rb") as file:
+                want(kept + whole, file.read(), "the file")
+            reader.finish()
+            service.end(b'{"alarms":[0,0],"audits":[1,0]}\n', [said.encode()])
+
+
+FACTS = {
+    "requests of HTTP by real clients": requests_of_http,
+    "what is like a request of HTTP": what_is_like_a_request,
+    "who counts": who_counts,
+    "no last number of connections": no_last_number,
+    "time to say who": time_to_say_who,
+    "a client that takes no answer": a_client_that_takes_no_answer,
+    "what is no audit file": no_audit_file,
+    "a torn line of an audit file": a_torn_line,
+}
+
+
+def hold(program, fact):
+    with tempfile.TemporaryDirectory() as folder:
+        fact(program, folder)
+
+
+def held(program, fact):
+    return wrong_of(hold, program, fact)
+
+
+def checks():
+    """Each row: its name, how it is run on a program, and what it is."""
+    for name, fact in FACTS.items():
+        yield f"strangers: {name}", held, fact
+
+
+if __name__ == "__main__":
+    for row, check, given in checks():
+        print(row, check(sys.argv[1], given) or "ok", flush=True)
