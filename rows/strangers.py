@@ -80,7 +80,8 @@ def what_is_like_a_request(program, _folder):
             want(True, first_answer(stranger) in (BAD_LINE, b""), f"the answer to {first!r}")
             stranger.close()
             service.end(NOTHING_NOTED, [HTTP])
-    for first in (b"GET  / HTTP/1.1\n", b"GET\n", b"GET \n", b"get / HTTP/1.1\n", b"GE1 /\n", b"{} GET / HTTP/1.1\n", b" / \n"):
+    for first in (b"GET  / HTTP/1.1\n", b"GET\n", b"GET \n", b"get / HTTP/1.1\n", b"GE1 /\n", b"{} GET / HTTP/1.1\n",
+                  b" / \n"):
         with Service(program, ALLOWED, 1) as service:
             talking = Connection(service.port, 1)
             talking.send(first + hello)
@@ -125,7 +126,8 @@ def no_last_number(program, _folder):
     with Service(program, ALLOWED, 2) as service:
         for number in (1, 2):
             connection = Connection(service.port, ONE_PIECE)
-            want({"answer": "hello", "client": number}, connection.ask({"who": "bo@users"}), "a hello without the option")
+            hello = connection.ask({"who": "bo@users"})
+            want({"answer": "hello", "client": number}, hello, "a hello without the option")
             connection.finish()
         service.end(NOTHING_NOTED, [b""])
 
@@ -180,7 +182,8 @@ def a_client_that_takes_no_answer(program, _folder):
         deaf.close()
     with Service(program, big_opening(), 1, "--idle", "1") as service:
         deaf = fills(service, "bo@users")
-        took = seconds_of(lambda: service.end(NOTHING_NOTED, [b"album: writing failed\n", b"album: reading failed\n"]))
+        either = [b"album: writing failed\n", b"album: reading failed\n"]
+        took = seconds_of(lambda: service.end(NOTHING_NOTED, either))
         want(True, took < 8, f"that the end comes soon: {took:.1f} s")
         deaf.close()
 
@@ -209,8 +212,8 @@ def a_torn_line(program, folder):
     path = os.path.join(folder, "notes")
     audited = opening([["allow", "EVERYONE@", 257, 0], ["audit", "EVERYONE@", 1, 16]])
     whole = b'{"alarm":false,"audit":1,"client":1,"mask":1,"object":"picture/0","success":true,"who":"bo@users"}\n'
-    for torn, kept, said in ((b'{"alarm":fal', b'{"alarm":fal\n', f"album: {path}: the last line was torn, and is ended\n"),
-                             (whole, whole, ""), (b"", b"", "")):
+    ended = f"album: {path}: the last line was torn, and is ended\n"
+    for torn, kept, said in ((b'{"alarm":fal', b'{"alarm":fal\n', ended), (whole, whole, ""), (b"", b"", "")):
         with open(path, "wb") as file:
             file.write(torn)
         with Service(program, audited, 1, "--audit", path) as service:
@@ -222,7 +225,23 @@ def a_torn_line(program, folder):
             service.end(b'{"alarms":[0,0],"audits":[1,0]}\n', [said.encode()])
 
 
+def inputs_that_have_nothing(program, folder):
+    """A service whose input is at its end says why it ends; a folder is named as one."""
+    path = os.path.join(folder, "opening")
+    with open(path, "wb") as file:
+        file.write(ALLOWED)
+    words = [program, "serve", str(free_port()), "--until-eof", "--opening"]
+    done = subprocess.run([*words, path], stdin=subprocess.DEVNULL, capture_output=True, timeout=SECONDS)
+    said = b"album: standard input has ended before anyone came, and so does the service\n"
+    want((0, said), (done.returncode, done.stderr), "the run")
+    for given in ([*words, folder], [program, "judge", folder], [program, "replay", folder]):
+        done = subprocess.run(given, stdin=subprocess.DEVNULL, capture_output=True, timeout=SECONDS)
+        said = f"album: {folder}: a folder, and no file\nalbum: reading failed\n".encode()
+        want((1, b"", said), (done.returncode, done.stdout, done.stderr), "the run")
+
+
 FACTS = {
+    "inputs that have nothing": inputs_that_have_nothing,
     "requests of HTTP by real clients": requests_of_http,
     "what is like a request of HTTP": what_is_like_a_request,
     "who counts": who_counts,

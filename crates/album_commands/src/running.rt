@@ -11,12 +11,16 @@ use std::rt::Files;
 /// How many reads a run may make.
 pub const TURNS: u64 = 4_294_967_296;
 
-/// The file at the path, to be read. Where it can't be opened, standard error says why.
+/// The file at the path, to be read. Where it can't be opened, or is a folder, standard error says so.
 ///
 /// # Errors
 ///
-/// `Reading`, where the file can't be opened.
+/// `Reading`, where there is no such file to be opened.
 pub fn open<T: Files + Eprint>(rt: &T, path: &str) -> Result<T::File, Fault> {
+    if matches!(fs::metadata(rt, path), Ok(found) if found.is_dir()) {
+        let _ = eprintln!(rt; "album: {path}: a folder, and no file");
+        return Err(Fault::Reading);
+    }
     fs::open(rt, path).map_err(|error| {
         let _ = eprintln!(rt; "album: {path}: {error}");
         Fault::Reading

@@ -62,7 +62,9 @@ fn grace_arg<'a>(alloc: Global) -> Arg<'a> {
     Arg::new(alloc, "grace")
         .long("grace")
         .value_name("SECONDS")
-        .help("With --until-eof: how long what has begun may take once standard input has ended; 10 where it isn't given")
+        .help(
+            "With --until-eof: how long what is open may go on once standard input has ended; else 10",
+        )
         .value_parser(value_parser!(u32).range(1..))
 }
 

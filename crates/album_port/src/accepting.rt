@@ -126,8 +126,8 @@ where
 }
 
 impl Count {
-    /// Whether as many have come as are served. Where the service doesn't end by their number, those count that have said
-    /// who they are, and else those that failed to come too.
+    /// Whether as many have come as are served. Where the service doesn't end by their number, those count that have
+    /// said who they are, and else those that failed to come too.
     fn is_full<J: ServiceNames, T: Host>(&self, shared: &Shared<J, T>) -> bool {
         if shared.limits.until_closed {
             let connections = &shared.connections;

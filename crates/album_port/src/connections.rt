@@ -112,8 +112,8 @@ impl Connections {
         self.begun()
     }
 
-    /// Whether any number of them may count: where those alone count that have said who they are, the greatest number is
-    /// no limit.
+    /// Whether any number of them may count: where those alone count that have said who they are, the greatest number
+    /// is no limit.
     pub(crate) fn is_unlimited(&self) -> bool {
         self.counts_named && self.most == u16::MAX
     }

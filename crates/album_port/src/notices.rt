@@ -19,6 +19,8 @@ pub(crate) enum Notice {
     Fault(Fault),
     /// A connection ended, since its first line begins like a request of HTTP.
     Http,
+    /// The input has ended before anyone came.
+    Ended,
     /// Why the service is about to end, or is soon to refuse.
     Warning(String),
     /// The figures of the service, a line.
@@ -71,6 +73,11 @@ fn print<T: Eprint>(rt: &T, notice: &Notice) {
         Notice::Http => eprintln!(rt;
             "album: a request of HTTP came, and nothing after its first line was read"
         ),
+        Notice::Ended => {
+            eprintln!(rt;
+                "album: standard input has ended before anyone came, and so does the service"
+            )
+        }
         Notice::Warning(text) => eprintln!(rt; "album: {text}"),
         Notice::Figures(line) => eprint!(rt; "{line}"),
     };

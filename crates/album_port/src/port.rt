@@ -57,8 +57,8 @@ pub struct Serving {
     pub conns: u16,
     /// How many reads the opening may take, and each connection may make.
     pub turns: u64,
-    /// A connection that says nothing for so many seconds ends, by the fault `Reading`, and one that takes no answer, by
-    /// `Writing`. 0 is no limit.
+    /// A connection that says nothing for so many seconds ends, by the fault `Reading`, and one that takes no answer,
+    /// by `Writing`. 0 is no limit.
     pub idle: u32,
     /// A connection that doesn't say who it is for so many seconds ends, by the fault `Reading`. 0 is no limit.
     pub hello: u32,
@@ -232,8 +232,8 @@ impl<R: Drop> Setup<R> {
 /// What was opened, and its port; or how `serve` ends without them.
 type Begun = Result<(Opened, TcpListener), Served>;
 
-/// Reads the opening, opens the service's state by it for so many sessions, and listens at the port; or else answers why
-/// not.
+/// Reads the opening, opens the service's state by it for so many sessions, and listens at the port; or else answers
+/// why not.
 fn begin<T: Host, R: Read, W: Write>(
     rt: &T,
     alloc: Global,
@@ -669,7 +669,8 @@ fn seconds_of(seconds: u32) -> Option<Duration> {
     Some(Duration::from_secs(u64::from(seconds)))
 }
 
-/// Reads to the end, and closes the connections then, or where reading fails.
+/// Reads to the end, and closes the connections then, or where reading fails. Where nobody has come by then, standard
+/// error says why the service ends: its input may be one that has nothing, as that of a service manager.
 fn read_to_end<T, R>(rt: &T, mut reader: R, connections: &Connections, turns: u64)
 where
     T: Host,
@@ -681,6 +682,9 @@ where
             Ok(0) | Err(_) => break,
             Ok(_) => {}
         }
+    }
+    if connections.begun() == 0 {
+        connections.notify(rt, Notice::Ended);
     }
     connections.close(rt);
 }

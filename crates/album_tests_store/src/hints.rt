@@ -1,4 +1,4 @@
-//! Hints that don't fit. One lacks an object of the ask, or what the ask looks at now. One names more than the ask
+//! Hints that don't fit, and an ask that has none. One lacks what the ask looks at now. One names more than the ask
 //! looks at. One has lost its place to another object's. Each ask gets the answer that a service without hints gives
 //! (docs/PROTOCOL.md, "Hints" in "A service").
 use crate::asked::Wish::{Delete, List, Read, SetGroup, SetLists};
@@ -62,9 +62,8 @@ fn opened(alloc: Global, plain: bool) -> Result<Opened, Refusal> {
 type Twice = (Wish, &'static str, (u64, u64), (u64, u64));
 
 /// The first read is of picture/0, and then with it of list/0 and group/0; the second is of all three at once, by the
-/// hint. That lacks picture/1, so both lists are set by a read of the objects, and what they look at is the hint from
-/// there on. For a read of picture/0 it names list/1 too, at partition 0, which lets all read. That is the other
-/// picture's list: bo is denied. At last the hint is exactly what both lists look at.
+/// hint. Both lists are set by a read of the objects, each time: an ask of several objects has no hint and leaves none.
+/// So the hint of picture/0 stays. By it bo is denied at once, and that replaces no hint: amy is served at once, too.
 const WIDE: &[Twice] = &[
     (Read("bo@users", "picture/0"), "Sea at 0", (3, 1), (6, 2)),
     (Read("bo@users", "picture/0"), "Sea at 0", (2, 1), (6, 2)),
@@ -72,12 +71,12 @@ const WIDE: &[Twice] = &[
     (
         Read("bo@users", "picture/0"),
         "denied picture/0 at the end",
-        (3, 1),
+        (2, 1),
         (6, 2),
     ),
-    (Read("amy@users", "picture/0"), "Sea at 0", (3, 1), (6, 2)),
+    (Read("amy@users", "picture/0"), "Sea at 0", (2, 1), (6, 2)),
     (Read("bo@users", "picture/1"), "Sea at 0", (2, 0), (4, 0)),
-    (SetLists, "committed at 131073", (5, 3), (10, 4)),
+    (SetLists, "committed at 131073", (6, 3), (10, 4)),
 ];
 
 /// A listing reads the album, then its children with it, then their lists too. Once picture/0 is deleted its hint still
@@ -221,7 +220,7 @@ fn assert_same_answers<R: Threads + Wait + time::Clock + Abort + Copy + Send + S
 }
 
 #[test]
-fn a_hint_of_a_wider_ask(rt: HostRuntime) -> Result<(), Fail> {
+fn an_ask_of_several_objects(rt: HostRuntime) -> Result<(), Fail> {
     assert_same_answers(rt, rt.alloc(), WIDE)
 }
 
