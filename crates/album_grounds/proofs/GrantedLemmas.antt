@@ -1,6 +1,5 @@
 -- What is kept was asked for, `as_asked`, and asked knowing what was kept before, `kept_was_known`.
-use Rattle.std.proofs.Common.{◌≡◌, ◌<◌, ◌≤◌, ℕ, true, List, map, Contains, Some, refl, sym, ap, ◌∙◌, subst}
-use Rattle.std.specs.List.{zip}
+use Rattle.std.proofs.Common.{◌≡◌, ◌<◌, ◌≤◌, ℕ, true, Contains, Some, sym, ◌∙◌, subst}
 use Rattle.album_items.specs.Openings.{Row}
 use Rattle.album_items.specs.declared.values.Value.{Value}
 use Rattle.album_eval.specs.declared.policies.Policy.{Policy}

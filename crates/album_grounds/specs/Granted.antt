@@ -1,5 +1,5 @@
 -- What a session has written: each stamp of its client that is announced is of a write that was granted.
-use Rattle.std.specs.Prelude.{◌≡◌, ◌<◌, ◌≤◌, ℕ, true, List, All, Contains, Option, Some, None}
+use Rattle.std.specs.Prelude.{◌≡◌, ◌<◌, ◌≤◌, ℕ, true, All, Contains, Option, Some, None}
 use Rattle.album_stamps.specs.Stamps.{client_number}
 use Rattle.album_items.specs.declared.values.Value.{Value}
 use Rattle.album_eval.specs.declared.facts.Principal.{Principal}

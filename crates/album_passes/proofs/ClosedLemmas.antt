@@ -1,8 +1,7 @@
 -- What a closed cut has of each stamp, and the least cut that extends two. The laws of closed cuts cite the
 -- lemmas that are `pub`.
 use Rattle.std.proofs.Common.{rules, ◌≡◌, ℕ, zero, suc, ◌<◌, ◌+◌, Bool, true, false, not, ◌&&◌, ◌||◌, cond, List, [], ◌∷◌, length, get_or, All, Contains, IsSome, Some, None, Option, option_map, refl, ap, sym, ◌∙◌, subst, ⊎_elim, arith, ne_eqb}
-use Rattle.std.specs.List.{list_any, list_all, find, range_with_len}
-use Rattle.std.proofs.lemmas.Bool.{and_parts}
+use Rattle.std.specs.List.{list_any, find, range_with_len}
 use Rattle.std.proofs.lemmas.Bool.Decides.{Decides-eqb}
 use Rattle.std.proofs.lemmas.List.Elements.{All-contains, All-contains_itself}
 use Rattle.std.proofs.lemmas.List.Folds.{Any-from_list_any, list_any-from_Any}
@@ -15,11 +14,10 @@ use Rattle.album_items.specs.Transactions.{items_written}
 use Rattle.album_partition.specs.declared.marks.Mark.{Mark}
 use Rattle.album_partition.specs.declared.marks.Mark.TheVariants.{Prepared, Committed, Discarded, Trimmed}
 use Rattle.album_partition.specs.Marks.{is_mark_of, prepares, commits, discards, mark_items, items_at}
-use Rattle.album_items.specs.Places.{is_placed, lies_at, placed_at, is_other, others_of}
-use Rattle.album_partition.specs.Proper.{is_among, is_proper}
+use Rattle.album_items.specs.Places.{is_placed, lies_at, is_other, others_of}
 use Rattle.album_partition.proofs.GrowthLemmas.{promised_unprepared}
-use Rattle.album_partition.proofs.ListLemmas.{list_all-weaker, contains_from_any, any_from_contains, kept_in, kept_out}
-use Rattle.album_passes.specs.Cuts.{Cut, Announced, prefix_at, prefix_for, announced_for, items_announced, dependencies_of, IsPreparedFor, IsNamed, IsNamedOn, IsPreparedThroughout, IsPromisedSomewhere, IsBacked, IsClosedCut, IsSound, IsPrefix, Extends}
+use Rattle.album_partition.proofs.ListLemmas.{kept_out}
+use Rattle.album_passes.specs.Cuts.{Cut, Announced, prefix_at, prefix_for, announced_for, items_announced, dependencies_of, IsPreparedFor, IsNamed, IsPreparedThroughout, IsPromisedSomewhere, IsBacked, IsClosedCut, IsSound, IsPrefix, Extends}
 use Rattle.album_passes.specs.Changes.{merged, marked_cut}
 use Rattle.album_passes.proofs.PrefixLemmas.{longer_cases}
 use Rattle.album_passes.proofs.AnnouncedLemmas.{listed_each}

@@ -1,6 +1,6 @@
 -- What backs a mark that prepares, `plain_backs` and `checked_backs`, and what such marks show of the versions that are
 -- kept: `version_announced` and `version_based`.
-use Rattle.std.proofs.Common.{◌≡◌, ℕ, zero, suc, ◌<◌, Bool, true, false, ◌==◌, List, [], ◌∷◌, ◌++◌, length, get_or, Contains, Some, is_some, refl, ap, sym, ◌∙◌, subst, arith, append-nil}
+use Rattle.std.proofs.Common.{◌≡◌, ℕ, zero, suc, ◌<◌, true, false, ◌==◌, List, [], ◌∷◌, ◌++◌, length, Contains, Some, is_some, refl, ap, sym, ◌∙◌, subst, arith, append-nil}
 use Rattle.std.specs.List.{zip}
 use Rattle.std.proofs.lemmas.Bool.{and_parts, false≢true}
 use Rattle.std.proofs.lemmas.List.{append_assoc}
@@ -9,7 +9,7 @@ use Rattle.album_items.specs.ItemIds.{place_of}
 use Rattle.album_items.specs.Openings.{Row}
 use Rattle.album_items.specs.declared.values.Value.{Value}
 use Rattle.album_partition.specs.Bases.{are_bases, is_chained, IsMadeOn}
-use Rattle.album_partition.specs.Marks.{value_in, version, latest, state_of, is_legal}
+use Rattle.album_partition.specs.Marks.{value_in, version, state_of, is_legal}
 use Rattle.album_partition.specs.Proper.{is_proper}
 use Rattle.album_partition.specs.declared.marks.Mark.{Mark}
 use Rattle.album_partition.specs.declared.marks.Mark.TheVariants.{Prepared}

@@ -1,9 +1,8 @@
 -- A read of two rounds over closed cuts is read atomic and fresh. The laws of reads cite the lemmas that are `pub`; the
 -- main one is `same_written`: what a committed stamp ever wrote, a cut that has it committed has already.
 use Rattle.std.proofs.Common.{◌≡◌, ◌≢◌, ℕ, zero, suc, ◌<◌, ◌≤◌, Bool, true, false, ◌==◌, ◌||◌, cond, inl, inr, List, [], ◌∷◌, map, Contains, is_some, Some, None, Option, if◌then◌else◌, refl, ap, sym, ◌∙◌, subst, ⊎_elim, arith}
-use Rattle.std.specs.List.{list_any, list_all, find}
+use Rattle.std.specs.List.{list_any, find}
 use Rattle.std.specs.Option.{option_or}
-use Rattle.std.proofs.lemmas.Bool.{and_parts}
 use Rattle.std.proofs.lemmas.Bool.Decides.{Decides-eqb}
 use Rattle.std.proofs.lemmas.List.Elements.{All-contains}
 use Rattle.std.proofs.lemmas.List.Folds.{find-append}

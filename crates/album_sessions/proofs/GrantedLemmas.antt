@@ -1,7 +1,7 @@
 -- What a session has announced was granted: as it begins (`granted_new`), as more is seen (`granted_later`), and where a
 -- write is announced (`granted_announced`). So each of its steps keeps what is true of each session: `session_later` and
 -- `session_announced`.
-use Rattle.std.proofs.Common.{◌≡◌, ℕ, arith, Bool, true, false, List, Option, Some, None, eqb, eqb-true, if◌then◌else◌, refl, sym, ap, ◌∙◌, subst}
+use Rattle.std.proofs.Common.{◌≡◌, ℕ, arith, Bool, true, false, Option, Some, None, eqb, eqb-true, if◌then◌else◌, refl, sym, ap, ◌∙◌, subst}
 use Rattle.album_eval.specs.declared.policies.Policy.{Policy}
 use Rattle.album_passes.specs.Changes.{IsUnheard}
 use Rattle.album_passes.specs.Cuts.{Cut, Announced, Announcement, announced_for, Extends}

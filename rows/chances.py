@@ -1,0 +1,166 @@
+"""Random scripts of a checked store: three clients ask at once, and their messages come in any order. What was answered
+committed, done one after another in the order of the stamps, gives exactly what is listed in the end. So nothing that was
+answered is lost, whatever came between. `rows/chances.py PROGRAM [--plain] [SCRIPTS]` says how many differ; with --plain
+the store isn't checked, and many do."""
+import json
+import pathlib
+import random
+import subprocess
+import sys
+
+from races import ALL, EVERYONE, album, entries, opening, picture
+from serving import Differs, want, wrong_of
+
+SCRIPTS = 300
+STEPS = 160
+CLIENTS = (1, 2, 3)
+ALBUMS = ("album/0", "album/1")
+PLAIN = ["allow", "EVERYONE@", ALL, 0]  # for a picture, which passes nothing on
+NO_MESSAGE = {"name": "NoSuchMessage", "refused": 14}
+NEVER = 4_000_000_000  # the number of a message that there never is
+
+
+class Script:
+    """A replay that is written as it goes on. Each event is followed by one whose answer is known, so it is known what
+    the event has printed."""
+
+    def __init__(self, program, is_checked, seed):
+        self.chance = random.Random(seed)
+        self.run = subprocess.Popen([program, "replay", "--trace"], stdin=subprocess.PIPE, stdout=subprocess.PIPE)
+        items = [picture(0, 0, "Sea"), picture(1, 1, "Sky"), album(0, 2, ["picture/0"]), album(1, 3, ["picture/1"]),
+                 *(entries(number, PLAIN) for number in (0, 1)), *(entries(number, EVERYONE) for number in (2, 3))]
+        self.write(opening(is_checked, *items))
+        self.pictures = ["picture/0", "picture/1"]
+        self.sent, self.asked, self.done, self.answers = [], {}, [], []
+
+    def write(self, data):
+        self.run.stdin.write(data)
+        self.run.stdin.flush()
+
+    def event(self, event):
+        """Has it happen, and takes what it prints: messages that are on their way now, and answers."""
+        self.write((json.dumps(event) + "\n" + json.dumps({"deliver": NEVER}) + "\n").encode())
+        while True:
+            line = json.loads(self.run.stdout.readline())
+            if line == NO_MESSAGE:
+                return
+            if "say" in line:
+                self.sent.append(line["k"])
+            elif "client" in line and line["client"] in self.asked:
+                self.answered(self.asked.pop(line["client"]), line)
+
+    def answered(self, asked, line):
+        self.answers.append(line)
+        if line.get("answer") == "committed":
+            self.done.append((line["stamp"], asked))
+            if asked["do"] == "add_picture":
+                self.pictures.append(f"picture/{line['stamp']}")
+
+    def ask(self, client, asked):
+        self.asked[client] = asked
+        self.event({"ask": asked, "client": client, "who": "amy@users"})
+
+    def deliver(self):
+        """One of the messages on their way, mostly one of the oldest."""
+        place = min(self.chance.randrange(len(self.sent)) for _ in range(2))
+        self.event({"deliver": self.sent.pop(place)})
+
+    def wish(self):
+        of = self.chance.choice(self.pictures)
+        text = f"t{self.chance.randrange(1_000_000)}"
+        return self.chance.choice([
+            {"do": "add_picture", "album": self.chance.choice(ALBUMS), "title": text, "content": ""},
+            {"do": "retitle", "object": of, "title": text}, {"do": "retitle", "object": of, "title": text},
+            {"do": "replace", "object": of, "content": text.encode().hex()},
+            {"do": "move", "object": of, "to": self.chance.choice(ALBUMS)}, {"do": "delete", "object": of},
+            {"do": "set_lists", "lists": [[of, [PLAIN]], [self.chance.choice(ALBUMS), [EVERYONE]]]},
+            {"do": "list", "album": self.chance.choice(ALBUMS)},
+        ])
+
+    def goes_on(self):
+        free = [client for client in CLIENTS if client not in self.asked]
+        if free and (not self.sent or self.chance.random() < 0.3):
+            self.ask(self.chance.choice(free), self.wish())
+        elif self.sent:
+            self.deliver()
+
+    def settles(self):
+        while self.sent:
+            self.event({"deliver": self.sent.pop(0)})
+
+    def listed(self, number):
+        """What is listed in the end, by a client that has asked nothing before."""
+        self.ask(4, {"do": "list", "album": number})
+        self.settles()
+        want("listed", self.answers[-1]["answer"], "the last answer")
+        return sorted(self.answers[-1]["rows"])
+
+    def ends(self):
+        self.run.stdin.close()
+        want(0, self.run.wait(), "the status")
+        self.run.stdout.close()
+
+
+def done_in_order(done):
+    """The albums with their pictures and titles, once what was committed is done in the order of the stamps."""
+    title, home = {"picture/0": "Sea", "picture/1": "Sky"}, {"picture/0": "album/0", "picture/1": "album/1"}
+    for stamp, asked in sorted(done, key=lambda row: row[0]):
+        match asked["do"]:
+            case "add_picture":
+                title[f"picture/{stamp}"], home[f"picture/{stamp}"] = asked["title"], asked["album"]
+            case "retitle":
+                title[asked["object"]] = asked["title"]
+            case "move":
+                home[asked["object"]] = asked["to"]
+            case "delete":
+                del home[asked["object"]]
+    return {number: sorted([of, title[of]] for of in home if home[of] == number) for number in ALBUMS}
+
+
+def script(program, is_checked, seed):
+    """Runs one, and gives how many were aborted."""
+    run = Script(program, is_checked, seed)
+    for _ in range(STEPS):
+        run.goes_on()
+    run.settles()
+    wanted = done_in_order(run.done)
+    got = {number: run.listed(number) for number in ALBUMS}
+    aborted = sum(answer.get("answer") == "aborted" for answer in run.answers)
+    run.ends()
+    want(wanted, got, f"what is listed after script {seed}")
+    return aborted
+
+
+def scripts(program, is_checked=True, count=SCRIPTS):
+    """In a checked store none differs, and some of their writes are aborted; in another some do."""
+    aborted = differ = 0
+    for seed in range(count):
+        try:
+            aborted += script(program, is_checked, seed)
+        except (Differs, KeyError):
+            if is_checked:
+                raise
+            differ += 1
+    print_if_alone(f"{count} scripts, {aborted} writes aborted, {differ} scripts lost something")
+    want((True, True), (aborted > 0 or not is_checked, differ > 0 or is_checked), "whether writes raced")
+
+
+def checks():
+    """Each row: its name, how it is run on a program, and what it is."""
+    yield "chances: random scripts of a checked store", lambda program, hold: wrong_of(hold, program), scripts
+    yield "chances: random scripts of another store", lambda program, hold: wrong_of(hold, program, False), scripts
+
+
+def print_if_alone(text):
+    if __name__ == "__main__":
+        print(text, flush=True)
+
+
+def main():
+    program, *words = sys.argv[1:]
+    counts = [int(word) for word in words if word != "--plain"]
+    print(wrong_of(scripts, str(pathlib.Path(program).resolve()), "--plain" not in words, *counts) or "ok")
+
+
+if __name__ == "__main__":
+    main()
