@@ -49,8 +49,8 @@ AreGranted policy client cut = (stamp : ℕ) (announced : Announced) → client_
 
 -- ---- what follows: what is kept was asked for
 
--- The policy grants the permit, whose ask writes this value to the item at the stamp. In a checked store the version was
--- made, where it is committed, on the one that the permit's view shows.
+-- The policy grants the permit, whose ask writes this value to the item at the stamp. In a checked store the version
+-- was made, where it is committed, on the one that the permit's view shows.
 pub record IsEffectOn (cut : Cut) (stamp item : ℕ) (value : Value) (permit : PermitState) : Type 0 where
   pub granted : Finds permit Granted
   pub written : Contains (effect_of permit stamp) (item, value)

@@ -50,9 +50,9 @@ abbrev pub ShowsCheck : Cut → Node → ℕ → Type 0
 ShowsCheck cut (Part part) stamp = IsOfPart cut stamp part
 ShowsCheck cut (Client client) stamp = Unit {0}
 
--- The cut of a Prepare announces its items, and its writes with their values and their bases. That of a Commit shows that
--- each partition of the items has prepared the stamp, that of a Get that each of its stamps is committed somewhere, that
--- of a Check as above.
+-- The cut of a Prepare announces its items, and its writes with their values and their bases. That of a Commit shows
+-- that each partition of the items has prepared the stamp, that of a Get that each of its stamps is committed
+-- somewhere, that of a Check as above.
 abbrev pub ShowsRequest : Cut → Node → Request → Type 0
 ShowsRequest cut to (Prepare stamp writes items) = IsNamed cut stamp writes items
 ShowsRequest cut to (PrepareOn stamp writes items bases) = IsNamedOn cut stamp writes items bases

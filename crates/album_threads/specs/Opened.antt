@@ -37,7 +37,8 @@ opened_as table terms policy list audit_ok audit_failed alarm_ok alarm_failed = 
 -- There are so many partitions, not too few of them nor too many, checked or not; they are those of the desk's terms as
 -- they open, with their owners, and the pass is its first one.
 pub record IsOpened
-    (desk : DeskState) (parts : ℕ) (checked : Bool) (owners : List OwnerState) (partitions : List PartitionState) (pass : PassState)
+    (desk : DeskState) (parts : ℕ) (checked : Bool) (owners : List OwnerState) (partitions : List PartitionState)
+    (pass : PassState)
     : Type 0 where
   pub parts_are : desk.terms.parts ≡ parts
   pub checked_is : desk.terms.checked ≡ checked
