@@ -9,7 +9,7 @@ import tempfile
 from serving import SECONDS, Connection, Service, free_port, joined, want, wrong_of
 from talks import ONE_PIECE
 
-REFUSED = {"name": "BadRequest", "refused": 3}
+REFUSED = {"name": "NotAdmin", "refused": 24}
 SWEEP = {"sweep": {"part": 0, "stamp": 65537}}
 TRIM = {"trim": {"item": "picture/0", "part": 0}}
 READ = {"ask": {"do": "read", "object": "picture/0"}}

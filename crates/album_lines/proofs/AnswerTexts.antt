@@ -3,7 +3,7 @@ use Rattle.std.proofs.Common.{◌≡◌, ◌++◌, ℕ, codes, decimal, refl, ap
 use Rattle.std.specs.Fmt.{digits}
 use Rattle.serde_json.proofs.OnLiterals.{serde_json_on_literals}
 use Rattle.album_stamps.specs.declared.refusals.Refusal.{Refusal}
-use Rattle.album_stamps.specs.declared.refusals.Refusal.TheVariants.{OutOfMemory, BadLine, BadRequest, BadWho, BadMask, BadFlags, ListFull, BadText, NoOwner, AlbumFull, TooManyItems, StampsSpent, SessionsSpent, NoSuchMessage, ClientBusy, Stopped, NotPrepared, Clash, Discarded, Full, Closed, BadOpening, NoSuchPart}
+use Rattle.album_stamps.specs.declared.refusals.Refusal.TheVariants.{OutOfMemory, BadLine, BadRequest, BadWho, BadMask, BadFlags, ListFull, BadText, NoOwner, AlbumFull, TooManyItems, StampsSpent, SessionsSpent, NoSuchMessage, ClientBusy, Stopped, NotPrepared, Clash, Discarded, Full, Closed, BadOpening, NoSuchPart, NotAdmin}
 use Rattle.album_stamps.specs.Refusals.{name_of, number_of}
 use Rattle.album_eval.specs.declared.verdicts.Verdict.TheVariants.{Granted, DeniedBy, DeniedAtEnd}
 use Rattle.album_lines.specs.Output.{refusal_line, verdict_line}
@@ -48,3 +48,4 @@ refusal_text Full = refl
 refusal_text Closed = refl
 refusal_text BadOpening = refl
 refusal_text NoSuchPart = refl
+refusal_text NotAdmin = refl

@@ -5,7 +5,7 @@ use Rattle.std.specs.List.{range_with_len}
 use Rattle.std.proofs.lemmas.List.FromFn.{map-range_with_len_more, take-map-range_with_len}
 use Rattle.std.proofs.KnownBytes.{Appends-trans, Appends-nil}
 use Rattle.album_stamps.specs.declared.refusals.Refusal.{Refusal}
-use Rattle.album_stamps.specs.declared.refusals.Refusal.TheVariants.{OutOfMemory, BadLine, BadRequest, BadWho, BadMask, BadFlags, ListFull, BadText, NoOwner, AlbumFull, TooManyItems, StampsSpent, SessionsSpent, NoSuchMessage, ClientBusy, Stopped, NotPrepared, Clash, Discarded, Full, Closed, BadOpening, NoSuchPart}
+use Rattle.album_stamps.specs.declared.refusals.Refusal.TheVariants.{OutOfMemory, BadLine, BadRequest, BadWho, BadMask, BadFlags, ListFull, BadText, NoOwner, AlbumFull, TooManyItems, StampsSpent, SessionsSpent, NoSuchMessage, ClientBusy, Stopped, NotPrepared, Clash, Discarded, Full, Closed, BadOpening, NoSuchPart, NotAdmin}
 use Rattle.album_stamps.specs.Refusals.{number_of}
 use Rattle.album_client.specs.Terms.{Terms}
 use Rattle.album_world.specs.State.{Now}
@@ -114,6 +114,7 @@ memory_or_not Full = inr (λ same. cc)
 memory_or_not Closed = inr (λ same. cc)
 memory_or_not BadOpening = inr (λ same. cc)
 memory_or_not NoSuchPart = inr (λ same. cc)
+memory_or_not NotAdmin = inr (λ same. cc)
 
 -- the same of an event: its text is written, or a part of it
 pub event_written : (text_of : Bool → Now → Result Change Refusal → List ℕ)
@@ -155,6 +156,7 @@ is_memory Full is = cc
 is_memory Closed is = cc
 is_memory BadOpening is = cc
 is_memory NoSuchPart is = cc
+is_memory NotAdmin is = cc
 
 not_memory : (e : Refusal) → (number_of e == number_of OutOfMemory) ≡ false → e ≢ OutOfMemory
 not_memory e is memory =

@@ -5,7 +5,7 @@ use Rattle.std.proofs.lemmas.List.Folds.{list_any_at}
 use Rattle.std.proofs.lemmas.Map.Views.{Contains-from_any}
 use Rattle.std.proofs.lemmas.Slice.Eq.{bytes_eq-Decides}
 use Rattle.album_stamps.specs.declared.refusals.Refusal.{Refusal}
-use Rattle.album_stamps.specs.declared.refusals.Refusal.TheVariants.{BadRequest}
+use Rattle.album_stamps.specs.declared.refusals.Refusal.TheVariants.{NotAdmin}
 use Rattle.album_eval.specs.declared.facts.Principal.{Principal}
 use Rattle.album_eval.specs.declared.facts.Principal.TheVariants.{Anonymous, User}
 use Rattle.album_wire.specs.declared.talk_line.TalkLine.{TalkLine}
@@ -32,7 +32,7 @@ named_are_those who named = (
 
 -- what is sent, where it may be
 abbrev pub let_through : TalkLine → Bool → Result TalkLine Refusal
-let_through said may = if may then Ok said else Err BadRequest
+let_through said may = if may then Ok said else Err NotAdmin
 
 pub admins_send : (admins : Admins) (who : Principal) (said : TalkLine) → is_admin admins who ≡ true
     → permitted admins who said ≡ Ok said

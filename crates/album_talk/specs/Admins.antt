@@ -2,7 +2,7 @@
 use Rattle.std.specs.Prelude.{◌≡◌, List, map, Bool, true, false, bytes_eq, if◌then◌else◌, Option, Some, Result, Ok, Err}
 use Rattle.std.specs.List.{list_any}
 use Rattle.album_stamps.specs.declared.refusals.Refusal.{Refusal}
-use Rattle.album_stamps.specs.declared.refusals.Refusal.TheVariants.{BadRequest}
+use Rattle.album_stamps.specs.declared.refusals.Refusal.TheVariants.{NotAdmin}
 use Rattle.album_eval.specs.declared.facts.Principal.{Principal}
 use Rattle.album_eval.specs.declared.facts.Principal.TheVariants as principal
 use Rattle.album_wire.specs.declared.talk_line.TalkLine.{TalkLine}
@@ -30,7 +30,7 @@ is_admin (admins.These named) who = list_any (names_principal who) named.items
 -- of the others every line but an ask is refused, whatever partition it names
 abbrev pub permitted : Admins → Principal → TalkLine → Result TalkLine Refusal
 permitted admins who (line.Ask ask) = Ok (line.Ask ask)
-permitted admins who (line.Pending part) = if is_admin admins who then Ok (line.Pending part) else Err BadRequest
+permitted admins who (line.Pending part) = if is_admin admins who then Ok (line.Pending part) else Err NotAdmin
 permitted admins who (line.Sweep part stamp) =
-    if is_admin admins who then Ok (line.Sweep part stamp) else Err BadRequest
-permitted admins who (line.Trim part item) = if is_admin admins who then Ok (line.Trim part item) else Err BadRequest
+    if is_admin admins who then Ok (line.Sweep part stamp) else Err NotAdmin
+permitted admins who (line.Trim part item) = if is_admin admins who then Ok (line.Trim part item) else Err NotAdmin

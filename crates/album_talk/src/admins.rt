@@ -2,7 +2,7 @@
 ghost use Rattle.std.specs.Prelude.{◌≡◌, ◌≢◌, ◌⊎◌, ◌↔◌, ℕ, [], Vec, map, true, false, Contains, Some, Ok, Err, IfOk, IfErr};
 ghost use Rattle.std.specs.List.{list_any};
 ghost use Rattle.std.specs.declared.alloc.Global.{Global};
-ghost use Rattle.album_stamps.specs.declared.refusals.Refusal.TheVariants.{BadRequest};
+ghost use Rattle.album_stamps.specs.declared.refusals.Refusal.TheVariants.{NotAdmin};
 ghost use Rattle.album_eval.specs.Matching.{principal_of};
 ghost use Rattle.album_eval.specs.declared.facts.Principal.{Principal};
 ghost use Rattle.album_wire.specs.declared.talk_line.TalkLine.{TalkLine};
@@ -46,7 +46,7 @@ impl Admins {
     ///
     /// # Errors
     ///
-    /// `BadRequest`, where it is no ask, and who talks is none of these.
+    /// `NotAdmin`, where it is no ask, and who talks is none of these.
     pub(crate) fn permit(&self, who: &Principal, line: TalkLine) -> Result<TalkLine, Refusal>
         ensures { result ≡ permitted self.now who.now line }
     {
@@ -56,7 +56,7 @@ impl Admins {
             TalkLine::Sweep(part, stamp) if self.include(who) => Ok(TalkLine::Sweep(part, stamp)),
             TalkLine::Trim(part, item) if self.include(who) => Ok(TalkLine::Trim(part, item)),
             TalkLine::Pending(_) | TalkLine::Sweep(..) | TalkLine::Trim(..) => {
-                Err(Refusal::BadRequest)
+                Err(Refusal::NotAdmin)
             }
         }
     }
@@ -116,9 +116,9 @@ pub fn only_admins_are_heard()
     ensures these { (named : Vec Principal Global) (who : Principal)
         → (is_admin (Admins.These named) who ≡ true) ↔ Contains named.items who }
     ensures pending { (admins : Admins) (who : Principal) (part : ℕ)
-        → is_admin admins who ≡ false → permitted admins who (TalkLine.Pending part) ≡ Err BadRequest }
+        → is_admin admins who ≡ false → permitted admins who (TalkLine.Pending part) ≡ Err NotAdmin }
     ensures sweeps { (admins : Admins) (who : Principal) (part stamp : ℕ)
-        → is_admin admins who ≡ false → permitted admins who (TalkLine.Sweep part stamp) ≡ Err BadRequest }
+        → is_admin admins who ≡ false → permitted admins who (TalkLine.Sweep part stamp) ≡ Err NotAdmin }
     ensures trims { (admins : Admins) (who : Principal) (part item : ℕ)
-        → is_admin admins who ≡ false → permitted admins who (TalkLine.Trim part item) ≡ Err BadRequest }
+        → is_admin admins who ≡ false → permitted admins who (TalkLine.Trim part item) ≡ Err NotAdmin }
 {}

@@ -9,10 +9,10 @@ const GREATEST: u64 = 72_057_594_037_927_935;
 
 #[test]
 fn refusals(rt: HostRuntime) {
-    let numbers = (Refusal::OutOfMemory.number(), Refusal::NoSuchPart.number());
+    let numbers = (Refusal::OutOfMemory.number(), Refusal::NotAdmin.number());
 
-    assert_eq!(rt; numbers, (1, 23));
-    assert_eq!(rt; Refusal::NoSuchPart.name(), "NoSuchPart");
+    assert_eq!(rt; numbers, (1, 24));
+    assert_eq!(rt; Refusal::NotAdmin.name(), "NotAdmin");
 }
 
 /// The values of the least and the greatest stamp, and whether what lies outside is refused.
