@@ -5,11 +5,13 @@
 #![tactic(auto)]
 
 mod draws;
+mod folding;
 mod load;
 mod plans;
 mod tally;
 mod values;
 
+use crate::folding::End;
 use crate::load::Load;
 use crate::plans::{Plan, Step};
 use crate::tally::Tally;
@@ -19,6 +21,9 @@ use std::{env, io};
 
 fn main(rt: HostRuntime) -> io::Result<()> {
     let words = env::args(&rt)?.collect::<Vec<String>>(rt.alloc())?;
+    if words.get(1).is_some_and(|word| word.as_str() == "fold") {
+        return fold_each(&rt, &words);
+    }
     match opened(rt.alloc(), &words) {
         Ok(mut load) => {
             for line in rt.lines(rt.alloc()) {
@@ -27,6 +32,24 @@ fn main(rt: HostRuntime) -> io::Result<()> {
             Ok(())
         }
         Err(refusal) => print(&rt, Err(refusal)),
+    }
+}
+
+/// Prints how many marks there are, and at each line of standard input how many rows these fold into.
+fn fold_each(rt: &HostRuntime, words: &[String]) -> io::Result<()> {
+    match End::new(rt.alloc(), words) {
+        Ok(end) => {
+            println!(rt; "marks={}", end.marks())?;
+            for line in rt.lines(rt.alloc()) {
+                let _line = line?;
+                match end.fold() {
+                    Ok(rows) => println!(rt; "rows={rows}")?,
+                    Err(refusal) => println!(rt; "refused: {refusal}")?,
+                }
+            }
+            Ok(())
+        }
+        Err(refusal) => println!(rt; "refused: {refusal}"),
     }
 }
 

@@ -1,10 +1,13 @@
-//! Tests of what lies below partitions and lines: stamps, lists, verdicts, items and versions.
+//! Tests of what lies below partitions and lines: stamps, lists, verdicts, items and versions; and of
+//! what an epoch leaves of them.
 //!
 //! Read `lists` first, then `items`: they make values for the others.
 #![tactic(auto)]
 
 #[cfg(test)]
 mod eval;
+#[cfg(test)]
+mod folds;
 #[cfg(test)]
 mod items;
 #[cfg(test)]

@@ -1,0 +1,12 @@
+pub mod CarriedLemmas
+pub mod LeftLemmas
+pub mod WrittenLemmas
+pub mod EpochLemmas
+pub mod ChainedLemmas
+pub mod FoundLemmas
+pub mod FoldLemmas
+pub mod RowLemmas
+pub mod NextLemmas
+pub mod BaseLemmas
+pub mod GreatestLemmas
+pub mod ThinLemmas

@@ -1,0 +1,20 @@
+//! Epochs: what a run of the store leaves to the next one.
+//!
+//! What comes in: the histories with which an epoch ends. What goes out: the rows with which the next one opens.
+//!
+//! Read specs/Carried.antt first, then `folds` and `laws`.
+#![tactic(auto)]
+
+// The rows of the next opening, and above which stamps it draws.
+mod folds;
+mod greatest;
+
+// What holds of what is carried.
+mod laws;
+
+pub use folds::fold;
+pub use greatest::greatest_stamp;
+pub use laws::{
+    an_epoch_opens_on_a_base, an_epoch_opens_read_atomic, no_carried_update_is_lost,
+    no_view_goes_back, sweeps_decide_so, what_is_carried, what_is_carried_stays,
+};
