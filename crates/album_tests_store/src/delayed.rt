@@ -87,6 +87,8 @@ struct Delayed {
     held: u64,
     /// Whether that is the last mail which the partition ever gets of it.
     is_last: bool,
+    /// Whether all partitions leave before it is passed on, as they do when the service closes.
+    closes: bool,
     /// How many messages were taken once the rest of what it sent by then is.
     until: (u64, u64),
     meanwhile: &'static [(Wish, &'static str)],
@@ -108,6 +110,7 @@ const NEW_ENEMY: Delayed = Delayed {
     part: 1,
     held: 0,
     is_last: false,
+    closes: false,
     until: (5, 2),
     meanwhile: &[
         (SetList, "committed at 65538"),
@@ -136,6 +139,7 @@ const HALF_COMMITTED: Delayed = Delayed {
     part: 2,
     held: 3,
     is_last: false,
+    closes: false,
     until: (9, 3),
     meanwhile: &[
         (List("cy@users", "album/0"), "listed picture/1"),
@@ -164,6 +168,7 @@ const OVERTAKEN: Delayed = Delayed {
     part: 0,
     held: 3,
     is_last: false,
+    closes: false,
     until: (5, 2),
     meanwhile: &[
         (Retitle("picture/0", "Bay"), "committed at 65538"),
@@ -196,6 +201,22 @@ const PLAIN_OVERTAKEN: Delayed = Delayed {
     ..OVERTAKEN
 };
 
+/// Where the service closes before her Prepare comes, nobody knows what becomes of her write.
+const CLOSED: Delayed = Delayed {
+    then: None,
+    closes: true,
+    answer: "Closed at 65537",
+    ..OVERTAKEN
+};
+
+/// The same of a plain service.
+const PLAIN_CLOSED: Delayed = Delayed {
+    plain: true,
+    held: 6,
+    until: (10, 4),
+    ..CLOSED
+};
+
 /// Two pictures are added to one album, which is placed at 1 with amy's new list. Her new picture is prepared at 2, and
 /// is discarded there before she asks anew. Both are listed.
 const ADDED: Delayed = Delayed {
@@ -206,6 +227,7 @@ const ADDED: Delayed = Delayed {
     part: 1,
     held: 2,
     is_last: false,
+    closes: false,
     until: (1, 1),
     meanwhile: &[(Add("Bay"), "committed at 65538")],
     answer: "committed at 131073; listed picture/0 picture/1 picture/65538 picture/131073",
@@ -235,22 +257,17 @@ fn relay_for<J: ServiceNames, R: Wait + Copy>(
 
 /// Passes each mail on, the one of this number once it is released. It ends with the session, or after that mail if it
 /// is the last.
-fn pass_on<J: ServiceNames, R: Wait + Copy>(
-    rt: R,
-    relay: Relay<J>,
-    (held, is_last): (u64, bool),
-    hold: &Hold,
-) {
+fn pass_on<J: ServiceNames, R: Wait + Copy>(rt: R, relay: Relay<J>, case: Delayed, hold: &Hold) {
     let mut number: u64 = 0;
     for _ in rt.forever() {
         let Ok(mail) = relay.mails.recv(&rt) else {
             return;
         };
-        if number == held {
+        if number == case.held {
             hold.wait();
         }
         drop(relay.to.send(&rt, mail));
-        if is_last && number == held {
+        if case.is_last && number == case.held {
             return;
         }
         number = number.wrapping_add(1);
@@ -275,19 +292,25 @@ fn late_answer<J: ServiceNames, R: Wait + time::Clock + Copy>(
     Ok(format!(in alloc; "{answer}; {next}")?)
 }
 
-/// The other session gets these answers, and ends.
+/// The other session gets these answers, has all partitions leave where the service closes, and ends.
 fn assert_meanwhile<J: ServiceNames, R: Wait + time::Clock + Abort + Copy>(
     alloc: Global,
     mut other: OwnedSession<J, R>,
-    rows: &[(Wish, &'static str)],
+    case: Delayed,
 ) -> Result<(), Fail> {
     let rt = other.rt;
-    for (wish, expected) in rows {
+    for (wish, expected) in case.meanwhile {
         same(
             &rt,
             answer_to(&rt, alloc, &mut other.session, *wish),
             expected,
         )?;
+    }
+    if case.closes {
+        for part in 0..3 {
+            let relay = relay_for(alloc, &mut other, part)?;
+            drop(relay.to.send(&rt, PartitionMail::Leave));
+        }
     }
     Ok(())
 }
@@ -316,11 +339,11 @@ fn both_answered<
         thread::scope_env(),
         rt,
         |scope| -> Result<Both, AllocError> {
-            let (own, held) = (*rt, (case.held, case.is_last));
-            let relaying = scope.spawn(move || pass_on(own, relay, held, hold))?;
+            let own = *rt;
+            let relaying = scope.spawn(move || pass_on(own, relay, case, hold))?;
             let late = scope.spawn(move || late_answer(alloc, owned, case.wish, case.then))?;
             hold.wait_for(case.until.0, case.until.1);
-            let meanwhile = assert_meanwhile(alloc, other, case.meanwhile);
+            let meanwhile = assert_meanwhile(alloc, other, case);
             let before = hold.counts.so_far();
             hold.release();
             let late = late.join(rt);
@@ -403,6 +426,12 @@ fn a_write_that_is_overtaken(rt: HostRuntime) -> Result<(), Fail> {
     assert_case(rt, rt.alloc(), PLAIN_OVERTAKEN)?;
     assert_case(rt, rt.alloc(), LOST)?;
     assert_case(rt, rt.alloc(), CUT_OFF)
+}
+
+#[test]
+fn a_write_as_the_service_closes(rt: HostRuntime) -> Result<(), Fail> {
+    assert_case(rt, rt.alloc(), CLOSED)?;
+    assert_case(rt, rt.alloc(), PLAIN_CLOSED)
 }
 
 #[test]
