@@ -80,7 +80,8 @@ def no_more_than_counted_until_the_end(program):
         more.close()
         want(None, service.run.poll(), "the end of the service")
         service.run.stdin.close()
-        service.end(NOTHING_NOTED, [b""])
+        said = b"album: 1 of 1 connections have come: whoever comes now is refused\n"
+        service.end(NOTHING_NOTED, [said], is_dated=True)
 
 
 def nothing_said_for_too_long(program):

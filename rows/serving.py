@@ -1,5 +1,6 @@
 """A running service, `album serve`, and connections to it, for the rows."""
 import json
+import re
 import resource
 import socket
 import struct
@@ -8,6 +9,7 @@ import tempfile
 import threading
 
 SECONDS = 60  # how long a service may run, and how long one wait may take
+MOMENT = rb"\d{4}-\d\d-\d\dT\d\d:\d\d:\d\d\.\d{3}Z"
 RESET = struct.pack("ii", 1, 0)  # linger for no time: what is not sent is dropped, and the other side gets a reset
 
 
@@ -18,6 +20,23 @@ class Differs(Exception):
 def want(wanted, got, what):
     if wanted != got:
         raise Differs(f"{what} is {got!r}, and {wanted!r} is wanted")
+
+
+def undated(said):
+    """The lines without the moment that each has to begin with, in the order of their bytes: connections that end at
+    once have no order."""
+    lines = said.splitlines(keepends=True)
+    for line in lines:
+        want(True, re.match(MOMENT + b" ", line) is not None, f"that {line!r} begins with a moment")
+    return b"".join(sorted(re.sub(MOMENT + b" ", b"", line, count=1) for line in lines))
+
+
+def untimed(notes):
+    """The lines of an audit file without the moment that each has to have before its last key."""
+    lines = notes.splitlines(keepends=True)
+    for line in lines:
+        want(True, re.search(b',"time":"' + MOMENT + b'","who":', line) is not None, f"that {line!r} has a moment")
+    return re.sub(b'"time":"' + MOMENT + b'",', b"", notes)
 
 
 def free_port():
@@ -70,12 +89,16 @@ class Service:
             self.run.stdin.close()
         self.errors.close()
 
-    def end(self, printed, said):
-        """Waits for its end, with what it prints, and one of the texts that it may say."""
+    def said(self):
+        """What is on standard error by now."""
+        self.errors.seek(0)
+        return self.errors.read()
+
+    def end(self, printed, said, is_dated=False):
+        """Waits for its end, with what it prints, and one of the texts that it may say, with a moment in each line."""
         want(printed, self.run.stdout.read(), "the end")
         want(0, self.run.wait(SECONDS), "the status")
-        self.errors.seek(0)
-        errors = self.errors.read()
+        errors = undated(self.said()) if is_dated else self.said()
         want(errors if errors in said else said[0], errors, "standard error")
 
 

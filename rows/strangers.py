@@ -1,18 +1,23 @@
-"""What a running service does with whoever never says who it is, never listens, or speaks something else; and with an
-audit file that isn't one. `serve PORT` without these options does what it always did."""
+"""What a running service does with whoever never says who it is, never listens, or speaks something else, and what it
+says of them. `serve PORT` without these options does what it always did."""
+import datetime
 import http.client
 import json
 import os
+import re
 import shutil
+import signal
+import socket
 import subprocess
 import sys
 import tempfile
+import threading
 import time
 import urllib.error
 import urllib.request
 
 from options import ALLOWED, NOTHING_NOTED, READ, opening, talker
-from serving import SECONDS, Connection, Service, free_port, joined, want, wrong_of
+from serving import MOMENT, SECONDS, Connection, Service, free_port, joined, undated, want, wrong_of
 from talks import ONE_PIECE
 
 OWNED = opening([["allow", "OWNER@", 2032127, 0], ["allow", "EVERYONE@", 257, 0]])
@@ -29,7 +34,7 @@ def until_eof(program, opened, *words, conns=65535):
 def closes(service, said=(b"",)):
     """Its input ends, and it ends well."""
     service.run.stdin.close()
-    service.end(NOTHING_NOTED, list(said))
+    service.end(NOTHING_NOTED, list(said), is_dated=True)
 
 
 def seconds_of(act):
@@ -110,7 +115,7 @@ def who_counts(program, _folder):
         want("Sea", first.ask(READ)["title"], "a title")
         for connection in (late, silent, first, second):
             connection.close()
-        closes(service)
+        closes(service, [b"album: 2 of 2 connections have come: whoever comes now is refused\n"])
 
 
 def no_last_number(program, _folder):
@@ -149,7 +154,8 @@ def time_to_say_who(program, _folder):
         time.sleep(1)
         want("Sea", known.ask(READ)["title"], "a title, later")
         known.finish()
-        closes(service, [b"album: reading failed\n" * 3])
+        closes(service, [b"".join(b"album: connection %d, client %d, nobody yet: reading failed\n" % (n, n)
+                                  for n in (2, 3, 4))])
 
 
 def fills(service, who):
@@ -177,7 +183,8 @@ def a_client_that_takes_no_answer(program, _folder):
         reader = talker(service, "eve@users")
         want("Sea", reader.ask(READ)["title"], "a title beside it")
         reader.finish()
-        took = seconds_of(lambda: closes(service, [b"album: writing failed\n"]))
+        said = b"album: connection 1, client 1, bo@users: writing failed\n"
+        took = seconds_of(lambda: closes(service, [said]))
         want(True, took < 8, f"that the end comes soon: {took:.1f} s")
         deaf.close()
     with Service(program, big_opening(), 1, "--idle", "1") as service:
@@ -188,43 +195,6 @@ def a_client_that_takes_no_answer(program, _folder):
         deaf.close()
 
 
-def no_audit_file(program, folder):
-    """A pipe, which nobody may read, and the opening are refused, and nothing is served."""
-    pipe, opened = os.path.join(folder, "pipe"), os.path.join(folder, "opening")
-    os.mkfifo(pipe)
-    with open(opened, "wb") as file:
-        file.write(ALLOWED)
-    os.symlink(opened, os.path.join(folder, "link"))
-    for words, path, why in ((["--audit", pipe], pipe, "a pipe or a socket is no audit file"),
-                             (["--opening", opened, "--audit", opened], opened, "the opening is no audit file"),
-                             (["--opening", opened, "--audit", os.path.join(folder, "link")],
-                              os.path.join(folder, "link"), "the opening is no audit file")):
-        done = subprocess.run([program, "serve", str(free_port()), *words], input=ALLOWED, capture_output=True,
-                              timeout=SECONDS)
-        said = f"album: {path}: {why}\nalbum: writing failed\n".encode()
-        want((1, b"", said), (done.returncode, done.stdout, done.stderr), "the run")
-    with open(opened, "rb") as file:
-        want(ALLOWED, file.read(), "the opening afterwards")
-
-
-def a_torn_line(program, folder):
-    """A line that a kill or a full disk has torn is ended before the first note, so no note is lost in it."""
-    path = os.path.join(folder, "notes")
-    audited = opening([["allow", "EVERYONE@", 257, 0], ["audit", "EVERYONE@", 1, 16]])
-    whole = b'{"alarm":false,"audit":1,"client":1,"mask":1,"object":"picture/0","success":true,"who":"bo@users"}\n'
-    ended = f"album: {path}: the last line was torn, and is ended\n"
-    for torn, kept, said in ((b'{"alarm":fal', b'{"alarm":fal\n', ended), (whole, whole, ""), (b"", b"", "")):
-        with open(path, "wb") as file:
-            file.write(torn)
-        with Service(program, audited, 1, "--audit", path) as service:
-            reader = talker(service, "bo@users")
-            want("served", reader.ask(READ)["answer"], "a read")
-            with open(path, "rb") as file:
-                want(kept + whole, file.read(), "the file")
-            reader.finish()
-            service.end(b'{"alarms":[0,0],"audits":[1,0]}\n', [said.encode()])
-
-
 def inputs_that_have_nothing(program, folder):
     """A service whose input is at its end says why it ends; a folder is named as one."""
     path = os.path.join(folder, "opening")
@@ -233,14 +203,130 @@ def inputs_that_have_nothing(program, folder):
     words = [program, "serve", str(free_port()), "--until-eof", "--opening"]
     done = subprocess.run([*words, path], stdin=subprocess.DEVNULL, capture_output=True, timeout=SECONDS)
     said = b"album: standard input has ended before anyone came, and so does the service\n"
-    want((0, said), (done.returncode, done.stderr), "the run")
+    want((0, said), (done.returncode, undated(done.stderr)), "the run")
     for given in ([*words, folder], [program, "judge", folder], [program, "replay", folder]):
         done = subprocess.run(given, stdin=subprocess.DEVNULL, capture_output=True, timeout=SECONDS)
         said = f"album: {folder}: a folder, and no file\nalbum: reading failed\n".encode()
         want((1, b"", said), (done.returncode, done.stdout, done.stderr), "the run")
 
 
+def who_failed(program, _folder):
+    """A line of standard error has a moment, the connection and who talks over it. The second connection has the
+    session that the first had."""
+    with until_eof(program, ALLOWED, "--stats", "1") as service:
+        began = time.time()
+        for who in ("bo@users", "ANONYMOUS@"):
+            broken = Connection(service.port, ONE_PIECE)
+            want({"answer": "hello", "client": 1}, broken.ask({"who": who}), "a hello")
+            broken.breaks()
+            time.sleep(0.5)
+        request = Connection(service.port, ONE_PIECE)
+        request.send(b"GET / HTTP/1.1\r\n")
+        want(BAD_LINE, first_answer(request), "the answer to a request")
+        request.close()
+        time.sleep(1)
+        lines = [line for line in service.said().splitlines(keepends=True) if not line.startswith(b"{")]
+        want(b"album: connection 1, client 1, bo@users: reading failed\n"
+             b"album: connection 2, client 1, ANONYMOUS@: reading failed\n"
+             b"album: connection 3, client 1, nobody yet: " + HTTP[7:], undated(b"".join(lines)), "standard error")
+        for line in lines:
+            moment = datetime.datetime.fromisoformat(line.decode().split()[0].replace("Z", "+00:00")).timestamp()
+            want(True, began - 1 < moment < began + 10, f"that {moment} is after {began}")
+        figures = [json.loads(line) for line in service.said().splitlines() if line.startswith(b"{")]
+        want(True, bool(figures) and all(re.fullmatch(MOMENT, row["time"].encode()) for row in figures),
+             "that each row of figures has a moment")
+        service.run.stdin.close()
+        want(NOTHING_NOTED, service.run.stdout.read(), "the end")
+        want(0, service.run.wait(SECONDS), "the status")
+
+
+def waits_of(service):
+    """How often threads of the service have gone to sleep."""
+    folder = f"/proc/{service.run.pid}/task"
+    count = 0
+    for thread in os.listdir(folder):
+        with open(f"{folder}/{thread}/status") as file:
+            count += int(re.search(r"^voluntary_ctxt_switches:\s*(\d+)", file.read(), re.MULTILINE)[1])
+    return count
+
+
+def nothing_to_do(program, _folder):
+    """A service that nobody asks sleeps, also where some are connected; and whoever comes is taken as soon as by one
+    that only accepts."""
+    took = []
+    for words in (["--until-eof"], []):
+        with Service(program, ALLOWED, 65535, *words, goes_on=True) as service:
+            known = talker(service, "bo@users")
+            before = waits_of(service)
+            time.sleep(2)
+            want(True, waits_of(service) - before < 20, "that nobody wakes up again and again")
+            took.append(sorted(seconds_of(lambda: talker(service, "bo@users").finish()) for _ in range(31))[15])
+            known.finish()
+    want(True, took[0] < took[1] + 0.003, f"that a hello comes as soon: {took} s")
+
+
+def many_at_once(program, _folder):
+    """Of six hundred that connect before the service takes the first, each is taken in time: the service is stopped
+    meanwhile, so all of them wait in the backlog."""
+    with until_eof(program, ALLOWED) as service:
+        talker(service, "bo@users").finish()
+        service.run.send_signal(signal.SIGSTOP)
+        waiting = []
+        for _ in range(600):
+            waiting.append(socket.socket())
+            waiting[-1].setblocking(False)
+            waiting[-1].connect_ex(("127.0.0.1", service.port))
+        time.sleep(0.3)
+        connected = sum(is_connected(one) for one in waiting)
+        service.run.send_signal(signal.SIGCONT)
+        want(600, connected, "how many of six hundred are connected")
+        for one in waiting:
+            one.close()
+        service.run.stdin.close()
+        want(NOTHING_NOTED, service.run.stdout.read(), "the end")
+
+
+def is_connected(one):
+    try:
+        return one.getpeername() is not None
+    except OSError:
+        return False
+
+
+def input_that_goes_on(program, _folder):
+    """What comes after the opening is let go, and doesn't keep a processor busy."""
+    with until_eof(program, ALLOWED) as service:
+        flood = threading.Thread(target=pours, args=(service.run.stdin,))
+        flood.start()
+        time.sleep(0.2)
+        before = seconds_used(service)
+        time.sleep(2)
+        used = seconds_used(service) - before
+        want("Sea", talker(service, "bo@users").ask(READ)["title"], "a title meanwhile")
+        service.run.kill()
+        flood.join()
+        want(True, used < 0.2, f"that it takes little of a processor: {used:.2f} of 2 s")
+
+
+def pours(stream):
+    try:
+        while True:
+            stream.write(b"y\n" * 100_000)
+    except OSError:
+        pass
+
+
+def seconds_used(service):
+    with open(f"/proc/{service.run.pid}/stat") as file:
+        words = file.read().rpartition(")")[2].split()
+    return (int(words[11]) + int(words[12])) / os.sysconf("SC_CLK_TCK")
+
+
 FACTS = {
+    "who failed, and when": who_failed,
+    "nothing to do": nothing_to_do,
+    "many at once": many_at_once,
+    "an input that goes on": input_that_goes_on,
     "inputs that have nothing": inputs_that_have_nothing,
     "requests of HTTP by real clients": requests_of_http,
     "what is like a request of HTTP": what_is_like_a_request,
@@ -248,8 +334,6 @@ FACTS = {
     "no last number of connections": no_last_number,
     "time to say who": time_to_say_who,
     "a client that takes no answer": a_client_that_takes_no_answer,
-    "what is no audit file": no_audit_file,
-    "a torn line of an audit file": a_torn_line,
 }
 
 

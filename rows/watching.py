@@ -6,7 +6,7 @@ import tempfile
 import time
 
 from options import READ, opening, talker
-from serving import SECONDS, Service, free_port, joined, want, wrong_of
+from serving import SECONDS, Service, free_port, joined, untimed, want, wrong_of
 
 # Reads are audited, and those of eve's, which are denied, raise an alarm too.
 AUDITED = opening([["deny", "eve@users", 1, 0], ["allow", "EVERYONE@", 257, 0], ["audit", "EVERYONE@", 1, 48],
@@ -19,15 +19,16 @@ COUNTED = [["deny", "eve@users", 1, 0], ["allow", "EVERYONE@", 1, 0], ["audit", 
 
 
 def note(client, who, entry, success, alarm=False):
-    """A line of an audit file."""
+    """A line of an audit file, but for its moment."""
     truth = {True: "true", False: "false"}
     return (f'{{"alarm":{truth[alarm]},"audit":{entry},"client":{client},"mask":1,"object":"picture/0",'
             f'"success":{truth[success]},"who":"{who}"}}\n')
 
 
 def text_of(path):
-    with open(path, encoding="utf-8") as file:
-        return file.read()
+    """The lines of an audit file, without their moments."""
+    with open(path, "rb") as file:
+        return untimed(file.read()).decode()
 
 
 def notes_in_a_file(program, folder):

@@ -3,9 +3,10 @@
 //! and `album ask` is a client of it. The command line and all but `serve` are album_commands'.
 #![tactic(auto)]
 
-mod audit_files;
+mod descriptors;
 mod serving;
 
+use crate::descriptors::fill_descriptors;
 use crate::serving::serve;
 use album_commands::{let_go, parse, refuse, refuse_words, run, status};
 use album_judge::Fault;
@@ -14,6 +15,7 @@ use std::io::IsTerminal;
 use std::process::ExitCode;
 
 fn main(rt: HostRuntime) -> ExitCode {
+    fill_descriptors(&rt);
     let args = match env::args(&rt) {
         Ok(args) => args,
         Err(error) => return refuse_words(&rt, &error),

@@ -1,6 +1,5 @@
 //! The subcommand `serve`: a service of the port that the command line names.
 
-use crate::audit_files::audit_file;
 use album_commands::{TURNS, open, status};
 use album_judge::Fault;
 use album_port::{AuditFile, Host, Served, Serving, serve_beside, serve_until};
@@ -22,7 +21,7 @@ const LIMIT: u32 = 10;
 
 /// Runs the service that the command line names, to its end. The bound has that of `Host`, written out: the borrow
 /// checker wants the types that it names where `main` calls this.
-pub(crate) fn serve<T, R: Read + Send + Drop, W: Write>(
+pub(crate) fn serve<T, R: Read + Send + Drop + 'static, W: Write>(
     rt: T,
     alloc: Global,
     reader: R,
@@ -35,7 +34,7 @@ where
         + Wait
         + time::Clock
         + Eprint
-        + Files<File = File>
+        + Files<File = File, Dir = <HostRuntime as Files>::Dir>
         + Copy
         + Send
         + Sync
@@ -55,8 +54,25 @@ where
     }
 }
 
+/// The audit file that the command line names, if it does.
+///
+/// # Errors
+///
+/// As `AuditFile::open`.
+fn audit_file<T: Files<File = File> + Eprint>(
+    rt: &T,
+    alloc: Global,
+    matches: Option<&ArgMatches<'_>>,
+) -> Result<Option<AuditFile>, Fault> {
+    let Some(path) = matches.and_then(|m| m.get_str("audit")) else {
+        return Ok(None);
+    };
+    let opening = matches.and_then(|m| m.get_str("opening"));
+    AuditFile::open(rt, alloc, path, opening).map(Some)
+}
+
 /// Serves the port.
-fn serve_port<T: Host + Files, R: Read + Send + Drop, W: Write>(
+fn serve_port<T: Host, R: Read + Send + Drop + 'static, W: Write>(
     rt: T,
     alloc: Global,
     reader: R,
@@ -79,7 +95,7 @@ fn serve_port<T: Host + Files, R: Read + Send + Drop, W: Write>(
 
 /// The same, where the input has the opening. It calls `serve_beside` with no other input, and not `serve_for`: a call
 /// with the same types as above isn't proved once more.
-fn serve_input<T: Host, R: Read + Send + Drop, W: Write>(
+fn serve_input<T: Host, R: Read + Send + Drop + 'static, W: Write>(
     rt: T,
     alloc: Global,
     mut reader: R,

@@ -89,7 +89,7 @@ fn replay_watched<R: Read, W: Write>(
     if !is_strict {
         return status(rt, replayed(alloc, reader, writer));
     }
-    let watch = Watch::new();
+    let watch = Watch::new(alloc);
     let mut reader = WatchedReader::new(&watch, reader);
     let mut writer = WatchedWriter::new(&watch, writer);
     let ended = replayed(alloc, &mut reader, &mut writer);
@@ -97,10 +97,22 @@ fn replay_watched<R: Read, W: Write>(
         return status(rt, ended);
     }
     match watch.refused() {
-        None => ExitCode::SUCCESS,
+        None => {
+            name_unanswered(rt, alloc, &watch);
+            ExitCode::SUCCESS
+        }
         Some(line) => {
             let _ = eprintln!(rt; "album: line {line} is refused");
             ExitCode::from(1)
+        }
+    }
+}
+
+/// Names the asks that are not answered by the end. Without memory none is named.
+fn name_unanswered(rt: &impl Eprint, alloc: Global, watch: &Watch) {
+    if let Ok(unanswered) = watch.unanswered(alloc) {
+        for (line, client) in &unanswered {
+            let _ = eprintln!(rt; "album: line {line}: the ask of client {client} is not answered");
         }
     }
 }

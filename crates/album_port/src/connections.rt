@@ -1,16 +1,15 @@
 //! The connections of a service that are open. Each has a session and a thread of its own.
 use crate::accepting::Limits;
 use crate::first_line::FirstLine;
-use crate::first_words::{FirstWords, Hearing};
-use crate::notices::Notice;
+use crate::first_words::{FirstWords, Hearing, Said};
+use crate::notices::{Notice, Notices};
 use crate::port::{Host, Shared};
 use crate::resumed::Resumed;
-use crate::waker::wake;
+use crate::waker::Waker;
 use album_stamps::{ClientNo, Refusal};
 use album_talk::{Admins, converse_with};
 use album_threads::{OwnedSession, ServiceNames};
-use crossbeam_channel::Sender;
-use std::alloc::Global;
+use std::alloc::{AllocError, Global};
 use std::collections::BTreeMap;
 use std::net::{Shutdown, TcpStream};
 use std::sync::atomic::{AtomicBool, AtomicU64, Ordering};
@@ -30,8 +29,10 @@ struct Streams {
 #[derive(Drop)]
 pub(crate) struct Connections {
     streams: Mutex<Streams>,
-    /// The port at which the service listens.
-    port: u16,
+    /// Wakes the thread that accepts.
+    waker: Waker,
+    /// Whether that thread waits for the last of them to end.
+    awaits_end: AtomicBool,
     /// How many have begun, how many of them have ended, and how many may begin.
     begun: AtomicU64,
     ended: AtomicU64,
@@ -40,7 +41,7 @@ pub(crate) struct Connections {
     named: AtomicU64,
     counts_named: bool,
     /// Takes what is to be printed on standard error.
-    notices: Sender<Notice>,
+    pub notices: Notices,
     /// Who may do more than ask.
     admins: Admins,
 }
@@ -49,8 +50,8 @@ impl Connections {
     /// None is open yet.
     pub(crate) fn new(
         alloc: Global,
-        notices: Sender<Notice>,
-        port: u16,
+        notices: Notices,
+        waker: Waker,
         most: u16,
         counts_named: bool,
         admins: Admins,
@@ -60,7 +61,8 @@ impl Connections {
                 open: BTreeMap::new(alloc),
                 is_closed: false,
             }),
-            port,
+            waker,
+            awaits_end: AtomicBool::new(false),
             begun: AtomicU64::new(0),
             ended: AtomicU64::new(0),
             most,
@@ -71,7 +73,7 @@ impl Connections {
         }
     }
 
-    /// A connection begins.
+    /// A connection begins. Gives how many have begun by then, which is its number.
     ///
     /// # Errors
     ///
@@ -81,22 +83,31 @@ impl Connections {
         rt: &T,
         client: ClientNo,
         stream: &Arc<TcpStream, Global>,
-    ) -> Result<(), Refusal> {
+    ) -> Result<u64, Refusal> {
         let stream = Arc::try_clone(stream)?;
         let mut streams = self.streams.lock(rt);
         if streams.is_closed {
             return Err(Refusal::Closed);
         }
         let _ = streams.open.insert(client.number(), stream)?;
-        self.begun.fetch_add(1, Ordering::SeqCst);
-        Ok(())
+        let before = self.begun.fetch_add(1, Ordering::SeqCst);
+        Ok(before.saturating_add(1))
     }
 
-    /// The connection of this session has ended.
+    /// The connection of this session has ended. Where the last is waited for, and this is it, that is told.
     pub(crate) fn end<T: Wait>(&self, rt: &T, client: ClientNo) {
         let stream = self.streams.lock(rt).open.remove(&client.number());
         drop(stream);
         self.ended.fetch_add(1, Ordering::SeqCst);
+        if self.awaits_end.load(Ordering::SeqCst) && self.have_ended() {
+            self.waker.wake();
+        }
+    }
+
+    /// The end of the last one is told from now on. Returns whether each has ended.
+    pub(crate) fn await_end(&self) -> bool {
+        self.awaits_end.store(true, Ordering::SeqCst);
+        self.have_ended()
     }
 
     /// A connection has said who it is.
@@ -134,27 +145,22 @@ impl Connections {
     }
 
     /// Whether each that has begun has ended.
-    pub(crate) fn have_ended(&self) -> bool {
+    fn have_ended(&self) -> bool {
         self.ended() == self.begun()
     }
 
     /// No connection begins any more, and those that are open are read to the end of what has come: each line that is
     /// there is answered still. The thread that accepts is woken.
-    pub(crate) fn close<T: Host>(&self, rt: &T) {
-        if self.begin_to_close(rt) {
-            wake(rt, self.port);
-        }
-    }
-
-    /// Closes the connections, and wakes nobody. Returns whether they weren't closed before.
-    fn begin_to_close<T: Wait>(&self, rt: &T) -> bool {
+    pub(crate) fn close<T: Wait>(&self, rt: &T) {
         let mut streams = self.streams.lock(rt);
         for (_, stream) in &streams.open {
             let _ = stream.shutdown(Shutdown::Read);
         }
         let is_first = !streams.is_closed;
         streams.is_closed = true;
-        is_first
+        if is_first {
+            self.waker.wake();
+        }
     }
 
     /// Ends the connections that are open still, also those whose client takes no answer.
@@ -165,15 +171,11 @@ impl Connections {
         }
     }
 
-    /// Has the notice printed on standard error, some time.
-    pub(crate) fn notify<T: Wait>(&self, rt: &T, notice: Notice) {
-        let _ = self.notices.send(rt, notice);
-    }
-
-    /// Has the notice printed on standard error, where no other waits to be printed.
-    pub(crate) fn notify_if_read<T: Wait>(&self, rt: &T, notice: Notice) {
-        if self.notices.is_empty() {
-            self.notify(rt, notice);
+    /// Says that a connection is refused, since no thread could be had for it. The faults that are printed without a
+    /// date are those that are defined.
+    pub(crate) fn say_refused<T: Wait + time::Clock>(&self, rt: &T) {
+        if self.notices.are_dated() {
+            self.notices.send_if_read(rt, Notice::NoThread);
         }
     }
 
@@ -186,6 +188,8 @@ impl Connections {
 /// Who talks over a connection, from its thread.
 #[derive(Drop)]
 pub(crate) struct OpenConnection<J: ServiceNames, T: Wait + Copy> {
+    /// How many connections had begun by when it did.
+    pub number: u64,
     pub owned: OwnedSession<J, T>,
     /// What the connection is read by, and what its answers are written to.
     pub from: Resumed<T>,
@@ -198,56 +202,85 @@ where
     J: ServiceNames + Send + Sync,
     T: Host,
 {
-    let Shared {
-        connections,
-        journal,
-        limits,
-        ..
-    } = shared;
     let OpenConnection {
+        number,
         mut owned,
         from,
         stream,
     } = connection;
-    let _ = stream.set_nodelay(true);
     let (rt, client) = (owned.rt, owned.session.client());
-    let said = AtomicBool::new(false);
+    let said = Said::new();
+    if let Some(notice) = talk(alloc, shared, &mut owned, &said, from, &stream) {
+        let of = name_of(&rt, alloc, number, client, &said);
+        shared.connections.notices.send_of(&rt, of.ok(), notice);
+    }
+    shared.journal.forget(&rt, &owned.session);
+    if shared.journal.has_failed() {
+        shared.connections.close(&rt);
+    }
+    shared.connections.end(&rt, client);
+    shared.rest(owned);
+}
+
+/// How a connection is named on standard error.
+///
+/// # Errors
+///
+/// `AllocError`.
+fn name_of<T: Wait>(
+    rt: &T,
+    alloc: Global,
+    number: u64,
+    client: ClientNo,
+    said: &Said,
+) -> Result<String, AllocError> {
+    let (client, who) = (client.number(), said.text(rt, alloc)?);
+    format!(in alloc; "connection {number}, client {client}, {who}")
+}
+
+/// Answers the lines of a connection, and gives what is to be printed of how it ended, unless it ended well.
+fn talk<J, T>(
+    alloc: Global,
+    shared: &Shared<J, T>,
+    owned: &mut OwnedSession<J, T>,
+    said: &Said,
+    from: Resumed<T>,
+    stream: &TcpStream,
+) -> Option<Notice>
+where
+    J: ServiceNames + Send + Sync,
+    T: Host,
+{
+    let _ = stream.set_nodelay(true);
+    let rt = owned.rt;
     let hearing = Hearing {
-        journal,
-        connections,
-        said: &said,
+        journal: &shared.journal,
+        connections: &shared.connections,
+        said,
     };
-    let mut from = first_words(&rt, from, &said, limits);
-    let mut to: &TcpStream = &stream;
+    let mut from = first_words(&rt, from, said, &shared.limits);
+    let mut to = stream;
     let done = converse_with(
         &rt,
         alloc,
         &mut from,
         &mut to,
         &mut owned.session,
-        &connections.admins,
+        &shared.connections.admins,
         &hearing,
-        limits.turns,
+        shared.limits.turns,
     );
     if from.first.is_request() {
-        connections.notify(&rt, Notice::Http);
-    } else if let Err(fault) = done {
-        connections.notify(&rt, Notice::Fault(fault));
+        return Some(Notice::Http);
     }
-    drop(from);
-    journal.forget(&rt, &owned.session);
-    if journal.has_failed() {
-        connections.close(&rt);
-    }
-    connections.end(&rt, client);
-    shared.rest(owned);
+    done.err().map(Notice::Fault)
 }
 
 /// What the connection is read by until it has said who it is, within the limits.
 fn first_words<'a, T: Host>(
     rt: &T,
     from: Resumed<T>,
-    said: &'a AtomicBool,
+    said: &'a Said,
     limits: &Limits,
 ) -> FirstWords<'a, T> {
     let until = match limits.hello {

@@ -1,17 +1,60 @@
 //! What a connection says until it has said who it is: how long that may take, and what it may not be.
 use crate::connections::Connections;
 use crate::first_line::FirstLine;
-use crate::notices::Notice;
 use crate::resumed::Resumed;
 use album_eval::Principal;
 use album_judge::Fault;
 use album_talk::Journal;
 use album_threads::{ServiceNames, Session};
+use std::alloc::{AllocError, Global};
 use std::io::{ErrorKind, Read};
-use std::sync::Wait;
 use std::sync::atomic::{AtomicBool, Ordering};
+use std::sync::{Mutex, Wait};
 use std::time::{Duration, Instant};
 use std::{io, time};
+
+/// Who talks over a connection, once it has said that.
+#[derive(Drop)]
+pub(crate) struct Said {
+    has_said: AtomicBool,
+    who: Mutex<Option<Principal>>,
+}
+
+impl Said {
+    /// Nothing has been said.
+    pub(crate) fn new() -> Said {
+        Said {
+            has_said: AtomicBool::new(false),
+            who: Mutex::new(None),
+        }
+    }
+
+    fn is_known(&self) -> bool {
+        self.has_said.load(Ordering::SeqCst)
+    }
+
+    /// It is this one. Without memory it stays unnamed.
+    fn is<T: Wait>(&self, rt: &T, who: &Principal) {
+        self.has_said.store(true, Ordering::SeqCst);
+        *self.who.lock(rt) = who.copy().ok();
+    }
+
+    /// The text of who it is, or that nobody knows.
+    ///
+    /// # Errors
+    ///
+    /// `AllocError`.
+    pub(crate) fn text<T: Wait>(&self, rt: &T, alloc: Global) -> Result<String, AllocError> {
+        match &*self.who.lock(rt) {
+            None => String::from_str(alloc, "nobody yet"),
+            Some(Principal::Anonymous) => String::from_str(alloc, "ANONYMOUS@"),
+            Some(Principal::User(name)) => {
+                let name = name.as_str();
+                format!(in alloc; "{name}@users")
+            }
+        }
+    }
+}
 
 /// Reads a connection. Until it has said who it is, it is read until that time alone, and no further than a first line
 /// that begins like a request of HTTP.
@@ -19,7 +62,7 @@ use std::{io, time};
 pub(crate) struct FirstWords<'a, T> {
     pub from: Resumed<T>,
     /// Whether it has said who it is.
-    pub said: &'a AtomicBool,
+    pub said: &'a Said,
     /// By when it has to, if there is a limit.
     pub until: Option<Instant>,
     /// How long it may say nothing afterwards.
@@ -32,7 +75,7 @@ impl<T: Wait + time::Clock> Read for FirstWords<'_, T> {
         if self.first.is_request() {
             return Err(io::Error::from(ErrorKind::InvalidData));
         }
-        if self.said.load(Ordering::SeqCst) {
+        if self.said.is_known() {
             self.lift_limit();
             return self.from.read(buf);
         }
@@ -79,7 +122,7 @@ impl<T: Wait + time::Clock> FirstWords<'_, T> {
 pub(crate) struct Hearing<'a, A> {
     pub journal: &'a A,
     pub connections: &'a Connections,
-    pub said: &'a AtomicBool,
+    pub said: &'a Said,
 }
 
 impl<A: Journal> Journal for Hearing<'_, A> {
@@ -93,7 +136,10 @@ impl<A: Journal> Journal for Hearing<'_, A> {
         session: &Session<J>,
         who: Option<&Principal>,
     ) -> Result<(), Fault> {
-        if who.is_some() && !self.said.swap(true, Ordering::SeqCst) {
+        if let Some(who) = who
+            && !self.said.is_known()
+        {
+            self.said.is(rt, who);
             self.connections.name();
         }
         self.journal.settle(rt, session, who)

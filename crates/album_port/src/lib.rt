@@ -4,26 +4,31 @@
 //! its talk, which is `album_talk`'s; to a writer that the port is served, and at the end the totals; or a fault.
 //!
 //! Read `port` first: it opens a service (`opening`), gives each connection a thread (`accepting`, `connections`),
-//! writes its notes to a file (`audit`, `log`) and prints its figures (`watch`). `resumed` reads anew after an
-//! interruption, and `first_words` reads until it is said who talks. specs/Audits.antt says what the audit file has.
+//! writes its notes to a file (`audit`, `log`, `writer`) and prints its figures (`watch`). `waker` waits for whoever
+//! connects, `resumed` reads anew after an interruption, and `first_words` reads until it is said who talks.
+//! specs/Audits.antt says what the audit file has.
 //!
 //! `serve` ends with its connections; `serve_for` has options; `serve_until` ends with its input; `serve_beside` takes
 //! the opening from another input.
 #![tactic(auto)]
 
 // How a service is opened, and what it prints on standard error.
+mod moments;
 mod notices;
 mod opening;
 
 // The audit file.
 mod audit;
+mod audit_file;
 mod log;
+mod writer;
 
-// The connections, what they say first, and what wakes the thread that accepts them.
+// The connections, what they say first, and what the thread that accepts them is woken by.
 mod accepting;
 mod connections;
 mod first_line;
 mod first_words;
+mod input;
 mod resumed;
 mod waker;
 
@@ -31,6 +36,6 @@ mod waker;
 mod port;
 mod watch;
 
-pub use audit::AuditFile;
+pub use audit_file::AuditFile;
 pub use opening::opening_of_text;
 pub use port::{Host, Served, Serving, serve, serve_beside, serve_for, serve_until};

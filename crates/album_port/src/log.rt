@@ -1,14 +1,15 @@
-//! What a service writes to its audit file: a line for each record, with the principal that asked.
-ghost use Rattle.std.specs.Prelude.{◌≡◌, ◌≢◌, ℕ, None, Some, OnOk, IfSome};
+//! What a service writes to its audit file: a line for each record, with when it was written and the principal that
+//! asked.
+ghost use Rattle.std.specs.Prelude.{◌≡◌, ◌≢◌, ℕ, None, Some, OnOk, IfOk, IfSome};
 ghost use Rattle.std.specs.Io.KnownBytes.{Appends};
-ghost use Rattle.album_wire.specs.RecordJson.{record_text};
 ghost use Rattle.album_port.specs.Audits.{named_in, who_in, record_lines};
+ghost use Rattle.album_port.specs.Audits.{dated_record, put_before, moment_member, who_len};
 
 use album_audit::Record;
 use album_eval::Principal;
 use album_stamps::{ClientNo, Refusal};
 use album_wire::write_record;
-use std::alloc::Global;
+use std::alloc::{AllocError, Global};
 use std::collections::BTreeMap;
 use std::io;
 use std::io::Write;
@@ -40,8 +41,8 @@ impl<W: Write> Log<W> {
         }
     }
 
-    /// Writes the records, in their order, each with the principal that asked. The client is this principal from its
-    /// first line on.
+    /// Writes the records, in their order, each with this moment and the principal that asked. The client is this
+    /// principal from its first line on.
     ///
     /// # Errors
     ///
@@ -51,16 +52,17 @@ impl<W: Write> Log<W> {
         alloc: Global,
         client: ClientNo,
         who: Option<&Principal>,
+        moment: &str,
         records: &[Record],
     ) -> Result<(), Unwritten>
         ensures written { OnOk result (Appends (W.contents self.old.to) (W.contents self.new.to)
-            (record_lines (who_in self.new.named) records.now)) }
+            (record_lines moment.now (who_in self.new.named) records.now)) }
         ensures named { OnOk result (IfSome who.entry (λ principal. named_in self.old.named client ≡ None
             → named_in self.new.named client ≡ Some principal.now)) }
         ensures others { (other : ℕ) → other ≢ client → named_in self.new.named other ≡ named_in self.old.named other }
     {
         self.name(client, who).map_err(|_| Unwritten::Memory)?;
-        self.append_all(alloc, records)
+        self.append_all(alloc, moment, records)
     }
 
     /// The client is this principal, if that isn't known yet.
@@ -79,20 +81,25 @@ impl<W: Write> Log<W> {
         Ok(())
     }
 
-    fn append_all(&mut self, alloc: Global, records: &[Record]) -> Result<(), Unwritten>
+    fn append_all(
+        &mut self,
+        alloc: Global,
+        moment: &str,
+        records: &[Record],
+    ) -> Result<(), Unwritten>
         ensures written { OnOk result (Appends (W.contents self.old.to) (W.contents self.new.to)
-            (record_lines (who_in self.old.named) records.now)) }
+            (record_lines moment.now (who_in self.old.named) records.now)) }
         ensures named { self.new.named ≡ self.old.named }
     {
         for of in records {
-            self.append(alloc, *of)?;
+            self.append(alloc, moment, *of)?;
         }
         Ok(())
     }
 
-    fn append(&mut self, alloc: Global, of: Record) -> Result<(), Unwritten>
+    fn append(&mut self, alloc: Global, moment: &str, of: Record) -> Result<(), Unwritten>
         ensures written { OnOk result (Appends (W.contents self.old.to) (W.contents self.new.to)
-            (record_text of.client (who_in self.old.named of.client) of.note)) }
+            (dated_record moment.now of.client (who_in self.old.named of.client) of.note)) }
         ensures named { self.new.named ≡ self.old.named }
     {
         let Record { client, note } = of;
@@ -102,6 +109,35 @@ impl<W: Write> Log<W> {
             .get(&client.number())
             .unwrap_or(&Principal::Anonymous);
         let line = write_record(alloc, client, who, note).map_err(|_| Unwritten::Memory)?;
+        let line = dated(alloc, moment, who, &line).map_err(|_| Unwritten::Memory)?;
         self.to.write_all(&line).map_err(Unwritten::File)
+    }
+}
+
+/// The line of a record of this principal's, with the moment before its last key.
+///
+/// # Errors
+///
+/// `AllocError`.
+fn dated(alloc: Global, moment: &str, who: &Principal, line: &[u8]) -> Result<Vec<u8>, AllocError>
+    ensures { IfOk result (λ text. text.items ≡ put_before (moment_member moment.now) (who_len who.now) line.now) }
+{
+    let (before, last) = line.split_at(line.len().saturating_sub(who_len(who)));
+    let mut text = Vec::new(alloc);
+    text.extend_from_slice(before)?;
+    text.extend_from_slice(b"\"time\":\"")?;
+    text.extend_from_slice(moment.as_bytes())?;
+    text.extend_from_slice(b"\",")?;
+    text.extend_from_slice(last)?;
+    Ok(text)
+}
+
+/// How many bytes the last key of a line takes, with this principal, the brace and the newline.
+fn who_len(who: &Principal) -> usize
+    ensures { result ≡ who_len who.now }
+{
+    match who {
+        Principal::Anonymous => "\"who\":\"ANONYMOUS@\"}\n".len(),
+        Principal::User(name) => "\"who\":\"@users\"}\n".len() + name.as_str().len(),
     }
 }

@@ -4,35 +4,39 @@
 //! `begin`, which opens the service's state and listens at the port, and then `serve_begun`. From there each calls the
 //! next:
 //!
-//! - `serve_begun` and `serve_opened`, which gives the service its names;
-//! - `serve_at`, which prints the notices meanwhile, and the totals at the end;
+//! - `serve_begun`, which prints the notices meanwhile, and the totals at the end;
+//! - `serve_opened`, which gives the service its names;
 //! - `serve_all`, which opens the service and closes it;
 //! - `say_and_attend`, which says that the port is served;
-//! - `attend_all`, which makes what the threads share and what one of them alone has, by `parts_of`;
-//! - `attend_within`, which runs the threads: `watch_within`, `read_within` and `accept_all`.
+//! - `attend_all`, which makes what the threads share, by `shared_of`;
+//! - `attend_within`, which runs the threads: `watch_within` and `accept_all`.
 ghost use Rattle.std.specs.Prelude.{◌≡◌};
 ghost use Rattle.album_threads.specs.Opened.{opened_as};
 
 use crate::accepting::{Limits, accept_all};
-use crate::audit::{AuditFile, AuditJournal};
+use crate::audit::AuditJournal;
+use crate::audit_file::AuditFile;
 use crate::connections::Connections;
-use crate::notices::{Notice, Printer};
+use crate::input::Input;
+use crate::notices::{Notices, Printer};
 use crate::opening::{Unopened, read_opening};
-use crate::waker::{Waker, local};
+use crate::waker::{Door, Waker};
 use crate::watch::watch;
 use album_audit::Totals;
 use album_items::Opening;
-use album_judge::{Fault, PIECE, write_refused, write_text};
+use album_judge::{Fault, write_refused, write_text};
 use album_stamps::Refusal;
 use album_talk::Admins;
 use album_threads::{Gauge, Opened, OwnedSession, Service, ServiceNames};
 use album_wire::{Counted, TalkOut, write_talk};
 use crossbeam_channel::{Receiver, Sender, unbounded};
 use std::alloc::Global;
+use std::fs::File;
 use std::io::{Read, Write};
 use std::marker::Brand;
 use std::net::{Net, TcpListener, TcpStream};
-use std::sync::{Mutex, Wait};
+use std::rt::Files;
+use std::sync::{Arc, Mutex, Wait};
 use std::thread::{Scope, Threads};
 use std::time::Duration;
 use std::{thread, time};
@@ -70,8 +74,10 @@ pub struct Serving {
     pub admins: Admins,
 }
 
-/// What a service runs on: sockets, threads, the clock and standard error.
+/// What a service runs on: sockets, files, threads, the clock and standard error. What is sent to a thread has to name
+/// each type of a handle's, and so that of a folder too, which nothing reads here.
 pub trait Host: Net<Listener = TcpListener, Stream = TcpStream>
+    + Files<File = File, Dir = <HostRuntime as Files>::Dir>
     + Threads
     + Wait
     + time::Clock
@@ -84,6 +90,7 @@ pub trait Host: Net<Listener = TcpListener, Stream = TcpStream>
 impl<T> Host for T
 where
     T: Net<Listener = TcpListener, Stream = TcpStream>
+        + Files<File = File, Dir = <HostRuntime as Files>::Dir>
         + Threads
         + Wait
         + time::Clock
@@ -140,12 +147,7 @@ pub fn serve_for<T: Host, R: Read, W: Write>(
     audit: Option<AuditFile>,
 ) -> Result<Served, Fault> {
     let begun = begin(&rt, alloc, reader, writer, &serving, serving.conns)?;
-    let setup = Setup::<&[u8]> {
-        input: None,
-        serving,
-        audit,
-    };
-    serve_begun(rt, alloc, begun, writer, setup)
+    serve_begun(rt, alloc, begun, None::<&[u8]>, writer, serving, audit)
 }
 
 /// Serves as `serve_for` does, to the end of the input after the opening: then no connection begins any more, and each
@@ -154,21 +156,21 @@ pub fn serve_for<T: Host, R: Read, W: Write>(
 /// # Errors
 ///
 /// As `serve_for`.
-pub fn serve_until<T: Host, R: Read + Send + Drop, W: Write>(
+pub fn serve_until<T, R, W>(
     rt: T,
     alloc: Global,
     mut reader: R,
     writer: &mut W,
     serving: Serving,
     audit: Option<AuditFile>,
-) -> Result<Served, Fault> {
+) -> Result<Served, Fault>
+where
+    T: Host,
+    R: Read + Send + Drop + 'static,
+    W: Write,
+{
     let begun = begin(&rt, alloc, &mut reader, writer, &serving, u16::MAX)?;
-    let setup = Setup {
-        input: Some(reader),
-        serving,
-        audit,
-    };
-    serve_begun(rt, alloc, begun, writer, setup)
+    serve_begun(rt, alloc, begun, Some(reader), writer, serving, audit)
 }
 
 /// Serves as `serve_until` does, where the opening is read by itself, and of the other input only the end counts.
@@ -177,7 +179,7 @@ pub fn serve_until<T: Host, R: Read + Send + Drop, W: Write>(
 /// # Errors
 ///
 /// As `serve_for`.
-pub fn serve_beside<T: Host, O: Read, R: Read + Send + Drop, W: Write>(
+pub fn serve_beside<T, O, R, W>(
     rt: T,
     alloc: Global,
     opening: &mut O,
@@ -185,52 +187,34 @@ pub fn serve_beside<T: Host, O: Read, R: Read + Send + Drop, W: Write>(
     writer: &mut W,
     serving: Serving,
     audit: Option<AuditFile>,
-) -> Result<Served, Fault> {
+) -> Result<Served, Fault>
+where
+    T: Host,
+    O: Read,
+    R: Read + Send + Drop + 'static,
+    W: Write,
+{
     let sessions = if input.is_some() {
         u16::MAX
     } else {
         serving.conns
     };
     let begun = begin(&rt, alloc, opening, writer, &serving, sessions)?;
-    let setup = Setup {
-        input,
-        serving,
-        audit,
-    };
-    serve_begun(rt, alloc, begun, writer, setup)
+    serve_begun(rt, alloc, begun, input, writer, serving, audit)
 }
 
-/// What a service is run with, in addition to its opening: the input after that, if it is read, its port and limits,
-/// and the audit file.
-struct Setup<R: Drop> {
-    input: Option<R>,
+/// What a service is run with, in addition to its opening: its port and limits, the input after that, if it is read,
+/// the journal of its notes, and where its notices go.
+#[derive(Drop)]
+struct Setup<T> {
     serving: Serving,
-    audit: Option<AuditFile>,
+    input: Option<Arc<Input, Global>>,
+    journal: AuditJournal<T>,
+    notices: Notices,
 }
 
-// By hand, so that what lets it go is proved here, and not case by case where a call fails.
-impl<R: Drop> Drop for Setup<R> {
-    fn drop(self) {
-        let (input, serving, audit) = self.into_parts();
-        drop(input);
-        drop(serving);
-        drop(audit);
-    }
-}
-
-impl<R: Drop> Setup<R> {
-    fn into_parts(self) -> (Option<R>, Serving, Option<AuditFile>) {
-        let Setup {
-            input,
-            serving,
-            audit,
-        } = self;
-        (input, serving, audit)
-    }
-}
-
-/// What was opened, and its port; or how `serve` ends without them.
-type Begun = Result<(Opened, TcpListener), Served>;
+/// What was opened, the door at its port, and what wakes who waits there; or how `serve` ends without them.
+type Begun = Result<(Opened, Door, Waker), Served>;
 
 /// Reads the opening, opens the service's state by it for so many sessions, and listens at the port; or else answers
 /// why not.
@@ -243,7 +227,7 @@ fn begin<T: Host, R: Read, W: Write>(
     sessions: u16,
 ) -> Result<Begun, Fault> {
     match open(rt, alloc, reader, writer, serving.turns, sessions)? {
-        Ok(opened) => Ok(listen(rt, opened, serving.port)),
+        Ok(opened) => Ok(listen(rt, alloc, opened, serving.port)),
         Err(served) => Ok(Err(served)),
     }
 }
@@ -294,9 +278,9 @@ fn refuse<W: Write>(
 }
 
 /// Listens at the port. Why it can't be had is printed on standard error.
-fn listen<T: Host>(rt: &T, opened: Opened, port: u16) -> Begun {
-    match TcpListener::bind(rt, local(port)) {
-        Ok(listener) => Ok((opened, listener)),
+fn listen<T: Host>(rt: &T, alloc: Global, opened: Opened, port: u16) -> Begun {
+    match Door::open(rt, alloc, port) {
+        Ok((door, waker)) => Ok((opened, door, waker)),
         Err(error) => {
             let _ = eprintln!(rt; "album: port {port}: {error}");
             Err(Served::NoPort)
@@ -304,65 +288,58 @@ fn listen<T: Host>(rt: &T, opened: Opened, port: u16) -> Begun {
     }
 }
 
-/// Serves what was opened, if anything was.
+/// Serves what was opened, if anything was. From now on the input is read to its end, and notices are printed.
 fn serve_begun<T, R, W>(
     rt: T,
     alloc: Global,
     begun: Begun,
+    reader: Option<R>,
     writer: &mut W,
-    setup: Setup<R>,
+    serving: Serving,
+    audit: Option<AuditFile>,
 ) -> Result<Served, Fault>
 where
     T: Host,
-    R: Read + Send + Drop,
+    R: Read + Send + Drop + 'static,
     W: Write,
 {
-    match begun {
-        Ok((opened, listener)) => serve_opened(rt, alloc, opened, &listener, writer, setup),
-        Err(served) => Ok(served),
-    }
-}
-
-/// Serves what was opened, under names of its own.
-fn serve_opened<T, R, W>(
-    rt: T,
-    alloc: Global,
-    opened: Opened,
-    listener: &TcpListener,
-    writer: &mut W,
-    setup: Setup<R>,
-) -> Result<Served, Fault>
-where
-    T: Host,
-    R: Read + Send + Drop,
-    W: Write,
-{
-    serve_at::<Brand, T, R, W>(rt, alloc, opened, listener, writer, setup)?;
+    let (opened, mut door, waker) = match begun {
+        Ok(begun) => begun,
+        Err(served) => return Ok(served),
+    };
+    let (printer, notices) = Printer::open(rt, alloc, reader.is_some())?;
+    let journal = AuditJournal::open(rt, alloc, notices.copy()?, audit)?;
+    let input = match reader {
+        Some(reader) => Some(Input::begin(rt, alloc, reader, waker.copy()?, serving.turns)?),
+        None => None,
+    };
+    let setup = Setup {
+        serving,
+        input,
+        journal,
+        notices,
+    };
+    let ended = serve_opened(rt, alloc, opened, &mut door, waker, writer, setup);
+    printer.close(&rt);
+    print(alloc, &totals_out(ended?), writer)?;
     Ok(Served::Done)
 }
 
-/// Serves what was opened under the names J, prints notices on standard error meanwhile, and then writes the totals.
-fn serve_at<J, T, R, W>(
+/// Serves what was opened, under names of its own.
+fn serve_opened<T, W>(
     rt: T,
     alloc: Global,
     opened: Opened,
-    listener: &TcpListener,
+    door: &mut Door,
+    waker: Waker,
     writer: &mut W,
-    setup: Setup<R>,
-) -> Result<(), Fault>
+    setup: Setup<T>,
+) -> Result<Totals, Fault>
 where
-    J: ServiceNames + Send + Sync + 'static,
     T: Host,
-    R: Read + Send + Drop,
     W: Write,
-    requires named { opened ≡ opened_as J.table J.terms J.policy J.list
-        J.audit_ok J.audit_failed J.alarm_ok J.alarm_failed }
 {
-    let (printer, notices) = Printer::open(rt, alloc)?;
-    let ended = serve_all::<J, T, R, W>(rt, alloc, opened, listener, writer, setup, notices);
-    printer.close(&rt);
-    let totals = ended?;
-    print(alloc, &totals_out(totals), writer)
+    serve_all::<Brand, T, W>(rt, alloc, opened, door, waker, writer, setup)
 }
 
 /// Opens the service, says so, and closes it once its connections have ended. What is printed meanwhile is sent as a
@@ -371,26 +348,24 @@ where
 /// # Errors
 ///
 /// Those of `attend_all`; `Memory`, also where a partition has ended for want of it; `Writing`.
-fn serve_all<J, T, R, W>(
+fn serve_all<J, T, W>(
     rt: T,
     alloc: Global,
     opened: Opened,
-    listener: &TcpListener,
+    door: &mut Door,
+    waker: Waker,
     writer: &mut W,
-    setup: Setup<R>,
-    notices: Sender<Notice>,
+    setup: Setup<T>,
 ) -> Result<Totals, Fault>
 where
     J: ServiceNames + Send + Sync + 'static,
     T: Host,
-    R: Read + Send + Drop,
     W: Write,
     requires named { opened ≡ opened_as J.table J.terms J.policy J.list
         J.audit_ok J.audit_failed J.alarm_ok J.alarm_failed }
 {
-    let waker = Waker::new(rt, setup.serving.port);
-    let service = Service::<J>::open(rt, alloc, opened, waker)?;
-    let done = say_and_attend(rt, alloc, &service, listener, writer, setup, notices);
+    let service = Service::<J>::open(rt, alloc, opened, waker.copy()?)?;
+    let done = say_and_attend(rt, alloc, &service, door, waker, writer, setup);
     close(&rt, service, done)
 }
 
@@ -410,48 +385,60 @@ where
 }
 
 /// Says that the port is served, and serves it.
-fn say_and_attend<J, T, R, W>(
+fn say_and_attend<J, T, W>(
     rt: T,
     alloc: Global,
     service: &Service<J>,
-    listener: &TcpListener,
+    door: &mut Door,
+    waker: Waker,
     writer: &mut W,
-    setup: Setup<R>,
-    notices: Sender<Notice>,
+    setup: Setup<T>,
 ) -> Result<(), Fault>
 where
     J: ServiceNames + Send + Sync,
     T: Host,
-    R: Read + Send + Drop,
     W: Write,
 {
     print(alloc, &TalkOut::Serving(setup.serving.port), writer)?;
-    attend_all(rt, alloc, service, listener, setup, notices)
+    attend_all(rt, alloc, service, door, waker, setup)
 }
 
-/// Serves the connections. Meanwhile it watches the figures, and reads the input to its end, if there is one.
+/// Serves the connections. Meanwhile it watches the figures.
 ///
 /// # Errors
 ///
 /// `Memory`; `Writing`, where a note can't be written.
-fn attend_all<J, T, R>(
+fn attend_all<J, T>(
     rt: T,
     alloc: Global,
     service: &Service<J>,
-    listener: &TcpListener,
-    setup: Setup<R>,
-    notices: Sender<Notice>,
+    door: &mut Door,
+    waker: Waker,
+    setup: Setup<T>,
 ) -> Result<(), Fault>
 where
     J: ServiceNames + Send + Sync,
     T: Host,
-    R: Read + Send + Drop,
 {
-    let (shared, own) = parts_of(&rt, alloc, service, setup, notices)?;
-    attend_within(rt, alloc, service, listener, &shared, own);
+    if setup.journal.has_file() {
+        service.keep_records(&rt);
+    }
+    let (end, ended) = ends_of(alloc)?;
+    let shared = shared_of(alloc, service, waker, setup)?;
+    attend_within(rt, alloc, service, door, &shared, end, ended);
+    shared.journal.end(&rt);
     let outcome = shared.journal.outcome();
     drop(shared);
     outcome
+}
+
+/// The ends of the channel by which the watch ends.
+///
+/// # Errors
+///
+/// `OutOfMemory`.
+fn ends_of(alloc: Global) -> Result<(Sender<()>, Receiver<()>), Refusal> {
+    Ok(unbounded(alloc)?)
 }
 
 /// What the threads of a service share.
@@ -459,8 +446,10 @@ where
 pub(crate) struct Shared<J: ServiceNames, T: Wait + Copy> {
     pub gauge: Gauge<J>,
     pub connections: Connections,
-    pub journal: AuditJournal,
+    pub journal: AuditJournal<T>,
     pub limits: Limits,
+    /// The input, where the service ends with it.
+    pub input: Option<Arc<Input, Global>>,
     /// Each so many seconds the figures are printed. 0 is never.
     pub stats: u32,
     /// The sessions of connections that have ended, for later ones.
@@ -483,124 +472,63 @@ impl<J: ServiceNames, T: Wait + Copy> Shared<J, T> {
     }
 }
 
-/// What one thread of a service alone has. The one that reads the input to its end has `input`, and the one that
-/// watches has `ended`. It watches until `end` is let go, by the thread that accepts connections.
-#[derive(Drop)]
-struct Own<R: Drop> {
-    input: Option<R>,
-    end: Sender<()>,
-    ended: Receiver<()>,
-}
-
-/// The gauge of the figures, and the ends of channels, which `parted` puts into `Shared` and `Own`.
-#[derive(Drop)]
-struct Ends<J: ServiceNames> {
-    gauge: Gauge<J>,
-    /// Where the journal sends its notices, and the connections theirs.
-    unwritten: Sender<Notice>,
-    notices: Sender<Notice>,
-    end: Sender<()>,
-    ended: Receiver<()>,
-}
-
-/// Makes what the threads of a service share, and what one of them alone has. The service keeps its notes from now on,
-/// if a file is to have them.
+/// Makes what the threads of a service share.
 ///
 /// # Errors
 ///
 /// `OutOfMemory`.
-fn parts_of<J: ServiceNames, T: Wait + Copy, R: Drop>(
-    rt: &T,
+fn shared_of<J: ServiceNames, T: Wait + Copy>(
     alloc: Global,
     service: &Service<J>,
-    setup: Setup<R>,
-    notices: Sender<Notice>,
-) -> Result<(Shared<J, T>, Own<R>), Refusal> {
-    let ends = ends_of(alloc, service, notices)?;
-    if setup.audit.is_some() {
-        service.keep_records(rt);
-    }
-    Ok(parted(alloc, setup, ends))
-}
-
-/// Makes the gauge and the ends. All that may find no memory is made here, before anything is parted.
-///
-/// # Errors
-///
-/// `OutOfMemory`.
-fn ends_of<J: ServiceNames>(
-    alloc: Global,
-    service: &Service<J>,
-    notices: Sender<Notice>,
-) -> Result<Ends<J>, Refusal> {
-    let (end, ended) = unbounded(alloc)?;
-    let unwritten = notices.clone()?;
+    waker: Waker,
+    setup: Setup<T>,
+) -> Result<Shared<J, T>, Refusal> {
     let gauge = service.gauge()?;
-    Ok(Ends {
-        gauge,
-        unwritten,
+    let Setup {
+        serving,
+        input,
+        journal,
         notices,
-        end,
-        ended,
-    })
-}
-
-/// Parts the setup and the ends into what the threads of a service share, and what one of them alone has.
-fn parted<J: ServiceNames, T: Wait + Copy, R: Drop>(
-    alloc: Global,
-    setup: Setup<R>,
-    ends: Ends<J>,
-) -> (Shared<J, T>, Own<R>) {
-    let (input, serving, audit) = setup.into_parts();
-    let Ends {
-        gauge,
-        unwritten,
-        notices,
-        end,
-        ended,
-    } = ends;
+    } = setup;
     let limits = limits_of(&serving, input.is_some());
     let stats = serving.stats;
     let connections = Connections::new(
         alloc,
         notices,
-        serving.port,
+        waker,
         limits.conns,
         limits.until_closed,
         serving.admins,
     );
-    let journal = AuditJournal::new(alloc, unwritten, audit);
-    let shared = Shared {
+    Ok(Shared {
         gauge,
         connections,
         journal,
         limits,
+        input,
         stats,
         resting: Mutex::new(Vec::new(alloc)),
-    };
-    (shared, Own { input, end, ended })
+    })
 }
 
-/// Runs the threads of a service, until all have ended: one that watches, one that reads the input, if there is any,
-/// and one for each connection. The calling thread accepts the connections.
-fn attend_within<J, T, R>(
+/// Runs the threads of a service, until all have ended: one that watches, until `end` is let go, and one for each
+/// connection. The calling thread accepts the connections.
+fn attend_within<J, T>(
     rt: T,
     alloc: Global,
     service: &Service<J>,
-    listener: &TcpListener,
+    door: &mut Door,
     shared: &Shared<J, T>,
-    own: Own<R>,
+    end: Sender<()>,
+    ended: Receiver<()>,
 )
 where
     J: ServiceNames + Send + Sync,
     T: Host,
-    R: Read + Send + Drop,
 {
     thread::scope(thread::scope_env(), &rt, |scope| {
-        let Own { input, end, ended } = own;
         watch_within(rt, alloc, scope, shared, ended);
-        read_within(rt, scope, shared, input);
-        accept_all(rt, alloc, scope, service, listener, shared);
+        accept_all(rt, alloc, scope, service, door, shared);
         // The watch ends.
         drop(end);
     });
@@ -627,28 +555,6 @@ where
     let _ = scope.spawn(move || watch(&rt, alloc, gauge, connections, *stats, &ended));
 }
 
-/// Reads the input to its end in a thread, if there is one. Where there is no thread, it has ended.
-fn read_within<'s, J, T, R, E>(
-    rt: T,
-    scope: &'s Scope<'s, E>,
-    shared: &'s Shared<J, T>,
-    input: Option<R>,
-)
-where
-    J: ServiceNames,
-    T: Host + 's,
-    R: Read + Send + Drop + 's,
-{
-    let Some(reader) = input else {
-        return;
-    };
-    let (connections, turns) = (&shared.connections, shared.limits.turns);
-    let reads = scope.spawn(move || read_to_end(&rt, reader, connections, turns));
-    if reads.is_err() {
-        connections.close(&rt);
-    }
-}
-
 /// The limits of the connections. With `until_closed` the service ends only once they are closed.
 fn limits_of(serving: &Serving, until_closed: bool) -> Limits {
     Limits {
@@ -667,26 +573,6 @@ fn seconds_of(seconds: u32) -> Option<Duration> {
         return None;
     }
     Some(Duration::from_secs(u64::from(seconds)))
-}
-
-/// Reads to the end, and closes the connections then, or where reading fails. Where nobody has come by then, standard
-/// error says why the service ends: its input may be one that has nothing, as that of a service manager.
-fn read_to_end<T, R>(rt: &T, mut reader: R, connections: &Connections, turns: u64)
-where
-    T: Host,
-    R: Read + Drop,
-{
-    let mut piece = [0u8; PIECE];
-    for _turn in 0..turns {
-        match reader.read(&mut piece) {
-            Ok(0) | Err(_) => break,
-            Ok(_) => {}
-        }
-    }
-    if connections.begun() == 0 {
-        connections.notify(rt, Notice::Ended);
-    }
-    connections.close(rt);
 }
 
 fn print<W: Write>(alloc: Global, out: &TalkOut, writer: &mut W) -> Result<(), Fault> {

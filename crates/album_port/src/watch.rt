@@ -2,6 +2,7 @@
 ghost use Rattle.std.specs.Prelude.{◌≤◌, ◌*◌, ◌↔◌, IsTrue};
 
 use crate::connections::Connections;
+use crate::moments::now;
 use crate::notices::Notice;
 use album_threads::{Figures, Gauge, ServiceNames};
 use album_wire::{Counted, ServiceFigures, write_figures};
@@ -55,7 +56,7 @@ fn ends_within<T: Wait + time::Clock>(rt: &T, ended: &Receiver<()>, pause: Durat
 }
 
 /// Looks at them once.
-fn look<J: ServiceNames, T: Wait>(
+fn look<J: ServiceNames, T: Wait + time::Clock>(
     rt: &T,
     alloc: Global,
     gauge: &Gauge<J>,
@@ -101,11 +102,38 @@ fn figures_of<J: ServiceNames, T: Wait>(
 }
 
 /// Prints the figures, unless what was to be printed before still waits: then nobody reads it.
-fn print<T: Wait>(rt: &T, alloc: Global, connections: &Connections, figures: &ServiceFigures) {
+fn print<T: Wait + time::Clock>(
+    rt: &T,
+    alloc: Global,
+    connections: &Connections,
+    figures: &ServiceFigures,
+) {
+    let notices = &connections.notices;
     if let Ok(line) = write_figures(alloc, figures)
         && let Ok(line) = String::from_utf8(line)
+        && let Ok(line) = dated(rt, alloc, notices.are_dated(), line)
     {
-        connections.notify_if_read(rt, Notice::Figures(line));
+        notices.send_if_read(rt, Notice::Figures(line));
+    }
+}
+
+/// The line of figures, with the moment in its place among the keys, where a line says when.
+///
+/// # Errors
+///
+/// `AllocError`.
+fn dated<T: time::Clock>(
+    rt: &T,
+    alloc: Global,
+    is_dated: bool,
+    line: String,
+) -> Result<String, AllocError> {
+    match line.split_once(",\"versions\":") {
+        Some((before, versions)) if is_dated => {
+            let at = now(rt);
+            format!(in alloc; "{before},\"time\":\"{at:.3}\",\"versions\":{versions}")
+        }
+        _ => Ok(line),
     }
 }
 
@@ -115,7 +143,7 @@ impl Warned {
     /// # Errors
     ///
     /// `AllocError`. It warns the next time.
-    fn warn<T: Wait>(
+    fn warn<T: Wait + time::Clock>(
         &mut self,
         rt: &T,
         alloc: Global,
@@ -128,14 +156,14 @@ impl Warned {
                 self.parts.push(part)?;
                 let limit = has.limit;
                 let text = format!(in alloc; "partition {part}: {made} of {limit} marks")?;
-                connections.notify(rt, Notice::Warning(text));
+                connections.notices.send(rt, Notice::Warning(text));
             }
         }
         let (counted, most) = (connections.counted(), connections.most());
         if is_nearly_spent(counted, most) && !connections.is_unlimited() && !self.connections {
             let text = format!(in alloc; "{counted} of {most} connections")?;
             self.connections = true;
-            connections.notify(rt, Notice::Warning(text));
+            connections.notices.send(rt, Notice::Warning(text));
         }
         Ok(())
     }

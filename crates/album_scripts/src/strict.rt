@@ -1,7 +1,9 @@
 //! A replay that ends at the first line that is refused. Its reader gives one line at a time, so the output in between
-//! is that line's; its writer looks for a refusal, and then the reader is at its end.
+//! is that line's; its writer looks for a refusal, and then the reader is at its end. Both note who waits for an answer.
 use crate::by_line::ByLine;
-use std::cell::Cell;
+use crate::unanswered::Unanswered;
+use std::alloc::{AllocError, Global};
+use std::cell::{Cell, RefCell};
 use std::io;
 use std::io::{Read, Write};
 
@@ -14,14 +16,45 @@ pub struct Watch {
     /// The number of the line that was given last, from 1.
     line: Cell<u64>,
     has_refused: Cell<bool>,
+    unanswered: RefCell<Unanswered>,
 }
 
 impl Watch {
     /// Nothing is given yet.
-    pub fn new() -> Watch {
+    pub fn new(alloc: Global) -> Watch {
         Watch {
             line: Cell::new(0),
             has_refused: Cell::new(false),
+            unanswered: RefCell::new(Unanswered::new(alloc)),
+        }
+    }
+
+    /// The lines of asks that no output has answered, in order, each with its client.
+    ///
+    /// # Errors
+    ///
+    /// `AllocError`.
+    pub fn unanswered(&self, alloc: Global) -> Result<Vec<(u64, u64)>, AllocError> {
+        match self.unanswered.try_borrow() {
+            Ok(unanswered) => unanswered.lines(),
+            // Nobody else has it while no line is read or written.
+            Err(_) => Ok(Vec::new(alloc)),
+        }
+    }
+
+    /// A piece of the line of this number is read.
+    fn hear(&self, piece: &[u8], number: u64, has_ended: bool) -> Result<(), AllocError> {
+        match self.unanswered.try_borrow_mut() {
+            Ok(mut unanswered) => unanswered.hear(piece, number, has_ended),
+            Err(_) => Ok(()),
+        }
+    }
+
+    /// These bytes are written.
+    fn say(&self, written: &[u8]) -> Result<(), AllocError> {
+        match self.unanswered.try_borrow_mut() {
+            Ok(mut unanswered) => unanswered.say(written),
+            Err(_) => Ok(()),
         }
     }
 
@@ -72,6 +105,7 @@ impl<R: Read> Read for WatchedReader<'_, R> {
             len = 1;
         }
         let has_ended = buf[..len].ends_with(b"\n");
+        self.watch.hear(&buf[..len], self.next, has_ended)?;
         self.is_unfinished = len > 0 && !has_ended;
         if has_ended {
             self.next = self.next.saturating_add(1);
@@ -106,6 +140,9 @@ impl<W: Write> Write for WatchedWriter<'_, W> {
             self.watch.has_refused.set(true);
         }
         let len = self.writer.write(buf)?;
+        if let Some(written) = buf.get(..len) {
+            self.watch.say(written)?;
+        }
         self.is_new = len > 0 && len <= buf.len() && buf[len - 1] == b'\n';
         Ok(len)
     }

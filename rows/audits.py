@@ -1,0 +1,263 @@
+"""The audit file of a running service: what isn't one, whose line is torn, which stalls, or is moved away; and that no file
+is taken for standard input, output or error where these are closed."""
+import json
+import os
+import pty
+import subprocess
+import sys
+import tempfile
+import threading
+import time
+import tty
+
+from options import ALLOWED, NOTHING_NOTED, READ, opening, talker
+from serving import SECONDS, Connection, Service, free_port, undated, untimed, want, wrong_of
+from talks import ONE_PIECE
+
+AUDITED = opening([["allow", "EVERYONE@", 257, 0], ["audit", "EVERYONE@", 1, 16]])
+LINES = 2_000
+LIST = {"ask": {"do": "get_list", "object": "picture/0"}}
+
+
+def note(who="bo@users", client=1):
+    """The line of a read, but for its moment."""
+    return (b'{"alarm":false,"audit":1,"client":%d,"mask":1,"object":"picture/0","success":true,"who":"%s"}\n'
+            % (client, who.encode()))
+
+
+def read(path):
+    with open(path, "rb") as file:
+        return file.read()
+
+
+def reads(connection, count=1):
+    for _ in range(count):
+        want("served", connection.ask(READ)["answer"], "a read")
+
+
+def no_audit_file(program, folder):
+    """A pipe, which nobody may read, and the opening are refused, and nothing is served."""
+    pipe, opened = os.path.join(folder, "pipe"), os.path.join(folder, "opening")
+    os.mkfifo(pipe)
+    with open(opened, "wb") as file:
+        file.write(ALLOWED)
+    os.symlink(opened, os.path.join(folder, "link"))
+    for words, path, why in ((["--audit", pipe], pipe, "a pipe or a socket is no audit file"),
+                             (["--opening", opened, "--audit", opened], opened, "the opening is no audit file"),
+                             (["--opening", opened, "--audit", os.path.join(folder, "link")],
+                              os.path.join(folder, "link"), "the opening is no audit file")):
+        done = subprocess.run([program, "serve", str(free_port()), *words], input=ALLOWED, capture_output=True,
+                              timeout=SECONDS)
+        said = f"album: {path}: {why}\nalbum: writing failed\n".encode()
+        want((1, b"", said), (done.returncode, done.stdout, done.stderr), "the run")
+    with open(opened, "rb") as file:
+        want(ALLOWED, file.read(), "the opening afterwards")
+
+
+def a_torn_line(program, folder):
+    """A line that a kill or a full disk has torn is ended before the first note, so no note is lost in it."""
+    path = os.path.join(folder, "notes")
+    audited = opening([["allow", "EVERYONE@", 257, 0], ["audit", "EVERYONE@", 1, 16]])
+    whole = b'{"alarm":false,"audit":1,"client":1,"mask":1,"object":"picture/0","success":true,"who":"bo@users"}\n'
+    ended = f"album: {path}: the last line was torn, and is ended\n"
+    for torn, kept, said in ((b'{"alarm":fal', b'{"alarm":fal\n', ended), (whole, whole, ""), (b"", b"", "")):
+        with open(path, "wb") as file:
+            file.write(torn)
+        with Service(program, audited, 1, "--audit", path) as service:
+            reader = talker(service, "bo@users")
+            want("served", reader.ask(READ)["answer"], "a read")
+            with open(path, "rb") as file:
+                want(whole, untimed(file.read().removeprefix(kept)), "the file")
+            reader.finish()
+            service.end(b'{"alarms":[0,0],"audits":[1,0]}\n', [said.encode()])
+
+
+def answers(connection, most, seconds):
+    """How many answers come, of so many at most, until none has come for so long."""
+    connection.socket.settimeout(seconds)
+    got = b""
+    try:
+        while got.count(b"\n") < most:
+            piece = connection.socket.recv(65_536)
+            if not piece:
+                break
+            got += piece
+    except TimeoutError:
+        pass
+    want({"served"}, {json.loads(line)["answer"] for line in got.splitlines()}, "the answers")
+    return got.count(b"\n")
+
+
+def stalled(program, *words):
+    """A service whose audit file is a terminal from which nobody reads: it takes some kilobytes, and then each write to
+    it waits. Gives a connection whose notes wait to be written, and that is not answered, how many of its lines were,
+    and both ends of the terminal."""
+    master, slave = pty.openpty()
+    tty.setraw(slave)
+    service = Service(program, AUDITED, 65535, "--until-eof", "--audit", os.ttyname(slave), *words, goes_on=True)
+    service.__enter__()
+    noted = talker(service, "bo@users")
+    noted.send((json.dumps(READ) + "\n").encode() * LINES)
+    count = answers(noted, LINES, 1)
+    want(True, 0 < count < LINES, f"that the file stalls: {count} of {LINES} are answered")
+    return service, noted, count, master, slave
+
+
+def a_file_that_stalls(program, _folder):
+    """Whoever notes nothing is answered, and begins, while the audit file takes nothing; whoever has noted waits, and is
+    answered once it goes on."""
+    service, noted, count, master, slave = stalled(program)
+    try:
+        other = talker(service, "amy@users")
+        other.socket.settimeout(5)
+        for _ in range(50):
+            want("denied", other.ask(LIST)["answer"], "what is answered to who notes nothing")
+        other.finish()
+        got = []
+        taken = threading.Thread(target=takes, args=(master, got))
+        taken.start()
+        want(LINES - count, answers(noted, LINES - count, SECONDS), "how many more are answered")
+        taken.join()
+        want(note() * LINES, untimed(b"".join(got)), "the file")
+        noted.close()
+        service.run.stdin.close()
+        want(0, service.run.wait(SECONDS), "the status")
+    finally:
+        service.__exit__()
+        os.close(master)
+        os.close(slave)
+
+
+def takes(master, got):
+    """Takes the lines of the terminal."""
+    while b"".join(got).count(b"\n") < LINES:
+        got.append(os.read(master, 65_536))
+
+
+def a_file_that_stalls_at_the_end(program, _folder):
+    """It doesn't hold the end up longer than what is open has. Then standard error says so, and the status is 1."""
+    service, noted, _, master, slave = stalled(program, "--grace", "1")
+    try:
+        began = time.monotonic()
+        service.run.stdin.close()
+        want(1, service.run.wait(SECONDS), "the status")
+        want(True, time.monotonic() - began < 8, "that the end comes soon")
+        said = service.said().splitlines(keepends=True)
+        path = os.ttyname(slave).encode()
+        want([b"album: %s: notes wait still to be written, and their requests aren't answered\n" % path,
+              b"album: connection 1, client 1, bo@users: writing failed\n"],
+             sorted(undated(line) for line in said[:2]), "standard error")
+        noted.close()
+    finally:
+        service.__exit__()
+        os.close(master)
+        os.close(slave)
+
+
+def moved_away(program, folder):
+    """Where the file was renamed or deleted, or another was put in its place, the path is gone on with within a second
+    or two, and standard error says so. No note is lost but those of that second which went into a file that is gone."""
+    path, old = os.path.join(folder, "notes"), os.path.join(folder, "notes.1")
+    with Service(program, AUDITED, 65535, "--until-eof", "--audit", path, goes_on=True) as service:
+        reader = talker(service, "bo@users")
+        reads(reader)
+        os.rename(path, old)
+        time.sleep(1.2)
+        reads(reader)
+        want((note(), note()), (untimed(read(old)), untimed(read(path))), "the old file and the new one")
+        os.remove(path)
+        time.sleep(1.2)
+        reads(reader, 2)
+        want(note() * 2, untimed(read(path)), "the file after it was deleted")
+        with open(old, "wb") as file:
+            file.write(b"torn")
+        os.replace(old, path)
+        time.sleep(1.2)
+        reads(reader)
+        want(note(), untimed(read(path).removeprefix(b"torn\n")), "the file that was put there")
+        reader.finish()
+        service.run.stdin.close()
+        goes_on = f"album: {path}: it is another file now, ".encode()
+        service.end(b'{"alarms":[0,0],"audits":[5,0]}\n', [
+            (goes_on + b"which is gone on with\n") * 2 + goes_on + b"whose last line was torn, and is ended\n"], is_dated=True)
+
+
+def moved_to_nowhere(program, folder):
+    """Where nothing can be had at the path any more, what is noted isn't answered, and the service ends."""
+    inner = os.path.join(folder, "inner")
+    path = os.path.join(inner, "notes")
+    os.mkdir(inner)
+    for away in (lambda: os.rename(inner, inner + ".1"), lambda: (os.remove(path), os.mkfifo(path))):
+        with Service(program, AUDITED, 65535, "--until-eof", "--audit", path, goes_on=True) as service:
+            reader = talker(service, "bo@users")
+            reads(reader)
+            away()
+            time.sleep(1.2)
+            reader.send(json.dumps(READ).encode() + b"\n")
+            want(b"", reader.answer(), "what is answered")
+            want(b"", service.run.stdout.read(), "what is printed")
+            want(1, service.run.wait(SECONDS), "the status")
+        os.makedirs(inner, exist_ok=True)
+
+
+def closed_descriptors(program, folder):
+    """Where standard error is closed, what would be said there goes nowhere. Where standard output is, the service can't
+    say that it serves, and ends; and a closed input can't be read. No file has what is another's."""
+    path, opened = os.path.join(folder, "notes"), os.path.join(folder, "opening")
+    with open(opened, "wb") as file:
+        file.write(AUDITED)
+    words = ["--opening", opened, "--audit", path, "--stats", "1", "--conns", "2"]
+    port = free_port()
+    run = subprocess.Popen([program, "serve", str(port), *words], stdin=subprocess.DEVNULL, stdout=subprocess.PIPE,
+                           preexec_fn=lambda: os.close(2))
+    try:
+        want(b'{"answer":"serving","port":%d}\n' % port, run.stdout.readline(), "the first line")
+        broken, reader = Connection(port, ONE_PIECE), Connection(port, ONE_PIECE)
+        want("hello", broken.ask({"who": "amy@users"})["answer"], "a hello")
+        want("hello", reader.ask({"who": "bo@users"})["answer"], "a hello")
+        broken.breaks()
+        time.sleep(1.2)
+        reads(reader)
+        reader.finish()
+        want(0, run.wait(SECONDS), "the status")
+    finally:
+        run.kill()
+        run.stdout.close()
+    want(note(client=2), untimed(read(path)), "the file")
+    for closed, given, said in ((1, words, b"album: writing failed\n"),
+                                (0, ["--audit", path], b"album: reading failed\n")):
+        done = subprocess.run([program, "serve", str(free_port()), *given], stderr=subprocess.PIPE, timeout=SECONDS,
+                              preexec_fn=lambda number=closed: os.close(number))
+        want((1, said), (done.returncode, done.stderr), f"the run without descriptor {closed}")
+        want(note(client=2), untimed(read(path)), "the file")
+
+
+FACTS = {
+    "what is no audit file": no_audit_file,
+    "a torn line of an audit file": a_torn_line,
+    "a file that stalls": a_file_that_stalls,
+    "a file that stalls as the service ends": a_file_that_stalls_at_the_end,
+    "a file that is moved away": moved_away,
+    "a file that can't be had any more": moved_to_nowhere,
+    "closed descriptors": closed_descriptors,
+}
+
+
+def hold(program, fact):
+    with tempfile.TemporaryDirectory() as folder:
+        fact(program, folder)
+
+
+def held(program, fact):
+    return wrong_of(hold, program, fact)
+
+
+def checks():
+    """Each row: its name, how it is run on a program, and what it is."""
+    for name, fact in FACTS.items():
+        yield f"audits: {name}", held, fact
+
+
+if __name__ == "__main__":
+    for row, check, given in checks():
+        print(row, check(sys.argv[1], given) or "ok", flush=True)
