@@ -1,5 +1,6 @@
 //! A replay that ends at the first line that is refused. Its reader gives one line at a time, so the output in between
-//! is that line's; its writer looks for a refusal, and then the reader is at its end. Both note who waits for an answer.
+//! is that line's; its writer looks for a refusal, and then the reader is at its end. Both note who waits for an
+//! answer.
 use crate::by_line::ByLine;
 use crate::unanswered::Unanswered;
 use std::alloc::{AllocError, Global};
