@@ -18,7 +18,7 @@ use Rattle.album_reader.proofs.Rounds.{some_items}
 use Rattle.album_reader.proofs.TwoRounds.{gone-is_gone}
 use Rattle.album_views.specs.Asks.{is_write}
 use Rattle.album_views.specs.Checks.{refusal_of}
-use Rattle.album_views.specs.ReadSets.{names_of}
+use Rattle.album_views.specs.ReadSets.{names_of, looker_of}
 use Rattle.album_views.specs.Steps.{again, unclosed, AreReadable, AsksReadable}
 use Rattle.album_views.specs.Steps.{stepped as viewed}
 use Rattle.album_views.specs.Views.{ViewingState, ViewState, is_closed}
@@ -28,7 +28,7 @@ use Rattle.album_listing.specs.GroupsFound.{basis_on}
 use Rattle.album_listing.proofs.GroupsFoundLemmas.{basis-based}
 use Rattle.album_permits.specs.Findings.{ruling_of}
 use Rattle.album_permits.specs.Notes.{notes_of}
-use Rattle.album_permits.specs.Permits.{PermitState}
+use Rattle.album_permits.specs.Permits.{PermitState, IsPermit, permit_on}
 use Rattle.album_permits.specs.Rulings.{finding_in, IsRuled}
 use Rattle.album_permits.specs.Serving.{IsServed}
 use Rattle.album_permits.specs.declared.rulings.Ruled.{Ruled}
@@ -49,39 +49,40 @@ use Rattle.album_client.specs.Grants.{served_for}
 use Rattle.album_client.specs.Steps.{rules_by, rules, clock_after_rows}
 use Rattle.album_client.specs.Transitions.{IsMoved, IsTakenOf}
 use Rattle.album_client.proofs.GrantLemmas.{served_is, unserved_writes}
+use Rattle.album_stamps.specs.Clocks.{clock_after_reach}
 
 -- ---- a read that is over
 
-module _ (viewing : ViewingState) (principal : Principal) where
+module _ (viewing : ViewingState) (policy : Policy) (principal : Principal) where
   -- the same is asked of the same
   pub taken_again : (items : List ℕ) → refusal_of viewing.ask principal ≡ None
-      → IsTakenOf principal (again viewing items)
+      → IsTakenOf policy principal (again viewing items)
   taken_again items taken = go (nat_le MAX_READS (viewing.reads + 1))
     where
       go :
           (b : Bool)
-          → IsTakenOf principal (if b then Busy Rounds else Again (record viewing { reads = viewing.reads + 1 }) items)
+          → IsTakenOf policy principal (if b then Busy Rounds else Again (record viewing { reads = viewing.reads + 1 }) items)
       go true = tt
       go false = taken
 
   pub taken_stepped : (rows : List ReadVersion) → refusal_of viewing.ask principal ≡ None
-      → IsTakenOf principal (viewed viewing rows)
-  taken_stepped rows taken = go (is_closed viewing.ask rows)
+      → IsTakenOf policy principal (viewed (looker_of policy principal) viewing rows)
+  taken_stepped rows taken = go (is_closed (looker_of policy principal) viewing.ask rows)
     where
       by :
           (b : Bool)
-          → IsTakenOf principal (if b then Busy Wide else again viewing (names_of rows viewing.ask))
+          → IsTakenOf policy principal (if b then Busy Wide else again viewing (names_of rows (looker_of policy principal) viewing.ask))
       by true = tt
-      by false = taken_again (names_of rows viewing.ask) taken
+      by false = taken_again (names_of rows (looker_of policy principal) viewing.ask) taken
 
       go :
           (b : Bool)
-          → IsTakenOf principal
+          → IsTakenOf policy principal
           (if b
-          then Closed (record { ask = viewing.ask; rows = rows })
-          else unclosed viewing (names_of rows viewing.ask))
-      go true = taken
-      go false = by (nat_lt MAX_READ_ITEMS (length (names_of rows viewing.ask)))
+          then Closed (record { looker = looker_of policy principal; ask = viewing.ask; rows = rows })
+          else unclosed viewing (names_of rows (looker_of policy principal) viewing.ask))
+      go true = (taken, refl)
+      go false = by (nat_lt MAX_READ_ITEMS (length (names_of rows (looker_of policy principal) viewing.ask)))
 
 -- what is read again can be read
 pub readable_again : (viewing : ViewingState) (items : List ℕ) → AreReadable items → AsksReadable (again viewing items)
@@ -191,14 +192,20 @@ module _ (policy : Policy) (me : Principal) (view : ViewState) (ruled : Ruled) (
       (basis-based policy me view.rows)
 
 -- what is served is what is computed
-pub served_only : (permit : PermitState) (given : Served) → is_write permit.view.ask ≡ false → IsServed permit given
-    → served_for permit permit.view.ask ≡ Some given
-served_only permit given reads is = go (served_for permit permit.view.ask) refl
+pub served_only : (permit : PermitState) (given : Served) → IsPermit permit → is_write permit.view.ask ≡ false
+    → IsServed permit given → served_for permit permit.view.ask ≡ Some given
+served_only permit given kept reads is = go (served_for permit permit.view.ask) refl
   where
+    -- the permit is that on its view's rows for whoever looks by its policy
+    same : permit ≡ permit_on permit.policy permit.principal permit.view.ask permit.view.rows
+    same = λ i. record permit { view = record permit.view { looker = kept.looks i } }
+
     go : (f : Option Served) → served_for permit permit.view.ask ≡ f → f ≡ Some given
     go (Some more) e =
         ap Some (served-alike permit.policy permit.principal permit.view.ask permit.view.rows permit.view.rows more
-        given (record { same = λ item named. refl }) (served_is permit permit.view.ask refl more e) is)
+        given (record { same = λ item named. refl })
+        (subst (λ p. IsServed p more) same (served_is permit permit.view.ask refl more e))
+        (subst (λ p. IsServed p given) same is))
     go None e = absurd (true≢false (sym (unserved_writes permit permit.view.ask e) ∙ reads))
 
 -- why a write doesn't begin
@@ -214,7 +221,7 @@ memory_refused false why e other = e
 -- the ask of a view is ruled on
 pub rules_done : (terms : Terms) (x y : Client) (tag : ℕ) (who : Principal) (view : ViewState) (ruled : Ruled)
     (transition : Transition) → IsRuled terms.policy who view ruled
-    → y ≡ record x { clock = clock_after_rows x.clock view.rows }
+    → y ≡ record x { clock = clock_after_rows (clock_after_reach x.clock terms.first) view.rows }
     → IsMoved (record (rules_by terms y tag (record { view = view; principal = who; policy = terms.policy })
     (finding_in ruled.ruling)) { noted = Some ruled.notes.items }) transition
     → IsMoved (rules terms x tag who view) transition

@@ -1,6 +1,6 @@
 -- What a client does at one event: it asks, or a message comes to it.
 use Rattle.std.specs.Prelude.{◌≡◌, ℕ, ◌+◌, Bool, true, false, not, List, [], ◌∷◌, Option, Some, None, Result, Ok, Err}
-use Rattle.album_stamps.specs.Clocks.{ClockState, clock_after_see, clock_after_next, next_of}
+use Rattle.album_stamps.specs.Clocks.{ClockState, clock_after_reach, clock_after_see, clock_after_next, next_of}
 use Rattle.album_stamps.specs.declared.refusals.Refusal.{Refusal}
 use Rattle.album_stamps.specs.declared.refusals.Refusal.TheVariants.{AlbumFull, Full}
 use Rattle.album_calls.specs.declared.messages.Message.{Message}
@@ -9,6 +9,7 @@ use Rattle.album_reader.specs.Answers.{Asker, ReadVersion}
 use Rattle.album_reader.specs.Rounds.{first_round, gets_of, is_end}
 use Rattle.album_reader.specs.Rounds.{Step as ReadStep, stepped as read_stepped}
 use Rattle.album_reader.specs.Rounds.Step.{Same, Next, Done, Gone}
+use Rattle.album_views.specs.ReadSets.{looker_of}
 use Rattle.album_views.specs.Steps.{stepped, again}
 use Rattle.album_views.specs.Views.{ViewState}
 use Rattle.album_views.specs.declared.asks.Ask.{Ask}
@@ -151,10 +152,12 @@ abbrev pub clock_after_rows : ClockState → List ReadVersion → ClockState
 clock_after_rows clock [] = clock
 clock_after_rows clock (row ∷ rows) = clock_after_rows (clock_after_see clock row.stamp) rows
 
--- the client's clock sees the stamps of the view before the ask is ruled on
+-- the client's clock reaches the first counter of the terms, and sees the stamps of the view, before the ask is ruled
+-- on
 abbrev pub rules : Terms → Client → ℕ → Principal → ViewState → TransitionState
 rules terms client tag principal view =
-    rules_on terms (record client { clock = clock_after_rows client.clock view.rows }) tag
+    rules_on terms
+    (record client { clock = clock_after_rows (clock_after_reach client.clock terms.first) view.rows }) tag
     (record { view = view; principal = principal; policy = terms.policy })
     (basis_on terms.policy principal view.rows)
 
@@ -181,7 +184,8 @@ read_transition terms client tag pending_ask (Same round) = still (record client
 read_transition terms client tag pending_ask (Next round messages) =
     sends (record client { phase = Reads pending_ask round }) messages
 read_transition terms client tag pending_ask (Done rows) =
-    read_ends terms client tag pending_ask (Some rows) (stepped pending_ask.viewing rows)
+    read_ends terms client tag pending_ask (Some rows)
+    (stepped (looker_of terms.policy pending_ask.principal) pending_ask.viewing rows)
 read_transition terms client tag pending_ask (Gone items) =
     read_ends terms client tag pending_ask None (again pending_ask.viewing items)
 

@@ -2,7 +2,9 @@
 use Rattle.std.specs.Prelude.{◌≡◌, [], None}
 use Rattle.std.specs.Option.{unwrap_or}
 use Rattle.album_eval.specs.declared.facts.Principal.{Principal}
+use Rattle.album_eval.specs.declared.policies.Policy.{Policy}
 use Rattle.album_views.specs.Checks.{refusal_of}
+use Rattle.album_views.specs.ReadSets.{looker_of}
 use Rattle.album_views.specs.declared.viewing.ViewStep.{ViewStep}
 use Rattle.album_views.specs.declared.viewing.ViewStep.TheVariants.{Again, Closed, Busy}
 use Rattle.album_client.specs.declared.clients.Phase.TheVariants.{Idle}
@@ -15,11 +17,12 @@ use Rattle.album_client.specs.Steps.{TransitionState}
 abbrev pub client_of : ClientStep → Client
 client_of client_step = record { number = client_step.number; clock = client_step.clock; phase = Idle 0 }
 
--- the principal may ask the step's ask
-abbrev pub IsTakenOf : Principal → ViewStep → Type 0
-IsTakenOf principal (Again viewing items) = refusal_of viewing.ask principal ≡ None
-IsTakenOf principal (Closed view) = refusal_of view.ask principal ≡ None
-IsTakenOf principal (Busy why) = Unit {0}
+-- the principal may ask the step's ask, and a view was read for the principal, by the policy
+abbrev pub IsTakenOf : Policy → Principal → ViewStep → Type 0
+IsTakenOf policy principal (Again viewing items) = refusal_of viewing.ask principal ≡ None
+IsTakenOf policy principal (Closed view) =
+    (refusal_of view.ask principal ≡ None) × (view.looker ≡ looker_of policy principal)
+IsTakenOf policy principal (Busy why) = Unit {0}
 
 -- the transition is the one that the definition names, without the fields that only contracts have
 pub record IsMoved (due : TransitionState) (transition : Transition) : Type 0 where

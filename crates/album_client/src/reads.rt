@@ -4,6 +4,7 @@ ghost use Rattle.album_reader.specs.Rounds.{stepped};
 ghost use Rattle.album_reader.specs.Steps.{step_of};
 ghost use Rattle.album_views.specs.Asks.{objects_of};
 ghost use Rattle.album_views.specs.Checks.{refusal_of};
+ghost use Rattle.album_views.specs.ReadSets.{looker_of};
 ghost use Rattle.album_views.specs.Steps.{AreReadable, AsksReadable, stepped as viewed};
 ghost use Rattle.album_client.specs.Transitions.{client_of, IsMoved, IsTakenOf};
 ghost use Rattle.album_client.specs.Steps.{read_begins, read_transition, transition_of, views_by};
@@ -17,7 +18,7 @@ use album_items::Items;
 use album_permits::Answer;
 use album_reader::{Reading, Snapshot, Step};
 use album_stamps::{Refusal, Refused};
-use album_views::{Ask, ViewStep, Viewing};
+use album_views::{Ask, ViewStep, Viewing, looker};
 
 impl ClientStep {
     /// Begins an ask that the principal may ask, with a read of its objects.
@@ -140,11 +141,12 @@ impl ClientStep {
     ) -> Result<Transition, Refusal>
         requires fits { tag + 2 < 2 ^ 64 }
         ensures transition { IfOk result (IsMoved (views_by self.terms (client_of self) tag pending_ask.principal
-            (viewed pending_ask.viewing snapshot))) }
+            (viewed (looker_of self.terms.policy pending_ask.principal) pending_ask.viewing snapshot))) }
         ensures memory { IsOkUnless result Refusal.OutOfMemory }
     {
         let (viewing, principal) = pending_ask.into_parts();
-        let step = viewing.on_snapshot(self.alloc, snapshot)?;
+        let looker = looker(self.terms.policy(), &principal)?;
+        let step = viewing.on_snapshot(self.alloc, looker, snapshot)?;
         self.end_read(tag, principal, step)
     }
 
@@ -152,7 +154,7 @@ impl ClientStep {
     fn end_read(self, tag: u64, principal: Principal, step: ViewStep) -> Result<Transition, Refusal>
         requires fits { tag + 2 < 2 ^ 64 }
         requires readable { AsksReadable step }
-        requires taken { IsTakenOf principal step }
+        requires taken { IsTakenOf self.terms.policy principal step }
         ensures transition { IfOk result (IsMoved (views_by self.terms (client_of self) tag principal step)) }
         ensures memory { IsOkUnless result Refusal.OutOfMemory }
     {

@@ -2,7 +2,9 @@
 ghost use Rattle.std.specs.Prelude.{◌≡◌, ◌+◌, ◌<◌, ◌^◌, None, Some, IfOk, IsOkUnless};
 ghost use Rattle.album_permits.specs.Permits.{PermitState};
 ghost use Rattle.album_permits.specs.Rulings.{finding_in, Keeps};
+ghost use Rattle.album_stamps.specs.Clocks.{clock_after_reach};
 ghost use Rattle.album_views.specs.Checks.{refusal_of};
+ghost use Rattle.album_views.specs.ReadSets.{looker_of};
 ghost use Rattle.album_client.specs.Grants.{served_for};
 ghost use Rattle.album_client.specs.Transitions.{client_of, IsMoved};
 ghost use Rattle.album_client.specs.Steps.{clock_after_rows, grants, rules, rules_by};
@@ -24,6 +26,7 @@ impl ClientStep {
     ) -> Result<Transition, Refusal>
         requires fits { tag + 2 < 2 ^ 64 }
         requires taken { refusal_of view.ask principal.now ≡ None }
+        requires looks { view.looker ≡ looker_of self.terms.policy principal.now }
         ensures transition { IfOk result (IsMoved (rules self.terms (client_of self) tag principal.now view)) }
         ensures memory { IsOkUnless result Refusal.OutOfMemory }
     {
@@ -34,18 +37,20 @@ impl ClientStep {
         client_step.note_ruling(tag, ruled)
     }
 
-    /// The same step once its clock has seen the view's stamps.
+    /// The same step once its clock is above the epochs before, and has seen the view's stamps.
     fn after(self, view: &View) -> ClientStep
         ensures client { client_of result ≡ record (client_of self) {
-          clock = clock_after_rows self.clock view.now.rows;
+          clock = clock_after_rows (clock_after_reach self.clock self.terms.first) view.now.rows;
         } }
         ensures terms { result.terms ≡ self.terms }
     {
+        let mut clock = self.clock;
+        clock.reach(self.terms.first());
         ClientStep {
             alloc: self.alloc,
             terms: self.terms,
             number: self.number,
-            clock: clock_after(self.clock, view.answers()),
+            clock: clock_after(clock, view.answers()),
         }
     }
 
@@ -90,6 +95,8 @@ impl ClientStep {
             (IsMoved (grants self.terms (client_of self) tag permit (served_for permit permit.view.ask))) }
         ensures memory { IsOkUnless result Refusal.OutOfMemory }
     {
+        // What is true of each permit is known once it is looked at.
+        let _view = permit.view();
         if permit.writes() {
             return self.draw(tag, permit);
         }

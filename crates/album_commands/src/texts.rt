@@ -46,9 +46,10 @@ that these are all. Two partitions, and a picture of amy's with a list that lets
 
   open     parts, how many partitions there are, from 1 to 16. These may be left out: limit, the marks for
            which a partition has room (100000), and a write makes two at each that it concerns; policy,
-           1 or 2 (1); checked, whether a write is kept only on the versions that its author saw (false):
-           where it isn't, of writes of one item that race all but one may be lost; trace, whether each
-           message that is sent is printed (false)
+           1, 2 or 3 (1); checked, whether a write is kept only on the versions that its author saw (false):
+           where it isn't, of writes of one item that race all but one may be lost; first, the greatest
+           counter of the stamps that epochs before drew (0); trace, whether each message that is sent is
+           printed (false)
   value    of a picture: content, group, home, list, owner and title; of an album: children, group, home,
            list, owner and title; of a list: entries; of a group: group, list, members and owner
 
@@ -104,7 +105,7 @@ pub(crate) const EXPLAIN_HELP: &str =
   at       of a refusal the part of the line that fails its test, or the byte from which on it is no JSON;
            of a verdict the index of the entry that denies, from 0, or "end"
   bits     of each bit that is asked its name, whether it is allowed, and the index of the entry that decides
-           it: "end" where none does, "owner" where policy 2 gives it
+           it: "end" where none does, "owner" where a policy gives it
   groups   the numbers of the line's groups that the principal is in
   value    the number that is there, if one is
 

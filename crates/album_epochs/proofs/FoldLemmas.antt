@@ -1,7 +1,7 @@
 -- What is found mark by mark is what is carried, in a sound cut. `fold` needs `stamp_is` and `value_is`.
 use Rattle.std.proofs.Common.{◌≡◌, ◌≢◌, ℕ, zero, suc, ◌<◌, ◌≤◌, ◌⊎◌, inl, inr, Bool, true, false, nat_lt, List, [], ◌∷◌, ◌++◌, get_or, Contains, is_some, Some, None, Option, if◌then◌else◌, refl, ap, sym, ◌∙◌, subst, ⊎_elim, arith, lt-ltb, le-ltb, eq-eqb, ne_eqb}
 use Rattle.std.specs.List.{list_any, list_all, find}
-use Rattle.std.specs.Option.{option_or, option_map_or, unwrap_or, option_map}
+use Rattle.std.specs.Option.{option_or, unwrap_or, option_map}
 use Rattle.std.proofs.lemmas.Bool.{cases_lt, and_parts, and_from}
 use Rattle.std.proofs.lemmas.List.Elements.{Contains-push_cases}
 use Rattle.std.proofs.lemmas.List.Folds.{find-append}
@@ -21,7 +21,7 @@ use Rattle.album_passes.specs.Reads.{written_value}
 use Rattle.album_passes.proofs.ClosedLemmas.{any_found, items_of_named}
 use Rattle.album_passes.proofs.ReadLemmas.{version_parts, version_prepared}
 use Rattle.album_epochs.specs.Carried.{IsLeft, is_prepared_for, is_carried, has_carried, carried_stamp, value_carried_at, carried_value}
-use Rattle.album_epochs.specs.Folding.{Kept, stamp_kept, first_kept, raised, is_throughout, raised_by, newest}
+use Rattle.album_epochs.specs.Folding.{Kept, stamp_kept, first_kept, raised, is_throughout, raised_by, newest, value_kept}
 use Rattle.album_epochs.proofs.CarriedLemmas.{throughout, carried_by}
 use Rattle.album_epochs.proofs.LeftLemmas.{legal_left, named_left, undiscarded_left}
 use Rattle.album_epochs.proofs.EpochLemmas.{prepared_is, there}
@@ -133,10 +133,6 @@ module _ (hs : List (List Mark)) (i : ℕ) where
       (newest_from (raised_by hs i k m) ms)
 
 -- ---- in a sound cut
-
--- the value of what was found, or Missing
-abbrev pub value_kept : Option Kept → Value
-value_kept kept = option_map_or (λ k. k.1) kept Missing
 
 module _ (c : Cut) (s : IsLeft c) (i : ℕ) where
   throughout_is : (t : ℕ) (is : List ℕ) → is_throughout c.prefixes t is ≡ list_all (is_prepared_for c t) is

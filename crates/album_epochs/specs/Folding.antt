@@ -6,14 +6,18 @@ use Rattle.std.specs.BTreeSet as set
 use Rattle.std.specs.BTreeSet.{BTreeSet}
 use Rattle.std.specs.Borrow.{Bor}
 use Rattle.std.specs.List.{list_any, list_all}
+use Rattle.std.specs.List.Sorted.{IsStrictlySortedBy}
 use Rattle.std.specs.Option.{option_map_or, unwrap_or}
 use Rattle.std.specs.Ordering.{nat_cmp}
 use Rattle.album_items.specs.ItemIds.{place_of}
 use Rattle.album_items.specs.Openings.{Row}
+use Rattle.album_items.specs.Transactions.{items_written}
+use Rattle.album_items.specs.Values.{is_there}
 use Rattle.album_items.specs.declared.values.Value.{Value}
+use Rattle.album_items.specs.declared.values.Value.TheVariants.{Missing}
 use Rattle.album_partition.specs.declared.marks.Mark.{Mark}
 use Rattle.album_partition.specs.declared.marks.Mark.TheVariants.{Prepared, Committed, Discarded, Trimmed}
-use Rattle.album_partition.specs.Marks.{mark_stamp, is_mark_of, prepares, value_in}
+use Rattle.album_partition.specs.Marks.{mark_stamp, is_mark_of, prepares, value_in, first_value}
 use Rattle.album_passes.specs.Cuts.{marks_at}
 
 -- a stamp, and the value that an item has there
@@ -40,6 +44,10 @@ prepares_of histories = map (filter is_prepare) histories
 -- the stamp of what was found, and 0 where nothing was
 abbrev pub stamp_kept : Option Kept → ℕ
 stamp_kept kept = option_map_or (λ k. k.0) kept 0
+
+-- the value of what was found, or Missing
+abbrev pub value_kept : Option Kept → Value
+value_kept kept = option_map_or (λ k. k.1) kept Missing
 
 -- what an item has at first: its first value at 0
 abbrev pub first_kept : List Row → ℕ → Option Kept
@@ -74,6 +82,13 @@ newest_of histories first item =
     newest histories item (first item) (marks_at histories (place_of (length histories) item))
 
 -- ---- of all items
+
+-- These rows are what first values and histories are folded into: rising, and one for each item that isn't missing. (Of
+-- the histories of a part of a sound cut they are what is carried: law `what_is_folded_is_carried`.)
+pub record AreFolded (first : List Row) (histories : List (List Mark)) (rows : List Row) : Type 0 where
+  pub rising : IsStrictlySortedBy nat_cmp (items_written rows)
+  pub values : (item : ℕ) → first_value rows item ≡ value_kept (newest_of histories (first_kept first) item)
+  pub there : list_all (λ row. is_there row.1) rows ≡ true
 
 -- what a map has of an item
 abbrev pub kept_in : BTreeMap ℕ Kept → ℕ → Option Kept

@@ -12,7 +12,7 @@ ghost use Rattle.album_partition.specs.Marks.{value_in, prepares, prepare_in};
 ghost use Rattle.album_partition.specs.declared.marks.Mark.{Mark as Made};
 ghost use Rattle.album_passes.specs.Cuts.{Cut, marks_at};
 ghost use Rattle.album_epochs.specs.Carried.{IsLeft, AreNextRows};
-ghost use Rattle.album_epochs.specs.Folding.{histories_lent, prepares_of, first_kept, raised, raised_by, newest, newest_of, is_throughout, kept_in, stamp_kept, ArePrepared, AreAllPrepared};
+ghost use Rattle.album_epochs.specs.Folding.{histories_lent, prepares_of, first_kept, raised, raised_by, newest, newest_of, is_throughout, kept_in, stamp_kept, ArePrepared, AreAllPrepared, AreFolded};
 
 use album_items::{ItemId, ItemValues, Value, place};
 use album_partition::Mark;
@@ -35,6 +35,7 @@ pub fn fold(
 ) -> Result<ItemValues, Refusal>
     requires some { 1 ≤ length histories.now }
     requires few { length histories.now ≤ MAX_PARTS }
+    ensures folded { IfOk result (AreFolded first.now (histories_lent histories.now)) }
     ensures rows { IfOk result (λ rows. (cut : Cut) → IsLeft cut → cut.opening ≡ first.now
         → prepares_of cut.prefixes ≡ prepares_of (histories_lent histories.now) → AreNextRows cut rows) }
     ensures memory { IsOkUnless result Refusal.OutOfMemory }

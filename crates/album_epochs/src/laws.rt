@@ -5,6 +5,7 @@ ghost use Rattle.album_items.specs.ItemIds.{place_of};
 ghost use Rattle.album_items.specs.declared.values.Value.{Value};
 ghost use Rattle.album_items.specs.Openings.{Row, has_own_value, has_single_rows};
 ghost use Rattle.album_terminate.specs.declared.deciding.StampState.TheVariants as StampState;
+ghost use Rattle.album_partition.specs.declared.marks.Mark.{Mark};
 ghost use Rattle.album_partition.specs.declared.marks.Mark.TheVariants as Made;
 ghost use Rattle.album_partition.specs.Marks.{discards, state_of, first_value, latest};
 ghost use Rattle.album_partition.specs.Proper.{are_proper_marks};
@@ -14,6 +15,7 @@ ghost use Rattle.album_passes.specs.Cuts.{Cut, Announced, IsBaseOf, announced_fo
 ghost use Rattle.album_passes.specs.Changes.{marked_cut};
 ghost use Rattle.album_passes.specs.Reads.{IsCommitted, written_value, writes_in_cut};
 ghost use Rattle.album_epochs.specs.Carried.{IsLeft, is_carried, carried_stamp, carried_value, writes_carried, IsCarriedOn, IsCarriedRow, AreNextRows};
+ghost use Rattle.album_epochs.specs.Folding.{prepares_of, AreFolded};
 
 /// A law: which stamps are carried. Exactly those are that each partition of their items has prepared. What is
 /// committed anywhere is carried. What is discarded anywhere, or promised against, is not. Of a carried stamp nothing
@@ -94,6 +96,14 @@ pub fn no_carried_update_is_lost()
         → written_value cut item stamp ≡ Some value
         → (all : Announced) × (announced_for cut stamp ≡ Some all)
         × ((base : ℕ) × IsBaseOf all (item, value) base × IsCarriedOn cut item stamp base) }
+{}
+
+/// A law: what first values and histories are folded into is what is carried, in each part of a sound cut that opened
+/// on these values and has what these histories prepare.
+pub fn what_is_folded_is_carried()
+    ensures { (cut : Cut) (first : List Row) (histories : List (List Mark)) (rows : List Row) → IsLeft cut
+        → cut.opening ≡ first → prepares_of cut.prefixes ≡ prepares_of histories → AreFolded first histories rows
+        → AreNextRows cut rows }
 {}
 
 /// A law: an epoch opens on a base. Its rows are of items that are there, each with a value of its item's kind, and no

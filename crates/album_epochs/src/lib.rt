@@ -17,4 +17,5 @@ pub use greatest::greatest_stamp;
 pub use laws::{
     an_epoch_opens_on_a_base, an_epoch_opens_read_atomic, no_carried_update_is_lost,
     no_view_goes_back, sweeps_decide_so, what_is_carried, what_is_carried_stays,
+    what_is_folded_is_carried,
 };

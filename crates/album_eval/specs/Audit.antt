@@ -7,7 +7,8 @@ use Rattle.album_access.specs.declared.masks.Mask.{Mask}
 use Rattle.album_access.specs.declared.types.AceType.{AceType}
 use Rattle.album_access.specs.declared.types.AceType.TheVariants.{Allowed, Denied, Audit, Alarm}
 use Rattle.album_lists.specs.declared.lists.Ace.{Ace}
-use Rattle.album_eval.specs.Matching.{Case, is_match}
+use Rattle.album_eval.specs.Matching.{Case, is_match, is_of_group}
+use Rattle.album_eval.specs.Policies.{is_owners_way}
 
 -- entries of these types take note
 abbrev pub is_noting : AceType → Bool
@@ -24,10 +25,12 @@ meets mask other = not (bit_and (mask_bits mask) (mask_bits other) == 0)
 abbrev pub outcome_flag : Bool → ℕ
 outcome_flag success = if success then 16 else 32
 
--- a matching entry that takes note, shares a bit with the mask and selects the outcome
+-- a matching entry that takes note, shares a bit with the mask and selects the outcome; none of a group, where an owner
+-- goes the owner's way: then it is looked up in no group
 unfoldable pub is_noted : Case → Mask → Bool → Ace → Bool
 is_noted case mask success entry =
     is_match case entry
+    && not (is_owners_way case mask && is_of_group entry.who)
     && is_noting entry.sort
     && meets entry.mask mask
     && has_flag (outcome_flag success) entry.flags

@@ -49,6 +49,16 @@ is_for case who.Everyone = true
 is_for case who.Anonymous = not (is_known case.principal)
 is_for case who.Authenticated = is_known case.principal
 
+-- the who means those who are in a group
+abbrev pub is_of_group : Who → Bool
+is_of_group (who.User name) = false
+is_of_group (who.Group number) = true
+is_of_group who.Owner = false
+is_of_group who.OwnerGroup = true
+is_of_group who.Everyone = false
+is_of_group who.Anonymous = false
+is_of_group who.Authenticated = false
+
 -- an entry takes part where its who means the principal, and never where it is only inherited
 unfoldable pub is_match : Case → Ace → Bool
 is_match case entry = not (is_only_inherited entry.flags) && is_for case entry.who

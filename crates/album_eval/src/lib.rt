@@ -15,6 +15,6 @@ mod verdicts;
 
 pub use facts::{Facts, Principal, principals_by_text};
 pub use groups::members;
-pub use notes::audits;
+pub use notes::{audits, owners_way_is_noted_without_groups};
 pub use policies::Policy;
 pub use verdicts::{Verdict, evaluate, given_to_owners, one_verdict};

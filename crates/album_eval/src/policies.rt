@@ -1,7 +1,7 @@
 //! The rules that a request is judged by.
 ghost use Rattle.std.specs.Prelude.{◌≡◌, ℕ};
 ghost use Rattle.album_access.specs.Bits.{has_bit};
-ghost use Rattle.album_eval.specs.Policies.{policy_of, gives_owner};
+ghost use Rattle.album_eval.specs.Policies.{policy_of, gives_owner, has_owners_way};
 
 use album_access::Mask;
 use bitflags::Flags;
@@ -13,16 +13,20 @@ pub enum Policy {
     One,
     /// The same, but the owner is given READ_ACL and WRITE_ACL before the list is looked at.
     Two,
+    /// Policy Two, and an owner who asks for no more than these two is looked up in no group: what the owner may do to
+    /// its own list rests on nothing that others can change.
+    Three,
 }
 
 impl Policy {
-    /// The policy of this number, 1 or 2.
+    /// The policy of this number, 1 to 3.
     pub fn of(number: u64) -> Option<Policy>
         ensures { result ≡ policy_of number }
     {
         match number {
             1 => Some(Policy::One),
             2 => Some(Policy::Two),
+            3 => Some(Policy::Three),
             _ => None,
         }
     }
@@ -34,6 +38,17 @@ impl Policy {
         match self {
             Policy::One => Mask::empty(),
             Policy::Two => Mask::READ_ACL.union(Mask::WRITE_ACL),
+            Policy::Three => Mask::READ_ACL.union(Mask::WRITE_ACL),
+        }
+    }
+
+    /// Whether an owner is looked up in no group where it asks for no more than it is given.
+    pub fn has_owners_way(self) -> bool
+        ensures { result ≡ has_owners_way self }
+    {
+        match self {
+            Policy::One | Policy::Two => false,
+            Policy::Three => true,
         }
     }
 }

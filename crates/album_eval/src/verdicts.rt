@@ -3,11 +3,11 @@ ghost use Rattle.std.specs.Prelude.{◌≡◌, ◌&&◌, ◌⊎◌, ℕ, List, [
 ghost use Rattle.album_access.specs.Bits.{has_bit};
 ghost use Rattle.album_access.specs.declared.masks.Mask.{Mask};
 ghost use Rattle.album_lists.specs.declared.lists.Ace.{Ace};
-ghost use Rattle.album_eval.specs.declared.policies.Policy.TheVariants.{One, Two};
+ghost use Rattle.album_eval.specs.declared.policies.Policy.TheVariants.{One, Two, Three};
 ghost use Rattle.album_eval.specs.declared.verdicts.Verdict.{Verdict};
 ghost use Rattle.album_eval.specs.declared.verdicts.Verdict.TheVariants.{Granted, DeniedAtEnd};
 ghost use Rattle.album_eval.specs.Matching.{Case, case_of, is_user};
-ghost use Rattle.album_eval.specs.Policies.{is_given, under};
+ghost use Rattle.album_eval.specs.Policies.{is_given, is_owners_way, under};
 ghost use Rattle.album_eval.specs.Verdict.{IsVerdict, verdict};
 
 use crate::facts::Facts;
@@ -35,7 +35,8 @@ pub fn one_verdict()
 {}
 
 /// A law: the policies differ only where the owner asks for READ_ACL (bit 17) or WRITE_ACL (bit 18). Two grants the
-/// owner these two, whatever the list; under One an empty list grants nothing.
+/// owner these two, whatever the list, and Three says the same of each request, so what is asked by the owner's way is
+/// granted; under One an empty list grants nothing.
 pub fn given_to_owners()
     ensures others { (case : Case) (entries : List Ace) (mask : Mask) → is_user case.principal case.owner ≡ false
         → verdict (under Two case) entries mask ≡ verdict (under One case) entries mask }
@@ -45,6 +46,10 @@ pub fn given_to_owners()
     ensures given { (case : Case) (entries : List Ace) (mask : Mask) → is_user case.principal case.owner ≡ true
         → ((bit : ℕ) → has_bit mask bit ≡ true → (bit ≡ 17) ⊎ (bit ≡ 18))
         → IsVerdict (under Two case) entries mask Granted }
+    ensures three { (case : Case) (entries : List Ace) (mask : Mask)
+        → verdict (under Three case) entries mask ≡ verdict (under Two case) entries mask }
+    ensures way { (case : Case) (entries : List Ace) (mask : Mask) → is_owners_way case mask ≡ true
+        → verdict case entries mask ≡ Granted }
     ensures no_list { (case : Case) (mask : Mask) (bit : ℕ) → has_bit mask bit ≡ true
         → IsVerdict (under One case) [] mask DeniedAtEnd }
 {}
@@ -80,7 +85,8 @@ pub fn evaluate(list: &AccessList, facts: &Facts, mask: Mask) -> Verdict
     }
 }
 
-/// The bits that are given before the list is looked at: none by RFC 7530, so this is policy Two's own rule.
+/// The bits that are given before the list is looked at: none by RFC 7530, so this is a rule of policies Two and Three
+/// alone.
 fn given(facts: &Facts) -> Mask
     ensures { (bit : ℕ) → has_bit result bit ≡ is_given (case_of facts.now) bit }
 {

@@ -43,7 +43,15 @@ taken_opening kind = record { lines = lines.Opening; kind = kind }
 
 -- a header that is one, which takes the first line's place where that is refused
 abbrev pub any_header : Header
-any_header = record { parts = 1; limit = DEFAULT_LIMIT; policy = DEFAULT_POLICY; checked = false; trace = false }
+any_header =
+    record {
+      parts = 1;
+      limit = DEFAULT_LIMIT;
+      policy = DEFAULT_POLICY;
+      checked = false;
+      first = 0;
+      trace = false;
+    }
 
 -- the header that the first line says
 abbrev pub header_said : Result OpeningLine Refusal → Result Header Refusal
@@ -74,6 +82,7 @@ opening_of header rows =
       limit = header.limit;
       policy = header.policy;
       checked = header.checked;
+      first = header.first;
       items = rows;
     }
 

@@ -48,6 +48,7 @@ const ANY_HEADER: Header = Header {
     limit: DEFAULT_LIMIT,
     policy: DEFAULT_POLICY,
     checked: false,
+    first: 0,
     trace: false,
 };
 
@@ -258,6 +259,7 @@ fn explain_begin(alloc: Global, number: u64, so_far: SoFar) -> Result<(Vec<u8>, 
         limit: header.limit,
         policy: header.policy,
         checked: header.checked,
+        first: header.first,
         items: ItemValues::of(rows),
     };
     match opened.check() {

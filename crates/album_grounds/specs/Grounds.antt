@@ -1,5 +1,5 @@
 -- What an answer of a session rests on: the cut that it began with, and the one that it has then.
-use Rattle.std.specs.Prelude.{◌≡◌, ◌≢◌, ℕ, ◌+◌, ◌<◌, ◌≤◌, Bool, true, false, List, [], ◌∷◌, ◌++◌, map, length, sum_by, count_by, All, Contains}
+use Rattle.std.specs.Prelude.{◌≡◌, ◌≢◌, ℕ, ◌+◌, ◌<◌, ◌≤◌, Bool, true, false, List, [], ◌∷◌, ◌++◌, map, length, sum_by, count_by, All, Contains, Option}
 use Rattle.std.specs.List.{list_any}
 use Rattle.album_stamps.specs.declared.limits.TheConstants.{MAX_READ_ITEMS, MAX_READS}
 use Rattle.album_items.specs.Openings.{Row}
@@ -16,7 +16,7 @@ use Rattle.album_reader.specs.Answers.{ReadVersion}
 use Rattle.album_reader.specs.Atomic.{IsReadAtomic, IsFreshFrom}
 use Rattle.album_reader.specs.Snapshots.{items_read}
 use Rattle.album_views.specs.Asks.{objects_of}
-use Rattle.album_views.specs.ReadSets.{names_of}
+use Rattle.album_views.specs.ReadSets.{names_of, looker_of}
 use Rattle.album_views.specs.Views.{IsClosed, IsView}
 use Rattle.album_views.specs.declared.asks.Ask.{Ask}
 use Rattle.album_listing.specs.ViewLookups.{stamp_seen}
@@ -80,7 +80,7 @@ pub record IsOnView
     : Type 0 where
   pub rows : List ReadVersion
   pub seen : IsSeen begun now rows
-  pub view : IsView (record { ask = ask; rows = rows })
+  pub view : IsView (record { looker = looker_of policy principal; ask = ask; rows = rows })
   pub holds : Holds (permit_on policy principal ask rows)
 
 -- ---- a write
@@ -139,21 +139,23 @@ pub record IsWithoutRoom (limit : ℕ) (now : Cut) (permit : PermitState) (stamp
 -- ---- no view
 
 -- what was read is not closed, and names more items than can be read
-pub record IsWide (begun now : Cut) (ask : Ask) : Type 0 where
+pub record IsWide (begun now : Cut) (looker : Option Principal) (ask : Ask) : Type 0 where
   pub rows : List ReadVersion
   pub seen : IsSeen begun now rows
-  pub lacking : IsClosed ask rows → ⊥
-  pub wide : MAX_READ_ITEMS < length (names_of rows ask)
+  pub lacking : IsClosed looker ask rows → ⊥
+  pub wide : MAX_READ_ITEMS < length (names_of rows looker ask)
 
 -- Reads that led to no view, one after another: the first of these items, each next of exactly the read set of the one
 -- before.
-pub data AreInVain (begun now : Cut) (ask : Ask) : List ℕ → List (List ReadVersion) → Type 0 where
-  NoRead : (items : List ℕ) → AreInVain begun now ask items []
+pub data AreInVain (begun now : Cut) (looker : Option Principal) (ask : Ask)
+    : List ℕ → List (List ReadVersion) → Type 0 where
+  NoRead : (items : List ℕ) → AreInVain begun now looker ask items []
   OneMore :
       (items : List ℕ) (rows : List ReadVersion) (later : List (List ReadVersion))
       → items_read rows ≡ items → IsSeen begun now rows
-      → (IsClosed ask rows → ⊥) → length (names_of rows ask) ≤ MAX_READ_ITEMS
-      → AreInVain begun now ask (names_of rows ask) later → AreInVain begun now ask items (rows ∷ later)
+      → (IsClosed looker ask rows → ⊥) → length (names_of rows looker ask) ≤ MAX_READ_ITEMS
+      → AreInVain begun now looker ask (names_of rows looker ask) later
+      → AreInVain begun now looker ask items (rows ∷ later)
 
 -- the mark is one that trims
 abbrev pub is_trim : Mark → Bool
@@ -168,7 +170,7 @@ trims_in cut = sum_by (λ marks. count_by is_trim marks) cut.prefixes
 
 -- As many reads were made as an ask may have. Those that led to no view begin with one of the ask's objects. The others
 -- found an item gone by a trim, and are no more than the trims that the cut has gained.
-pub record IsOutOfReads (begun now : Cut) (ask : Ask) : Type 0 where
+pub record IsOutOfReads (begun now : Cut) (looker : Option Principal) (ask : Ask) : Type 0 where
   pub reads : List (List ReadVersion)
-  pub in_vain : AreInVain begun now ask (objects_of ask) reads
+  pub in_vain : AreInVain begun now looker ask (objects_of ask) reads
   pub all : MAX_READS + trims_in begun ≤ length reads + trims_in now

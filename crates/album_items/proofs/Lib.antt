@@ -2,3 +2,4 @@ mod ItemTexts
 mod Marked
 mod Fitting
 pub mod PlaceLemmas
+pub mod BaseLemmas

@@ -115,27 +115,27 @@ right_at rows i row right below is = go (is_right_row row) refl
     go false e = let wrong = list_all_at is_right_row rows i row below (ap is_right_row (sym is) ∙ e) in absurd (cc)
 
 -- so it has a value of its item's kind, and its numbers are low
-pub right_parts : (row : Row) → is_right_row row ≡ true → (has_own_value row ≡ true) × (is_low_row row ≡ true)
+pub right_parts : (row : Row) → is_right_row row ≡ true → (has_own_value row ≡ true) × (is_low_row 65535 row ≡ true)
 right_parts row right =
-    let few = and_parts (has_own_value row && is_low_row row && has_few_children row) (has_single_children row) right in
-    let low = and_parts (has_own_value row && is_low_row row) (has_few_children row) few.0 in
-    and_parts (has_own_value row) (is_low_row row) low.0
+    let few = and_parts (has_own_value row && is_low_row 65535 row && has_few_children row) (has_single_children row) right in
+    let low = and_parts (has_own_value row && is_low_row 65535 row) (has_few_children row) few.0 in
+    and_parts (has_own_value row) (is_low_row 65535 row) low.0
 
 low_number : (row : Row) → is_right_row row ≡ true → number_of row.0 ≤ 65535
-low_number row right = leb-true (number_of row.0) 65535 (and_parts (is_low (number_of row.0)) (has_low_numbers row.1) (right_parts row right).1).0
+low_number row right = leb-true (number_of row.0) 65535 (and_parts (is_low 65535 (number_of row.0)) (has_low_numbers 65535 row.1) (right_parts row right).1).0
 
 pub low_list : (row : Row) (k : ℕ) → is_right_row row ≡ true → list_key row ≡ Some k → k < 65536
-low_list row k right = go row.1 (and_parts (is_low (number_of row.0)) (has_low_numbers row.1) (right_parts row right).1).1
+low_list row k right = go row.1 (and_parts (is_low 65535 (number_of row.0)) (has_low_numbers 65535 row.1) (right_parts row right).1).1
   where
-    at : (n : ℕ) → is_low n ≡ true → Some n ≡ Some k → k < 65536
+    at : (n : ℕ) → is_low 65535 n ≡ true → Some n ≡ Some k → k < 65536
     at n is e = let same : n ≡ k = cc in let small = leb-true n 65535 is in omega (arith, same, small)
 
-    go : (v : Value) → has_low_numbers v ≡ true → option_map (λ head. head.list) (head_of v) ≡ Some k → k < 65536
+    go : (v : Value) → has_low_numbers 65535 v ≡ true → option_map (λ head. head.list) (head_of v) ≡ Some k → k < 65536
     go value.Missing is e = absurd (cc)
-    go (value.Picture p) is e = at p.head.list (and_parts (is_low p.head.list) (is_low p.home) is).0 e
+    go (value.Picture p) is e = at p.head.list (and_parts (is_low 65535 p.head.list) (is_low 65535 p.home) is).0 e
     go (value.Album a) is e =
-        let numbers = and_parts (is_low a.head.list && option_map_or is_low a.home true) (are_low a.children) is in
-        at a.head.list (and_parts (is_low a.head.list) (option_map_or is_low a.home true) numbers.0).0 e
+        let numbers = and_parts (is_low 65535 a.head.list && option_map_or (is_low 65535) a.home true) (are_low 65535 a.children) is in
+        at a.head.list (and_parts (is_low 65535 a.head.list) (option_map_or (is_low 65535) a.home true) numbers.0).0 e
     go (value.List l) is e = absurd (cc)
     go (value.Group g) is e = at g.head.list is e
 

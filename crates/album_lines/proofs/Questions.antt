@@ -19,7 +19,7 @@ use Rattle.album_lists.proofs.Spelling.{user_spelled, spelled_user}
 use Rattle.album_eval.specs.Matching.{principal_of}
 use Rattle.album_eval.specs.Policies.{policy_of}
 use Rattle.album_eval.specs.declared.policies.Policy.{Policy}
-use Rattle.album_eval.specs.declared.policies.Policy.TheVariants.{One, Two}
+use Rattle.album_eval.specs.declared.policies.Policy.TheVariants.{One, Two, Three}
 use Rattle.album_eval.proofs.Principals.{principal_spelled, spelled_principal}
 use Rattle.album_lines.specs.Fields.{guard, sized, only_of, field_of, text_of, whole_of, list_of, each, data_of}
 use Rattle.album_lines.specs.Shapes.{entry_shapes_of, texts_of}
@@ -77,7 +77,7 @@ kind_read (Some d) k is = rw is.1 (rw (read_holder k is.0 is.2) refl)
 -- ---- the policy
 
 policy_read : (n : ℕ) (policy : Policy) → policy_of n ≡ Some policy → IsPolicyNumber policy (whole_data n)
-policy_read n policy = go (n == 1) refl (n == 2) refl
+policy_read n policy = go (n == 1) refl (n == 2) refl (n == 3) refl
   where
     at : (k : ℕ) → (n == k) ≡ true → whole_data n ≡ whole_data k
     at k e = ap whole_data ((Decides-eqb n k).0 e)
@@ -85,11 +85,13 @@ policy_read n policy = go (n == 1) refl (n == 2) refl
     the_same : (p : Policy) → Some p ≡ Some policy → p ≡ policy
     the_same p e = cc
 
-    go : (a : Bool) → (n == 1) ≡ a → (b : Bool) → (n == 2) ≡ b
-        → cond a (Some One) (cond b (Some Two) None) ≡ Some policy → IsPolicyNumber policy (whole_data n)
-    go true e b f h = subst (λ p. IsPolicyNumber p (whole_data n)) (the_same One h) (at 1 e)
-    go false e true f h = subst (λ p. IsPolicyNumber p (whole_data n)) (the_same Two h) (at 2 f)
-    go false e false f h = cc
+    go : (a : Bool) → (n == 1) ≡ a → (b : Bool) → (n == 2) ≡ b → (c : Bool) → (n == 3) ≡ c
+        → cond a (Some One) (cond b (Some Two) (cond c (Some Three) None)) ≡ Some policy
+        → IsPolicyNumber policy (whole_data n)
+    go true e b f c g h = subst (λ p. IsPolicyNumber p (whole_data n)) (the_same One h) (at 1 e)
+    go false e true f c g h = subst (λ p. IsPolicyNumber p (whole_data n)) (the_same Two h) (at 2 f)
+    go false e false f true g h = subst (λ p. IsPolicyNumber p (whole_data n)) (the_same Three h) (at 3 g)
+    go false e false f false g h = cc
 
 policy_spelled : (o : Option Data) (policy : Policy)
     → policy_shape_of o ≡ Ok policy
@@ -104,6 +106,7 @@ number_read : (policy : Policy) (d : Data) → IsPolicyNumber policy d → polic
 unfolding policy_shape_of
 number_read One d is = rw is refl
 number_read Two d is = rw is refl
+number_read Three d is = rw is refl
 
 policy_shaped : (o : Option Data) (policy : Policy)
     → MatchOption o (policy ≡ One) (IsPolicyNumber policy)

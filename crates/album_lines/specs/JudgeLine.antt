@@ -17,7 +17,7 @@ use Rattle.album_lists.specs.declared.whos.Member.{Member}
 use Rattle.album_eval.specs.Matching.{IsPrincipalText, principal_of}
 use Rattle.album_eval.specs.declared.facts.Principal.{Principal}
 use Rattle.album_eval.specs.declared.policies.Policy.{Policy}
-use Rattle.album_eval.specs.declared.policies.Policy.TheVariants.{One, Two}
+use Rattle.album_eval.specs.declared.policies.Policy.TheVariants.{One, Two, Three}
 use Rattle.album_lines.specs.Fields.{data_of}
 use Rattle.album_lines.specs.Shapes.{SpelledEntry}
 use Rattle.album_lines.specs.Values.{each_of, entries_read, members_read}
@@ -68,6 +68,7 @@ IsKindText Folder text = text ≡ codes "album"
 abbrev pub IsPolicyNumber : Policy → Data → Type 0
 IsPolicyNumber One d = d ≡ whole_data 1
 IsPolicyNumber Two d = d ≡ whole_data 2
+IsPolicyNumber Three d = d ≡ whole_data 3
 
 -- [number, members]
 pub record IsGroup (group : Listing) (d : Data) : Type 0 where

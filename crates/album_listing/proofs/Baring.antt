@@ -2,18 +2,21 @@
 -- (`seen-bared`, `basis-bared`); two that are ruled alike agree when they are bared (`agree-bared`), so that a reason is
 -- the same on both (`reason-both`), and the rows too that may be seen (`rows-alike`). For the law
 -- `listings_disclose_nothing`, and for those of rulings.
-use Rattle.std.proofs.Common.{◌≡◌, ◌==◌, ◌<◌, ℕ, zero, suc, List, [], ◌∷◌, Bool, true, false, Option, Some, None, Contains, IsTrue, cond, find, map, option_map, refl, sym, ap, subst, ◌∙◌, arith, if◌then◌else◌}
+use Rattle.std.proofs.Common.{◌≡◌, ◌==◌, ◌&&◌, ◌<◌, ℕ, zero, suc, List, [], ◌∷◌, Bool, true, false, Option, Some, None, Contains, IsTrue, cond, find, map, option_map, refl, sym, ap, subst, ◌∙◌, arith, if◌then◌else◌}
 use Rattle.std.specs.List.{filter_map, slice_index_or}
 use Rattle.std.specs.Option.{option_map_or}
+use Rattle.std.proofs.lemmas.Bool.{both_ways}
 use Rattle.std.proofs.lemmas.List.Elements.{Contains-append_left}
 use Rattle.album_access.specs.declared.masks.Mask.{Mask}
 use Rattle.album_lists.specs.declared.whos.Member.{Member}
-use Rattle.album_eval.proofs.Giving.{other_bits_same}
+use Rattle.album_eval.proofs.Giving.{other_bits_same, three_as_two, way_granted}
 use Rattle.album_eval.specs.Groups.{IsMember}
+use Rattle.album_eval.specs.Matching.{is_user}
+use Rattle.album_eval.specs.Policies.{is_owners_way}
 use Rattle.album_eval.specs.Verdict.{verdict}
 use Rattle.album_eval.specs.declared.facts.Principal.{Principal}
 use Rattle.album_eval.specs.declared.policies.Policy.{Policy}
-use Rattle.album_eval.specs.declared.policies.Policy.TheVariants.{One, Two}
+use Rattle.album_eval.specs.declared.policies.Policy.TheVariants.{One, Two, Three}
 use Rattle.album_eval.specs.declared.verdicts.Verdict.{Verdict}
 use Rattle.album_items.specs.ItemIds.{list, group, number_of}
 use Rattle.album_items.specs.Values.{head_of, home_of, children_of, entries_of, members_of, list_of, head_group_of, groups_in_list, groups_in_group}
@@ -23,7 +26,9 @@ use Rattle.album_items.specs.declared.values.Value.TheVariants as value
 use Rattle.album_reader.specs.Answers.{ReadVersion}
 use Rattle.album_reader.specs.Rounds.{has_item}
 use Rattle.album_reader.specs.Snapshots.{version_of, version_read}
-use Rattle.album_views.specs.ReadSets.{IsNamed, subjects_of}
+use Rattle.album_views.proofs.Ways.{grouped}
+use Rattle.album_views.specs.Asks.{needs_list_alone}
+use Rattle.album_views.specs.ReadSets.{looker_of, IsNamed, subjects_of, is_groupless}
 use Rattle.album_views.specs.ReadSets.IsNamed.{Subject, ListOf, HeadGroupOf, GroupInListOf, GroupInGroup}
 use Rattle.album_views.specs.Seen.{seen}
 use Rattle.album_views.specs.declared.asks.Ask.{Ask}
@@ -51,6 +56,15 @@ head-bare (value.Picture x) = refl
 head-bare (value.Album x) = refl
 head-bare (value.List x) = refl
 head-bare (value.Group x) = refl
+
+-- what is bared has its owner
+pub groupless-bare :
+    (lookup : ℕ → Value) (looker : Option Principal) (asked : Ask) (item : ℕ)
+    → is_groupless (λ i. bare (lookup i)) looker asked item ≡ is_groupless lookup looker asked item
+groupless-bare lookup None asked item = refl
+groupless-bare lookup (Some principal) asked item =
+    ap (λ (o : Option Head). option_map_or (λ (head : Head). is_user principal head.owner) o false && needs_list_alone asked item)
+    (head-bare (lookup item))
 
 pub home-bare : (v : Value) → home_of (bare v) ≡ home_of v
 home-bare value.Missing = refl
@@ -147,15 +161,22 @@ seen-bared rows item =
 
 -- ---- what is named
 
-module _ (lookup : ℕ → Value) (asked inner : Ask) (within : (item : ℕ) → Contains (subjects_of (λ i. bare (lookup i)) inner) item → Contains (subjects_of lookup asked) item) where
-  named-back : (item : ℕ) → IsNamed (λ i. bare (lookup i)) inner item → IsNamed lookup asked item
+module _
+    (lookup : ℕ → Value) (looker inside : Option Principal) (asked inner : Ask)
+    (within : (item : ℕ) → Contains (subjects_of (λ i. bare (lookup i)) inner) item → Contains (subjects_of lookup asked) item)
+    (grouped : (item : ℕ) → Contains (subjects_of (λ i. bare (lookup i)) inner) item
+        → is_groupless (λ i. bare (lookup i)) inside inner item ≡ false → is_groupless lookup looker asked item ≡ false)
+  where
+  named-back : (item : ℕ) → IsNamed (λ i. bare (lookup i)) inside inner item → IsNamed lookup looker asked item
   named-back item (Subject i s) = Subject i (within i s)
   named-back item (ListOf s i subject c) =
       ListOf s i (within s subject) (subst (λ (xs : List ℕ). Contains xs i) (list-bare (lookup s)) c)
-  named-back item (HeadGroupOf s i subject c) =
-      HeadGroupOf s i (within s subject) (subst (λ (xs : List ℕ). Contains xs i) (head_group-bare (lookup s)) c)
-  named-back item (GroupInListOf s l i subject c d) =
-      GroupInListOf s l i (within s subject) (subst (λ (xs : List ℕ). Contains xs l) (list-bare (lookup s)) c)
+  named-back item (HeadGroupOf s i subject e c) =
+      HeadGroupOf s i (within s subject) (grouped s subject e)
+      (subst (λ (xs : List ℕ). Contains xs i) (head_group-bare (lookup s)) c)
+  named-back item (GroupInListOf s l i subject e c d) =
+      GroupInListOf s l i (within s subject) (grouped s subject e)
+      (subst (λ (xs : List ℕ). Contains xs l) (list-bare (lookup s)) c)
       (subst (λ (xs : List ℕ). Contains xs i) (groups-bare (lookup l)) d)
   named-back item (GroupInGroup g i named c) =
       GroupInGroup g i (named-back g named) (subst (λ (xs : List ℕ). Contains xs i) (inner-bare (lookup g)) c)
@@ -183,17 +204,20 @@ subjects-back lookup (ask.SetMembers object members) item c = c
 subjects-back lookup (ask.Share lists members) item c = c
 
 pub agree-bared :
-    (asked inner : Ask) (one other : List ReadVersion)
+    (looker inside : Option Principal) (asked inner : Ask) (one other : List ReadVersion)
     → ((item : ℕ) → Contains (subjects_of (λ i. bare (seen one i)) inner) item → Contains (subjects_of (seen one) asked) item)
-    → AreRuledAlike asked one other → AgreeOn inner (bared one) (bared other)
-agree-bared asked inner one other within alike =
+    → ((item : ℕ) → Contains (subjects_of (λ i. bare (seen one i)) inner) item
+        → is_groupless (λ i. bare (seen one i)) inside inner item ≡ false → is_groupless (seen one) looker asked item ≡ false)
+    → AreRuledAlike looker asked one other → AgreeOn inside inner (bared one) (bared other)
+agree-bared looker inside asked inner one other within grouped alike =
     record {
       same = λ item named.
           let sights : seen (bared one) ≡ (λ i. bare (seen one i)) = λ k i. seen-bared one i k in
-          let here : IsNamed (λ i. bare (seen one i)) inner item =
-          subst (λ (lookup : ℕ → Value). IsNamed lookup inner item) sights named in
+          let here : IsNamed (λ i. bare (seen one i)) inside inner item =
+          subst (λ (lookup : ℕ → Value). IsNamed lookup inside inner item) sights named in
           read-bared one item
-          ∙ ap (option_map (λ (v : Value). (0, v))) (alike.bared item (named-back (seen one) asked inner within item here))
+          ∙ ap (option_map (λ (v : Value). (0, v)))
+          (alike.bared item (named-back (seen one) looker inside asked inner within grouped item here))
           ∙ sym (read-bared other item);
     }
 
@@ -246,27 +270,6 @@ reason-bared :
 reason-bared policy me rows i a =
     ap (λ (b : Basis). reason_of b a) (made-bared policy me rows i) ∙ reason-bare (made policy me rows i) a
 
--- ---- reasons on both
-
-reason-both :
-    (asked : Ask) (one other : List ReadVersion) (policy : Policy) (me : Principal) (i j : ℕ → Bool)
-    → AreRuledAlike asked one other → AreGroups (seen one) me i → AreGroups (seen other) me j
-    → (object : ℕ) (mask : Mask) → Contains (subjects_of (seen one) asked) object
-    → reason_of (made policy me one i) (on object mask) ≡ reason_of (made policy me other j) (on object mask)
-reason-both asked one other policy me i j alike a b object mask subject =
-    let agree : AgreeOn (ask.Read object) (bared one) (bared other) =
-    agree-bared asked (ask.Read object) one other (λ item c. only item c.0 c.1 c.2) alike in
-    sym (reason-bared policy me one i (on object mask))
-    ∙ reason-alike (ask.Read object) (bared one) (bared other) agree policy me i j
-    (groups-alike (ask.Read object) (bared one) (bared other) agree me i j (groups-bared me one i a)
-    (groups-bared me other j b)) object mask (first-of object [])
-    ∙ reason-bared policy me other j (on object mask)
-  where
-    only :
-        (item k : ℕ) → k < 1 → slice_index_or (object ∷ []) k item ≡ item → Contains (subjects_of (seen one) asked) item
-    only item zero below same = subst (Contains (subjects_of (seen one) asked)) same subject
-    only item (suc k) below same = absurd (omega (arith, below))
-
 -- ---- titles
 
 -- the title that is in a value, by what is bare of it and its title
@@ -293,9 +296,9 @@ seen-same one other item e =
     ap (λ (o : Option (ℕ × Value)). option_map_or (λ version. version.1) o value.Missing) e
 
 bare-alike :
-    (asked : Ask) (one other : List ReadVersion) (item : ℕ) → AreRuledAlike asked one other → IsNamed (seen one) asked item
-    → bare (seen one item) ≡ bare (seen other item)
-bare-alike asked one other item alike named =
+    (looker : Option Principal) (asked : Ask) (one other : List ReadVersion) (item : ℕ) → AreRuledAlike looker asked one other
+    → IsNamed (seen one) looker asked item → bare (seen one item) ≡ bare (seen other item)
+bare-alike looker asked one other item alike named =
     sym (seen-bared one item)
     ∙ seen-same (bared one) (bared other) item
     (read-bared one item
@@ -303,9 +306,61 @@ bare-alike asked one other item alike named =
     ∙ sym (read-bared other item))
     ∙ seen-bared other item
 
+-- ---- reasons on both
+
+-- who goes the owner's way to the object may ask for the mask by it
+abbrev GoesFor : Option Principal → Ask → List ReadVersion → Policy → Principal → ℕ → Mask → Type 0
+GoesFor looker asked one policy me object mask =
+    (head : Head) → head_of (seen one object) ≡ Some head → is_groupless (seen one) looker asked object ≡ true
+    → is_owners_way (case_on (made policy me one (λ number. false)) head) mask ≡ true
+
+reason-both :
+    (looker : Option Principal) (asked : Ask) (one other : List ReadVersion) (policy : Policy) (me : Principal) (i j : ℕ → Bool)
+    → AreRuledAlike looker asked one other → AreGroups (seen one) me i → AreGroups (seen other) me j
+    → (object : ℕ) (mask : Mask) → Contains (subjects_of (seen one) asked) object
+    → GoesFor looker asked one policy me object mask
+    → reason_of (made policy me one i) (on object mask) ≡ reason_of (made policy me other j) (on object mask)
+reason-both looker asked one other policy me i j alike a b object mask subject goes =
+    go (is_groupless (seen one) looker asked object) refl
+  where
+    only : (P : ℕ → Type 0) → P object → (item k : ℕ) → k < 1 → slice_index_or (object ∷ []) k item ≡ item → P item
+    only P p item zero below same = subst P same p
+    only P p item (suc k) below same = absurd (omega (arith, below))
+
+    by-head :
+        (o : Option Head) → head_of (seen one object) ≡ o → is_groupless (seen one) looker asked object ≡ true
+        → option_map (λ head. with_verdict (on object mask) (verdict_on (made policy me one i) head mask)) (head_of (seen one object))
+        ≡ option_map (λ head. with_verdict (on object mask) (verdict_on (made policy me other j) head mask)) (head_of (seen one object))
+    by-head None e by = rw e refl
+    by-head (Some head) e by =
+        rw e (ap (λ (v : Verdict). Some (with_verdict (on object mask) v))
+        (way_granted (case_on (made policy me one i) head) (entries_on (made policy me one i) head) mask (goes head e by)
+        ∙ sym (way_granted (case_on (made policy me other j) head) (entries_on (made policy me other j) head) mask (goes head e by))))
+
+    go :
+        (by : Bool) → is_groupless (seen one) looker asked object ≡ by
+        → reason_of (made policy me one i) (on object mask) ≡ reason_of (made policy me other j) (on object mask)
+    go false by =
+        let agree : AgreeOn None (ask.Read object) (bared one) (bared other) =
+        agree-bared looker None asked (ask.Read object) one other
+        (λ item c. only (Contains (subjects_of (seen one) asked)) subject item c.0 c.1 c.2)
+        (λ item c e. only (λ (x : ℕ). is_groupless (seen one) looker asked x ≡ false) by item c.0 c.1 c.2) alike in
+        sym (reason-bared policy me one i (on object mask))
+        ∙ reason-alike None (ask.Read object) (bared one) (bared other) agree policy me i j
+        (groups-alike None (ask.Read object) (bared one) (bared other) agree me i j (groups-bared me one i a)
+        (groups-bared me other j b)) object mask (first-of object []) (λ head e none. absurd (both_ways false refl none))
+        ∙ reason-bared policy me other j (on object mask)
+    go true by =
+        let heads : head_of (seen one object) ≡ head_of (seen other object) =
+        sym (head-bare (seen one object))
+        ∙ ap head_of (bare-alike looker asked one other object alike (Subject object subject))
+        ∙ head-bare (seen other object) in
+        by-head (head_of (seen one object)) refl by
+        ∙ ap (option_map (λ head. with_verdict (on object mask) (verdict_on (made policy me other j) head mask))) heads
+
 -- ---- what is granted
 
--- READ_ATTRIBUTES is granted alike by both policies, and by all bases of one snapshot
+-- READ_ATTRIBUTES is granted alike by each policy, and by all bases of one snapshot
 granted-both :
     (policy : Policy) (me : Principal) (rows : List ReadVersion) (i : ℕ → Bool) (child : ℕ) → AreGroups (seen rows) me i
     → is_granted_on (made One me rows i) child READ_ATTRIBUTES
@@ -320,6 +375,14 @@ granted-both policy me rows i child groups =
     ∙ ap (λ (o : Option Reason). option_map_or (λ (reason : Reason). is_grant reason.verdict) o false)
     (by policy (head_of (seen rows child)))
   where
+    two :
+        (head : Head)
+        → verdict_on (made Two me rows (has_item (groups_found me rows))) head READ_ATTRIBUTES
+        ≡ verdict_on (made One me rows (has_item (groups_found me rows))) head READ_ATTRIBUTES
+    two head =
+        other_bits_same (case_on (made One me rows (has_item (groups_found me rows))) head)
+        (entries_on (made One me rows (has_item (groups_found me rows))) head) READ_ATTRIBUTES refl refl
+
     by :
         (p : Policy) (o : Option Head)
         → option_map
@@ -334,8 +397,11 @@ granted-both policy me rows i child groups =
     by One (Some head) = refl
     by Two (Some head) =
         ap (λ (v : Verdict). Some (with_verdict (on child READ_ATTRIBUTES) v))
-        (sym (other_bits_same (case_on (made One me rows (has_item (groups_found me rows))) head)
-        (entries_on (made One me rows (has_item (groups_found me rows))) head) READ_ATTRIBUTES refl refl))
+        (sym (two head))
+    by Three (Some head) =
+        ap (λ (v : Verdict). Some (with_verdict (on child READ_ATTRIBUTES) v))
+        (sym (three_as_two (case_on (made One me rows (has_item (groups_found me rows))) head)
+        (entries_on (made One me rows (has_item (groups_found me rows))) head) READ_ATTRIBUTES ∙ two head))
 
 -- ---- rows
 
@@ -374,7 +440,7 @@ listed-both policy me album one other i j alike a b same =
         ap (row-with album child (reason_of (made One me one i) (on child READ_ATTRIBUTES)))
         (title-bare (number_of album) (seen one child)
         ∙ ap (λ (v : Value). title-by (number_of album) v (title_field (seen one child)))
-        (bare-alike (ask.List album) one other child alike.ruled named)
+        (bare-alike (looker_of policy me) (ask.List album) one other child alike.ruled named)
         ∙ ap (title-by (number_of album) (bare (seen other child))) (alike.titled child named may)
         ∙ sym (title-bare (number_of album) (seen other child)))
 
@@ -384,18 +450,19 @@ listed-both policy me album one other i j alike a b same =
     row child subject =
         titles child (is_granted_on (made One me one i) child READ_ATTRIBUTES) refl subject
         ∙ ap (λ (r : Option Reason). row-with album child r (title_in (number_of album) (seen other child)))
-        (reason-both (ask.List album) one other One me i j alike.ruled a b child READ_ATTRIBUTES subject)
+        (reason-both (looker_of policy me) (ask.List album) one other One me i j alike.ruled a b child READ_ATTRIBUTES subject
+        (λ head e goes. absurd (both_ways _ (grouped (seen one) (looker_of policy me) (ask.List album) child refl) goes)))
 
 pub rows-alike :
     (policy : Policy) (me : Principal) (album : ℕ) (one other : List ReadVersion) (rows more : List Row)
     → AreAlikeFor policy me (ask.List album) one other
     → IsTrue (is_granted_on (basis_on policy me one) album LIST_DIRECTORY)
-    → IsListing (record { ask = ask.List album; rows = one }) me rows
-    → IsListing (record { ask = ask.List album; rows = other }) me more → rows ≡ more
+    → IsListing (record { looker = looker_of policy me; ask = ask.List album; rows = one }) me rows
+    → IsListing (record { looker = looker_of policy me; ask = ask.List album; rows = other }) me more → rows ≡ more
 rows-alike policy me album one other rows more alike granted l m =
     let here : album ≡ l.album = cc (l.asked) in
     let there : album ≡ m.album = cc (m.asked) in
-    let named : IsNamed (seen one) (ask.List album) album = Subject album (first-of album (children_of (seen one album))) in
+    let named : IsNamed (seen one) (looker_of policy me) (ask.List album) album = Subject album (first-of album (children_of (seen one album))) in
     l.rows_are
     ∙ ap (λ (x : ℕ). listed l.basis x) (sym here)
     ∙ ap (λ (b : Basis). listed b album) (basis-made One me one l.basis l.based)

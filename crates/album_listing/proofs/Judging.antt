@@ -10,8 +10,8 @@ use Rattle.album_lists.specs.declared.lists.Ace.{Ace}
 use Rattle.album_lists.specs.declared.whos.Who.{Who}
 use Rattle.album_lists.specs.declared.whos.Who.TheVariants as who
 use Rattle.album_eval.specs.Audit.{is_noting, meets, outcome_flag, is_noted, audited}
-use Rattle.album_eval.specs.Matching.{Case, is_for, is_match}
-use Rattle.album_eval.specs.Policies.{is_given}
+use Rattle.album_eval.specs.Matching.{Case, is_for, is_match, is_of_group}
+use Rattle.album_eval.specs.Policies.{is_given, is_owners_way}
 use Rattle.album_eval.specs.Verdict.{is_asked, allows_or_denies, mentions, first_mention, Tally, tally_below, verdict_by, verdict}
 use Rattle.album_eval.specs.declared.facts.Principal.{Principal}
 use Rattle.album_eval.specs.declared.policies.Policy.{Policy}
@@ -111,7 +111,11 @@ module _ (policy : Policy) (principal : Principal) (owner : List ℕ) (head_grou
       → is_noted (case one) mask success x ≡ is_noted (case other) mask success x
   unfolding is_noted
   noted-alike mask success x e =
-      ap (λ (b : Bool). b && is_noting x.sort && meets x.mask mask && has_flag (outcome_flag success) x.flags) e
+      ap (λ (b : Bool). b
+      && not (is_owners_way (case one) mask && is_of_group x.who)
+      && is_noting x.sort
+      && meets x.mask mask
+      && has_flag (outcome_flag success) x.flags) e
 
   kept-alike :
       (mask : Mask) (success : Bool) (n : ℕ) (xs : List Ace) → one head_group ≡ other head_group

@@ -6,7 +6,7 @@ use Rattle.album_items.specs.declared.values.Value.{Value}
 use Rattle.album_items.specs.declared.values.Value.TheVariants as value
 use Rattle.album_reader.specs.Answers.{ReadVersion}
 use Rattle.album_reader.specs.Snapshots.{version_read}
-use Rattle.album_views.specs.ReadSets.{IsNamed}
+use Rattle.album_views.specs.ReadSets.{looker_of, IsNamed}
 use Rattle.album_views.specs.Seen.{seen}
 use Rattle.album_views.specs.declared.asks.Ask.{Ask}
 use Rattle.album_listing.specs.GroupsFound.{basis_on}
@@ -28,27 +28,27 @@ abbrev pub bare_read : List ReadVersion → ℕ → Option Value
 bare_read rows item = option_map (λ version. bare version.1) (version_read rows item)
 
 -- Of each item that is named by the one, both show what a ruling looks at alike, or show nothing.
-pub record AreRuledAlike (ask : Ask) (one other : List ReadVersion) : Type 0 where
-  pub bared : (item : ℕ) → IsNamed (seen one) ask item → bare_read one item ≡ bare_read other item
+pub record AreRuledAlike (looker : Option Principal) (ask : Ask) (one other : List ReadVersion) : Type 0 where
+  pub bared : (item : ℕ) → IsNamed (seen one) looker ask item → bare_read one item ≡ bare_read other item
 
 -- The two are alike in all that the principal may read. What is not named may differ in any way. What is named may
 -- differ only in its stamp, its title, its content and its children, wherever these are not granted.
 pub record AreAlikeFor
     (policy : Policy) (principal : Principal) (ask : Ask) (one other : List ReadVersion)
     : Type 0 where
-  pub ruled : AreRuledAlike ask one other
+  pub ruled : AreRuledAlike (looker_of policy principal) ask one other
   -- what it may read, or list, is the same with its stamp
   pub read :
-      (item : ℕ) → IsNamed (seen one) ask item
+      (item : ℕ) → IsNamed (seen one) (looker_of policy principal) ask item
       → IsTrue (is_granted_on (basis_on policy principal one) item READ_DATA)
       → version_read one item ≡ version_read other item
   -- what it may know the title of has the same title
   pub titled :
-      (item : ℕ) → IsNamed (seen one) ask item
+      (item : ℕ) → IsNamed (seen one) (looker_of policy principal) ask item
       → IsTrue (is_granted_on (basis_on policy principal one) item READ_ATTRIBUTES)
       → title_field (seen one item) ≡ title_field (seen other item)
   -- where it may read the list of an item, that has the same stamp
   pub listed :
-      (item : ℕ) → IsNamed (seen one) ask item
+      (item : ℕ) → IsNamed (seen one) (looker_of policy principal) ask item
       → IsTrue (is_granted_on (basis_on policy principal one) item READ_ACL)
       → stamp_named one item ≡ stamp_named other item

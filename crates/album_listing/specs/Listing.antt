@@ -39,7 +39,7 @@ abbrev pub listed : Basis → ℕ → List Row
 listed basis album = filter_map (row_for basis album) (children_of (basis.seen album))
 
 -- The rows are what is listed to the principal of the album of the view's ask. They are judged under policy One; that
--- they are the same under Two is the law `listings_are_alike`.
+-- they are the same under each other is the law `listings_are_alike`.
 pub record IsListing (view : ViewState) (principal : Principal) (rows : List Row) : Type 0 where
   pub album : ℕ
   pub basis : Basis

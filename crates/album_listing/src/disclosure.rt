@@ -3,6 +3,7 @@ ghost use Rattle.std.specs.Prelude.{◌≡◌, ℕ, List, IsTrue};
 ghost use Rattle.album_eval.specs.declared.facts.Principal.{Principal};
 ghost use Rattle.album_eval.specs.declared.policies.Policy.{Policy};
 ghost use Rattle.album_reader.specs.Answers.{ReadVersion};
+ghost use Rattle.album_views.specs.ReadSets.{looker_of};
 ghost use Rattle.album_views.specs.declared.asks.Ask.TheVariants as ask;
 ghost use Rattle.album_listing.specs.Disclosure.{AreAlikeFor};
 ghost use Rattle.album_listing.specs.GroupsFound.{basis_on};
@@ -18,7 +19,7 @@ pub fn listings_disclose_nothing()
         (one other : List ReadVersion) (rows more : List Row)
         → AreAlikeFor policy principal (ask.List album) one other
         → IsTrue (is_granted_on (basis_on policy principal one) album LIST_DIRECTORY)
-        → IsListing (record { ask = ask.List album; rows = one }) principal rows
-        → IsListing (record { ask = ask.List album; rows = other }) principal more
+        → IsListing (record { looker = looker_of policy principal; ask = ask.List album; rows = one }) principal rows
+        → IsListing (record { looker = looker_of policy principal; ask = ask.List album; rows = other }) principal more
         → rows ≡ more }
 {}

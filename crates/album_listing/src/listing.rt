@@ -20,7 +20,7 @@ use std::alloc::Global;
 
 /// The children of the album that the ask of the view is to list, those on which the principal is granted
 /// READ_ATTRIBUTES, in the order of the album. A child is listed where its home is this album. It is judged
-/// under policy One; under Two the rows are the same.
+/// under policy One; under each other the rows are the same.
 ///
 /// # Errors
 ///

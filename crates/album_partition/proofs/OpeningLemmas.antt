@@ -5,7 +5,7 @@ use Rattle.std.proofs.lemmas.Bool.{lt-ltb, and_parts, and_from}
 use Rattle.std.proofs.lemmas.List.FromFn.{map-range_with_len_more}
 use Rattle.album_stamps.specs.Distinct.{no_two}
 use Rattle.album_stamps.specs.declared.refusals.Refusal.TheVariants.{BadOpening, NoSuchPart}
-use Rattle.album_items.specs.Openings.{Row, is_opening, has_parts, has_limit, has_policy, has_few_items, is_right_row, is_low_row, has_own_value, has_few_children, has_single_children, has_single_rows, has_own_lists, has_fit_lists, same_item}
+use Rattle.album_items.specs.Openings.{Row, is_base_opening, has_parts, has_limit, has_policy, has_first, has_counts, is_low_row, greatest_number, has_own_value, has_single_rows, same_item}
 use Rattle.album_items.specs.Places.{is_placed, rows_placed_at}
 use Rattle.album_items.specs.declared.openings.Opening.{Opening}
 use Rattle.album_partition.specs.Partition.{PartitionState, opened, may_open, has_own_rows, first_partition}
@@ -74,40 +74,25 @@ module _ {X : Type 0} (test : X → Bool) where
       (picked_none (clash x) xs (not_true (list_any (clash x) xs) (and_left (not (list_any (clash x) xs)) (no_two clash xs) h)))
       (picked_apart clash xs (and_right (not (list_any (clash x) xs)) (no_two clash xs) h))
 
--- ---- an opening's
+-- ---- a base's
 
-own_values : (rows : List Row) → list_all is_right_row rows ≡ true → list_all has_own_value rows ≡ true
-own_values [] h = refl
-own_values (row ∷ rows) h =
-    let right : is_right_row row ≡ true = and_left (is_right_row row) (list_all is_right_row rows) h in
-    let own : has_own_value row ≡ true =
-    and_left (has_own_value row) (is_low_row row) (and_left (has_own_value row && is_low_row row) (has_few_children row)
-    (and_left (has_own_value row && is_low_row row && has_few_children row) (has_single_children row) right)) in
-    and_both (has_own_value row) (list_all has_own_value rows) own
-    (own_values rows (and_right (is_right_row row) (list_all is_right_row rows) h))
-
-pub may_be_opened : (o : Opening) (part : ℕ) → is_opening o ≡ true
+pub may_be_opened : (o : Opening) (part : ℕ) → is_base_opening o ≡ true
     → may_open part o.parts o.limit (rows_placed_at part o.parts o.items) ≡ true
 may_be_opened o part is =
-    let first = and_left (has_parts o.parts && has_limit o.limit && has_policy o.policy && has_few_items o.items && list_all is_right_row o.items)
-    (has_single_rows o.items && has_own_lists o.items && has_fit_lists o.items) is in
-    let last = and_right (has_parts o.parts && has_limit o.limit && has_policy o.policy && has_few_items o.items && list_all is_right_row o.items)
-    (has_single_rows o.items && has_own_lists o.items && has_fit_lists o.items) is in
-    let counts = and_left (has_parts o.parts && has_limit o.limit && has_policy o.policy && has_few_items o.items) (list_all is_right_row o.items) first in
-    let rows = and_right (has_parts o.parts && has_limit o.limit && has_policy o.policy && has_few_items o.items) (list_all is_right_row o.items) first in
-    let both = and_left (has_parts o.parts && has_limit o.limit) (has_policy o.policy)
-    (and_left (has_parts o.parts && has_limit o.limit && has_policy o.policy) (has_few_items o.items) counts) in
-    let single = and_left (has_single_rows o.items) (has_own_lists o.items)
-    (and_left (has_single_rows o.items && has_own_lists o.items) (has_fit_lists o.items) last) in
+    let both = and_parts (has_counts o) (has_single_rows o.items && list_all has_own_value o.items && list_all (is_low_row (greatest_number o.first)) o.items) is in
+    let limits = (and_parts (has_parts o.parts && has_limit o.limit) (has_policy o.policy)
+    (and_left (has_parts o.parts && has_limit o.limit && has_policy o.policy) (has_first o.first) both.0)).0 in
+    let rows = and_parts (has_single_rows o.items) (list_all has_own_value o.items)
+    (and_left (has_single_rows o.items && list_all has_own_value o.items) (list_all (is_low_row (greatest_number o.first)) o.items) both.1) in
     let test : Row → Bool = λ (row : Row). is_placed part o.parts row.0 in
-    and_both (has_parts o.parts && has_limit o.limit) (has_own_rows part o.parts (rows_placed_at part o.parts o.items)) both
+    and_both (has_parts o.parts && has_limit o.limit) (has_own_rows part o.parts (rows_placed_at part o.parts o.items)) limits
     (and_both (list_all has_own_value (filter test o.items) && list_all test (filter test o.items)) (has_single_rows (filter test o.items))
     (and_both (list_all has_own_value (filter test o.items)) (list_all test (filter test o.items))
-    (picked_all test has_own_value o.items (own_values o.items rows)) (all_picked test o.items))
-    (picked_apart test same_item o.items single))
+    (picked_all test has_own_value o.items rows.1) (all_picked test o.items))
+    (picked_apart test same_item o.items rows.0))
 
--- each partition of an opening that passes its check opens
-pub opened_so : (o : Opening) (part : ℕ) → is_opening o ≡ true → part < o.parts
+-- each partition of a base opens
+pub opened_so : (o : Opening) (part : ℕ) → is_base_opening o ≡ true → part < o.parts
     → opened part o.parts (rows_placed_at part o.parts o.items) o.limit ≡ Ok (first_partition false o.parts o.limit o.items part)
 opened_so o part is here =
     let a = lt-ltb part o.parts here in

@@ -5,7 +5,7 @@ use mathlib.Core.Option.{some, some-ne-none, some-injective}
 use lib.ListN.{get_elem?}
 use Rattle.atomic_table.specs.Table.{Final}
 use Rattle.std.proofs.lemmas.Grind.{common_steps}
-use Rattle.album_items.specs.Openings.{Row, is_opening}
+use Rattle.album_items.specs.Openings.{Row, is_base_opening}
 use Rattle.album_items.specs.declared.openings.Opening.{Opening}
 use Rattle.album_partition.specs.declared.marks.Mark.{Mark}
 use Rattle.album_partition.specs.Bases.{is_chained}
@@ -21,7 +21,7 @@ use Rattle.album_passes.proofs.SeatLemmas.{push_each, at_one}
 
 -- ---- how it begins
 
-pub few_parts : (o : Opening) → is_opening o ≡ true → o.parts ≤ 16
+pub few_parts : (o : Opening) → is_base_opening o ≡ true → o.parts ≤ 16
 few_parts o e = grind (arith, common_steps)
 
 nothing_at : (n p : ℕ) → marks_at (replicate n []) p ≡ []

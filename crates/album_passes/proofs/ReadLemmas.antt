@@ -21,7 +21,7 @@ use Rattle.album_partition.proofs.ListLemmas.{one_before, contains_from_any}
 use Rattle.album_versions.proofs.Greatest.{All-best_of}
 use Rattle.album_reader.specs.Answers.{ReadVersion}
 use Rattle.album_reader.specs.Atomic.{IsFracturedBy, IsWrittenBy, IsWritten, IsReadAtomic, IsFreshFrom}
-use Rattle.album_passes.specs.Cuts.{Cut, prefix_at, prefix_for, IsPreparedFor, IsSound, IsPrefix, Extends}
+use Rattle.album_passes.specs.Cuts.{Cut, prefix_at, prefix_for, IsPreparedFor, IsPreparedThroughout, IsNamed, IsClosedCut, IsSound, IsPrefix, Extends}
 use Rattle.album_passes.specs.Reads.{IsCommitted, IsCommittedFor, written_value, writes_in_cut, IsAnsweredBetween, IsReadInTwoRounds}
 use Rattle.album_passes.proofs.PrefixLemmas.{any_more}
 use Rattle.album_passes.proofs.CutLemmas.{extends_trans, prefix_for_more, items_more}
@@ -90,7 +90,7 @@ value_has (w ∷ ws) i v e = go (w.0 == i) refl e (value_has ws i v)
     go false f g h = one_before w (i, v) ws (h g)
 
 -- the item of each row is one of theirs
-item_written : (ws : List Row) (w : Row) → Contains ws w → Contains (items_written ws) w.0
+pub item_written : (ws : List Row) (w : Row) → Contains ws w → Contains (items_written ws) w.0
 item_written [] w (k, l, at) = absurd (omega arith)
 item_written (x ∷ ws) w (zero, l, at) = (zero, omega arith, ap (λ (y : Row). y.0) at)
 item_written (x ∷ ws) w (suc k, l, at) = one_before x.0 w.0 (items_written ws) (item_written ws w (k, omega arith, at))
@@ -104,26 +104,46 @@ committed_more c d x t h = (h.0, any_more (commits t) (prefix_at c h.0) (prefix_
 written_more : (c : Cut) → IsSound c → (t : ℕ) → IsCommitted c t → (ms : List Mark) (i : ℕ) (v : Value) → IsPrefix ms (prefix_for c i) → version ms i t ≡ Some v → written_value c i t ≡ Some v
 written_more c s t h ms i v p e = version_along ms (prefix_for c i) i t v p (never_discarded c h.0 (place_of c.parts i) t s h.1) e
 
--- and was there already
-written_back : (c d : Cut) → IsSound c → IsSound d → Extends c d → (t : ℕ) → IsCommitted c t → (i : ℕ) (v : Value) → written_value d i t ≡ Some v → written_value c i t ≡ Some v
-written_back c d s r x t h i v e =
-    let own = committed_tells c h.0 t s.closed h.1 in
+-- What a stamp that is prepared throughout wrote, a cut that extends this one has nothing else of: neither more, where
+-- each Prepared is of what is announced, nor less, where none discards it.
+written_before : (c d : Cut) → Extends c d → (t : ℕ) → IsPreparedThroughout c t → (i : ℕ) (v : Value)
+    → ((ws : List Row) (is : List ℕ) → Contains (prefix_for d i) (Prepared t ws is) → IsNamed d t ws is)
+    → written_value d i t ≡ Some v → written_value c i t ≡ Some v
+written_before c d x t own i v names e =
     let w = version_prepared (prefix_for d i) i t v (version_parts (prefix_for d i) i t v e).1 in
-    let named = backed_there d (place_of d.parts i) (Prepared t w.0 w.1) r.closed w.2 in
-    let n = named.named in
+    let n = names w.0 w.1 w.2 in
     let same : w.1 ≡ own.items = same_list d t w.1 own.items (items_of_named d t w.0 w.1 n) (items_more c d x t own.items own.announced) in
     let on : Contains own.items i = subst (λ (is : List ℕ). Contains is i) (sym n.items_are ∙ same)
     (item_written n.all.writes (i, v) (n.within (i, v) (value_has w.0 i v w.3))) in
     let had : IsPreparedFor c t i = All-contains (IsPreparedFor c t) own.items i own.prepared on in
     version_back (prefix_for c i) (prefix_for d i) i t v (prefix_for_more c d x i) had e
 
-pub same_written : (c d : Cut) → IsSound c → IsSound d → Extends c d → (t : ℕ) → IsCommitted c t → (i : ℕ) → written_value d i t ≡ written_value c i t
-same_written c d s r x t h i = go (written_value c i t) (written_value d i t) refl refl
+pub same_prepared : (c d : Cut) → Extends c d → (t : ℕ) → IsPreparedThroughout c t → (i : ℕ)
+    → list_any (discards t) (prefix_for d i) ≡ false
+    → ((ws : List Row) (is : List ℕ) → Contains (prefix_for d i) (Prepared t ws is) → IsNamed d t ws is)
+    → written_value d i t ≡ written_value c i t
+same_prepared c d x t own i none names = go (written_value c i t) (written_value d i t) refl refl
   where
     go : (o p : Option Value) → written_value c i t ≡ o → written_value d i t ≡ p → p ≡ o
-    go (Some v) p e f = sym f ∙ written_more d r t (committed_more c d x t h) (prefix_for c i) i v (prefix_for_more c d x i) e
+    go (Some v) p e f = sym f ∙ version_along (prefix_for c i) (prefix_for d i) i t v (prefix_for_more c d x i) none e
     go None None e f = refl
-    go None (Some v) e f = absurd (let back = written_back c d s r x t h i v f in cc (back, e))
+    go None (Some v) e f = absurd (let back = written_before c d x t own i v names f in cc (back, e))
+
+-- in a closed cut each Prepared is of what is announced
+named_closed : (c : Cut) → IsClosedCut c → (t i : ℕ) (ws : List Row) (is : List ℕ) → Contains (prefix_for c i) (Prepared t ws is)
+    → IsNamed c t ws is
+named_closed c closed t i ws is n = (backed_there c (place_of c.parts i) (Prepared t ws is) closed n).named
+
+-- so what a committed stamp wrote was there already
+written_back : (c d : Cut) → IsSound c → IsSound d → Extends c d → (t : ℕ) → IsCommitted c t → (i : ℕ) (v : Value) → written_value d i t ≡ Some v → written_value c i t ≡ Some v
+written_back c d s r x t h i v e =
+    written_before c d x t (committed_tells c h.0 t s.closed h.1) i v (named_closed d r.closed t i) e
+
+pub same_written : (c d : Cut) → IsSound c → IsSound d → Extends c d → (t : ℕ) → IsCommitted c t → (i : ℕ) → written_value d i t ≡ written_value c i t
+same_written c d s r x t h i =
+    let later = committed_more c d x t h in
+    same_prepared c d x t (committed_tells c h.0 t s.closed h.1) i
+    (never_discarded d later.0 (place_of d.parts i) t r later.1) (named_closed d r.closed t i)
 
 -- ---- the latest version
 

@@ -24,6 +24,7 @@ terms_of opening sessions = record {
   limit = opening.limit;
   sessions = sessions;
   checked = opening.checked;
+  first = opening.first;
 }
 
 -- the table has a word for the numbers and one for each partition, and the desk's own numbers are those of the terms

@@ -12,6 +12,7 @@ pub record Terms : Type 0 where
   pub limit : ℕ
   pub sessions : ℕ
   pub checked : Bool
+  pub first : ℕ
 
 -- The cut, or two that are to be put together, or none where the seat was given up; the number that the seat holds;
 -- the number of a guest, whose seat it took in and will give back; the partitions that it owns, from `low` on and

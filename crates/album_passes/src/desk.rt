@@ -1,6 +1,6 @@
 //! The desk: the words that all threads share, and where passes begin.
 ghost use Rattle.std.specs.Prelude.{◌≡◌, ◌+◌, ◌<◌, ◌≤◌, true, [], IfOk, IfErr, OnErr, IsOkUnless, Some, None};
-ghost use Rattle.album_items.specs.Openings.{is_opening};
+ghost use Rattle.album_items.specs.Openings.{is_base_opening};
 ghost use Rattle.album_passes.specs.Changes.{IsUnheard};
 ghost use Rattle.album_passes.specs.Knowledge.{first_seat, dealt};
 ghost use Rattle.album_passes.specs.Desk.{terms_of, AreOwners, AreWords, first_pass};
@@ -67,7 +67,7 @@ impl Desk {
         opening: &Opening,
         sessions: u16,
     ) -> Result<(Desk, Vec<Owner>, Pass), Refusal>
-        requires opening { is_opening opening.now ≡ true }
+        requires opening { is_base_opening opening.now ≡ true }
         requires sessions { 0 < sessions }
         ensures terms { IfOk result (λ opened. opened.0.terms ≡ terms_of opening.now sessions) }
         ensures owners { IfOk result (λ opened. AreOwners opened.0 opened.1.items) }

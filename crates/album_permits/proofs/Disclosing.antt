@@ -14,6 +14,7 @@ use Rattle.album_items.specs.Values.{children_of}
 use Rattle.album_items.specs.declared.values.Head.{Head}
 use Rattle.album_items.specs.declared.values.Value.{Value}
 use Rattle.album_reader.specs.Answers.{ReadVersion}
+use Rattle.album_views.specs.ReadSets.{looker_of}
 use Rattle.album_views.specs.ReadSets.IsNamed.{Subject}
 use Rattle.album_views.specs.Seen.{seen}
 use Rattle.album_views.specs.declared.asks.Ask.{Ask}
@@ -27,7 +28,7 @@ use Rattle.album_listing.specs.Reasons.{on, case_on, with_verdict, is_grant}
 use Rattle.album_listing.specs.ViewLookups.{stamp_seen, stamp_named, entries_named}
 use Rattle.album_listing.specs.declared.reasons.Alternative.{Alternative}
 use Rattle.album_listing.specs.declared.reasons.Reason.{Reason}
-use Rattle.album_listing.proofs.Baring.{head-bare, home-bare, entries-bare, bared, seen-bared, subjects-back, agree-bared, basis-bared, bare_basis, made-bared, seen-same, rows-alike}
+use Rattle.album_listing.proofs.Baring.{head-bare, groupless-bare, home-bare, entries-bare, bared, seen-bared, subjects-back, agree-bared, basis-bared, bare_basis, made-bared, seen-same, rows-alike}
 use Rattle.album_listing.proofs.GroupsFoundLemmas.{basis-based}
 use Rattle.album_listing.proofs.Judging.{first-of}
 use Rattle.album_listing.proofs.Looking.{made, basis-made}
@@ -113,8 +114,12 @@ module _ (basis : Basis) where
 
 -- ---- two snapshots that are ruled alike
 
-agree : (asked : Ask) (one other : List ReadVersion) → AreRuledAlike asked one other → AgreeOn asked (bared one) (bared other)
-agree asked one other alike = agree-bared asked asked one other (subjects-back (seen one) asked) alike
+agree :
+    (looker : Option Principal) (asked : Ask) (one other : List ReadVersion) → AreRuledAlike looker asked one other
+    → AgreeOn looker asked (bared one) (bared other)
+agree looker asked one other alike =
+    agree-bared looker looker asked asked one other (subjects-back (seen one) asked)
+    (λ item c e. sym (groupless-bare (seen one) looker asked item) ∙ e) alike
 
 ruling-bared :
     (policy : Policy) (me : Principal) (asked : Ask) (rows : List ReadVersion) (b : Basis) → IsBasis policy me rows b
@@ -134,23 +139,23 @@ notes-bared policy me asked rows b based =
 
 pub ruled-alike :
     (policy : Policy) (me : Principal) (asked : Ask) (one other : List ReadVersion) (b c : Basis)
-    → AreRuledAlike asked one other → IsBasis policy me one b → IsBasis policy me other c
+    → AreRuledAlike (looker_of policy me) asked one other → IsBasis policy me one b → IsBasis policy me other c
     → ruling_of b asked ≡ ruling_of c asked
 ruled-alike policy me asked one other b c alike l m =
     ruling-bared policy me asked one b l
     ∙ ruling-alike policy me asked (bared one) (bared other) (made policy me (bared one) b.is_in)
-    (made policy me (bared other) c.is_in) (agree asked one other alike) (basis-bared policy me one b l)
+    (made policy me (bared other) c.is_in) (agree (looker_of policy me) asked one other alike) (basis-bared policy me one b l)
     (basis-bared policy me other c m)
     ∙ sym (ruling-bared policy me asked other c m)
 
 pub noted-alike :
     (policy : Policy) (me : Principal) (asked : Ask) (one other : List ReadVersion) (b c : Basis)
-    → AreRuledAlike asked one other → IsBasis policy me one b → IsBasis policy me other c
+    → AreRuledAlike (looker_of policy me) asked one other → IsBasis policy me one b → IsBasis policy me other c
     → notes_of b asked ≡ notes_of c asked
 noted-alike policy me asked one other b c alike l m =
     notes-bared policy me asked one b l
     ∙ notes-alike policy me asked (bared one) (bared other) (made policy me (bared one) b.is_in)
-    (made policy me (bared other) c.is_in) (agree asked one other alike) (basis-bared policy me one b l)
+    (made policy me (bared other) c.is_in) (agree (looker_of policy me) asked one other alike) (basis-bared policy me one b l)
     (basis-bared policy me other c m)
     ∙ sym (notes-bared policy me asked other c m)
 
@@ -163,6 +168,7 @@ pub granted-alike :
 granted-alike policy me asked one other alike kept =
     record {
       taken = kept.taken;
+      looks = refl;
       basis = basis_on policy me other;
       based = basis-based policy me other;
       granted = sym (ruled-alike policy me asked one other kept.basis (basis_on policy me other) alike.ruled kept.based
@@ -204,7 +210,8 @@ served-alike policy me (ask.GetList object) one other given more alike kept l m 
     ∙ ap (λ (s : ℕ). served.Entries object s (entries_named (seen one) object)) (alike.listed object named granted)
     ∙ ap (served.Entries object (stamp_named other object))
     (sym (entries-bared one object)
-    ∙ entries-alike (ask.GetList object) (bared one) (bared other) (agree (ask.GetList object) one other alike.ruled)
+    ∙ entries-alike (looker_of policy me) (ask.GetList object) (bared one) (bared other)
+    (agree (looker_of policy me) (ask.GetList object) one other alike.ruled)
     object (first-of object [])
     ∙ entries-bared other object)
     ∙ sym m

@@ -17,7 +17,7 @@ use Rattle.album_items.specs.declared.values.Value.TheVariants as value
 use Rattle.album_reader.specs.Answers.{ReadVersion}
 use Rattle.album_views.proofs.Flaws.{objects_lists, list-shared, group-shared}
 use Rattle.album_views.specs.Asks.{objects_of}
-use Rattle.album_views.specs.ReadSets.{IsNamed, subjects_of}
+use Rattle.album_views.specs.ReadSets.{looker_of, IsNamed, subjects_of}
 use Rattle.album_views.specs.ReadSets.IsNamed.{Subject, ListOf}
 use Rattle.album_views.specs.Seen.{seen}
 use Rattle.album_views.specs.declared.asks.Ask.{Ask}
@@ -63,13 +63,13 @@ members-same one other (new ∷ members) same =
     ∙ ap (λ (ws : List Write). members_written other new ∷ ws)
     (members-same one other members (λ x c. same x (suc c.0, omega (arith, c.1), c.2)))
 
-module _ (asked : Ask) (one other : List ReadVersion) (agree : AgreeOn asked one other) where
+module _ (looker : Option Principal) (asked : Ask) (one other : List ReadVersion) (agree : AgreeOn looker asked one other) where
   same : (item : ℕ) → Contains (subjects_of (seen one) asked) item → seen one item ≡ seen other item
-  same item subject = seen-alike asked one other agree item (Subject item subject)
+  same item subject = seen-alike looker asked one other agree item (Subject item subject)
 
   list-named :
       (item : ℕ) (head : Head) → Contains (subjects_of (seen one) asked) item → head_of (seen one item) ≡ Some head
-      → IsNamed (seen one) asked (list head.list)
+      → IsNamed (seen one) looker asked (list head.list)
   list-named item head subject e =
       ListOf item (list head.list) subject
       (subst (λ (o : Option Head). Contains (option_to_list (option_map (λ (h : Head). list h.list) o)) (list head.list)) (sym e)
@@ -89,9 +89,9 @@ module _ (asked : Ask) (one other : List ReadVersion) (agree : AgreeOn asked one
           ≡ option_map_or (λ (head : Head). entries_of (seen other (list head.list))) (head_of (seen one item)) []
       go None e = rw e refl
       go (Some head) e =
-          rw e (ap entries_of (seen-alike asked one other agree (list head.list) (list-named item head subject e)))
+          rw e (ap entries_of (seen-alike looker asked one other agree (list head.list) (list-named item head subject e)))
 
-  stamp-alike : (item : ℕ) → IsNamed (seen one) asked item → stamp_seen one item ≡ stamp_seen other item
+  stamp-alike : (item : ℕ) → IsNamed (seen one) looker asked item → stamp_seen one item ≡ stamp_seen other item
   stamp-alike item named =
       ap (λ (o : Option (ℕ × Value)). option_map_or (λ version. version.0) o 0) (agree.same item named)
 
@@ -123,12 +123,12 @@ module _ (asked : Ask) (one other : List ReadVersion) (agree : AgreeOn asked one
 
 module _ (me : Principal) (stamp : ℕ) where
   written-alike :
-      (asked : Ask) (one other : List ReadVersion) → AgreeOn asked one other
+      (looker : Option Principal) (asked : Ask) (one other : List ReadVersion) → AgreeOn looker asked one other
       → written (seen one) me stamp asked ≡ written (seen other) me stamp asked
-  written-alike (ask.Read object) one other agree = refl
-  written-alike (ask.List into) one other agree = refl
-  written-alike (ask.GetList object) one other agree = refl
-  written-alike (ask.AddPicture into title content) one other agree =
+  written-alike looker (ask.Read object) one other agree = refl
+  written-alike looker (ask.List into) one other agree = refl
+  written-alike looker (ask.GetList object) one other agree = refl
+  written-alike looker (ask.AddPicture into title content) one other agree =
       let made : ℕ → List Ace → Value → List Write =
       λ g es v. (
         picture stamp,
@@ -140,10 +140,10 @@ module _ (me : Principal) (stamp : ℕ) where
         }),
       ) ∷ (list stamp, value.List (inherited Plain es)) ∷ (into, with_child (picture stamp) v) ∷ [] in
       ap (λ (v : Value). made (option_map_or (λ (head : Head). head.group) (head_of v) 0) (entries_named (seen one) into) v)
-      (same (ask.AddPicture into title content) one other agree into (first-of into []))
+      (same looker (ask.AddPicture into title content) one other agree into (first-of into []))
       ∙ ap (λ (es : List Ace). made (head_group_seen (seen other) into) es (seen other into))
-      (entries-alike (ask.AddPicture into title content) one other agree into (first-of into []))
-  written-alike (ask.AddAlbum into title) one other agree =
+      (entries-alike looker (ask.AddPicture into title content) one other agree into (first-of into []))
+  written-alike looker (ask.AddAlbum into title) one other agree =
       let made : ℕ → List Ace → Value → List Write =
       λ g es v. (
         album stamp,
@@ -155,43 +155,43 @@ module _ (me : Principal) (stamp : ℕ) where
         }),
       ) ∷ (list stamp, value.List (inherited Folder es)) ∷ (into, with_child (album stamp) v) ∷ [] in
       ap (λ (v : Value). made (option_map_or (λ (head : Head). head.group) (head_of v) 0) (entries_named (seen one) into) v)
-      (same (ask.AddAlbum into title) one other agree into (first-of into []))
+      (same looker (ask.AddAlbum into title) one other agree into (first-of into []))
       ∙ ap (λ (es : List Ace). made (head_group_seen (seen other) into) es (seen other into))
-      (entries-alike (ask.AddAlbum into title) one other agree into (first-of into []))
-  written-alike (ask.Retitle object title) one other agree =
+      (entries-alike looker (ask.AddAlbum into title) one other agree into (first-of into []))
+  written-alike looker (ask.Retitle object title) one other agree =
       ap (λ (v : Value). (object, with_title title v) ∷ [])
-      (same (ask.Retitle object title) one other agree object (first-of object []))
-  written-alike (ask.Replace object content) one other agree =
+      (same looker (ask.Retitle object title) one other agree object (first-of object []))
+  written-alike looker (ask.Replace object content) one other agree =
       ap (λ (v : Value). (object, with_content content v) ∷ [])
-      (same (ask.Replace object content) one other agree object (first-of object []))
-  written-alike (ask.Delete object) one other agree =
+      (same looker (ask.Replace object content) one other agree object (first-of object []))
+  written-alike looker (ask.Delete object) one other agree =
       ap (λ (v : Value). (object, value.Missing) ∷ (map (λ item. (item, value.Missing)) (list_of v) ++ taken_out (seen one) object))
-      (same (ask.Delete object) one other agree object (first-of object (home_of (seen one object))))
+      (same looker (ask.Delete object) one other agree object (first-of object (home_of (seen one object))))
       ∙ ap (λ (ws : List Write). (object, value.Missing) ∷ (list_dropped (seen other) object ++ ws))
-      (taken-alike (ask.Delete object) one other agree object (first-of object (home_of (seen one object)))
+      (taken-alike looker (ask.Delete object) one other agree object (first-of object (home_of (seen one object)))
       (λ home c. (suc c.0, omega (arith, c.1), c.2)))
-  written-alike (ask.Move object to) one other agree =
+  written-alike looker (ask.Move object to) one other agree =
       ap (λ (v : Value). (object, with_home (number_of to) v) ∷ (taken_out (seen one) object ++ (to, with_child object (seen one to)) ∷ []))
-      (same (ask.Move object to) one other agree object (first-of object (to ∷ home_of (seen one object))))
+      (same looker (ask.Move object to) one other agree object (first-of object (to ∷ home_of (seen one object))))
       ∙ ap (λ (ws : List Write). (object, with_home (number_of to) (seen other object)) ∷ (ws ++ (to, with_child object (seen one to)) ∷ []))
-      (taken-alike (ask.Move object to) one other agree object (first-of object (to ∷ home_of (seen one object)))
+      (taken-alike looker (ask.Move object to) one other agree object (first-of object (to ∷ home_of (seen one object)))
       (λ home c. (suc (suc c.0), omega (arith, c.1), c.2)))
       ∙ ap (λ (v : Value). (object, with_home (number_of to) (seen other object)) ∷ (taken_out (seen other) object ++ (to, with_child object v) ∷ []))
-      (same (ask.Move object to) one other agree to (1, omega arith, refl))
-  written-alike (ask.SetLists lists) one other agree =
+      (same looker (ask.Move object to) one other agree to (1, omega arith, refl))
+  written-alike looker (ask.SetLists lists) one other agree =
       lists-same (seen one) (seen other) lists
-      (λ object c. same (ask.SetLists lists) one other agree object
+      (λ object c. same looker (ask.SetLists lists) one other agree object
       (Contains-append_left (objects_of (ask.SetLists lists)) [] object
       (subst (λ (xs : List ℕ). Contains xs object) (sym (objects_lists lists)) c)))
-  written-alike (ask.SetOwner object owner number) one other agree =
+  written-alike looker (ask.SetOwner object owner number) one other agree =
       ap (λ (v : Value). (object, with_owner owner number v) ∷ [])
-      (same (ask.SetOwner object owner number) one other agree object (first-of object []))
-  written-alike (ask.SetMembers object members) one other agree =
+      (same looker (ask.SetOwner object owner number) one other agree object (first-of object []))
+  written-alike looker (ask.SetMembers object members) one other agree =
       ap (λ (v : Value). (object, with_members members v) ∷ [])
-      (same (ask.SetMembers object members) one other agree object (first-of object []))
-  written-alike (ask.Share lists members) one other agree =
+      (same looker (ask.SetMembers object members) one other agree object (first-of object []))
+  written-alike looker (ask.Share lists members) one other agree =
       let at : (object : ℕ) → Contains (objects_of (ask.Share lists members)) object → seen one object ≡ seen other object =
-      λ object c. same (ask.Share lists members) one other agree object
+      λ object c. same looker (ask.Share lists members) one other agree object
       (Contains-append_left (objects_of (ask.Share lists members)) [] object c) in
       ap (λ (ws : List Write). ws ++ map (members_written (seen one)) members)
       (lists-same (seen one) (seen other) lists (λ object c. at object (list-shared lists members object c)))
@@ -199,59 +199,61 @@ module _ (me : Principal) (stamp : ℕ) where
       (members-same (seen one) (seen other) members (λ object c. at object (group-shared lists members object c)))
 
   full-alike :
-      (asked : Ask) (one other : List ReadVersion) → AgreeOn asked one other
+      (looker : Option Principal) (asked : Ask) (one other : List ReadVersion) → AgreeOn looker asked one other
       → is_album_full (seen one) stamp asked ≡ is_album_full (seen other) stamp asked
-  full-alike (ask.Read object) one other agree = refl
-  full-alike (ask.List into) one other agree = refl
-  full-alike (ask.GetList object) one other agree = refl
-  full-alike (ask.AddPicture into title content) one other agree =
-      ap (has_most_others (picture stamp)) (same (ask.AddPicture into title content) one other agree into (first-of into []))
-  full-alike (ask.AddAlbum into title) one other agree =
-      ap (has_most_others (album stamp)) (same (ask.AddAlbum into title) one other agree into (first-of into []))
-  full-alike (ask.Retitle object title) one other agree = refl
-  full-alike (ask.Replace object content) one other agree = refl
-  full-alike (ask.Delete object) one other agree = refl
-  full-alike (ask.Move object to) one other agree =
-      ap (has_most_others object) (same (ask.Move object to) one other agree to (1, omega arith, refl))
-  full-alike (ask.SetLists lists) one other agree = refl
-  full-alike (ask.SetOwner object owner number) one other agree = refl
-  full-alike (ask.SetMembers object members) one other agree = refl
-  full-alike (ask.Share lists members) one other agree = refl
+  full-alike looker (ask.Read object) one other agree = refl
+  full-alike looker (ask.List into) one other agree = refl
+  full-alike looker (ask.GetList object) one other agree = refl
+  full-alike looker (ask.AddPicture into title content) one other agree =
+      ap (has_most_others (picture stamp)) (same looker (ask.AddPicture into title content) one other agree into (first-of into []))
+  full-alike looker (ask.AddAlbum into title) one other agree =
+      ap (has_most_others (album stamp)) (same looker (ask.AddAlbum into title) one other agree into (first-of into []))
+  full-alike looker (ask.Retitle object title) one other agree = refl
+  full-alike looker (ask.Replace object content) one other agree = refl
+  full-alike looker (ask.Delete object) one other agree = refl
+  full-alike looker (ask.Move object to) one other agree =
+      ap (has_most_others object) (same looker (ask.Move object to) one other agree to (1, omega arith, refl))
+  full-alike looker (ask.SetLists lists) one other agree = refl
+  full-alike looker (ask.SetOwner object owner number) one other agree = refl
+  full-alike looker (ask.SetMembers object members) one other agree = refl
+  full-alike looker (ask.Share lists members) one other agree = refl
 
 pub effect-alike :
-    (policy : Policy) (me : Principal) (asked : Ask) (one other : List ReadVersion) (stamp : ℕ) → AgreeOn asked one other
+    (policy : Policy) (me : Principal) (asked : Ask) (one other : List ReadVersion) (stamp : ℕ)
+    → AgreeOn (looker_of policy me) asked one other
     → effect_of (permit_on policy me asked one) stamp ≡ effect_of (permit_on policy me asked other) stamp
-effect-alike policy me asked one other stamp agree = ap merged (written-alike me stamp asked one other agree)
+effect-alike policy me asked one other stamp agree = ap merged (written-alike me stamp (looker_of policy me) asked one other agree)
 
 pub room-alike :
-    (policy : Policy) (me : Principal) (asked : Ask) (one other : List ReadVersion) (stamp : ℕ) → AgreeOn asked one other
+    (policy : Policy) (me : Principal) (asked : Ask) (one other : List ReadVersion) (stamp : ℕ)
+    → AgreeOn (looker_of policy me) asked one other
     → is_full_for (permit_on policy me asked one) stamp ≡ is_full_for (permit_on policy me asked other) stamp
-room-alike policy me asked one other stamp agree = full-alike me stamp asked one other agree
+room-alike policy me asked one other stamp agree = full-alike me stamp (looker_of policy me) asked one other agree
 
 -- ---- what is served
 
 pub served-alike :
     (policy : Policy) (me : Principal) (asked : Ask) (one other : List ReadVersion) (given more : Served)
-    → AgreeOn asked one other
+    → AgreeOn (looker_of policy me) asked one other
     → IsServed (permit_on policy me asked one) given → IsServed (permit_on policy me asked other) more → given ≡ more
 served-alike policy me (ask.Read object) one other given more agree l m =
-    let stamps = stamp-alike (ask.Read object) one other agree object (Subject object (first-of object [])) in
+    let stamps = stamp-alike (looker_of policy me) (ask.Read object) one other agree object (Subject object (first-of object [])) in
     l
     ∙ ap (λ (s : ℕ). read_of object s (seen one object)) stamps
-    ∙ ap (read_of object (stamp_seen other object)) (same (ask.Read object) one other agree object (first-of object []))
+    ∙ ap (read_of object (stamp_seen other object)) (same (looker_of policy me) (ask.Read object) one other agree object (first-of object []))
     ∙ sym m
 served-alike policy me (ask.List into) one other given more agree l m =
-    let stamps = stamp-alike (ask.List into) one other agree into (Subject into (first-of into (children_of (seen one into)))) in
+    let stamps = stamp-alike (looker_of policy me) (ask.List into) one other agree into (Subject into (first-of into (children_of (seen one into)))) in
     l.given_is
     ∙ ap (λ (s : ℕ). served.Listed into s l.rows) stamps
-    ∙ ap (served.Listed into (stamp_seen other into)) (listings-alike (ask.List into) one other me l.rows m.rows agree l.listing m.listing)
+    ∙ ap (served.Listed into (stamp_seen other into)) (listings-alike (looker_of policy me) (ask.List into) one other me l.rows m.rows agree l.listing m.listing)
     ∙ sym m.given_is
 served-alike policy me (ask.GetList object) one other given more agree l m =
     l
     ∙ ap (λ (s : ℕ). served.Entries object s (entries_named (seen one) object))
-    (stamp-named-alike (ask.GetList object) one other agree object (first-of object []))
+    (stamp-named-alike (looker_of policy me) (ask.GetList object) one other agree object (first-of object []))
     ∙ ap (served.Entries object (stamp_named other object))
-    (entries-alike (ask.GetList object) one other agree object (first-of object []))
+    (entries-alike (looker_of policy me) (ask.GetList object) one other agree object (first-of object []))
     ∙ sym m
 served-alike policy me (ask.AddPicture into title content) one other given more agree l m = absurd l
 served-alike policy me (ask.AddAlbum into title) one other given more agree l m = absurd l

@@ -3,6 +3,7 @@ ghost use Rattle.std.specs.Prelude.{◌≡◌, List};
 ghost use Rattle.album_eval.specs.declared.facts.Principal.{Principal};
 ghost use Rattle.album_eval.specs.declared.policies.Policy.{Policy};
 ghost use Rattle.album_reader.specs.Answers.{ReadVersion};
+ghost use Rattle.album_views.specs.ReadSets.{looker_of};
 ghost use Rattle.album_views.specs.declared.asks.Ask.{Ask};
 ghost use Rattle.album_listing.specs.Basis.{Basis, IsBasis};
 ghost use Rattle.album_listing.specs.Disclosure.{AreRuledAlike, AreAlikeFor};
@@ -16,10 +17,12 @@ ghost use Rattle.album_permits.specs.declared.serving.Served.{Served};
 /// alike but for these, the ruling and its notes are the same.
 pub fn secrets_decide_nothing()
     ensures ruling { (policy : Policy) (principal : Principal) (ask : Ask) (one other : List ReadVersion) (b c : Basis)
-        → AreRuledAlike ask one other → IsBasis policy principal one b → IsBasis policy principal other c
+        → AreRuledAlike (looker_of policy principal) ask one other → IsBasis policy principal one b
+        → IsBasis policy principal other c
         → ruling_of b ask ≡ ruling_of c ask }
     ensures notes { (policy : Policy) (principal : Principal) (ask : Ask) (one other : List ReadVersion) (b c : Basis)
-        → AreRuledAlike ask one other → IsBasis policy principal one b → IsBasis policy principal other c
+        → AreRuledAlike (looker_of policy principal) ask one other → IsBasis policy principal one b
+        → IsBasis policy principal other c
         → notes_of b ask ≡ notes_of c ask }
 {}
 

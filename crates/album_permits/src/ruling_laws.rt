@@ -4,6 +4,7 @@ ghost use Rattle.album_eval.specs.declared.facts.Principal.{Principal};
 ghost use Rattle.album_eval.specs.declared.policies.Policy.{Policy};
 ghost use Rattle.album_reader.specs.Answers.{ReadVersion};
 ghost use Rattle.album_views.specs.Views.{ViewState};
+ghost use Rattle.album_views.specs.ReadSets.{looker_of};
 ghost use Rattle.album_views.specs.declared.asks.Ask.{Ask};
 ghost use Rattle.album_listing.specs.Agreement.{AgreeOn};
 ghost use Rattle.album_listing.specs.Basis.{Basis, IsBasis};
@@ -20,10 +21,12 @@ ghost use Rattle.album_permits.specs.declared.serving.Served.{Served};
 /// by the one, the ruling and its notes are the same on both.
 pub fn rulings_look_at_what_is_named()
     ensures ruling { (policy : Policy) (principal : Principal) (ask : Ask) (one other : List ReadVersion) (b c : Basis)
-        → AgreeOn ask one other → IsBasis policy principal one b → IsBasis policy principal other c
+        → AgreeOn (looker_of policy principal) ask one other → IsBasis policy principal one b
+        → IsBasis policy principal other c
         → ruling_of b ask ≡ ruling_of c ask }
     ensures notes { (policy : Policy) (principal : Principal) (ask : Ask) (one other : List ReadVersion) (b c : Basis)
-        → AgreeOn ask one other → IsBasis policy principal one b → IsBasis policy principal other c
+        → AgreeOn (looker_of policy principal) ask one other → IsBasis policy principal one b
+        → IsBasis policy principal other c
         → notes_of b ask ≡ notes_of c ask }
 {}
 
@@ -31,16 +34,16 @@ pub fn rulings_look_at_what_is_named()
 /// written, and an album that gets a child is full on both or on neither.
 pub fn permits_are_spent_on_what_is_named()
     ensures effect { (policy : Policy) (principal : Principal) (ask : Ask) (one other : List ReadVersion) (stamp : ℕ)
-        → AgreeOn ask one other
+        → AgreeOn (looker_of policy principal) ask one other
         → effect_of (permit_on policy principal ask one) stamp
         ≡ effect_of (permit_on policy principal ask other) stamp }
     ensures room { (policy : Policy) (principal : Principal) (ask : Ask) (one other : List ReadVersion) (stamp : ℕ)
-        → AgreeOn ask one other
+        → AgreeOn (looker_of policy principal) ask one other
         → is_full_for (permit_on policy principal ask one) stamp
         ≡ is_full_for (permit_on policy principal ask other) stamp }
     ensures served { (policy : Policy) (principal : Principal) (ask : Ask) (one other : List ReadVersion)
         (served more : Served)
-        → AgreeOn ask one other
+        → AgreeOn (looker_of policy principal) ask one other
         → IsServed (permit_on policy principal ask one) served
         → IsServed (permit_on policy principal ask other) more
         → served ≡ more }

@@ -1,6 +1,7 @@
 //! Rulings.
 ghost use Rattle.std.specs.Prelude.{◌≡◌, None, IfOk, IfErr, IsOkUnless};
 ghost use Rattle.album_views.specs.Checks.{refusal_of};
+ghost use Rattle.album_views.specs.ReadSets.{looker_of};
 ghost use Rattle.album_permits.specs.Rulings.{IsFound, IsRuled};
 
 use crate::findings::{Denial, Finding, Found, find_of};
@@ -31,8 +32,8 @@ pub struct Ruled {
     pub notes: Vec<Note>,
 }
 
-/// Rules on the ask of the view for the principal, by the policy. The first need of the ask that fails
-/// decides: where one of its objects is missing, that is the ruling; else each of its alternatives with what the
+/// Rules on the ask of the view for the principal, for whom it was read, by the policy. The first need of the ask that
+/// fails decides: where one of its objects is missing, that is the ruling; else each of its alternatives with what the
 /// list of its object says.
 ///
 /// # Errors
@@ -45,6 +46,7 @@ pub fn rule_on(
     policy: Policy,
 ) -> Result<Ruled, Refused<View>>
     requires taken { refusal_of view.ask principal.now ≡ None }
+    requires looks { view.looker ≡ looker_of policy principal.now }
     ensures ruled { IfOk result (IsRuled policy principal.now view) }
     ensures memory { IfErr result (λ e. e.refusal ≡ Refusal.OutOfMemory) }
     ensures given { IfErr result (λ e. e.given ≡ view) }
@@ -82,6 +84,7 @@ fn rule_by(
     found: Found,
 ) -> Result<Ruled, Refused<View>>
     requires taken { refusal_of view.ask principal.now ≡ None }
+    requires looks { view.looker ≡ looker_of policy principal.now }
     requires found { IsFound policy principal.now view found }
     ensures ruled { IfOk result (IsRuled policy principal.now view) }
     ensures memory { IfErr result (λ e. e.refusal ≡ Refusal.OutOfMemory) }

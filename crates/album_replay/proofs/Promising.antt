@@ -8,7 +8,8 @@ use Rattle.std.proofs.lemmas.List.{map-append}
 use Rattle.std.proofs.lemmas.List.Elements.{filter-append}
 use Rattle.album_stamps.specs.declared.refusals.Refusal.{Refusal}
 use Rattle.album_stamps.specs.declared.refusals.Refusal.TheVariants.{OutOfMemory, BadOpening, BadRequest}
-use Rattle.album_items.specs.Openings.{Row, is_opening}
+use Rattle.album_items.specs.Openings.{Row, is_opening, is_base_opening}
+use Rattle.album_items.proofs.BaseLemmas.{opening_is_base}
 use Rattle.album_items.specs.declared.openings.Opening.{Opening}
 use Rattle.album_calls.specs.declared.messages.Message.{Message}
 use Rattle.album_client.specs.Terms.{Terms, terms_of}
@@ -97,7 +98,7 @@ text_map (output ∷ outs) of line_of same =
 
 -- ---- a world that is spelled
 
-all_hold : (o : Opening) (es : List Event) → is_opening o ≡ true → AllHold o (run_of o es)
+all_hold : (o : Opening) (es : List Event) → is_base_opening o ≡ true → AllHold o (run_of o es)
 all_hold o es is = record {
   rulings_hold = rulings_hold o es is;
   writes_are_granted = writes_are_granted o es is;
@@ -128,7 +129,7 @@ module _ (input lines later first others : List Line) (before : input ≡ lines 
       let shown : Out → Option Message = λ output. message_shown trace (now_after w.now ch) output in
       let of : Out → Printed = λ output. Output lines o (es ++ e ∷ []) output (shown output) in
       let past : IsInPast (run_of o (es ++ e ∷ [])) outs = subst (IsInPast (run_of o (es ++ e ∷ [])))
-      (ap (outs_by w.now) is) (in_past_given o es opens.passes e) in
+      (ap (outs_by w.now) is) (in_past_given o es (opening_is_base o opens.passes) e) in
       record {
         parts = map of outs;
         whole = text_map outs of (λ output. out_line output (shown output)) (λ output. refl);
@@ -139,7 +140,7 @@ module _ (input lines later first others : List Line) (before : input ≡ lines 
               later = later;
               before = before;
               spelled = record { first = first; others = others; split = split; opens = opens; among = among };
-              hold = all_hold o (es ++ e ∷ []) opens.passes;
+              hold = all_hold o (es ++ e ∷ []) (opening_is_base o opens.passes);
               is = is_of (run_of o (es ++ e ∷ [])) outs past d.0 (contains d.1);
             });
       }

@@ -97,7 +97,7 @@ pub record AllHold (opening : Opening) (world : World) : Type 0 where
   pub views_are_fresh : ViewsAreFresh (terms_of opening) world
   pub outcomes_are_true : OutcomesAreTrue (terms_of opening) world
   pub no_update_is_lost : NoUpdateIsLost opening world
-  pub busy_has_its_cause : BusyHasItsCause world
+  pub busy_has_its_cause : BusyHasItsCause (terms_of opening) world
   pub answers_are_to_requests : AnswersAreToRequests (terms_of opening) world
 
 -- An answer is the one to its client's last request, and is in the past with what was read for that; so is a note.

@@ -58,6 +58,7 @@ opening_of header rows =
       limit = header.limit;
       policy = header.policy;
       checked = header.checked;
+      first = header.first;
       items = rows;
     }
 

@@ -78,6 +78,7 @@ pub fn opening_of(header: Header, rows: Vec<(ItemId, Value)>) -> Opening
         limit: header.limit,
         policy: header.policy,
         checked: header.checked,
+        first: header.first,
         items: ItemValues::of(rows),
     }
 }

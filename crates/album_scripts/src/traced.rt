@@ -116,7 +116,7 @@ fn traced_header(alloc: Global, line: &[u8]) -> Result<Vec<u8>, Refusal> {
     let value = data(alloc, &mut scratch, text)?;
     only(&value, &["open"])?;
     let open = field(&value, "open")?;
-    only(open, &["checked", "limit", "parts", "policy", "trace"])?;
+    only(open, &["checked", "first", "limit", "parts", "policy", "trace"])?;
 
     let mut writer = Writer::new(Vec::new(alloc));
     writer.begin_object()?;
@@ -126,7 +126,7 @@ fn traced_header(alloc: Global, line: &[u8]) -> Result<Vec<u8>, Refusal> {
         writer.key("checked")?;
         writer.boolean(truth(checked)?)?;
     }
-    for name in ["limit", "parts", "policy"] {
+    for name in ["first", "limit", "parts", "policy"] {
         if let Some(number) = member(open, name) {
             writer.key(name)?;
             writer.u64(whole(number)?)?;

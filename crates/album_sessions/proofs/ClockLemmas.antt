@@ -24,11 +24,12 @@ use Rattle.album_permits.specs.declared.serving.Served.{Served}
 use Rattle.album_reader.specs.Answers.{ReadVersion}
 use Rattle.album_reader.specs.Rounds.{Step, stepped}
 use Rattle.album_reader.specs.Rounds.Step.{Same, Next, Done, Gone}
-use Rattle.album_stamps.specs.Clocks.{ClockState, clock_after_see, clock_after_next, next_of}
+use Rattle.album_stamps.specs.Clocks.{ClockState, clock_after_reach, clock_after_see, clock_after_next, next_of}
 use Rattle.album_stamps.specs.Stamps.{is_client, client_number, counter_of, stamp_number}
 use Rattle.album_stamps.specs.declared.limits.TheConstants.{MAX_COUNTER}
 use Rattle.album_stamps.specs.declared.refusals.Refusal.{Refusal}
 use Rattle.album_sessions.specs.Asks.{AreSeenBy, counter_after}
+use Rattle.album_views.specs.ReadSets.{looker_of}
 use Rattle.album_views.specs.Steps.{again}
 use Rattle.album_views.specs.Steps.{stepped as viewed}
 use Rattle.album_views.specs.Views.{ViewState}
@@ -126,8 +127,10 @@ module _ (terms : Terms) (x : Client) where
 
   viewed_clock : (tag : ℕ) (who : Principal) (view : ViewState) → IsClockOn x.clock (rules terms x tag who view)
   viewed_clock tag who view =
-      let c = rules_clock (record x { clock = clock_after_rows x.clock view.rows }) (rows_client x.clock view.rows)
-      (rows_rise x.clock view.rows) tag
+      let from = clock_after_reach x.clock terms.first in
+      let l : x.clock.counter ≤ from.counter = omega arith in
+      let c = rules_clock (record x { clock = clock_after_rows from view.rows }) (rows_client from view.rows)
+      (le_trans l (rows_rise from view.rows)) tag
       (record { view = view; principal = who; policy = terms.policy })
       (ruling_of (basis_on terms.policy who view.rows) view.ask) in
       record { own = c.own; risen = c.risen }
@@ -141,7 +144,7 @@ module _ (terms : Terms) (x : Client) where
   read_clock tag pending_ask (Same round) = same_clock _ refl
   read_clock tag pending_ask (Next round messages) = same_clock _ refl
   read_clock tag pending_ask (Done rows) =
-      let c = views_clock tag pending_ask.principal (viewed pending_ask.viewing rows) in record { own = c.own; risen = c.risen }
+      let c = views_clock tag pending_ask.principal (viewed (looker_of terms.policy pending_ask.principal) pending_ask.viewing rows) in record { own = c.own; risen = c.risen }
   read_clock tag pending_ask (Gone items) =
       let c = views_clock tag pending_ask.principal (again pending_ask.viewing items) in record { own = c.own; risen = c.risen }
 

@@ -1,6 +1,6 @@
 -- What a session's answer rests on, it rests on too from before the session had listened. `Session::ask_in_order` cites
 -- `rests_still`.
-use Rattle.std.proofs.Common.{◌≡◌, ℕ, ◌+◌, List, refl, sym, ap, ◌∙◌, subst, arith, inl, inr, ⊎_elim}
+use Rattle.std.proofs.Common.{◌≡◌, ℕ, ◌+◌, List, refl, sym, ap, ◌∙◌, subst, arith, inl, inr, ⊎_elim, Option}
 use Rattle.album_audit.specs.Books.{ShareState}
 use Rattle.album_eval.specs.declared.facts.Principal.{Principal}
 use Rattle.album_eval.specs.declared.policies.Policy.{Policy}
@@ -24,6 +24,7 @@ use Rattle.album_sessions.specs.Sessions.{SessionState, AnnouncesNothing, AddsNo
 use Rattle.album_sessions.specs.Steps.{IsStill}
 use Rattle.album_grounds.proofs.LookLemmas.{seen_from}
 use Rattle.album_grounds.proofs.TrimLemmas.{trims_stay}
+use Rattle.album_views.specs.ReadSets.{looker_of}
 
 -- ---- the cuts
 
@@ -31,19 +32,20 @@ module _ (old begun now : Cut) (on : Extends old begun) (later : Extends begun n
   seen_earlier : (rows : List ReadVersion) → IsSeen begun now rows → IsSeen old now rows
   seen_earlier rows h = seen_from old begun now rows on h
 
-  wide_earlier : (ask : Ask) → IsWide begun now ask → IsWide old now ask
-  wide_earlier ask h = record { rows = h.rows; seen = seen_earlier h.rows h.seen; lacking = h.lacking; wide = h.wide }
+  wide_earlier : (looker : Option Principal) (ask : Ask) → IsWide begun now looker ask → IsWide old now looker ask
+  wide_earlier looker ask h = record { rows = h.rows; seen = seen_earlier h.rows h.seen; lacking = h.lacking; wide = h.wide }
 
-  vain_earlier : (ask : Ask) (items : List ℕ) (reads : List (List ReadVersion)) → AreInVain begun now ask items reads
-      → AreInVain old now ask items reads
-  vain_earlier ask _ _ (NoRead items) = NoRead items
-  vain_earlier ask _ _ (OneMore items rows more of seen lacking few rest) =
-      OneMore items rows more of (seen_earlier rows seen) lacking few (vain_earlier ask _ more rest)
+  vain_earlier : (looker : Option Principal) (ask : Ask) (items : List ℕ) (reads : List (List ReadVersion))
+      → AreInVain begun now looker ask items reads → AreInVain old now looker ask items reads
+  vain_earlier looker ask _ _ (NoRead items) = NoRead items
+  vain_earlier looker ask _ _ (OneMore items rows more of seen lacking few rest) =
+      OneMore items rows more of (seen_earlier rows seen) lacking few (vain_earlier looker ask _ more rest)
 
-  out_earlier : IsSound old → IsSound begun → (ask : Ask) → IsOutOfReads begun now ask → IsOutOfReads old now ask
-  out_earlier s r ask h = record {
+  out_earlier : IsSound old → IsSound begun → (looker : Option Principal) (ask : Ask) → IsOutOfReads begun now looker ask
+      → IsOutOfReads old now looker ask
+  out_earlier s r looker ask h = record {
     reads = h.reads;
-    in_vain = vain_earlier ask _ h.reads h.in_vain;
+    in_vain = vain_earlier looker ask _ h.reads h.in_vain;
     all = (let fewer = trims_stay old begun s r on in let all = h.all in omega arith);
   }
 
@@ -138,9 +140,9 @@ module _ (old begun new : SessionState) (still : IsStill old begun) (later : Ext
     rests_still limit (answer.Missing object) h =
         (on_view_earlier (finding.Missing object) _ _ has_seen_earlier h.0, silent_earlier h.1)
     rests_still limit (answer.Busy Wide) h =
-        (wide_earlier old.cut begun.cut new.cut still.on.grown later sound ask h.0, adds_earlier h.1)
+        (wide_earlier old.cut begun.cut new.cut still.on.grown later sound (looker_of policy principal) ask h.0, adds_earlier h.1)
     rests_still limit (answer.Busy Rounds) h =
-        (out_earlier old.cut begun.cut new.cut still.on.grown later sound still.sound still.on.sound ask h.0, adds_earlier h.1)
+        (out_earlier old.cut begun.cut new.cut still.on.grown later sound still.sound still.on.sound (looker_of policy principal) ask h.0, adds_earlier h.1)
     rests_still limit (answer.Committed t) h = begun_earlier t _ h
     rests_still limit (answer.Aborted t) h = begun_earlier t _ h
     rests_still limit (answer.Unsettled t why) h = begun_earlier t _ h

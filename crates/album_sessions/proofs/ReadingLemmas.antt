@@ -53,7 +53,7 @@ use Rattle.album_sessions.proofs.SendLemmas.{gets_plain}
 use Rattle.album_sessions.proofs.SessionLemmas.{on_self}
 use Rattle.album_views.specs.Asks.{objects_of}
 use Rattle.album_views.specs.Checks.{flaw_of, refusal_of}
-use Rattle.album_views.specs.ReadSets.{names_of}
+use Rattle.album_views.specs.ReadSets.{names_of, looker_of}
 use Rattle.album_views.specs.Steps.{again, unclosed, AreReadable, AsksReadable}
 use Rattle.album_views.specs.Steps.{stepped as viewed}
 use Rattle.album_views.specs.Views.{ViewState, ViewingState, is_closed}
@@ -68,19 +68,19 @@ use Rattle.album_permits.specs.declared.answers.Answer.TheVariants as answer
 -- ---- why items are read
 
 -- what is so of items, by a hint or not
-pub for_sound : (hinted : Bool) (a b : Cut) (viewing : ViewingState) (items : List ℕ) → IsReadFor hinted a b viewing items → IsSound b
-for_sound true a b viewing items h = h.sound
-for_sound false a b viewing items h = h.sound
+pub for_sound : (hinted : Bool) (a b : Cut) (looker : Option Principal) (viewing : ViewingState) (items : List ℕ) → IsReadFor hinted a b looker viewing items → IsSound b
+for_sound true a b looker viewing items h = h.sound
+for_sound false a b looker viewing items h = h.sound
 
-pub for_flawless : (hinted : Bool) (a b : Cut) (viewing : ViewingState) (items : List ℕ) → IsReadFor hinted a b viewing items
+pub for_flawless : (hinted : Bool) (a b : Cut) (looker : Option Principal) (viewing : ViewingState) (items : List ℕ) → IsReadFor hinted a b looker viewing items
     → flaw_of viewing.ask ≡ None
-for_flawless true a b viewing items h = h.flawless
-for_flawless false a b viewing items h = h.flawless
+for_flawless true a b looker viewing items h = h.flawless
+for_flawless false a b looker viewing items h = h.flawless
 
-pub for_readable : (hinted : Bool) (a b : Cut) (viewing : ViewingState) (items : List ℕ) → IsReadFor hinted a b viewing items
+pub for_readable : (hinted : Bool) (a b : Cut) (looker : Option Principal) (viewing : ViewingState) (items : List ℕ) → IsReadFor hinted a b looker viewing items
     → AreReadable items
-for_readable true a b viewing items h = h.readable
-for_readable false a b viewing items h = h.readable
+for_readable true a b looker viewing items h = h.readable
+for_readable false a b looker viewing items h = h.readable
 
 -- ---- messages of a round
 
@@ -97,35 +97,35 @@ begins_gets asker [] some = absurd (some refl)
 begins_gets asker (i ∷ items) some = refl
 
 -- what was read can be read again
-readable_viewed : (viewing : ViewingState) (rows : List ReadVersion) → flaw_of viewing.ask ≡ None
-    → AsksReadable (viewed viewing rows)
-readable_viewed viewing rows flawless = go (is_closed viewing.ask rows)
+readable_viewed : (looker : Option Principal) (viewing : ViewingState) (rows : List ReadVersion) → flaw_of viewing.ask ≡ None
+    → AsksReadable (viewed looker viewing rows)
+readable_viewed looker viewing rows flawless = go (is_closed looker viewing.ask rows)
   where
     last : (items : List ℕ) → AreReadable items → (b : Bool)
         → AsksReadable (if b then Busy Rounds else Again (record viewing { reads = viewing.reads + 1 }) items)
     last items readable true = tt
     last items readable false = readable
 
-    wide : (b : Bool) → nat_lt MAX_READ_ITEMS (length (names_of rows viewing.ask)) ≡ b
-        → AsksReadable (if b then Busy Wide else again viewing (names_of rows viewing.ask))
+    wide : (b : Bool) → nat_lt MAX_READ_ITEMS (length (names_of rows looker viewing.ask)) ≡ b
+        → AsksReadable (if b then Busy Wide else again viewing (names_of rows looker viewing.ask))
     wide true e = tt
-    wide false e = last (names_of rows viewing.ask) (names-readable rows viewing.ask flawless (ltb-false _ _ e))
+    wide false e = last (names_of rows looker viewing.ask) (names-readable rows looker viewing.ask flawless (ltb-false _ _ e))
         (nat_le MAX_READS (viewing.reads + 1))
 
-    go : (b : Bool) → AsksReadable (if b then Closed (record { ask = viewing.ask; rows = rows }) else unclosed viewing
-        (names_of rows viewing.ask))
+    go : (b : Bool) → AsksReadable (if b then Closed (record { looker = looker; ask = viewing.ask; rows = rows }) else unclosed viewing
+        (names_of rows looker viewing.ask))
     go true = tt
-    go false = wide (nat_lt MAX_READ_ITEMS (length (names_of rows viewing.ask))) refl
+    go false = wide (nat_lt MAX_READ_ITEMS (length (names_of rows looker viewing.ask))) refl
 
 -- a read that begins
-reading_first : (hinted : Bool) (principal : Principal) (ask : Ask) (old now : Cut) (terms : Terms) (x : Client) (tag : ℕ)
+reading_first : (policy : Policy) (hinted : Bool) (principal : Principal) (ask : Ask) (old now : Cut) (terms : Terms) (x : Client) (tag : ℕ)
     (pending_ask : PendingAsk) (items : List ℕ)
     → pending_ask.viewing.ask ≡ ask → pending_ask.principal ≡ principal → terms.parts ≡ now.parts
     → IsOpen (first_round (asker_at terms x (tag + 1)) items)
-    → IsReadFor hinted old now pending_ask.viewing items → Extends old now
-    → IsReading hinted principal ask old now now (gets_of (asker_at terms x (tag + 1)) [] items) pending_ask
+    → IsReadFor hinted old now (looker_of policy principal) pending_ask.viewing items → Extends old now
+    → IsReading policy hinted principal ask old now now (gets_of (asker_at terms x (tag + 1)) [] items) pending_ask
     (first_round (asker_at terms x (tag + 1)) items)
-reading_first hinted principal ask old now terms x tag pending_ask items of whom parts opens looking before = record {
+reading_first policy hinted principal ask old now terms x tag pending_ask items of whom parts opens looking before = record {
   of = of;
   whom = whom;
   start = now;
@@ -135,7 +135,7 @@ reading_first hinted principal ask old now terms x tag pending_ask items of whom
   asks = refl;
   parts = parts;
   under = under_first now (first_round (asker_at terms x (tag + 1)) items) opens (none_yet items);
-  sound = for_sound hinted old now pending_ask.viewing items looking;
+  sound = for_sound hinted old now (looker_of policy principal) pending_ask.viewing items looking;
   before = before;
   on = extends_self now;
 }
@@ -160,10 +160,8 @@ asked_committed start at begun (Second first gets on over) =
 
 module _ (policy : Policy) (hinted : Bool) (principal : Principal) (ask : Ask) (session now : SessionState) (terms : Terms)
     (x : Client) (tag : ℕ) (items : List ℕ) (transition : Transition)
-    (is : IsMoved (read_begins terms x tag (record {
-      viewing = record { ask = ask; reads = 0 };
-      principal = principal;
-    }) items) transition) where
+    (is : IsMoved (read_begins terms x tag
+    (record { viewing = record { ask = ask; reads = 0 }; principal = principal }) items) transition) where
   abbrev unread : ViewingState
   unread = record { ask = ask; reads = 0 }
 
@@ -182,7 +180,7 @@ module _ (policy : Policy) (hinted : Bool) (principal : Principal) (ask : Ask) (
     readable_first = readable_open _ opens
 
     pub reads_begin : terms.parts ≡ now.cut.parts → refusal_of ask principal ≡ None → IsStill session now → IsSound now.cut
-        → IsReadFor hinted session.cut now.cut unread items
+        → IsReadFor hinted session.cut now.cut (looker_of policy principal) unread items
         → IsUnderWay policy outset now now.cut transition.sent.items transition.client.phase
     reads_begin parts taken still s looking =
         subst (λ (z : List Message × Phase). IsUnderWay policy outset now now.cut z.0 z.1)
@@ -192,7 +190,7 @@ module _ (policy : Policy) (hinted : Bool) (principal : Principal) (ask : Ask) (
           on = still.on;
           sound = s;
           phase = (
-            reading_first hinted principal ask session.cut now.cut terms x tag
+            reading_first policy hinted principal ask session.cut now.cut terms x tag
                 (record { viewing = unread; principal = principal }) items refl refl parts opens looking still.on.grown,
             still.adds,
           );
@@ -219,17 +217,17 @@ still_self a s = record {
 }
 
 -- why its first read is of these items
-pub plain_for : (old now : Cut) (ask : Ask) (principal : Principal) → refusal_of ask principal ≡ None
+pub plain_for : (old now : Cut) (looker : Option Principal) (ask : Ask) (principal : Principal) → refusal_of ask principal ≡ None
     → AreReadable (objects_of ask) → IsSound old → IsSound now → Extends old now
-    → IsReadFor false old now (record { ask = ask; reads = 0 }) (objects_of ask)
-plain_for old now ask principal taken readable r s x =
-    looking_first old now (record { ask = ask; reads = 0 }) (objects_of ask) ask refl refl readable
+    → IsReadFor false old now looker (record { ask = ask; reads = 0 }) (objects_of ask)
+plain_for old now looker ask principal taken readable r s x =
+    looking_first old now (record { ask = ask; reads = 0 }) (objects_of ask) looker ask refl refl readable
     (taken_flawless ask principal taken) r s x
 
-pub hint_for : (old now : Cut) (ask : Ask) (principal : Principal) (items : List ℕ) → refusal_of ask principal ≡ None
+pub hint_for : (old now : Cut) (looker : Option Principal) (ask : Ask) (principal : Principal) (items : List ℕ) → refusal_of ask principal ≡ None
     → are_among (objects_of ask) items ≡ true → AreReadable items → IsSound now
-    → IsReadFor true old now (record { ask = ask; reads = 0 }) items
-hint_for old now ask principal items taken among readable s = record {
+    → IsReadFor true old now looker (record { ask = ask; reads = 0 }) items
+hint_for old now looker ask principal items taken among readable s = record {
   flawless = taken_flawless ask principal taken;
   unread = refl;
   objects = among;
@@ -275,7 +273,7 @@ module _ (limit : ℕ) (policy : Policy) (o : Outset) (now next noted : SessionS
     -- it reads on
     waits : (pending_ask : PendingAsk) (round : RoundState) → transition.answer ≡ None
         → transition.client.phase ≡ phase.Reads pending_ask round → transition.sent.items ≡ []
-        → IsReading o.hinted o.principal o.ask a at d sent pending_ask round → After
+        → IsReading policy o.hinted o.principal o.ask a at d sent pending_ask round → After
     waits pending_ask round quiet is empty w =
         goes_plain limit policy o noted at sent transition quiet [] empty refl (λ k l e. absurd (omega arith))
         (subst (λ (z : SessionState × Phase). IsUnderWay policy o z.0 at sent z.1) (λ i. (sym same i, sym is i))
@@ -284,7 +282,7 @@ module _ (limit : ℕ) (policy : Policy) (o : Outset) (now next noted : SessionS
     -- it sends these messages
     asks : (pending_ask : PendingAsk) (round : RoundState) (messages : List Message) → transition.answer ≡ None
         → transition.client.phase ≡ phase.Reads pending_ask round → transition.sent.items ≡ messages → (messages ≡ [] → ⊥)
-        → IsReading o.hinted o.principal o.ask a d d messages pending_ask round → After
+        → IsReading policy o.hinted o.principal o.ask a d d messages pending_ask round → After
     asks pending_ask round messages quiet is sends some w =
         goes_sent limit policy o noted at sent transition quiet messages sends some
         (ap (to_announce messages) is ∙ gets_plain messages pending_ask round)
@@ -295,31 +293,32 @@ module _ (limit : ℕ) (policy : Policy) (o : Outset) (now next noted : SessionS
         (record { taken = N.taken; on = on_next; sound = N.heard.sound; phase = (w, only) }))
 
     -- there is no view
-    busy : (why : Why) → transition.answer ≡ Some (answer.Busy why) → IsBusy a d o.ask why → After
+    busy : (why : Why) → transition.answer ≡ Some (answer.Busy why) → IsBusy a d (looker_of policy o.principal) o.ask why → After
     busy why told h = Told (answer.Busy why) told (subst
         (λ (s : SessionState). RestsOn limit policy o.principal o.ask o.session s (answer.Busy why)) (sym same)
         (rests why h))
       where
-        rests : (why : Why) → IsBusy a d o.ask why
+        rests : (why : Why) → IsBusy a d (looker_of policy o.principal) o.ask why
             → RestsOn limit policy o.principal o.ask o.session next (answer.Busy why)
         rests Wide h = (h, only)
         rests Rounds h = (h, only)
 
   -- there is a view
-  viewed_so : (tag : ℕ) (view : ViewState) → IsViewOf a d o.ask view
+  viewed_so : (tag : ℕ) (view : ViewState) → IsViewOf a d (looker_of policy o.principal) o.ask view
       → IsMoved (rules terms x tag o.principal view) transition → After
   viewed_so tag view h is =
-      let same : view ≡ record { ask = o.ask; rows = view.rows } = λ i. record { ask = h.of i; rows = view.rows } in
+      let same : view ≡ record { looker = looker_of policy o.principal; ask = o.ask; rows = view.rows } =
+      λ i. record { looker = h.by i; ask = h.of i; rows = view.rows } in
       ruled_on limit policy o now next noted at sent transition N only tag view.rows
-      (subst (IsViewOf a d o.ask) same h) (subst (λ (v : ViewState). IsMoved (rules terms x tag o.principal v) transition)
+      (subst (IsViewOf a d (looker_of policy o.principal) o.ask) same h) (subst (λ (v : ViewState). IsMoved (rules terms x tag o.principal v) transition)
       same is)
 
   -- a read has led to this
   module _ (start : Cut) (tag : ℕ) (pending_ask : PendingAsk) (items : List ℕ) (of : pending_ask.viewing.ask ≡ o.ask)
       (whom : pending_ask.principal ≡ o.principal) (before : Extends a start) (since : Extends start d) where
     -- to another read, and it goes by no hint
-    again_by : (hinted : Bool) → o.hinted ≡ hinted → IsReadFor hinted a start pending_ask.viewing items
-        → (viewing : ViewingState) (names : List ℕ) → LooksOnce start d pending_ask.viewing items (Again viewing names)
+    again_by : (hinted : Bool) → o.hinted ≡ hinted → IsReadFor hinted a start (looker_of policy o.principal) pending_ask.viewing items
+        → (viewing : ViewingState) (names : List ℕ) → LooksOnce start d (looker_of policy o.principal) pending_ask.viewing items (Again viewing names)
         → IsMoved (views_by terms x tag pending_ask.principal (Again viewing names)) transition → After
     again_by true by looking viewing names led is =
         let does = ap (λ (z : Client). z.phase) is.client in
@@ -334,36 +333,38 @@ module _ (limit : ℕ) (policy : Policy) (o : Outset) (now next noted : SessionS
         asks is.noted (ap (λ (z : Client). z.clock.counter) is.client)
         (record { viewing = viewing; principal = pending_ask.principal }) round
         (gets_of (asker_at terms x (tag + 1)) [] names) is.answer does is.sent (some_gets round opens [])
-        (reading_first o.hinted o.principal o.ask a d terms x tag
+        (reading_first policy o.hinted o.principal o.ask a d terms x tag
         (record { viewing = viewing; principal = pending_ask.principal }) names
         (ap (λ (v : ViewingState). v.ask) led.0 ∙ of) whom refl opens
-        (subst (λ (h : Bool). IsReadFor h a d viewing names) (sym by)
-        (looking_next a start d pending_ask.viewing items looking before since N.heard.sound viewing names led))
+        (subst (λ (h : Bool). IsReadFor h a d (looker_of policy o.principal) viewing names) (sym by)
+        (looking_next a start d (looker_of policy o.principal) pending_ask.viewing items looking before since N.heard.sound viewing names led))
         (extends_trans a start d before since))
 
     -- to no view, and it goes by no hint
-    busy_by : (hinted : Bool) → o.hinted ≡ hinted → IsReadFor hinted a start pending_ask.viewing items → (why : Why)
-        → LooksOnce start d pending_ask.viewing items (Busy why)
+    busy_by : (hinted : Bool) → o.hinted ≡ hinted → IsReadFor hinted a start (looker_of policy o.principal) pending_ask.viewing items → (why : Why)
+        → LooksOnce start d (looker_of policy o.principal) pending_ask.viewing items (Busy why)
         → IsMoved (views_by terms x tag pending_ask.principal (Busy why)) transition → After
     busy_by true by looking why led is =
         let vain : is_without_view transition.sent.items transition.answer ≡ true = or_right _ _ (ap is_busy is.answer) in
         absurd (true≢false (sym vain ∙ view_by by))
     busy_by false by looking why led is =
         busy is.noted (ap (λ (z : Client). z.clock.counter) is.client) why is.answer
-        (looks_busy a start d pending_ask.viewing items looking before since N.heard.sound o.ask why of led)
+        (looks_busy a start d (looker_of policy o.principal) pending_ask.viewing items looking before since N.heard.sound
+        o.ask why of led)
 
-    views : IsReadFor o.hinted a start pending_ask.viewing items → (f : ViewStep)
-        → LooksOnce start d pending_ask.viewing items f
+    views : IsReadFor o.hinted a start (looker_of policy o.principal) pending_ask.viewing items → (f : ViewStep)
+        → LooksOnce start d (looker_of policy o.principal) pending_ask.viewing items f
         → IsMoved (views_by terms x tag pending_ask.principal f) transition → After
     views looking (Again viewing names) led is = again_by o.hinted refl looking viewing names led is
     views looking (Closed view) led is =
-        viewed_so tag view (looks_seen a start d pending_ask.viewing items before since N.heard.sound o.ask view of led)
+        viewed_so tag view (looks_seen a start d (looker_of policy o.principal) pending_ask.viewing items before since N.heard.sound
+        o.ask view of led)
         (subst (λ (p : Principal). IsMoved (rules terms x tag p view) transition) whom is)
     views looking (Busy why) led is = busy_by o.hinted refl looking why led is
 
   -- what a step of a round leads to
   steps : (tag : ℕ) (pending_ask : PendingAsk) (round : RoundState) (f : Step)
-      (w : IsReading o.hinted o.principal o.ask a at c sent pending_ask round)
+      (w : IsReading policy o.hinted o.principal o.ask a at c sent pending_ask round)
       → Leads at d w.begun f → IsMoved (read_transition terms x tag pending_ask f) transition → After
   steps tag pending_ask round (Same other) w led is =
       waits is.noted (ap (λ (z : Client). z.clock.counter) is.client) pending_ask other is.answer
@@ -388,7 +389,7 @@ module _ (limit : ℕ) (policy : Policy) (o : Outset) (now next noted : SessionS
         whom = w.whom;
         start = w.start;
         begun = other;
-        looking = subst (λ (items : List ℕ). IsReadFor o.hinted a w.start pending_ask.viewing items)
+        looking = subst (λ (items : List ℕ). IsReadFor o.hinted a w.start (looker_of policy o.principal) pending_ask.viewing items)
             (sym (ap (λ (r : RoundState). r.items) led.next_is)) w.looking;
         which = which w.which;
         asks = led.gets_are ∙ sym (ap (λ (r : RoundState). gets_of r.asker (asked_stamps r) r.items) led.next_is);
@@ -423,15 +424,16 @@ module _ (limit : ℕ) (policy : Policy) (o : Outset) (now next noted : SessionS
       which (First none same) = absurd (let some = led.0 in let no = ap is_some none in cc)
       which (Second first gets y F) =
           let found : IsReadOf w.start d first.items rows = read_so w.start at d first w.begun gets F rows
-          (for_sound o.hinted a w.start pending_ask.viewing w.begun.items w.looking) w.sound N.heard.sound y since led.1 in
+          (for_sound o.hinted a w.start (looker_of policy o.principal) pending_ask.viewing w.begun.items w.looking) w.sound N.heard.sound y since led.1 in
           let items : w.begun.items ≡ first.items = ap (λ (r : RoundState). r.items) F.next_is in
-          let flawless = for_flawless o.hinted a w.start pending_ask.viewing w.begun.items w.looking in
+          let flawless = for_flawless o.hinted a w.start (looker_of policy o.principal) pending_ask.viewing w.begun.items w.looking in
           views w.start tag pending_ask w.begun.items w.of w.whom w.before (extends_trans w.start at d y since) w.looking
-          (viewed pending_ask.viewing rows)
-          (done_so w.start d pending_ask.viewing w.begun.items rows (viewed pending_ask.viewing rows) N.heard.sound
+          (viewed (looker_of policy pending_ask.principal) pending_ask.viewing rows)
+          (done_so w.start d (looker_of policy o.principal) pending_ask.viewing w.begun.items rows (viewed (looker_of policy pending_ask.principal) pending_ask.viewing rows) N.heard.sound
           flawless
-          (subst (λ (is : List ℕ). IsReadOf w.start d is rows) (sym items) found) refl
-          (readable_viewed pending_ask.viewing rows flawless))
+          (subst (λ (is : List ℕ). IsReadOf w.start d is rows) (sym items) found)
+          (ap (λ (p : Principal). viewed (looker_of policy p) pending_ask.viewing rows) w.whom)
+          (readable_viewed (looker_of policy pending_ask.principal) pending_ask.viewing rows flawless))
           (record { client = is.client; noted = is.noted; sent = is.sent; answer = is.answer })
   steps tag pending_ask round (Gone items) w led is = which w.which
     where
@@ -442,18 +444,18 @@ module _ (limit : ℕ) (policy : Policy) (o : Outset) (now next noted : SessionS
       which (First none same) = absurd (let some = led.0 in let no = ap is_some none in cc)
       which (Second first gets y F) =
           let found : IsTrimmedAway w.start d first.items items = trimmed_away w.start at d first w.begun gets F items
-          (for_sound o.hinted a w.start pending_ask.viewing w.begun.items w.looking) w.sound N.heard.sound y since led.1 in
+          (for_sound o.hinted a w.start (looker_of policy o.principal) pending_ask.viewing w.begun.items w.looking) w.sound N.heard.sound y since led.1 in
           let same : w.begun.items ≡ items = ap (λ (r : RoundState). r.items) F.next_is ∙ sym found.items_are in
-          let looking = subst (λ (is : List ℕ). IsReadFor o.hinted a w.start pending_ask.viewing is) same w.looking in
+          let looking = subst (λ (is : List ℕ). IsReadFor o.hinted a w.start (looker_of policy o.principal) pending_ask.viewing is) same w.looking in
           views w.start tag pending_ask items w.of w.whom w.before (extends_trans w.start at d y since) looking
           (again pending_ask.viewing items)
-          (gone_so w.start d pending_ask.viewing items (again pending_ask.viewing items) found.trimmed
-          (for_readable o.hinted a w.start pending_ask.viewing items looking) refl)
+          (gone_so w.start d (looker_of policy o.principal) pending_ask.viewing items (again pending_ask.viewing items) found.trimmed
+          (for_readable o.hinted a w.start (looker_of policy o.principal) pending_ask.viewing items looking) refl)
           (record { client = is.client; noted = is.noted; sent = is.sent; answer = is.answer })
 
   -- what a reply leads to
   pub read_on : (pending_ask : PendingAsk) (round : RoundState) (m : Message)
-      → IsReading o.hinted o.principal o.ask a at c sent pending_ask round
+      → IsReading policy o.hinted o.principal o.ask a at c sent pending_ask round
       → IsReplied limit at d sent m → IsMoved (read_transition terms x round.asker.tag pending_ask (stepped round m)) transition → After
   read_on pending_ask round m w r is =
       steps round.asker.tag pending_ask round (stepped round m) w

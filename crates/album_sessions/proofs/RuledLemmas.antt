@@ -1,5 +1,6 @@
 -- What a view leads to: `ruled_on`. What is granted and isn't served is written, at a stamp that is drawn for it.
-use Rattle.std.proofs.Common.{◌≡◌, ◌≢◌, ℕ, ◌+◌, ◌<◌, ◌≤◌, Bool, true, false, inl, inr, IsTrue, List, [], All, Option, Some, None, Result, Ok, Err, nat_lt, if◌then◌else◌, get_or, refl, sym, ap, ◌∙◌, subst, arith}
+use Rattle.std.proofs.Common.{◌≡◌, ◌≢◌, ℕ, ◌+◌, ◌<◌, ◌≤◌, Bool, true, false, inl, inr, IsTrue, List, [], All, Option, Some, None, Result, Ok, Err, nat_lt, if◌then◌else◌, get_or, refl, sym, ap, ◌∙◌, subst, arith, le_trans}
+use Rattle.std.proofs.Math.Nat.{max-zero}
 use Rattle.album_calls.specs.declared.messages.Message.{Message}
 use Rattle.album_client.specs.Clients.{Client}
 use Rattle.album_client.specs.Grants.{served_for}
@@ -27,7 +28,7 @@ use Rattle.album_permits.specs.declared.findings.Finding.TheVariants as finding
 use Rattle.album_permits.specs.declared.serving.Served.{Served}
 use Rattle.album_permits.proofs.Transacting.{effect_items}
 use Rattle.album_reader.specs.Answers.{ReadVersion}
-use Rattle.album_stamps.specs.Clocks.{ClockState, next_of}
+use Rattle.album_stamps.specs.Clocks.{ClockState, clock_after_reach, next_of}
 use Rattle.album_stamps.specs.Stamps.{is_client, client_number, counter_of, stamp_number}
 use Rattle.album_stamps.specs.declared.limits.TheConstants.{MAX_COUNTER}
 use Rattle.album_stamps.specs.declared.refusals.Refusal.{Refusal}
@@ -53,11 +54,13 @@ use Rattle.album_grounds.proofs.WriteLemmas.{begun_further, shows_prepares}
 use Rattle.album_views.specs.Asks.{is_write}
 use Rattle.album_writer.specs.Writing.{WritingState, places_in, prepare_round, prepares_of}
 use Rattle.album_permits.specs.declared.answers.Answer.TheVariants as answer
+use Rattle.album_views.specs.ReadSets.{looker_of}
 
 module _ (limit : ℕ) (policy : Policy) (o : Outset) (now next noted : SessionState) (at : Cut) (sent : List Message)
     (transition : Transition)
     (N : IsNoted o now next noted transition) (only : AddsNothing o.session next) (tag : ℕ) (rows : List ReadVersion)
-    (V : IsViewOf o.session.cut next.cut o.ask (record { ask = o.ask; rows = rows })) where
+    (V : IsViewOf o.session.cut next.cut (looker_of policy o.principal) o.ask
+    (record { looker = looker_of policy o.principal; ask = o.ask; rows = rows })) where
   abbrev After : Type 0
   After = IsMovedOn limit policy o noted at sent transition
 
@@ -70,9 +73,13 @@ module _ (limit : ℕ) (policy : Policy) (o : Outset) (now next noted : SessionS
   abbrev case : PermitState
   case = permit_on policy o.principal o.ask rows
 
+  -- the clock before it sees what was read: a session's clock begins at its opening's, so no other is reached
+  abbrev from : ClockState
+  from = clock_after_reach (client_step_in next).clock terms.first
+
   -- the clock once it has seen what was read, and the client with it
   abbrev k : ClockState
-  k = clock_after_rows (client_step_in next).clock rows
+  k = clock_after_rows from rows
 
   abbrev y : Client
   y = record (client_step_in next) { clock = k }
@@ -112,7 +119,7 @@ module _ (limit : ℕ) (policy : Policy) (o : Outset) (now next noted : SessionS
   -- the clock has seen what was read
   clock_seen : k.counter ≡ counter_after o.session.counter rows
   clock_seen =
-      rows_counter (client_step_in next).clock rows ∙ ap (λ (n : ℕ). counter_after n rows) only.drawn.counter
+      rows_counter from rows ∙ ap (λ (n : ℕ). counter_after n rows) (max-zero next.counter ∙ only.drawn.counter)
 
   -- and where it draws nothing, it stays there
   seen_only : transition.client.clock.counter ≡ k.counter → HasSeen o.session noted case
@@ -124,16 +131,16 @@ module _ (limit : ℕ) (policy : Policy) (o : Outset) (now next noted : SessionS
   stamp = stamp_number (k.counter + 1) k.client
 
   own : IsTrue (is_client k.client)
-  own = subst (λ (n : ℕ). IsTrue (is_client n)) (sym (rows_client (client_step_in next).clock rows)) N.heard.own
+  own = subst (λ (n : ℕ). IsTrue (is_client n)) (sym (rows_client from rows)) N.heard.own
 
   stamp_own : client_number stamp ≡ next.client
-  stamp_own = number_own (k.counter + 1) k.client own ∙ rows_client (client_step_in next).clock rows
+  stamp_own = number_own (k.counter + 1) k.client own ∙ rows_client from rows
 
   stamp_counter : counter_of stamp ≡ k.counter + 1
   stamp_counter = number_counter (k.counter + 1) k.client own
 
   risen : next.counter ≤ k.counter
-  risen = rows_rise (client_step_in next).clock rows
+  risen = (let l : next.counter ≤ from.counter = omega arith in le_trans l (rows_rise from rows))
 
   unused_next : announced_for next.cut stamp ≡ None
   unused_next = N.heard.ahead stamp stamp_own (let a = stamp_counter in let b = risen in omega arith)
@@ -151,7 +158,7 @@ module _ (limit : ℕ) (policy : Policy) (o : Outset) (now next noted : SessionS
 
   above : All (λ row. row.stamp < stamp) rows
   above = λ n row less. number_above k.counter k.client (get_or rows n row).stamp
-      (rows_seen (client_step_in next).clock rows n row less)
+      (rows_seen from rows n row less)
 
   -- ---- the write begins
 
@@ -161,7 +168,7 @@ module _ (limit : ℕ) (policy : Policy) (o : Outset) (now next noted : SessionS
     w = prepare_round next.cut.checked case stamp next.client (tag + 1) next.cut.parts
 
     permit_is : IsPermit case
-    permit_is = record { taken = N.taken; basis = basis; based = basis-based policy o.principal rows; granted = e }
+    permit_is = record { taken = N.taken; looks = refl; basis = basis; based = basis-based policy o.principal rows; granted = e }
 
     begun : (c : Cut) → c.parts ≡ next.cut.parts → c.checked ≡ next.cut.checked → IsBegunOn c w
     begun c same on = begun_on next.cut.checked case stamp next.client (tag + 1) next.cut.parts c (sym on) (sym same) N.heard.some
@@ -352,6 +359,10 @@ module _ (limit : ℕ) (policy : Policy) (o : Outset) (now next noted : SessionS
       (found (finding.Missing object) _ e is.noted (seen_only (ap (λ (z : Client). z.clock.counter) is.client)), silent_noted)
 
   -- the ask of the view is ruled on
-  pub ruled_on : IsMoved (rules terms (client_step_in next) tag o.principal (record { ask = o.ask; rows = rows })) transition
+  pub ruled_on : IsMoved (rules terms (client_step_in next) tag o.principal (record {
+    looker = looker_of policy o.principal;
+    ask = o.ask;
+    rows = rows;
+  })) transition
       → After
   ruled_on is = by (ruling_of basis o.ask) refl is

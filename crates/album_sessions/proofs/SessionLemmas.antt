@@ -13,8 +13,8 @@ use Rattle.album_sessions.specs.Sessions.{SessionState, IsAhead}
 
 -- ---- a clock ahead of what is announced
 
-pub ahead_new : (n : ℕ) (c : Cut) → IsUnheard n c → IsAhead n 0 c
-ahead_new n c h = λ t own above. h t own
+pub ahead_new : (n counter : ℕ) (c : Cut) → IsUnheard n c → IsAhead n counter c
+ahead_new n counter c h = λ t own above. h t own
 
 pub ahead_later : (a b : ChannelState) (counter : ℕ) → IsLater a b → IsAhead a.client counter a.cut → IsAhead b.client counter b.cut
 ahead_later a b counter x h = λ t own above. x.own a.client t refl (own ∙ x.client) ∙ h t (own ∙ x.client) above

@@ -36,7 +36,7 @@ module _ (limit : ℕ) (policy : Policy) (o : Outset) (now next : SessionState) 
       (subst (λ (ms : List Message). IsReplied limit at next.cut ms m) read.asks r) read.under)
       waits taken
     where
-      read : IsReading o.hinted o.principal o.ask o.session.cut at now.cut sent pending_ask round
+      read : IsReading policy o.hinted o.principal o.ask o.session.cut at now.cut sent pending_ask round
       read = w.phase.0
 
       since : Extends at next.cut

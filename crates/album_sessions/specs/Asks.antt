@@ -1,5 +1,5 @@
 -- The parts of a session that an ask keeps, and why it reads the items that it reads.
-use Rattle.std.specs.Prelude.{◌≡◌, ◌≤◌, ℕ, Bool, true, false, max, List, [], ◌∷◌, All, None, IsTrue}
+use Rattle.std.specs.Prelude.{◌≡◌, ◌≤◌, ℕ, Bool, true, false, max, List, [], ◌∷◌, All, None, IsTrue, Option}
 use Rattle.album_stamps.specs.Stamps.{is_client, counter_of}
 use Rattle.album_audit.specs.Books.{ShareState, share_with}
 use Rattle.album_audit.specs.Totals.{records_of}
@@ -13,6 +13,7 @@ use Rattle.album_views.specs.Asks.{objects_of}
 use Rattle.album_views.specs.Checks.{flaw_of}
 use Rattle.album_views.specs.Steps.{AreReadable}
 use Rattle.album_views.specs.Views.{ViewingState}
+use Rattle.album_eval.specs.declared.facts.Principal.{Principal}
 
 -- the same client has seen more, its clock went no way back, and what it has seen is sound
 pub record IsOn (old new : SessionState) : Type 0 where
@@ -55,7 +56,7 @@ pub record IsTrying (now : Cut) (viewing : ViewingState) (items : List ℕ) : Ty
   pub readable : AreReadable items
   pub sound : IsSound now
 
--- why these items are read: a hint names them, or what was read before
-abbrev pub IsReadFor : Bool → Cut → Cut → ViewingState → List ℕ → Type 0
-IsReadFor true begun now viewing items = IsTrying now viewing items
-IsReadFor false begun now viewing items = IsLooking begun now viewing items
+-- why these items are read: a hint names them, or what was read before, for whoever looks
+abbrev pub IsReadFor : Bool → Cut → Cut → Option Principal → ViewingState → List ℕ → Type 0
+IsReadFor true begun now looker viewing items = IsTrying now viewing items
+IsReadFor false begun now looker viewing items = IsLooking begun now looker viewing items

@@ -13,6 +13,7 @@ use Rattle.album_grounds.specs.Replies.{IsUnder, IsFirstOver}
 use Rattle.album_sessions.specs.Resting.{IsBegun}
 use Rattle.album_sessions.specs.Sessions.{SessionState, AddsNothing}
 use Rattle.album_grounds.specs.Writes.{IsBegunOn, IsFurther, IsPreparedAt, IsCommittedAt, AreCommits}
+use Rattle.album_views.specs.ReadSets.{looker_of}
 use Rattle.album_views.specs.Checks.{refusal_of}
 use Rattle.album_views.specs.declared.asks.Ask.{Ask}
 use Rattle.album_writer.specs.Writing.{WritingState, prepares_of, commits_of, commit_round}
@@ -35,14 +36,14 @@ pub data IsRound (start at : Cut) (begun : RoundState) : Type 0 where
 -- It reads for the ask: a hint names its items, or what was read before led to no view. This round began at a cut,
 -- where it sent its messages.
 pub record IsReading
-    (hinted : Bool) (principal : Principal) (ask : Ask) (old at now : Cut) (sent : List Message)
+    (policy : Policy) (hinted : Bool) (principal : Principal) (ask : Ask) (old at now : Cut) (sent : List Message)
     (pending_ask : PendingAsk) (round : RoundState)
     : Type 0 where
   pub of : pending_ask.viewing.ask ≡ ask
   pub whom : pending_ask.principal ≡ principal
   pub start : Cut
   pub begun : RoundState
-  pub looking : IsReadFor hinted old start pending_ask.viewing begun.items
+  pub looking : IsReadFor hinted old start (looker_of policy principal) pending_ask.viewing begun.items
   pub which : IsRound start at begun
   pub asks : sent ≡ gets_of begun.asker (asked_stamps begun) begun.items
   pub parts : begun.asker.parts ≡ at.parts
@@ -91,7 +92,7 @@ pub record IsWriting
 abbrev pub IsPhase : Policy → Outset → SessionState → Cut → List Message → Phase → Type 0
 IsPhase policy outset now at sent (Idle tag) = ⊥
 IsPhase policy outset now at sent (Reads pending_ask round) =
-    IsReading outset.hinted outset.principal outset.ask outset.session.cut at now.cut sent pending_ask round
+    IsReading policy outset.hinted outset.principal outset.ask outset.session.cut at now.cut sent pending_ask round
     × AddsNothing outset.session now
 IsPhase policy outset now at sent (Prepares writing) = IsWriting policy outset now at sent (Prepares writing)
 IsPhase policy outset now at sent (Commits writing) = IsWriting policy outset now at sent (Commits writing)

@@ -22,6 +22,7 @@ use Rattle.album_sessions.specs.Asks.{counter_after}
 use Rattle.album_sessions.specs.Sessions.{SessionState, AnnouncesNothing, AddsNothing}
 use Rattle.album_permits.specs.declared.answers.Answer.{Answer}
 use Rattle.album_permits.specs.declared.answers.Answer.TheVariants as answer
+use Rattle.album_views.specs.ReadSets.{looker_of}
 use Rattle.album_views.specs.declared.asks.Ask.{Ask}
 use Rattle.album_views.specs.declared.viewing.Why.TheVariants.{Rounds, Wide}
 
@@ -110,9 +111,9 @@ RestsOn limit policy principal ask old new (answer.Denied denial) =
 RestsOn limit policy principal ask old new (answer.Missing object) =
     IsFoundOnView policy principal ask old new (finding.Missing object) (HasSeen old new) × AnnouncesNothing old new
 RestsOn limit policy principal ask old new (answer.Busy Wide) =
-    IsWide old.cut new.cut ask × AddsNothing old new
+    IsWide old.cut new.cut (looker_of policy principal) ask × AddsNothing old new
 RestsOn limit policy principal ask old new (answer.Busy Rounds) =
-    IsOutOfReads old.cut new.cut ask × AddsNothing old new
+    IsOutOfReads old.cut new.cut (looker_of policy principal) ask × AddsNothing old new
 RestsOn limit policy principal ask old new (answer.Committed stamp) =
     IsBegun policy principal ask old new stamp (λ permit. IsKept new.cut permit stamp)
 RestsOn limit policy principal ask old new (answer.Aborted stamp) =

@@ -38,9 +38,10 @@ client_step_in session = record {
   phase = Idle 0;
 }
 
+-- (its clock began above the epochs before)
 abbrev pub terms_in : Policy → SessionState → Terms
 terms_in policy session =
-    record { parts = session.cut.parts; policy = policy; checked = session.cut.checked }
+    record { parts = session.cut.parts; policy = policy; checked = session.cut.checked; first = 0 }
 
 -- ---- how an ask begins
 

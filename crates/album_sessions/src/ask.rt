@@ -260,7 +260,8 @@ impl<J: ServiceNames> Session<J> {
         let _number = number.number();
         ClientStep {
             alloc: self.alloc,
-            terms: Terms::new(self.channel.parts(), self.policy, self.channel.checked()),
+            // The session's clock began above the epochs before, so the terms needn't lift it.
+            terms: Terms::new(self.channel.parts(), self.policy, self.channel.checked(), 0),
             number,
             clock: self.clock,
         }

@@ -9,6 +9,7 @@ ghost use Rattle.album_keepers.specs.Controls.{Answers, IsUntrimmed};
 ghost use Rattle.album_grounds.specs.Granted.{AreGranted};
 ghost use Rattle.album_channels.specs.Channels.{IsClosedOrOutOfMemory};
 ghost use Rattle.album_sessions.specs.Sessions.{AddsNothing};
+ghost use Rattle.album_stamps.specs.declared.limits.TheConstants.{MAX_COUNTER};
 
 use crate::hints::Hints;
 use crate::service_names::ServiceNames;
@@ -64,8 +65,8 @@ impl<J: ServiceNames> Model for Session<J> {
 }
 
 impl<J: ServiceNames> Session<J> {
-    /// The session of this channel, whose client has announced no stamp yet. The board, the book, the hints and the
-    /// stripes are the service's.
+    /// The session of this channel, whose client has announced no stamp yet. The counters of its stamps are above
+    /// `first`. The board, the book, the hints and the stripes are the service's.
     #[tactic(auto, using(crate::proofs::SessionLemmas::ahead_new, crate::proofs::GrantedLemmas::granted_new))]
     pub fn new(
         alloc: Global,
@@ -76,12 +77,15 @@ impl<J: ServiceNames> Session<J> {
         share: Share<J>,
         hints: Arc<Hints, Global>,
         stripes: Arc<Stripes, Global>,
+        first: u64,
     ) -> Session<J>
         requires policy { policy ≡ J.policy }
+        requires first { first ≤ MAX_COUNTER }
         requires unheard { IsUnheard channel.client channel.cut }
-        ensures { result ≡ record { client = channel.client; counter = 0; cut = channel.cut; share = share } }
+        ensures { result ≡ record { client = channel.client; counter = first; cut = channel.cut; share = share } }
     {
-        let clock = Clock::new(channel.client());
+        let mut clock = Clock::new(channel.client());
+        clock.reach(first);
         Session {
             alloc,
             channel,

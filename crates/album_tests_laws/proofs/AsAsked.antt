@@ -101,7 +101,7 @@ lists-all permit stamp item lists new asked named whose =
     let shown = seen permit.view.rows in
     let ws : List Write = flat_map (list_written shown) lists in
     let shares : PermitState = record permit {
-      view = record { ask = ask.Share lists []; rows = permit.view.rows };
+      view = record { looker = permit.view.looker; ask = ask.Share lists []; rows = permit.view.rows };
     }
     in
     let owned : List ℕ = flat_map (λ (n : NewList). list_of (shown n.object)) lists in

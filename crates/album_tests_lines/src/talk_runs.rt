@@ -65,6 +65,7 @@ fn opened(alloc: Global) -> Result<Opened, Refusal> {
         limit: 1000,
         policy: 1,
         checked: false,
+        first: 0,
         items: ItemValues::of(Vec::new(alloc)),
     };
     Opened::new(alloc, &opening, 1)

@@ -50,6 +50,7 @@ fn opened(alloc: Global) -> Result<World, Refusal> {
         limit: 10,
         policy: 2,
         checked: false,
+        first: 0,
         items: items(alloc)?,
     };
     let world = World::open(alloc, &opening);

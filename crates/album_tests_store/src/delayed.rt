@@ -60,6 +60,7 @@ fn opening(alloc: Global, checked: bool) -> Result<Opening, Refusal> {
         limit: 1000,
         policy: 1,
         checked,
+        first: 0,
         items: ItemValues::of(items),
     })
 }

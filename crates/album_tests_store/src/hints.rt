@@ -48,6 +48,7 @@ fn opened(alloc: Global, plain: bool) -> Result<Opened, Refusal> {
         limit: 1000,
         policy: 1,
         checked: false,
+        first: 0,
         items: items(alloc)?,
     };
     let opened = Opened::new(alloc, &opening, 1)?;

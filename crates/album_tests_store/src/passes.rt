@@ -14,6 +14,7 @@ fn opening(alloc: Global) -> Opening {
         limit: 2,
         policy: 1,
         checked: false,
+        first: 0,
         items: ItemValues::of(Vec::new(alloc)),
     }
 }

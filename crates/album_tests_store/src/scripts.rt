@@ -136,6 +136,7 @@ pub fn opening(alloc: Global) -> Result<Opening, Refusal> {
         limit: 1000,
         policy: 1,
         checked: false,
+        first: 0,
         items: items(alloc)?,
     })
 }

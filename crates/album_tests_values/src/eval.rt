@@ -93,6 +93,9 @@ const OWN: &[(u64, Rows, u32, Verdict)] = &[
     (2, &[], 131_073, Verdict::DeniedAtEnd),
     (2, DENYING, 131_073, Verdict::DeniedBy(0)),
     (2, DENYING, 131_072, Verdict::Granted),
+    (3, &[], 131_072, Verdict::Granted),
+    (3, DENYING, 131_073, Verdict::DeniedBy(0)),
+    (3, DENYING, 131_072, Verdict::Granted),
 ];
 
 /// What is asked of an object of amy's.
@@ -144,8 +147,8 @@ fn owner_is_given_her_list(rt: HostRuntime) {
 }
 
 #[test]
-fn two_policies(rt: HostRuntime) {
-    let others = (Policy::of(0), Policy::of(3));
+fn three_policies(rt: HostRuntime) {
+    let others = (Policy::of(0), Policy::of(4));
     assert_eq!(rt; others, (None, None));
 }
 

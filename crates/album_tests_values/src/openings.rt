@@ -30,6 +30,7 @@ fn checked(items: ItemValues) -> Result<(), Refusal> {
         limit: 1000,
         policy: 1,
         checked: false,
+        first: 0,
         items,
     };
     opening.check()
@@ -56,6 +57,7 @@ fn under_policy(alloc: Global, policy: u64) -> Result<(), Refusal> {
         limit: 2,
         policy,
         checked: false,
+        first: 0,
         items: ItemValues::of(Vec::new(alloc)),
     };
     opening.check()
@@ -66,7 +68,8 @@ const POLICIES: &[(u64, Result<(), Refusal>)] = &[
     (0, Err(Refusal::BadOpening)),
     (1, Ok(())),
     (2, Ok(())),
-    (3, Err(Refusal::BadOpening)),
+    (3, Ok(())),
+    (4, Err(Refusal::BadOpening)),
 ];
 
 #[test]

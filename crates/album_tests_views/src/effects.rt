@@ -6,7 +6,7 @@ use crate::asks::Verb;
 use crate::refused::{given_back, is_as_before, whole_text};
 use crate::ruling::{Asked, permit_of};
 use crate::store::{ALLOW, AMY, Is, Store};
-use album_eval::{Policy, Principal};
+use album_eval::Principal;
 use album_permits::{Permit, Writes};
 use album_stamps::{ClientNo, Refusal, Refused, Stamp};
 use std::alloc::Global;
@@ -48,7 +48,7 @@ fn write_again(
 
 fn writes_of(alloc: Global, asked: Asked) -> Result<Writes, Refusal> {
     let stamp = stamp()?;
-    let permit = permit_of(alloc, asked, Policy::One)?;
+    let permit = permit_of(alloc, asked)?;
     write(alloc, permit, stamp)
 }
 

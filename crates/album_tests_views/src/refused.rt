@@ -7,7 +7,6 @@ ghost use Rattle.album_views.specs.Asks.{is_write};
 use crate::asks::Verb;
 use crate::ruling::permit_of;
 use crate::store::{ALLOW, AMY, Is, Store};
-use album_eval::Policy;
 use album_permits::{Permit, Served};
 use album_stamps::{Refusal, Refused};
 use std::alloc::Global;
@@ -90,7 +89,7 @@ fn amount(served: &Served) -> usize {
 
 /// How much amy is served of what she asks of the picture.
 fn served(alloc: Global, verb: Verb) -> Result<usize, Refusal> {
-    let permit = permit_of(alloc, (STORE, AMY, verb, "picture/0"), Policy::One)?;
+    let permit = permit_of(alloc, (STORE, AMY, verb, "picture/0"))?;
     let served = served_by(alloc, permit)?;
     let amount = amount(&served);
     drop(served);

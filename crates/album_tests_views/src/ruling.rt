@@ -1,7 +1,8 @@
 //! The ruling on an ask over a store, and the permit that it gives. Where a call is refused for want of memory it is
 //! made once more, with what it handed back: so doubt/memory shows whether that is what went in.
-ghost use Rattle.std.specs.Prelude.{◌≡◌, None};
+ghost use Rattle.std.specs.Prelude.{◌≡◌, None, IfOk};
 ghost use Rattle.album_views.specs.Checks.{refusal_of};
+ghost use Rattle.album_views.specs.ReadSets.{looker_of};
 
 use crate::asks::{Verb, ask_of};
 use crate::refused::{is_as_before, whole_text};
@@ -22,7 +23,9 @@ fn rule(
     view: View,
     principal: &Principal,
     policy: Policy,
-) -> Result<Ruled, Refusal> {
+) -> Result<Ruled, Refusal>
+    requires { view.looker ≡ looker_of policy principal.now }
+{
     if let Err(refusal) = view.ask().check(principal) {
         drop(view);
         return Err(refusal);
@@ -41,7 +44,8 @@ fn rule_again(
     policy: Policy,
     before: &Result<String, Refusal>,
 ) -> Result<Ruled, Refusal>
-    requires { refusal_of view.ask principal.now ≡ None }
+    requires taken { refusal_of view.ask principal.now ≡ None }
+    requires looks { view.looker ≡ looker_of policy principal.now }
 {
     if !is_as_before(alloc, &view, before) {
         drop(view);
@@ -51,7 +55,9 @@ fn rule_again(
 }
 
 /// The view of what is asked, and the principal.
-pub fn seen_by(alloc: Global, asked: Asked) -> Result<(View, Principal), Refusal> {
+pub fn seen_by(alloc: Global, asked: Asked) -> Result<(View, Principal), Refusal>
+    ensures { IfOk result (λ seen. seen.0.looker ≡ None) }
+{
     let (store, who, verb, text) = asked;
     let principal = Principal::read(who)?;
     let ask = ask_of(alloc, verb, text)?;
@@ -71,7 +77,9 @@ pub fn permit_on(
     view: View,
     principal: &Principal,
     policy: Policy,
-) -> Result<Permit, Refusal> {
+) -> Result<Permit, Refusal>
+    requires { view.looker ≡ looker_of policy principal.now }
+{
     let Ruled { ruling, notes: _ } = rule(alloc, view, principal, policy)?;
     match ruling {
         Ruling::Granted(permit) => Ok(permit),
@@ -80,8 +88,8 @@ pub fn permit_on(
     }
 }
 
-/// The permit for what is asked, where it is granted.
-pub fn permit_of(alloc: Global, asked: Asked, policy: Policy) -> Result<Permit, Refusal> {
+/// The permit for what is asked, where policy 1 grants it.
+pub fn permit_of(alloc: Global, asked: Asked) -> Result<Permit, Refusal> {
     let (view, principal) = seen_by(alloc, asked)?;
-    permit_on(alloc, view, &principal, policy)
+    permit_on(alloc, view, &principal, Policy::One)
 }

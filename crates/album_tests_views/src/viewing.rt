@@ -1,7 +1,8 @@
 //! The reads that are made for an ask over a store, and the view that they lead to. A call that is refused is made
 //! once more with what it hands back.
-ghost use Rattle.std.specs.Prelude.{◌≡◌, None};
+ghost use Rattle.std.specs.Prelude.{◌≡◌, None, IfOk};
 ghost use Rattle.album_views.specs.Checks.{flaw_of};
+ghost use Rattle.album_tests_views.specs.Looking.{IsNobodys};
 
 use crate::refused::{is_as_before, whole_text};
 use crate::store::{Store, snapshot};
@@ -40,7 +41,9 @@ fn started_again(
 }
 
 /// The step that the snapshot leads to, for a copy of the viewing.
-fn seen(alloc: Global, viewing: &Viewing, snapshot: Snapshot) -> Result<ViewStep, Refusal> {
+fn seen(alloc: Global, viewing: &Viewing, snapshot: Snapshot) -> Result<ViewStep, Refusal>
+    ensures { IfOk result IsNobodys }
+{
     match viewing.copy() {
         Ok(copy) => seen_by(alloc, viewing, copy, snapshot),
         Err(refusal) => {
@@ -50,25 +53,31 @@ fn seen(alloc: Global, viewing: &Viewing, snapshot: Snapshot) -> Result<ViewStep
     }
 }
 
+#[tactic(auto, using(crate::proofs::LookingLemmas::nobodys))]
 fn seen_by(
     alloc: Global,
     viewing: &Viewing,
     copy: Viewing,
     snapshot: Snapshot,
-) -> Result<ViewStep, Refusal> {
+) -> Result<ViewStep, Refusal>
+    ensures { IfOk result IsNobodys }
+{
     let before = whole_text(alloc, &snapshot);
-    match copy.on_snapshot(alloc, snapshot) {
+    match copy.on_snapshot(alloc, None, snapshot) {
         Ok(step) => Ok(step),
         Err(refused) => seen_again(alloc, viewing, refused.given, &before),
     }
 }
 
+#[tactic(auto, using(crate::proofs::LookingLemmas::nobodys))]
 fn seen_again(
     alloc: Global,
     viewing: &Viewing,
     given: (Viewing, Snapshot),
     before: &Result<String, Refusal>,
-) -> Result<ViewStep, Refusal> {
+) -> Result<ViewStep, Refusal>
+    ensures { IfOk result IsNobodys }
+{
     let (copy, snapshot) = given;
     let is_same = is_as_before(alloc, &copy, &whole_text(alloc, viewing));
     if !is_same || !is_as_before(alloc, &snapshot, before) {
@@ -76,11 +85,13 @@ fn seen_again(
         drop(snapshot);
         return Err(Refusal::Clash);
     }
-    Ok(copy.on_snapshot(alloc, snapshot)?)
+    Ok(copy.on_snapshot(alloc, None, snapshot)?)
 }
 
 /// The step that a read of the items leads to.
-fn read(alloc: Global, store: Store, viewing: Viewing, items: Items) -> Result<ViewStep, Refusal> {
+fn read(alloc: Global, store: Store, viewing: Viewing, items: Items) -> Result<ViewStep, Refusal>
+    ensures { IfOk result IsNobodys }
+{
     let step = match snapshot(alloc, store, &items) {
         Ok(snapshot) => seen(alloc, &viewing, snapshot),
         Err(refusal) => Err(refusal),
@@ -91,7 +102,10 @@ fn read(alloc: Global, store: Store, viewing: Viewing, items: Items) -> Result<V
 }
 
 /// One more read, where one is wanted.
-fn next(alloc: Global, store: Store, step: ViewStep) -> Result<ViewStep, Refusal> {
+fn next(alloc: Global, store: Store, step: ViewStep) -> Result<ViewStep, Refusal>
+    requires { IsNobodys step }
+    ensures { IfOk result IsNobodys }
+{
     match step {
         ViewStep::Again(viewing, items) => read(alloc, store, viewing, items),
         ViewStep::Closed(view) => Ok(ViewStep::Closed(view)),
@@ -99,7 +113,10 @@ fn next(alloc: Global, store: Store, step: ViewStep) -> Result<ViewStep, Refusal
     }
 }
 
-fn closed(step: ViewStep) -> Result<View, Refusal> {
+fn closed(step: ViewStep) -> Result<View, Refusal>
+    requires { IsNobodys step }
+    ensures { IfOk result (λ view. view.looker ≡ None) }
+{
     match step {
         ViewStep::Closed(view) => Ok(view),
         other @ (ViewStep::Again(_, _) | ViewStep::Busy(_)) => {
@@ -115,10 +132,12 @@ pub fn view_of(
     store: Store,
     ask: Ask,
     principal: &Principal,
-) -> Result<View, Refusal> {
+) -> Result<View, Refusal>
+    ensures { IfOk result (λ view. view.looker ≡ None) }
+{
     let (viewing, items) = started(alloc, ask, principal)?;
     let mut step = ViewStep::Again(viewing, items);
-    for _ in 0..8 {
+    for _read in 0..8 {
         step = next(alloc, store, step)?;
     }
     closed(step)

@@ -26,7 +26,7 @@ fn snapshot_of(alloc: Global, text: &str) -> Result<Snapshot, Refusal> {
 /// How many items the ruling on the ask looks at, by a snapshot of this item.
 fn count(alloc: Global, ask: &Ask, text: &str) -> Result<usize, Refusal> {
     let snapshot = snapshot_of(alloc, text)?;
-    let names = names(alloc, &snapshot, ask);
+    let names = names(alloc, &snapshot, &None, ask);
     drop(snapshot);
     let names = names?;
     Ok(names.len())

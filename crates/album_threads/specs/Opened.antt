@@ -1,7 +1,7 @@
 -- What a service starts with.
 use Rattle.std.specs.Prelude.{◌≡◌, ℕ, ◌≤◌, Bool, List}
 use Rattle.atomic_table.specs.Seated.{TableId}
-use Rattle.album_stamps.specs.declared.limits.TheConstants.{MAX_PARTS}
+use Rattle.album_stamps.specs.declared.limits.TheConstants.{MAX_PARTS, MAX_COUNTER}
 use Rattle.album_eval.specs.declared.policies.Policy.{Policy}
 use Rattle.album_partition.specs.Partition.{PartitionState}
 use Rattle.album_passes.specs.Desk.{DeskState, AreOwners, first_pass}
@@ -34,14 +34,17 @@ opened_as table terms policy list audit_ok audit_failed alarm_ok alarm_failed = 
   };
 }
 
--- There are so many partitions, not too few of them nor too many, checked or not; they are those of the desk's terms as
--- they open, with their owners, and the pass is its first one.
+-- There are so many partitions, not too few of them nor too many, checked or not, and the counters of the sessions'
+-- stamps are above this one; the partitions are those of the desk's terms as they open, with their owners, and the pass
+-- is its first one.
 pub record IsOpened
-    (desk : DeskState) (parts : ℕ) (checked : Bool) (owners : List OwnerState) (partitions : List PartitionState)
-    (pass : PassState)
+    (desk : DeskState) (parts : ℕ) (checked : Bool) (first_counter : ℕ) (owners : List OwnerState)
+    (partitions : List PartitionState) (pass : PassState)
     : Type 0 where
   pub parts_are : desk.terms.parts ≡ parts
   pub checked_is : desk.terms.checked ≡ checked
+  pub counter_is : desk.terms.first ≡ first_counter
+  pub low_counter : first_counter ≤ MAX_COUNTER
   pub some : 1 ≤ desk.terms.parts
   pub few : desk.terms.parts ≤ MAX_PARTS
   pub owned : AreOwners desk owners

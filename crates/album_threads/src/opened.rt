@@ -23,6 +23,8 @@ pub struct Opened {
     pub(crate) parts: u16,
     /// Whether the partitions are checked.
     pub(crate) checked: bool,
+    /// The counter above which sessions draw their stamps.
+    pub(crate) first: u64,
     pub(crate) owners: Vec<Owner>,
     pub(crate) partitions: Vec<Partition>,
     pub(crate) pass: Pass,
@@ -42,7 +44,7 @@ impl Model for Opened {
 
     ghost view = { λ o. record { desk = o.desk; policy = o.policy; list = o.list; books = o.blanks } };
 
-    ghost invariant = { λ o. IsOpened o.desk o.parts o.checked o.owners.items o.partitions.items o.pass };
+    ghost invariant = { λ o. IsOpened o.desk o.parts o.checked o.first o.owners.items o.partitions.items o.pass };
 }
 
 impl Opened {
@@ -51,6 +53,7 @@ impl Opened {
     /// # Errors
     ///
     /// `BadOpening` exactly where the opening fails its check, and else `OutOfMemory`.
+    #[tactic(auto, using(album_items::proofs::BaseLemmas::opening_is_base))]
     pub fn new(alloc: Global, opening: &Opening, sessions: u16) -> Result<Opened, Refusal>
         requires sessions { 0 < sessions }
         ensures terms { IfOk result (λ opened. opened.desk.terms ≡ terms_of opening.now sessions) }
@@ -67,6 +70,7 @@ impl Opened {
             desk,
             parts: opening.parts as u16,
             checked: opening.checked,
+            first: opening.first,
             owners,
             partitions,
             pass,

@@ -1,7 +1,7 @@
 //! A running service: a thread for each partition.
 ghost use Rattle.std.specs.Prelude.{◌≡◌, ◌≤◌, ◌⊎◌, IfOk, IfErr, IsOkUnless, None, length, vec_len};
 ghost use Rattle.std.specs.Arc.{arc_value};
-ghost use Rattle.album_stamps.specs.declared.limits.TheConstants.{MAX_PARTS};
+ghost use Rattle.album_stamps.specs.declared.limits.TheConstants.{MAX_COUNTER, MAX_PARTS};
 ghost use Rattle.album_audit.specs.Books.{new_share};
 ghost use Rattle.album_passes.specs.Changes.{IsUnheard};
 ghost use Rattle.album_threads.specs.Opened.{opened_as};
@@ -40,6 +40,8 @@ pub struct Service<J: ServiceNames> {
     parts: u16,
     /// Whether they are checked.
     checked: bool,
+    /// The counter above which sessions draw their stamps.
+    first: u64,
     /// Of the partitions, in order.
     mailboxes: Vec<Sender<PartitionMail<J>>>,
     threads: Vec<JoinHandle<()>>,
@@ -49,6 +51,8 @@ pub struct Service<J: ServiceNames> {
     ghost policy_is: { policy ≡ J.policy },
     ghost parts_are: { J.terms.parts ≡ parts },
     ghost checked_is: { J.terms.checked ≡ checked },
+    ghost first_is: { J.terms.first ≡ first },
+    ghost low: { first ≤ MAX_COUNTER },
     ghost some: { 1 ≤ parts },
     ghost few: { parts ≤ MAX_PARTS },
     ghost mailboxes_are: { vec_len mailboxes ≡ parts },
@@ -73,6 +77,7 @@ impl<J: ServiceNames + Send + 'static> Service<J> {
             desk,
             parts,
             checked,
+            first,
             owners,
             partitions,
             mut pass,
@@ -127,6 +132,7 @@ impl<J: ServiceNames + Send + 'static> Service<J> {
             alloc,
             parts,
             checked,
+            first,
             mailboxes,
             threads,
             breakage,
@@ -148,6 +154,7 @@ impl<J: ServiceNames + Send + 'static> Service<J> {
             alloc: _,
             parts: _,
             checked: _,
+            first: _,
             mailboxes,
             threads,
             breakage: _,
@@ -159,7 +166,8 @@ impl<J: ServiceNames + Send + 'static> Service<J> {
 
 impl<J: ServiceNames> Service<J> {
     /// A new session, with a number of its own, from 1 on, and a share of the audit book in which nothing counts.
-    /// Nothing is announced yet of any stamp of that number.
+    /// Nothing is announced yet of any stamp of that number, and the counters of its stamps are above the opening's
+    /// first.
     ///
     /// # Errors
     ///
@@ -171,7 +179,7 @@ impl<J: ServiceNames> Service<J> {
         ensures parts { IfOk result (λ session. session.cut.parts ≡ J.terms.parts) }
         ensures checked { IfOk result (λ session. session.cut.checked ≡ J.terms.checked) }
         ensures opening { IfOk result (λ session. session.cut.opening ≡ J.terms.opening) }
-        ensures counter { IfOk result (λ session. session.counter ≡ 0) }
+        ensures counter { IfOk result (λ session. session.counter ≡ J.terms.first) }
         ensures share { IfOk result (λ session. session.share ≡ new_share) }
         ensures refused { IfErr result (λ e. (e ≡ Refusal.OutOfMemory) ⊎ (e ≡ Refusal.SessionsSpent)) }
     {
@@ -191,6 +199,7 @@ impl<J: ServiceNames> Service<J> {
                 share,
                 hints,
                 stripes,
+                self.first,
             )),
             Err(refusal) => {
                 channel.leave(rt);

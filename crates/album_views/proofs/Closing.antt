@@ -1,10 +1,11 @@
 -- A snapshot is closed where each name was read, and only there (`closed-is`), for the laws and for `Viewing::on_names`;
 -- and what each step says of the snapshot, for the law `a_view_is_the_first_closed_read`.
-use Rattle.std.proofs.Common.{◌≡◌, ◌≢◌, ◌≤◌, ◌↔◌, ◌==◌, inl, inr, ℕ, Bool, true, false, List, [], ◌∷◌, length, None, Contains, refl, sym, ap, subst, ◌∙◌}
+use Rattle.std.proofs.Common.{◌≡◌, ◌≢◌, ◌≤◌, ◌↔◌, ◌==◌, inl, inr, ℕ, Bool, true, false, List, [], ◌∷◌, length, Option, None, Contains, refl, sym, ap, subst, ◌∙◌}
 use Rattle.std.specs.List.{list_all}
 use Rattle.std.proofs.lemmas.Bool.{and_parts, and_from, or_left, or_right, eqb-true, eq-eqb}
 use Rattle.album_stamps.specs.Distinct.{are_distinct}
 use Rattle.album_stamps.specs.declared.limits.TheConstants.{MAX_READ_ITEMS}
+use Rattle.album_eval.specs.declared.facts.Principal.{Principal}
 use Rattle.album_reader.specs.Answers.{ReadVersion}
 use Rattle.album_reader.specs.Snapshots.{items_read}
 use Rattle.album_views.specs.Asks.{objects_of}
@@ -40,52 +41,52 @@ in-all test (y ∷ ys) each =
 -- ---- names
 
 pub names-named-by :
-    (rows : List ReadVersion) (ask : Ask) (item : ℕ) → Contains (names_of rows ask) item ↔ IsNamed (seen rows) ask item
-names-named-by rows ask item = (
-  λ c. names-named rows ask item (Contains-has (names_of rows ask) item c),
-  λ n. has-Contains (names_of rows ask) item
-      (named-in (seen rows) ask (names_of rows ask) (names-fixed rows ask) item n),
+    (rows : List ReadVersion) (looker : Option Principal) (ask : Ask) (item : ℕ) → Contains (names_of rows looker ask) item ↔ IsNamed (seen rows) looker ask item
+names-named-by rows looker ask item = (
+  λ c. names-named rows looker ask item (Contains-has (names_of rows looker ask) item c),
+  λ n. has-Contains (names_of rows looker ask) item
+      (named-in (seen rows) looker ask (names_of rows looker ask) (names-fixed rows looker ask) item n),
 )
 
-pub names-single : (rows : List ReadVersion) (ask : Ask) → are_distinct (names_of rows ask) ≡ true
-names-single rows ask =
-    subst (λ (ns : List ℕ). are_distinct ns ≡ true) (sym (names-fixed rows ask))
-    (grown-single (seen rows) ask (names_of rows ask))
+pub names-single : (rows : List ReadVersion) (looker : Option Principal) (ask : Ask) → are_distinct (names_of rows looker ask) ≡ true
+names-single rows looker ask =
+    subst (λ (ns : List ℕ). are_distinct ns ≡ true) (sym (names-fixed rows looker ask))
+    (grown-single (seen rows) looker ask (names_of rows looker ask))
 
 -- ---- closed
 
-pub closed-is : (rows : List ReadVersion) (ask : Ask) → is_closed ask rows ≡ true → IsClosed ask rows
+pub closed-is : (rows : List ReadVersion) (looker : Option Principal) (ask : Ask) → is_closed looker ask rows ≡ true → IsClosed looker ask rows
 unfolding is_closed
-closed-is rows ask all = λ item named.
-    let there = named-in (seen rows) ask (names_of rows ask) (names-fixed rows ask) item named in
+closed-is rows looker ask all = λ item named.
+    let there = named-in (seen rows) looker ask (names_of rows looker ask) (names-fixed rows looker ask) item named in
     has-Contains (items_read rows) item
-    (sym (read-has rows item) ∙ all-in (is_read rows) (names_of rows ask) all item there)
+    (sym (read-has rows item) ∙ all-in (is_read rows) (names_of rows looker ask) all item there)
 
-pub is-closed : (rows : List ReadVersion) (ask : Ask) → IsClosed ask rows → is_closed ask rows ≡ true
+pub is-closed : (rows : List ReadVersion) (looker : Option Principal) (ask : Ask) → IsClosed looker ask rows → is_closed looker ask rows ≡ true
 unfolding is_closed
-is-closed rows ask closed =
-    in-all (is_read rows) (names_of rows ask)
-    (λ item h. read-has rows item ∙ Contains-has (items_read rows) item (closed item (names-named rows ask item h)))
+is-closed rows looker ask closed =
+    in-all (is_read rows) (names_of rows looker ask)
+    (λ item h. read-has rows item ∙ Contains-has (items_read rows) item (closed item (names-named rows looker ask item h)))
 
-pub not-closed : (rows : List ReadVersion) (ask : Ask) → is_closed ask rows ≡ false → IsClosed ask rows → ⊥
-not-closed rows ask lacking closed = let all = is-closed rows ask closed in absurd (cc)
+pub not-closed : (rows : List ReadVersion) (looker : Option Principal) (ask : Ask) → is_closed looker ask rows ≡ false → IsClosed looker ask rows → ⊥
+not-closed rows looker ask lacking closed = let all = is-closed rows looker ask closed in absurd (cc)
 
 -- the test of the names is whether the snapshot is closed
 pub closed-tested :
-    (rows : List ReadVersion) (ask : Ask) (names : List ℕ) (b : Bool)
-    → names ≡ names_of rows ask → b ≡ list_all (is_read rows) names → is_closed ask rows ≡ b
+    (rows : List ReadVersion) (looker : Option Principal) (ask : Ask) (names : List ℕ) (b : Bool)
+    → names ≡ names_of rows looker ask → b ≡ list_all (is_read rows) names → is_closed looker ask rows ≡ b
 unfolding is_closed
-closed-tested rows ask names b e test = sym (test ∙ ap (list_all (is_read rows)) e)
+closed-tested rows looker ask names b e test = sym (test ∙ ap (list_all (is_read rows)) e)
 
 -- ---- readable names
 
 -- an ask with an object has a name
-names-some : (rows : List ReadVersion) (ask : Ask) → flaw_of ask ≡ None → names_of rows ask ≢ []
-names-some rows ask e none = go (objects_of ask) (asks_objects ask e).0 (λ item h.
-    named-in (seen rows) ask (names_of rows ask) (names-fixed rows ask) item
+names-some : (rows : List ReadVersion) (looker : Option Principal) (ask : Ask) → flaw_of ask ≡ None → names_of rows looker ask ≢ []
+names-some rows looker ask e none = go (objects_of ask) (asks_objects ask e).0 (λ item h.
+    named-in (seen rows) looker ask (names_of rows looker ask) (names-fixed rows looker ask) item
     (Subject item (has-Contains (subjects_of (seen rows) ask) item (in-left (objects_of ask) _ item h))))
   where
-    go : (objects : List ℕ) → length objects ≢ 0 → ((item : ℕ) → has objects item ≡ true → has (names_of rows ask) item ≡ true) → ⊥
+    go : (objects : List ℕ) → length objects ≢ 0 → ((item : ℕ) → has objects item ≡ true → has (names_of rows looker ask) item ≡ true) → ⊥
     go [] some each = some refl
     go (item ∷ objects) some each =
         let there = subst (λ (ns : List ℕ). has ns item ≡ true) none
@@ -93,10 +94,10 @@ names-some rows ask e none = go (objects_of ask) (asks_objects ask e).0 (λ item
         absurd (cc)
 
 pub names-readable :
-    (rows : List ReadVersion) (ask : Ask) → flaw_of ask ≡ None
-    → length (names_of rows ask) ≤ MAX_READ_ITEMS → AreReadable (names_of rows ask)
-names-readable rows ask e l = record {
-  some = names-some rows ask e;
+    (rows : List ReadVersion) (looker : Option Principal) (ask : Ask) → flaw_of ask ≡ None
+    → length (names_of rows looker ask) ≤ MAX_READ_ITEMS → AreReadable (names_of rows looker ask)
+names-readable rows looker ask e l = record {
+  some = names-some rows looker ask e;
   few = l;
-  single = cc (names-single rows ask);
+  single = cc (names-single rows looker ask);
 }

@@ -3,4 +3,5 @@ pub mod Growing
 pub mod Turns
 pub mod Flaws
 pub mod Closing
+pub mod Ways
 mod Stepping

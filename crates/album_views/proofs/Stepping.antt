@@ -1,8 +1,9 @@
 -- What each step of a viewing is, for `Viewing::on_names` (`step-closed`, `step-unclosed`, `unclosed-readable`) and for
 -- the law `a_view_is_the_first_closed_read` (`closed-by`, `wide-by`, `rounds-by`, `again-by`).
-use Rattle.std.proofs.Common.{◌≡◌, ◌≤◌, ◌<◌, ◌+◌, ◌↔◌, ℕ, Bool, true, false, None, List, length, nat_le, nat_lt, if◌then◌else◌, refl, sym, ap, ◌∙◌}
+use Rattle.std.proofs.Common.{◌≡◌, ◌≤◌, ◌<◌, ◌+◌, ◌↔◌, ℕ, Bool, true, false, None, Option, List, length, nat_le, nat_lt, if◌then◌else◌, refl, sym, ap, ◌∙◌}
 use Rattle.std.proofs.lemmas.Bool.{lt-ltb, le-ltb, ltb-true, ltb-false, le-leb, lt-leb, leb-true, leb-false}
 use Rattle.album_stamps.specs.declared.limits.TheConstants.{MAX_READ_ITEMS, MAX_READS}
+use Rattle.album_eval.specs.declared.facts.Principal.{Principal}
 use Rattle.album_reader.specs.Answers.{ReadVersion}
 use Rattle.album_views.specs.Checks.{flaw_of}
 use Rattle.album_views.specs.ReadSets.{names_of}
@@ -14,16 +15,16 @@ use Rattle.album_views.specs.declared.viewing.ViewStep.TheVariants.{Again, Close
 use Rattle.album_views.specs.declared.viewing.Why.TheVariants.{Rounds, Wide}
 
 pub step-closed :
-    (viewing : ViewingState) (rows : List ReadVersion) → is_closed viewing.ask rows ≡ true
-    → stepped viewing rows ≡ Closed (record { ask = viewing.ask; rows = rows })
-step-closed viewing rows e =
-    ap (λ b. if b then Closed (record { ask = viewing.ask; rows = rows }) else unclosed viewing (names_of rows viewing.ask)) e
+    (looker : Option Principal) (viewing : ViewingState) (rows : List ReadVersion) → is_closed looker viewing.ask rows ≡ true
+    → stepped looker viewing rows ≡ Closed (record { looker = looker; ask = viewing.ask; rows = rows })
+step-closed looker viewing rows e =
+    ap (λ b. if b then Closed (record { looker = looker; ask = viewing.ask; rows = rows }) else unclosed viewing (names_of rows looker viewing.ask)) e
 
 pub step-unclosed :
-    (viewing : ViewingState) (rows : List ReadVersion) → is_closed viewing.ask rows ≡ false
-    → stepped viewing rows ≡ unclosed viewing (names_of rows viewing.ask)
-step-unclosed viewing rows e =
-    ap (λ b. if b then Closed (record { ask = viewing.ask; rows = rows }) else unclosed viewing (names_of rows viewing.ask)) e
+    (looker : Option Principal) (viewing : ViewingState) (rows : List ReadVersion) → is_closed looker viewing.ask rows ≡ false
+    → stepped looker viewing rows ≡ unclosed viewing (names_of rows looker viewing.ask)
+step-unclosed looker viewing rows e =
+    ap (λ b. if b then Closed (record { looker = looker; ask = viewing.ask; rows = rows }) else unclosed viewing (names_of rows looker viewing.ask)) e
 
 pub unclosed-wide :
     (viewing : ViewingState) (names : List ℕ) → MAX_READ_ITEMS < length names → unclosed viewing names ≡ Busy Wide
@@ -43,27 +44,27 @@ again-readable viewing items readable = go (nat_le MAX_READS (viewing.reads + 1)
     go false = readable
 
 pub unclosed-readable :
-    (viewing : ViewingState) (rows : List ReadVersion) → flaw_of viewing.ask ≡ None
-    → AsksReadable (unclosed viewing (names_of rows viewing.ask))
-unclosed-readable viewing rows sound = go (nat_lt MAX_READ_ITEMS (length names)) refl
+    (looker : Option Principal) (viewing : ViewingState) (rows : List ReadVersion) → flaw_of viewing.ask ≡ None
+    → AsksReadable (unclosed viewing (names_of rows looker viewing.ask))
+unclosed-readable looker viewing rows sound = go (nat_lt MAX_READ_ITEMS (length names)) refl
   where
     names : List ℕ
-    names = names_of rows viewing.ask
+    names = names_of rows looker viewing.ask
 
     go :
         (b : Bool) → nat_lt MAX_READ_ITEMS (length names) ≡ b
         → AsksReadable (if b then Busy Wide else again viewing names)
     go true e = tt
-    go false e = again-readable viewing names (names-readable rows viewing.ask sound (ltb-false _ _ e))
+    go false e = again-readable viewing names (names-readable rows looker viewing.ask sound (ltb-false _ _ e))
 
 -- ---- what a step says of the snapshot
 
-module _ (viewing : ViewingState) (rows : List ReadVersion) where
+module _ (looker : Option Principal) (viewing : ViewingState) (rows : List ReadVersion) where
   abbrev names : List ℕ
-  names = names_of rows viewing.ask
+  names = names_of rows looker viewing.ask
 
   abbrev whole : ViewState
-  whole = record { ask = viewing.ask; rows = rows }
+  whole = record { looker = looker; ask = viewing.ask; rows = rows }
 
   abbrev next : ViewingState
   next = record { ask = viewing.ask; reads = viewing.reads + 1 }
@@ -101,53 +102,53 @@ module _ (viewing : ViewingState) (rows : List ReadVersion) where
   again-chosen false false false other items e = (refl, refl, refl, cc, cc)
 
   -- the same, of the tests themselves
-  is-lacking : (IsClosed viewing.ask rows → ⊥) → is_closed viewing.ask rows ≡ false
-  is-lacking lacking = go (is_closed viewing.ask rows) refl
+  is-lacking : (IsClosed looker viewing.ask rows → ⊥) → is_closed looker viewing.ask rows ≡ false
+  is-lacking lacking = go (is_closed looker viewing.ask rows) refl
     where
-      go : (b : Bool) → is_closed viewing.ask rows ≡ b → is_closed viewing.ask rows ≡ false
+      go : (b : Bool) → is_closed looker viewing.ask rows ≡ b → is_closed looker viewing.ask rows ≡ false
       go false e = e
-      go true e = absurd (lacking (closed-is rows viewing.ask e))
+      go true e = absurd (lacking (closed-is rows looker viewing.ask e))
 
   pub closed-by :
-      (view : ViewState) → (stepped viewing rows ≡ Closed view) ↔ (IsClosed viewing.ask rows × (view ≡ whole))
+      (view : ViewState) → (stepped looker viewing rows ≡ Closed view) ↔ (IsClosed looker viewing.ask rows × (view ≡ whole))
   closed-by view = (
-    λ e. (let all = closed-chosen _ _ _ view e in (closed-is rows viewing.ask all.0, all.1)),
-    λ h. step-closed viewing rows (is-closed rows viewing.ask h.0) ∙ ap Closed (sym h.1),
+    λ e. (let all = closed-chosen _ _ _ view e in (closed-is rows looker viewing.ask all.0, all.1)),
+    λ h. step-closed looker viewing rows (is-closed rows looker viewing.ask h.0) ∙ ap Closed (sym h.1),
   )
 
   pub wide-by :
-      (stepped viewing rows ≡ Busy Wide)
-      ↔ ((IsClosed viewing.ask rows → ⊥) × (MAX_READ_ITEMS < length (names_of rows viewing.ask)))
+      (stepped looker viewing rows ≡ Busy Wide)
+      ↔ ((IsClosed looker viewing.ask rows → ⊥) × (MAX_READ_ITEMS < length (names_of rows looker viewing.ask)))
   wide-by = (
-    λ e. (let all = wide-chosen _ _ _ e in (not-closed rows viewing.ask all.0, ltb-true _ _ all.1)),
-    λ h. step-unclosed viewing rows (is-lacking h.0) ∙ unclosed-wide viewing names h.1,
+    λ e. (let all = wide-chosen _ _ _ e in (not-closed rows looker viewing.ask all.0, ltb-true _ _ all.1)),
+    λ h. step-unclosed looker viewing rows (is-lacking h.0) ∙ unclosed-wide viewing names h.1,
   )
 
   pub rounds-by :
-      (stepped viewing rows ≡ Busy Rounds)
-      ↔ ((IsClosed viewing.ask rows → ⊥)
-      × (length (names_of rows viewing.ask) ≤ MAX_READ_ITEMS)
+      (stepped looker viewing rows ≡ Busy Rounds)
+      ↔ ((IsClosed looker viewing.ask rows → ⊥)
+      × (length (names_of rows looker viewing.ask) ≤ MAX_READ_ITEMS)
       × (MAX_READS ≤ viewing.reads + 1))
   rounds-by = (
     λ e. (let all = rounds-chosen _ _ _ e in
-        (not-closed rows viewing.ask all.0, ltb-false _ _ all.1, leb-true _ _ all.2)),
-    λ h. step-unclosed viewing rows (is-lacking h.0)
+        (not-closed rows looker viewing.ask all.0, ltb-false _ _ all.1, leb-true _ _ all.2)),
+    λ h. step-unclosed looker viewing rows (is-lacking h.0)
         ∙ unclosed-again viewing names h.1
         ∙ ap (λ b. if b then Busy Rounds else Again next names) (le-leb MAX_READS (viewing.reads + 1) h.2),
   )
 
   pub again-by :
       (other : ViewingState) (items : List ℕ)
-      → (stepped viewing rows ≡ Again other items)
-      ↔ ((IsClosed viewing.ask rows → ⊥)
-      × (length (names_of rows viewing.ask) ≤ MAX_READ_ITEMS)
+      → (stepped looker viewing rows ≡ Again other items)
+      ↔ ((IsClosed looker viewing.ask rows → ⊥)
+      × (length (names_of rows looker viewing.ask) ≤ MAX_READ_ITEMS)
       × (viewing.reads + 1 < MAX_READS)
-      × (items ≡ names_of rows viewing.ask)
+      × (items ≡ names_of rows looker viewing.ask)
       × (other ≡ record { ask = viewing.ask; reads = viewing.reads + 1 }))
   again-by other items = (
     λ e. (let all = again-chosen _ _ _ other items e in
-        (not-closed rows viewing.ask all.0, ltb-false _ _ all.1, leb-false _ _ all.2, all.3, all.4)),
-    λ h. step-unclosed viewing rows (is-lacking h.0)
+        (not-closed rows looker viewing.ask all.0, ltb-false _ _ all.1, leb-false _ _ all.2, all.3, all.4)),
+    λ h. step-unclosed looker viewing rows (is-lacking h.0)
         ∙ unclosed-again viewing names h.1
         ∙ ap (λ b. if b then Busy Rounds else Again next names) (lt-leb MAX_READS (viewing.reads + 1) h.2)
         ∙ ap (λ (v : ViewingState). Again v names) (sym h.4)

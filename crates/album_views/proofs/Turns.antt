@@ -11,6 +11,7 @@ use Rattle.album_stamps.specs.Distinct.{are_distinct}
 use Rattle.album_items.specs.Values.{groups_in_group}
 use Rattle.album_items.specs.declared.values.Value.{Value}
 use Rattle.album_items.specs.declared.values.Value.TheVariants.{Missing}
+use Rattle.album_eval.specs.declared.facts.Principal.{Principal}
 use Rattle.album_reader.specs.Answers.{ReadVersion}
 use Rattle.album_reader.specs.Snapshots.{items_read, version_read, version_of}
 use Rattle.album_reader.proofs.Snapshots.{sameness-sym, length-items}
@@ -113,9 +114,9 @@ left-all (item ∷ items) = omega (arith, left-all items)
 
 -- ---- turns
 
-module _ (rows : List ReadVersion) (ask : Ask) where
+module _ (rows : List ReadVersion) (looker : Option Principal) (ask : Ask) where
   abbrev turn : List ℕ → List ℕ
-  turn names = grown (seen rows) ask names
+  turn names = grown (seen rows) looker ask names
 
   -- what a turn leaves as it is, each number of turns does
   turns-fixed : (n : ℕ) (names : List ℕ) → names ≡ turn names → iterate turn n names ≡ names
@@ -128,12 +129,12 @@ module _ (rows : List ReadVersion) (ask : Ask) where
       → list_any (has (items_read rows)) more ≡ false → turn names ≡ turn (turn names)
   last-turn names more e none =
       sym (ap turn e
-      ∙ grown-more (seen rows) ask names more
+      ∙ grown-more (seen rows) looker ask names more
       ∙ ap (insert_all ◌==◌ (turn names)) (unread-nothings rows more none))
 
   -- it is the last one, or fewer items are left after it
   end-by :
-      (n : ℕ) (names : List ℕ) → GoesOn (seen rows) ask names (turn names)
+      (n : ℕ) (names : List ℕ) → GoesOn (seen rows) looker ask names (turn names)
       → (left (items_read rows) (turn names) < left (items_read rows) names
       → iterate turn n (turn names) ≡ turn (iterate turn n (turn names)))
       → iterate turn n (turn names) ≡ turn (iterate turn n (turn names))
@@ -144,7 +145,7 @@ module _ (rows : List ReadVersion) (ask : Ask) where
           → left (items_read rows) (turn names) < left (items_read rows) names
       fewer some =
           let at = in-any (has (items_read rows)) on.0 some in
-          let single = subst (λ (ns : List ℕ). are_distinct ns ≡ true) on.1 (grown-single (seen rows) ask names) in
+          let single = subst (λ (ns : List ℕ). are_distinct ns ≡ true) on.1 (grown-single (seen rows) looker ask names) in
           subst (λ (ns : List ℕ). left (items_read rows) ns < left (items_read rows) names) (sym on.1)
           (left-falls (items_read rows) names on.0 at.0 at.2 (single-apart names on.0 at.0 single at.1) at.1)
 
@@ -159,15 +160,15 @@ module _ (rows : List ReadVersion) (ask : Ask) where
 
   -- after one turn more than items are left, nothing grows
   turns-end :
-      (n : ℕ) (names : List ℕ) → GoesOn (seen rows) ask names (turn names)
+      (n : ℕ) (names : List ℕ) → GoesOn (seen rows) looker ask names (turn names)
       → left (items_read rows) names ≤ n
       → iterate turn (suc n) names ≡ turn (iterate turn (suc n) names)
   turns-end zero names on few = end-by zero names on (λ l. absurd (omega (arith, l, few)))
   turns-end (suc n) names on few =
       end-by (suc n) names on
-      (λ l. turns-end n (turn names) (grown-goes_on (seen rows) ask names (turn names) on) (omega (arith, l, few)))
+      (λ l. turns-end n (turn names) (grown-goes_on (seen rows) looker ask names (turn names) on) (omega (arith, l, few)))
 
-  pub names-fixed : names_of rows ask ≡ grown (seen rows) ask (names_of rows ask)
+  pub names-fixed : names_of rows looker ask ≡ grown (seen rows) looker ask (names_of rows looker ask)
   unfolding names_of
   names-fixed =
       let count : length rows + 1 ≡ suc (length rows) = omega arith in
@@ -176,28 +177,28 @@ module _ (rows : List ReadVersion) (ask : Ask) where
       subst (λ n. iterate turn n [] ≡ turn (iterate turn n [])) (sym count)
       (turns-end (length rows) [] (turn [], refl) few)
 
-  turns-named : (n : ℕ) (names : List ℕ) → AreNamed (seen rows) ask names → AreNamed (seen rows) ask (iterate turn n names)
+  turns-named : (n : ℕ) (names : List ℕ) → AreNamed (seen rows) looker ask names → AreNamed (seen rows) looker ask (iterate turn n names)
   turns-named zero names named = named
-  turns-named (suc n) names named = turns-named n (turn names) (grown-named (seen rows) ask names named)
+  turns-named (suc n) names named = turns-named n (turn names) (grown-named (seen rows) looker ask names named)
 
-  pub names-named : AreNamed (seen rows) ask (names_of rows ask)
+  pub names-named : AreNamed (seen rows) looker ask (names_of rows looker ask)
   unfolding names_of
   names-named = turns-named (length rows + 1) [] (λ item h. absurd (cc))
 
   -- a list that grows no more, and extends some names, extends what any number of turns makes of these
   turns-go_on :
       (n : ℕ) (names all : List ℕ) → all ≡ turn all
-      → GoesOn (seen rows) ask names all → GoesOn (seen rows) ask (iterate turn n names) all
+      → GoesOn (seen rows) looker ask names all → GoesOn (seen rows) looker ask (iterate turn n names) all
   turns-go_on zero names all fixed on = on
   turns-go_on (suc n) names all fixed on =
       turns-go_on n (turn names) all fixed
-      (subst (λ (ns : List ℕ). GoesOn (seen rows) ask (turn names) ns) (sym fixed)
-      (grown-goes_on (seen rows) ask names all on))
+      (subst (λ (ns : List ℕ). GoesOn (seen rows) looker ask (turn names) ns) (sym fixed)
+      (grown-goes_on (seen rows) looker ask names all on))
 
   -- items that grow no more, all of them named, are the names
   pub names-one :
-      (names : List ℕ) → names ≡ grown (seen rows) ask names → AreNamed (seen rows) ask names → names ≡ names_of rows ask
+      (names : List ℕ) → names ≡ grown (seen rows) looker ask names → AreNamed (seen rows) looker ask names → names ≡ names_of rows looker ask
   unfolding names_of
   names-one names fixed named =
-      same-names (seen rows) ask (names_of rows ask) names names-fixed fixed
+      same-names (seen rows) looker ask (names_of rows looker ask) names names-fixed fixed
       (turns-go_on (length rows + 1) [] names fixed (names, refl)) named

@@ -1,6 +1,7 @@
 -- What a client asks for: which items, which kinds are allowed for them, and whether the ask lists, writes or makes
 -- something.
-use Rattle.std.specs.Prelude.{ℕ, ◌==◌, List, [], ◌∷◌, ◌++◌, Bool, true, false, map}
+use Rattle.std.specs.Prelude.{ℕ, ◌==◌, List, [], ◌∷◌, ◌++◌, Bool, true, false, not, map}
+use Rattle.std.specs.List.{list_any}
 use Rattle.indexmap.specs.IndexSet.{insert_all}
 use Rattle.album_items.specs.declared.item_ids.Kind.{Kind}
 use Rattle.album_items.specs.declared.item_ids.Kind.TheVariants.{Picture, Album, Group}
@@ -96,3 +97,19 @@ is_adding (ask.SetLists lists) = false
 is_adding (ask.SetOwner object owner group) = false
 is_adding (ask.SetMembers object members) = false
 is_adding (ask.Share lists members) = false
+
+-- the ask needs of the object to read or to set its list, and nothing else
+abbrev pub needs_list_alone : Ask → ℕ → Bool
+needs_list_alone (ask.Read object) item = false
+needs_list_alone (ask.List album) item = false
+needs_list_alone (ask.GetList object) item = true
+needs_list_alone (ask.AddPicture album title content) item = false
+needs_list_alone (ask.AddAlbum album title) item = false
+needs_list_alone (ask.Retitle object title) item = false
+needs_list_alone (ask.Replace object content) item = false
+needs_list_alone (ask.Delete object) item = false
+needs_list_alone (ask.Move object to) item = false
+needs_list_alone (ask.SetLists lists) item = true
+needs_list_alone (ask.SetOwner object owner group) item = false
+needs_list_alone (ask.SetMembers object members) item = false
+needs_list_alone (ask.Share lists members) item = not (list_any (λ (new : NewMembership). new.object == item) members)

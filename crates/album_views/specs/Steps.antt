@@ -1,7 +1,8 @@
 -- The step after a read that was made for a view.
-use Rattle.std.specs.Prelude.{◌≢◌, ◌≤◌, ◌+◌, ℕ, List, [], IsTrue, nat_le, nat_lt, length, if◌then◌else◌}
+use Rattle.std.specs.Prelude.{◌≢◌, ◌≤◌, ◌+◌, ℕ, List, [], Option, IsTrue, nat_le, nat_lt, length, if◌then◌else◌}
 use Rattle.album_stamps.specs.Distinct.{are_distinct}
 use Rattle.album_stamps.specs.declared.limits.TheConstants.{MAX_READ_ITEMS, MAX_READS}
+use Rattle.album_eval.specs.declared.facts.Principal.{Principal}
 use Rattle.album_reader.specs.Answers.{ReadVersion}
 use Rattle.album_views.specs.declared.viewing.ViewStep.{ViewStep}
 use Rattle.album_views.specs.declared.viewing.ViewStep.TheVariants.{Again, Closed, Busy}
@@ -19,11 +20,11 @@ again viewing items =
 abbrev pub unclosed : ViewingState → List ℕ → ViewStep
 unclosed viewing names = if nat_lt MAX_READ_ITEMS (length names) then Busy Wide else again viewing names
 
--- the step after a snapshot
-abbrev pub stepped : ViewingState → List ReadVersion → ViewStep
-stepped viewing rows =
-    if is_closed viewing.ask rows then Closed (record { ask = viewing.ask; rows = rows })
-    else unclosed viewing (names_of rows viewing.ask)
+-- the step after a snapshot, for whoever looks
+abbrev pub stepped : Option Principal → ViewingState → List ReadVersion → ViewStep
+stepped looker viewing rows =
+    if is_closed looker viewing.ask rows then Closed (record { looker = looker; ask = viewing.ask; rows = rows })
+    else unclosed viewing (names_of rows looker viewing.ask)
 
 -- items that can be read: there are some, not too many, and none occurs twice
 pub record AreReadable (items : List ℕ) : Type 0 where

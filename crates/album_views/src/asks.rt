@@ -1,6 +1,7 @@
 //! What a client asks.
-ghost use Rattle.std.specs.Prelude.{◌≡◌, ◌++◌, List, IfOk, IsOkUnless, map};
-ghost use Rattle.album_views.specs.Asks.{once, objects_of, is_list, is_write, is_adding};
+ghost use Rattle.std.specs.Prelude.{◌≡◌, ◌==◌, ◌++◌, List, IfOk, IsOkUnless, map};
+ghost use Rattle.std.specs.List.{list_any};
+ghost use Rattle.album_views.specs.Asks.{once, objects_of, is_list, is_write, is_adding, needs_list_alone};
 
 use album_items::{Content, ItemId, Members, Title};
 use album_lists::{AccessList, Name};
@@ -235,6 +236,20 @@ impl Ask {
         }
     }
 
+    /// Whether the ask needs of the object to read or to set its list, and nothing else.
+    pub(crate) fn needs_list_alone(&self, object: ItemId) -> bool
+        ensures { result ≡ needs_list_alone self.now object }
+    {
+        match self {
+            Ask::GetList { .. } | Ask::SetLists { .. } => true,
+            Ask::Share { members, .. } => !has_membership(members.as_slice(), object),
+            Ask::Read { .. } | Ask::List { .. } => false,
+            Ask::AddPicture { .. } | Ask::AddAlbum { .. } | Ask::Retitle { .. } => false,
+            Ask::Replace { .. } | Ask::Delete { .. } | Ask::Move { .. } => false,
+            Ask::SetOwner { .. } | Ask::SetMembers { .. } => false,
+        }
+    }
+
     /// The same ask once more.
     ///
     /// # Errors
@@ -246,6 +261,13 @@ impl Ask {
     {
         Ok(self.clone()?)
     }
+}
+
+/// Whether the object is to have one of these memberships.
+fn has_membership(members: &[NewMembership], object: ItemId) -> bool
+    ensures { result ≡ list_any (λ new. new.object == object) members.now }
+{
+    members.iter().any(|new| new.object == object)
 }
 
 fn objects_of(alloc: Global, lists: &[NewList]) -> Result<Vec<ItemId>, AllocError>

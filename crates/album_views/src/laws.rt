@@ -1,5 +1,5 @@
 //! Laws of asks and of views.
-ghost use Rattle.std.specs.Prelude.{◌≡◌, ◌≢◌, ◌↔◌, ◌+◌, ◌≤◌, ◌<◌, ℕ, List, None, true, false, IsTrue, length, Contains};
+ghost use Rattle.std.specs.Prelude.{◌≡◌, ◌≢◌, ◌↔◌, ◌+◌, ◌≤◌, ◌<◌, ℕ, List, Option, None, true, false, IsTrue, length, Contains};
 ghost use Rattle.album_stamps.specs.Distinct.{are_distinct};
 ghost use Rattle.album_eval.specs.declared.facts.Principal.{Principal};
 ghost use Rattle.album_reader.specs.Answers.{ReadVersion};
@@ -30,35 +30,37 @@ pub fn asks_without_flaw()
 /// names, then the groups among the members of each name in turn, also of each name that this adds. No other list of
 /// named items is in this order.
 pub fn names_are_what_is_named()
-    ensures named { (rows : List ReadVersion) (ask : Ask) (item : ℕ)
-        → Contains (names_of rows ask) item ↔ IsNamed (seen rows) ask item }
-    ensures single { (rows : List ReadVersion) (ask : Ask) → IsTrue (are_distinct (names_of rows ask)) }
-    ensures order { (rows : List ReadVersion) (ask : Ask)
-        → names_of rows ask ≡ grown (seen rows) ask (names_of rows ask) }
-    ensures one { (rows : List ReadVersion) (ask : Ask) (names : List ℕ)
-        → names ≡ grown (seen rows) ask names
-        → ((item : ℕ) → Contains names item → IsNamed (seen rows) ask item)
-        → names ≡ names_of rows ask }
-    ensures closed { (rows : List ReadVersion) (ask : Ask) → (is_closed ask rows ≡ true) ↔ IsClosed ask rows }
+    ensures named { (rows : List ReadVersion) (looker : Option Principal) (ask : Ask) (item : ℕ)
+        → Contains (names_of rows looker ask) item ↔ IsNamed (seen rows) looker ask item }
+    ensures single { (rows : List ReadVersion) (looker : Option Principal) (ask : Ask)
+        → IsTrue (are_distinct (names_of rows looker ask)) }
+    ensures order { (rows : List ReadVersion) (looker : Option Principal) (ask : Ask)
+        → names_of rows looker ask ≡ grown (seen rows) looker ask (names_of rows looker ask) }
+    ensures one { (rows : List ReadVersion) (looker : Option Principal) (ask : Ask) (names : List ℕ)
+        → names ≡ grown (seen rows) looker ask names
+        → ((item : ℕ) → Contains names item → IsNamed (seen rows) looker ask item)
+        → names ≡ names_of rows looker ask }
+    ensures closed { (rows : List ReadVersion) (looker : Option Principal) (ask : Ask)
+        → (is_closed looker ask rows ≡ true) ↔ IsClosed looker ask rows }
 {}
 
 /// A law: a snapshot makes a view exactly where it is closed, and the view has the ask and that snapshot. The ask is
 /// given up exactly where a snapshot is not closed, and its read set is too large, or it is that of the last read.
 /// Else exactly the read set is read next.
 pub fn a_view_is_the_first_closed_read()
-    ensures closed { (viewing : ViewingState) (rows : List ReadVersion) (view : ViewState)
-        → (stepped viewing rows ≡ Closed view)
-        ↔ (IsClosed viewing.ask rows × (view ≡ record { ask = viewing.ask; rows = rows })) }
-    ensures wide { (viewing : ViewingState) (rows : List ReadVersion)
-        → (stepped viewing rows ≡ Busy Wide)
-        ↔ ((IsClosed viewing.ask rows → ⊥) × (MAX_READ_ITEMS < length (names_of rows viewing.ask))) }
-    ensures rounds { (viewing : ViewingState) (rows : List ReadVersion)
-        → (stepped viewing rows ≡ Busy Rounds)
-        ↔ ((IsClosed viewing.ask rows → ⊥) × (length (names_of rows viewing.ask) ≤ MAX_READ_ITEMS)
+    ensures closed { (viewing : ViewingState) (looker : Option Principal) (rows : List ReadVersion) (view : ViewState)
+        → (stepped looker viewing rows ≡ Closed view)
+        ↔ (IsClosed looker viewing.ask rows × (view ≡ record { looker = looker; ask = viewing.ask; rows = rows })) }
+    ensures wide { (viewing : ViewingState) (looker : Option Principal) (rows : List ReadVersion)
+        → (stepped looker viewing rows ≡ Busy Wide)
+        ↔ ((IsClosed looker viewing.ask rows → ⊥) × (MAX_READ_ITEMS < length (names_of rows looker viewing.ask))) }
+    ensures rounds { (viewing : ViewingState) (looker : Option Principal) (rows : List ReadVersion)
+        → (stepped looker viewing rows ≡ Busy Rounds)
+        ↔ ((IsClosed looker viewing.ask rows → ⊥) × (length (names_of rows looker viewing.ask) ≤ MAX_READ_ITEMS)
         × (MAX_READS ≤ viewing.reads + 1)) }
-    ensures again { (viewing next : ViewingState) (rows : List ReadVersion) (items : List ℕ)
-        → (stepped viewing rows ≡ Again next items)
-        ↔ ((IsClosed viewing.ask rows → ⊥) × (length (names_of rows viewing.ask) ≤ MAX_READ_ITEMS)
-        × (viewing.reads + 1 < MAX_READS) × (items ≡ names_of rows viewing.ask)
+    ensures again { (viewing next : ViewingState) (looker : Option Principal) (rows : List ReadVersion) (items : List ℕ)
+        → (stepped looker viewing rows ≡ Again next items)
+        ↔ ((IsClosed looker viewing.ask rows → ⊥) × (length (names_of rows looker viewing.ask) ≤ MAX_READ_ITEMS)
+        × (viewing.reads + 1 < MAX_READS) × (items ≡ names_of rows looker viewing.ask)
         × (next ≡ record { ask = viewing.ask; reads = viewing.reads + 1 })) }
 {}

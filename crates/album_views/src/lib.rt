@@ -22,6 +22,6 @@ mod laws;
 
 pub use asks::{Ask, NewList, NewLists, NewMembership, NewMemberships};
 pub use laws::{a_view_is_the_first_closed_read, asks_without_flaw, names_are_what_is_named};
-pub use read_set::names;
+pub use read_set::{looker, names};
 pub use view::View;
 pub use viewing::{ViewStep, Viewing, Why};

@@ -3,13 +3,14 @@ ghost use Rattle.std.specs.Prelude.{◌≡◌, ◌==◌, ◌++◌, [], ◌∷◌
 ghost use Rattle.std.specs.List.{flat_map};
 ghost use Rattle.std.specs.Option.{option_copied};
 ghost use Rattle.indexmap.specs.IndexSet.{insert_all};
-ghost use Rattle.album_items.specs.Values.{head_of, home_of, children_of, group_of_who, group_of_member, groups_in_group};
+ghost use Rattle.album_items.specs.Values.{head_of, home_of, children_of, list_of, group_of_who, group_of_member, groups_in_list, groups_in_group};
 ghost use Rattle.album_items.specs.declared.values.Value.TheVariants.{Missing};
 ghost use Rattle.album_views.specs.Asks.{once};
-ghost use Rattle.album_views.specs.ReadSets.{relatives_of, subjects_of, named_by_head, named_by_list, first_names, names_of};
+ghost use Rattle.album_views.specs.ReadSets.{relatives_of, subjects_of, named_by_head, named_by_list, first_names, names_of, looker_of, is_groupless, is_owned_by};
 ghost use Rattle.album_views.specs.Seen.{seen};
 
 use crate::asks::Ask;
+use album_eval::{Policy, Principal};
 use album_items::{Head, ItemId, Kind, Value};
 use album_lists::{Ace, Member, Who};
 use album_reader::Snapshot;
@@ -20,16 +21,22 @@ use std::alloc::{AllocError, Global};
 /// The items that a ruling on the ask looks at, each once, as far as the snapshot shows them: the
 /// objects, the home of a picture that is deleted or moved, the children of an album that is listed; of
 /// each of these the list and the head group; the groups that the entries of each such list name; and
-/// the groups among the members of each group.
+/// the groups among the members of each group. Where the owner's way is gone to an object, no group is
+/// among them for it.
 ///
 /// # Errors
 ///
 /// `OutOfMemory`.
-pub fn names(alloc: Global, snapshot: &Snapshot, ask: &Ask) -> Result<Vec<ItemId>, Refusal>
-    ensures names { IfOk result (λ names. names.items ≡ names_of snapshot.now ask.now) }
+pub fn names(
+    alloc: Global,
+    snapshot: &Snapshot,
+    looker: &Option<Principal>,
+    ask: &Ask,
+) -> Result<Vec<ItemId>, Refusal>
+    ensures names { IfOk result (λ names. names.items ≡ names_of snapshot.now looker.now ask.now) }
     ensures memory { IsOkUnless result Refusal.OutOfMemory }
 {
-    let mut names = first_names(alloc, snapshot, ask)?;
+    let mut names = first_names(alloc, snapshot, looker, ask)?;
     // The names are their own worklist: each is looked at once, in order, also one that is added here. (A `for`,
     // since it wants no measure of what is left; no set is that long.)
     for index in 0..usize::MAX {
@@ -47,14 +54,15 @@ pub fn names(alloc: Global, snapshot: &Snapshot, ask: &Ask) -> Result<Vec<ItemId
 fn first_names(
     alloc: Global,
     snapshot: &Snapshot,
+    looker: &Option<Principal>,
     ask: &Ask,
 ) -> Result<IndexSet<ItemId>, AllocError>
-    ensures { IfOk result (λ names. names.keys ≡ once (first_names (seen snapshot.now) ask.now)) }
+    ensures { IfOk result (λ names. names.keys ≡ once (first_names (seen snapshot.now) looker.now ask.now)) }
 {
     let subjects = subjects(alloc, snapshot, ask)?;
     let mut names: IndexSet<ItemId> = subjects.iter().copied().collect(alloc)?;
-    add_heads(&mut names, snapshot, &subjects)?;
-    add_groups_in_lists(&mut names, snapshot, &subjects)?;
+    add_heads(&mut names, snapshot, looker, ask, &subjects)?;
+    add_groups_in_lists(&mut names, snapshot, looker, ask, &subjects)?;
     Ok(names)
 }
 
@@ -118,15 +126,20 @@ fn add_children(
 fn add_heads(
     names: &mut IndexSet<ItemId>,
     snapshot: &Snapshot,
+    looker: &Option<Principal>,
+    ask: &Ask,
     subjects: &[ItemId],
 ) -> Result<(), AllocError>
     ensures { OnOk result (names.new.keys
-        ≡ insert_all ◌==◌ names.old.keys (flat_map (named_by_head (seen snapshot.now)) subjects.now)) }
+        ≡ insert_all ◌==◌ names.old.keys
+        (flat_map (named_by_head (seen snapshot.now) looker.now ask.now) subjects.now)) }
 {
     for subject in subjects {
         if let Some(head) = head(snapshot, *subject) {
             names.insert(ItemId::new(Kind::List, head.list))?;
-            names.insert(ItemId::new(Kind::Group, head.group))?;
+            if !is_groupless(snapshot, looker, ask, *subject) {
+                names.insert(ItemId::new(Kind::Group, head.group))?;
+            }
         }
     }
     Ok(())
@@ -136,19 +149,80 @@ fn add_heads(
 fn add_groups_in_lists(
     names: &mut IndexSet<ItemId>,
     snapshot: &Snapshot,
+    looker: &Option<Principal>,
+    ask: &Ask,
     subjects: &[ItemId],
 ) -> Result<(), AllocError>
     ensures { OnOk result (names.new.keys
-        ≡ insert_all ◌==◌ names.old.keys (flat_map (named_by_list (seen snapshot.now)) subjects.now)) }
+        ≡ insert_all ◌==◌ names.old.keys
+        (flat_map (named_by_list (seen snapshot.now) looker.now ask.now) subjects.now)) }
 {
     for subject in subjects {
-        if let Some(head) = head(snapshot, *subject) {
-            if let Some(list) = seen(snapshot, ItemId::new(Kind::List, head.list)) {
-                add_groups_in_entries(names, list.entries())?;
-            }
+        if !is_groupless(snapshot, looker, ask, *subject) {
+            add_groups_in_list_of(names, snapshot, *subject)?;
         }
     }
     Ok(())
+}
+
+/// Adds the groups that the entries of the subject's list name.
+fn add_groups_in_list_of(
+    names: &mut IndexSet<ItemId>,
+    snapshot: &Snapshot,
+    subject: ItemId,
+) -> Result<(), AllocError>
+    ensures { OnOk result (names.new.keys ≡ insert_all ◌==◌ names.old.keys
+        (flat_map (λ list. groups_in_list (seen snapshot.now list)) (list_of (seen snapshot.now subject)))) }
+{
+    if let Some(head) = head(snapshot, subject) {
+        if let Some(list) = seen(snapshot, ItemId::new(Kind::List, head.list)) {
+            add_groups_in_entries(names, list.entries())?;
+        }
+    }
+    Ok(())
+}
+
+/// Who looks: the principal who asks, where the policy has the owner's way.
+///
+/// # Errors
+///
+/// `OutOfMemory`.
+pub fn looker(policy: Policy, principal: &Principal) -> Result<Option<Principal>, Refusal>
+    ensures looker { IfOk result (λ looker. looker ≡ looker_of policy principal.now) }
+    ensures memory { IsOkUnless result Refusal.OutOfMemory }
+{
+    if policy.has_owners_way() {
+        Ok(Some(principal.copy()?))
+    } else {
+        Ok(None)
+    }
+}
+
+/// Whether the owner's way is gone to the subject, so that no group is looked at for it.
+fn is_groupless(
+    snapshot: &Snapshot,
+    looker: &Option<Principal>,
+    ask: &Ask,
+    subject: ItemId,
+) -> bool
+    ensures { result ≡ is_groupless (seen snapshot.now) looker.now ask.now subject }
+{
+    match looker {
+        Some(principal) => {
+            is_owned_by(snapshot, principal, subject) && ask.needs_list_alone(subject)
+        }
+        None => false,
+    }
+}
+
+/// Whether the principal is the owner of the item, if it is there.
+fn is_owned_by(snapshot: &Snapshot, principal: &Principal, item: ItemId) -> bool
+    ensures { result ≡ is_owned_by principal.now (seen snapshot.now item) }
+{
+    match head(snapshot, item) {
+        Some(head) => principal.is_user(&head.owner),
+        None => false,
+    }
 }
 
 /// Adds the groups that the entries name.

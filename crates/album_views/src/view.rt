@@ -4,14 +4,17 @@ ghost use Rattle.album_reader.specs.Snapshots.{items_read, version_read};
 ghost use Rattle.album_views.specs.Views.{IsView};
 
 use crate::asks::Ask;
+use album_eval::Principal;
 use album_items::{ItemId, Value};
 use album_reader::{ReadVersion, Snapshot};
 use album_stamps::Stamp;
 use std::marker::Model;
 
-/// An ask, and the one snapshot on which it is ruled, which has every item that the ruling looks at.
+/// An ask, and the one snapshot on which it is ruled, which has every item that the ruling looks at; and who looks,
+/// where the policy has the owner's way.
 #[derive(Debug)]
 pub struct View {
+    looker: Option<Principal>,
     ask: Ask,
     snapshot: Snapshot,
 }
@@ -21,27 +24,36 @@ impl Model for View {
 
     ghost Value = { ViewState };
 
-    ghost view = { λ v. record { ask = v.ask; rows = v.snapshot } };
+    ghost view = { λ v. record { looker = v.looker; ask = v.ask; rows = v.snapshot } };
 
-    ghost invariant = { λ v. IsView (record { ask = v.ask; rows = v.snapshot }) };
+    ghost invariant = { λ v. IsView (record { looker = v.looker; ask = v.ask; rows = v.snapshot }) };
 }
 
 // By hand, so that what lets it go is proved here, and not again in each crate above.
 impl Drop for View {
     fn drop(self) {
-        let View { ask, snapshot } = self;
+        let View {
+            looker,
+            ask,
+            snapshot,
+        } = self;
+        drop(looker);
         drop(ask);
         drop(snapshot);
     }
 }
 
 impl View {
-    /// The ask and its snapshot.
-    pub(crate) fn of(ask: Ask, snapshot: Snapshot) -> View
-        requires { IsView (record { ask = ask; rows = snapshot }) }
-        ensures { result ≡ record { ask = ask; rows = snapshot } }
+    /// Who looks, the ask and its snapshot.
+    pub(crate) fn of(looker: Option<Principal>, ask: Ask, snapshot: Snapshot) -> View
+        requires { IsView (record { looker = looker; ask = ask; rows = snapshot }) }
+        ensures { result ≡ record { looker = looker; ask = ask; rows = snapshot } }
     {
-        View { ask, snapshot }
+        View {
+            looker,
+            ask,
+            snapshot,
+        }
     }
 
     /// What is asked.

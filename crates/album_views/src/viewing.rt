@@ -12,6 +12,7 @@ ghost use Rattle.album_views.specs.Steps.{again, unclosed, stepped, AreReadable,
 use crate::asks::Ask;
 use crate::read_set::names;
 use crate::view::View;
+use album_eval::Principal;
 use album_items::{ItemId, Items};
 use album_reader::Snapshot;
 use album_stamps::{MAX_READ_ITEMS, MAX_READS, Refusal, Refused};
@@ -86,7 +87,8 @@ impl Viewing {
         }
     }
 
-    /// Takes the snapshot of a read. Of one that is no view nothing is kept.
+    /// Takes the snapshot of a read. Of one that is no view nothing is kept. `looker` is who asks, where the policy has
+    /// the owner's way, and nobody where it hasn't.
     ///
     /// # Errors
     ///
@@ -94,15 +96,16 @@ impl Viewing {
     pub fn on_snapshot(
         self,
         alloc: Global,
+        looker: Option<Principal>,
         snapshot: Snapshot,
     ) -> Result<ViewStep, Refused<(Viewing, Snapshot)>>
-        ensures step { IfOk result (λ step. step ≡ stepped self snapshot) }
+        ensures step { IfOk result (λ step. step ≡ stepped looker self snapshot) }
         ensures readable { IfOk result AsksReadable }
         ensures memory { IfErr result (λ e. e.refusal ≡ Refusal.OutOfMemory) }
         ensures given { IfErr result (λ e. e.given ≡ (self, snapshot)) }
     {
-        match names(alloc, &snapshot, &self.ask) {
-            Ok(names) => Ok(self.on_names(snapshot, names)),
+        match names(alloc, &snapshot, &looker, &self.ask) {
+            Ok(names) => Ok(self.on_names(looker, snapshot, names)),
             Err(refusal) => Err(Refused {
                 refusal,
                 given: (self, snapshot),
@@ -111,14 +114,19 @@ impl Viewing {
     }
 
     /// The step by the snapshot, whose read set these are.
-    fn on_names(self, snapshot: Snapshot, names: Vec<ItemId>) -> ViewStep
-        requires { names.items ≡ names_of snapshot self.ask }
-        ensures step { result ≡ stepped self snapshot }
+    fn on_names(
+        self,
+        looker: Option<Principal>,
+        snapshot: Snapshot,
+        names: Vec<ItemId>,
+    ) -> ViewStep
+        requires { names.items ≡ names_of snapshot looker self.ask }
+        ensures step { result ≡ stepped looker self snapshot }
         ensures readable { AsksReadable result }
     {
         if has_all(&snapshot, &names) {
             let Viewing { ask, reads: _ } = self;
-            return ViewStep::Closed(View::of(ask, snapshot));
+            return ViewStep::Closed(View::of(looker, ask, snapshot));
         }
         self.unclosed(names)
     }

@@ -28,15 +28,24 @@ header_form header d h =
     let limit = step_taken (member_or DEFAULT_LIMIT whole_of (get (codes "limit") d)) _ header parts.2 in
     let policy = step_taken (member_or DEFAULT_POLICY whole_of (get (codes "policy") d)) _ header limit.2 in
     let checked = step_taken (member_or false truth_of (get (codes "checked") d)) _ header policy.2 in
-    let trace = step_taken (member_or false truth_of (get (codes "trace") d)) _ header checked.2 in
+    let first = step_taken (member_or 0 whole_of (get (codes "first") d)) _ header checked.2 in
+    let trace = step_taken (member_or false truth_of (get (codes "trace") d)) _ header first.2 in
     let made : Header =
-    record { parts = parts.0; limit = limit.0; policy = policy.0; checked = checked.0; trace = trace.0 } in
+    record {
+      parts = parts.0;
+      limit = limit.0;
+      policy = policy.0;
+      checked = checked.0;
+      first = first.0;
+      trace = trace.0;
+    } in
     let is : IsHeader made d = record {
       names = names.0;
       parts = parts.1;
       limit = may_form (get (codes "limit") d) DEFAULT_LIMIT whole_of IsWhole whole_form limit.0 limit.1;
       policy = may_form (get (codes "policy") d) DEFAULT_POLICY whole_of IsWhole whole_form policy.0 policy.1;
       checked = may_form (get (codes "checked") d) false truth_of IsTruth truth_form checked.0 checked.1;
+      first = may_form (get (codes "first") d) 0 whole_of IsWhole whole_form first.0 first.1;
       trace = may_form (get (codes "trace") d) false truth_of IsTruth truth_form trace.0 trace.1;
     } in
     subst (λ k. IsHeader k d) (same_value made header trace.2) is
@@ -53,6 +62,9 @@ read_header header d is =
     let checked =
     read_may (get (codes "checked") d) false truth_of (IsTruth header.checked) header.checked
     (read_truth header.checked) is.checked in
+    let first =
+    read_may (get (codes "first") d) 0 whole_of (IsWhole header.first) header.first (read_whole header.first)
+    is.first in
     let trace =
     read_may (get (codes "trace") d) false truth_of (IsTruth header.trace) header.trace (read_truth header.trace)
     is.trace in
@@ -61,7 +73,8 @@ read_header header d is =
     (step_then (member_or DEFAULT_LIMIT whole_of (get (codes "limit") d)) _ header.limit header limit
     (step_then (member_or DEFAULT_POLICY whole_of (get (codes "policy") d)) _ header.policy header policy
     (step_then (member_or false truth_of (get (codes "checked") d)) _ header.checked header checked
-    (step_then (member_or false truth_of (get (codes "trace") d)) _ header.trace header trace refl)))))
+    (step_then (member_or 0 whole_of (get (codes "first") d)) _ header.first header first
+    (step_then (member_or false truth_of (get (codes "trace") d)) _ header.trace header trace refl))))))
 
 open_spelled : (v : OpeningLine) (s : SpelledOpening) (d : Data) → open_shape_of d ≡ Ok s → opening_read s ≡ Ok v
     → IsOpening v d

@@ -24,9 +24,9 @@ spelled_opening shape.Begin = Begin
 
 -- the names of the members of a header
 abbrev pub header_keys : List (List ℕ)
-header_keys = codes "parts" ∷ codes "limit" ∷ codes "policy" ∷ codes "checked" ∷ codes "trace" ∷ []
+header_keys = codes "parts" ∷ codes "limit" ∷ codes "policy" ∷ codes "checked" ∷ codes "first" ∷ codes "trace" ∷ []
 
--- {parts, and perhaps limit, policy, checked, trace}
+-- {parts, and perhaps limit, policy, checked, first, trace}
 unfoldable pub header_of : Data → Result Header Refusal
 header_of d = do
   _ ← only_of header_keys d
@@ -34,8 +34,9 @@ header_of d = do
   limit ← member_or DEFAULT_LIMIT whole_of (get (codes "limit") d)
   policy ← member_or DEFAULT_POLICY whole_of (get (codes "policy") d)
   checked ← member_or false truth_of (get (codes "checked") d)
+  first ← member_or 0 whole_of (get (codes "first") d)
   trace ← member_or false truth_of (get (codes "trace") d)
-  Ok (record { parts = parts; limit = limit; policy = policy; checked = checked; trace = trace })
+  Ok (record { parts = parts; limit = limit; policy = policy; checked = checked; first = first; trace = trace })
 
 -- {"open": header}
 unfoldable pub open_shape_of : Data → Result SpelledOpening Refusal

@@ -5,19 +5,21 @@ use Rattle.album_items.specs.declared.values.Value.{Value}
 use Rattle.album_lines.specs.Spelling.{IsJson, HasOnly}
 use Rattle.album_wire.specs.ObjectSpelling.{IsWhole, IsTruth, HasMember, MayHave, HasJust}
 use Rattle.album_wire.specs.ItemSpelling.{IsItem, IsValue}
+use Rattle.album_wire.specs.OpeningShape.{header_keys}
 use Rattle.album_wire.specs.declared.opening_line.OpeningLine.{OpeningLine}
 use Rattle.album_wire.specs.declared.opening_line.OpeningLine.TheVariants as line
 use Rattle.album_wire.specs.declared.opening_shape.Header.{Header}
 use Rattle.album_wire.specs.declared.opening_shape.TheConstants.{DEFAULT_LIMIT, DEFAULT_POLICY}
 
 -- How the store is to be opened. Where `limit` or `policy` is left out it is the usual one. Where `checked` is left
--- out writes aren't checked, and where `trace` is, no message is written.
+-- out writes aren't checked; where `first` is, no epoch was before; and where `trace` is, no message is written.
 pub record IsHeader (header : Header) (d : Data) : Type 0 where
-  pub names : HasOnly (codes "parts" ∷ codes "limit" ∷ codes "policy" ∷ codes "checked" ∷ codes "trace" ∷ []) d
+  pub names : HasOnly header_keys d
   pub parts : HasMember (codes "parts") (IsWhole header.parts) d
   pub limit : MayHave (codes "limit") (header.limit ≡ DEFAULT_LIMIT) (IsWhole header.limit) d
   pub policy : MayHave (codes "policy") (header.policy ≡ DEFAULT_POLICY) (IsWhole header.policy) d
   pub checked : MayHave (codes "checked") (header.checked ≡ false) (IsTruth header.checked) d
+  pub first : MayHave (codes "first") (header.first ≡ 0) (IsWhole header.first) d
   pub trace : MayHave (codes "trace") (header.trace ≡ false) (IsTruth header.trace) d
 
 -- an item, and its first value

@@ -51,16 +51,56 @@ pub fn read_opening_line(
 pub fn worked_openings()
     ensures opens { opening_line_of
         (codes "{\"open\":{\"limit\":1000,\"parts\":3,\"trace\":true}}")
-        ≡ Ok (OpeningLine.Open (record { parts = 3; limit = 1000; policy = 1; checked = false; trace = true })) }
+        ≡ Ok (OpeningLine.Open (record {
+          parts = 3;
+          limit = 1000;
+          policy = 1;
+          checked = false;
+          first = 0;
+          trace = true;
+        })) }
     ensures open_with_parts_alone { opening_line_of
         (codes "{\"open\":{\"parts\":16}}")
-        ≡ Ok (OpeningLine.Open (record { parts = 16; limit = 100000; policy = 1; checked = false; trace = false })) }
+        ≡ Ok (OpeningLine.Open (record {
+          parts = 16;
+          limit = 100000;
+          policy = 1;
+          checked = false;
+          first = 0;
+          trace = false;
+        })) }
     ensures open_checked { opening_line_of
         (codes "{\"open\":{\"checked\":true,\"parts\":16}}")
-        ≡ Ok (OpeningLine.Open (record { parts = 16; limit = 100000; policy = 1; checked = true; trace = false })) }
+        ≡ Ok (OpeningLine.Open (record {
+          parts = 16;
+          limit = 100000;
+          policy = 1;
+          checked = true;
+          first = 0;
+          trace = false;
+        })) }
     ensures not_checked { opening_line_of
         (codes "{\"open\":{\"checked\":false,\"parts\":16,\"trace\":true}}")
-        ≡ Ok (OpeningLine.Open (record { parts = 16; limit = 100000; policy = 1; checked = false; trace = true })) }
+        ≡ Ok (OpeningLine.Open (record {
+          parts = 16;
+          limit = 100000;
+          policy = 1;
+          checked = false;
+          first = 0;
+          trace = true;
+        })) }
+    ensures after_epochs { opening_line_of
+        (codes "{\"open\":{\"first\":7,\"parts\":16}}")
+        ≡ Ok (OpeningLine.Open (record {
+          parts = 16;
+          limit = 100000;
+          policy = 1;
+          checked = false;
+          first = 7;
+          trace = false;
+        })) }
+    ensures after_nothing { opening_line_of (codes "{\"open\":{\"first\":null,\"parts\":16}}")
+        ≡ Err Refusal.BadRequest }
     // What is no truth is none of the two.
     ensures checked_by_number { opening_line_of (codes "{\"open\":{\"checked\":1,\"parts\":16}}")
         ≡ Err Refusal.BadRequest }

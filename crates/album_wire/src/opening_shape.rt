@@ -1,5 +1,5 @@
-//! The shape of a line of an opening: {open: {parts, and perhaps limit, policy, checked, trace}}, {item, value} or
-//! {begin}.
+//! The shape of a line of an opening: {open: {parts, and perhaps limit, policy, checked, first, trace}}, {item, value}
+//! or {begin}.
 ghost use Rattle.std.specs.Prelude.{◌≡◌, option_map};
 ghost use Rattle.album_stamps.specs.Outcome.{Gives};
 ghost use Rattle.album_lines.specs.Fields.{member_or, whole_of, truth_of};
@@ -26,10 +26,12 @@ pub struct Header {
     pub parts: u64,
     /// For how many marks the history of each has room.
     pub limit: u64,
-    /// The number of the policy that lists are judged by: 1 or 2.
+    /// The number of the policy that lists are judged by: 1 to 3.
     pub policy: u64,
     /// Whether each write is kept only on the versions that its author saw.
     pub checked: bool,
+    /// The greatest counter of the stamps that the epochs before drew.
+    pub first: u64,
     /// Whether each message that is sent is to be written.
     pub trace: bool,
 }
@@ -71,17 +73,19 @@ fn open_shape<'a>(value: &Value<'a>) -> Result<OpeningShape<'a>, Refusal>
 fn header_named(value: &Value<'_>) -> Result<Header, Refusal>
     ensures { Gives (λ header. header) result (header_of (value_data value.now)) }
 {
-    only(value, &["parts", "limit", "policy", "checked", "trace"])?;
+    only(value, &["parts", "limit", "policy", "checked", "first", "trace"])?;
     let parts = whole_under(value, "parts")?;
     let limit = whole_or(DEFAULT_LIMIT, member(value, "limit"))?;
     let policy = whole_or(DEFAULT_POLICY, member(value, "policy"))?;
     let checked = truth_or(false, member(value, "checked"))?;
+    let first = whole_or(0, member(value, "first"))?;
     let trace = truth_or(false, member(value, "trace"))?;
     Ok(Header {
         parts,
         limit,
         policy,
         checked,
+        first,
         trace,
     })
 }

@@ -6,7 +6,7 @@ use Rattle.std.specs.Option.{unwrap_or, option_map_or}
 use Rattle.std.proofs.lemmas.Bool.{leb-true}
 use Rattle.album_items.specs.ItemBack.{number_of-item}
 use Rattle.album_items.specs.ItemIds.{picture, album, list, number_of}
-use Rattle.album_items.specs.Openings.{Row, is_low, are_low, has_low_numbers, is_low_row, is_right_row, has_own_value, has_few_children, has_single_children}
+use Rattle.album_items.specs.Openings.{Row, is_low, are_low, has_low_numbers, is_low_row, greatest_number}
 use Rattle.album_items.specs.Values.{head_of, list_of}
 use Rattle.album_items.specs.declared.openings.Opening.{Opening}
 use Rattle.album_items.specs.declared.values.Value.{Value}
@@ -71,25 +71,25 @@ changed_there permit kept object c =
     subst (λ (i : ℕ). is_none (head_of (seen permit.view.rows i)) ≡ false) (sym m.2)
     (not_true (is_missing basis m.0.object) (in_all (λ (a : Alternative). not (is_missing basis a.object)) n.0 there_all n.2))
 
--- ---- the numbers of an opening are low
+-- ---- the numbers of an opening are at most the greatest that it may have
 
-listed : (number : ℕ) → is_low number ≡ true → (n : ℕ) → n ≡ list number → number_of n ≤ 65535
-listed number low n e =
-    let l : number ≤ 65535 = leb-true number 65535 low in
+listed : (top number : ℕ) → is_low top number ≡ true → (n : ℕ) → n ≡ list number → number_of n ≤ top
+listed top number low n e =
+    let l : number ≤ top = leb-true number top low in
     let q : number_of (list number) ≡ number = number_of-item 2 number (omega arith) in
-    subst (λ (i : ℕ). number_of i ≤ 65535) (sym e) (omega (arith, l, q))
+    subst (λ (i : ℕ). number_of i ≤ top) (sym e) (omega (arith, l, q))
 
-low_lists : (v : Value) → has_low_numbers v ≡ true → (n : ℕ) → Contains (list_of v) n → number_of n ≤ 65535
-low_lists value.Missing low n c = in_nil (within [] c)
-low_lists (value.Picture x) low n c =
-    listed x.head.list (and_left (is_low x.head.list) (is_low x.home) low) n (in_one (within _ c))
-low_lists (value.Album x) low n c =
-    listed x.head.list
-    (and_left (is_low x.head.list) (option_map_or is_low x.home true)
-    (and_left (is_low x.head.list && option_map_or is_low x.home true) (are_low x.children) low))
+low_lists : (top : ℕ) (v : Value) → has_low_numbers top v ≡ true → (n : ℕ) → Contains (list_of v) n → number_of n ≤ top
+low_lists top value.Missing low n c = in_nil (within [] c)
+low_lists top (value.Picture x) low n c =
+    listed top x.head.list (and_left (is_low top x.head.list) (is_low top x.home) low) n (in_one (within _ c))
+low_lists top (value.Album x) low n c =
+    listed top x.head.list
+    (and_left (is_low top x.head.list) (option_map_or (is_low top) x.home true)
+    (and_left (is_low top x.head.list && option_map_or (is_low top) x.home true) (are_low top x.children) low))
     n (in_one (within _ c))
-low_lists (value.List x) low n c = in_nil (within [] c)
-low_lists (value.Group x) low n c = listed x.head.list low n (in_one (within _ c))
+low_lists top (value.List x) low n c = in_nil (within [] c)
+low_lists top (value.Group x) low n c = listed top x.head.list low n (in_one (within _ c))
 
 -- what has a list has a head
 list_headed : (v : Value) (n : ℕ) → Contains (list_of v) n → is_none (head_of v) ≡ false
@@ -102,54 +102,51 @@ list_headed (value.Group x) n c = refl
 -- ---- how old what is written is
 
 -- an item that no opening can have is not made later than at the stamp
-pub record IsOld (item stamp : ℕ) : Type 0 where
-  pub known : 65535 < number_of item → number_of item ≤ stamp
+pub record IsOld (top item stamp : ℕ) : Type 0 where
+  pub known : top < number_of item → number_of item ≤ stamp
 
-pub record IsAged (stamp item : ℕ) (is : Value) : Type 0 where
-  pub own : IsOld item stamp
-  pub lists : (n : ℕ) → Contains (list_of is) n → IsOld n stamp
+pub record IsAged (top stamp item : ℕ) (is : Value) : Type 0 where
+  pub own : IsOld top item stamp
+  pub lists : (n : ℕ) → Contains (list_of is) n → IsOld top n stamp
 
-older : (item first last : ℕ) → first ≤ last → IsOld item first → IsOld item last
-older item first last l h = record { known = λ high. let k : number_of item ≤ first = h.known high in omega (arith, k, l) }
+older : (top item first last : ℕ) → first ≤ last → IsOld top item first → IsOld top item last
+older top item first last l h = record { known = λ high. let k : number_of item ≤ first = h.known high in omega (arith, k, l) }
 
-aged_later : (first last item : ℕ) (is : Value) → first ≤ last → IsAged first item is → IsAged last item is
-aged_later first last item is l h =
-    record { own = older item first last l h.own; lists = λ n c. older n first last l (h.lists n c) }
+aged_later : (top first last item : ℕ) (is : Value) → first ≤ last → IsAged top first item is → IsAged top last item is
+aged_later top first last item is l h =
+    record { own = older top item first last l h.own; lists = λ n c. older top n first last l (h.lists n c) }
 
 -- what an opening has
-first_aged : (items : List Row) (item stamp : ℕ) → list_all is_right_row items ≡ true
-    → is_none (head_of (first_value items item)) ≡ false → IsAged stamp item (first_value items item)
-first_aged items item stamp right headed = go (value_in items item) refl headed
+first_aged : (top : ℕ) (items : List Row) (item stamp : ℕ) → list_all (is_low_row top) items ≡ true
+    → is_none (head_of (first_value items item)) ≡ false → IsAged top stamp item (first_value items item)
+first_aged top items item stamp right headed = go (value_in items item) refl headed
   where
     go : (o : Option Value) → value_in items item ≡ o → is_none (head_of (unwrap_or o value.Missing)) ≡ false
-        → IsAged stamp item (unwrap_or o value.Missing)
+        → IsAged top stamp item (unwrap_or o value.Missing)
     go None e h = absurd (true≢false h)
     go (Some v) e h =
-        let one = in_all is_right_row items right (pair_in items item v e) in
-        let low = and_right (has_own_value (item, v)) (is_low_row (item, v))
-        (and_left _ (has_few_children (item, v)) (and_left _ (has_single_children (item, v)) one)) in
-        let number : number_of item ≤ 65535 =
-        leb-true (number_of item) 65535 (and_left (is_low (number_of item)) (has_low_numbers v) low) in
+        let low = in_all (is_low_row top) items right (pair_in items item v e) in
+        let number : number_of item ≤ top =
+        leb-true (number_of item) top (and_left (is_low top (number_of item)) (has_low_numbers top v) low) in
         record {
           own = record { known = λ high. absurd (omega (arith, high, number)) };
           lists = λ n c.
-              let few : number_of n ≤ 65535 = low_lists v (and_right (is_low (number_of item)) (has_low_numbers v) low) n c in
+              let few : number_of n ≤ top =
+              low_lists top v (and_right (is_low top (number_of item)) (has_low_numbers top v) low) n c in
               record { known = λ high. absurd (omega (arith, high, few)) };
         }
 
 -- and what it can't have
-pub first_missing : (items : List Row) (item : ℕ) → list_all is_right_row items ≡ true → 65535 < number_of item
-    → first_value items item ≡ value.Missing
-first_missing items item right high = go (value_in items item) refl
+pub first_missing : (top : ℕ) (items : List Row) (item : ℕ) → list_all (is_low_row top) items ≡ true
+    → top < number_of item → first_value items item ≡ value.Missing
+first_missing top items item right high = go (value_in items item) refl
   where
     go : (o : Option Value) → value_in items item ≡ o → unwrap_or (value_in items item) value.Missing ≡ value.Missing
     go None e = ap (λ (o : Option Value). unwrap_or o value.Missing) e
     go (Some v) e =
-        let one = in_all is_right_row items right (pair_in items item v e) in
-        let low = and_right (has_own_value (item, v)) (is_low_row (item, v))
-        (and_left _ (has_few_children (item, v)) (and_left _ (has_single_children (item, v)) one)) in
-        let number : number_of item ≤ 65535 =
-        leb-true (number_of item) 65535 (and_left (is_low (number_of item)) (has_low_numbers v) low) in
+        let low = in_all (is_low_row top) items right (pair_in items item v e) in
+        let number : number_of item ≤ top =
+        leb-true (number_of item) top (and_left (is_low top (number_of item)) (has_low_numbers top v) low) in
         absurd (omega (arith, number, high))
 
 -- a new item has the stamp for its number
@@ -162,32 +159,35 @@ new_number stamp item c = ⊎_elim
     (in_uncons k))
     (in_uncons (within (picture stamp ∷ album stamp ∷ list stamp ∷ []) c))
 
-module _ (o : Opening) (w : World) (right : list_all is_right_row o.items ≡ true)
+module _ (o : Opening) (w : World) (right : list_all (is_low_row (greatest_number o.first)) o.items ≡ true)
     (granted : (by : Transaction) → Contains w.past.transactions by → IsGranted (terms_of o) w by)
     (atomic : (by : Transaction) → Contains w.past.transactions by
     → IsReadAtomic (writes_in_world w) (first_value o.items) by.permit.view.rows) where
+  abbrev top : ℕ
+  top = greatest_number o.first
+
   -- what is written below a bound
   abbrev Ages : ℕ → Type 0
   Ages n = (by : Transaction) → Contains w.past.transactions by → by.stamp < n → (i : ℕ) (v : Value)
-      → value_in by.writes i ≡ Some v → IsAged by.stamp i v
+      → value_in by.writes i ≡ Some v → IsAged top by.stamp i v
 
   -- what a view shows
   seen_aged : (n : ℕ) → Ages n → (by : Transaction) → Contains w.past.transactions by → by.stamp ≤ n → (i : ℕ)
-      → is_none (head_of (seen by.permit.view.rows i)) ≡ false → IsAged by.stamp i (seen by.permit.view.rows i)
+      → is_none (head_of (seen by.permit.view.rows i)) ≡ false → IsAged top by.stamp i (seen by.permit.view.rows i)
   seen_aged n rest by begun low i headed =
       let shown = shown_there by.permit.view.rows i headed in
       let g = granted by begun in
       let below : shown.row.stamp < by.stamp = g.later shown.row
       (subst (λ (p : PermitState). Contains p.view.rows shown.row) g.on shown.there) in
-      subst (λ (x : ℕ × Value). IsAged by.stamp x.0 x.1) (λ j. (shown.of j, sym shown.value j))
+      subst (λ (x : ℕ × Value). IsAged top by.stamp x.0 x.1) (λ j. (shown.of j, sym shown.value j))
       (⊎_elim
       (λ (first : (shown.row.stamp ≡ 0) × (shown.row.value ≡ first_value o.items shown.row.item)).
-      subst (IsAged by.stamp shown.row.item) (sym first.1)
-      (first_aged o.items shown.row.item by.stamp right
+      subst (IsAged top by.stamp shown.row.item) (sym first.1)
+      (first_aged top o.items shown.row.item by.stamp right
       (subst (λ (v : Value). is_none (head_of v) ≡ false) (shown.value ∙ first.1) headed)))
       (λ (write : IsWrittenBy (writes_in_world w) shown.row).
       let at : write.by.by.stamp ≡ shown.row.stamp = write.at in
-      aged_later write.by.by.stamp by.stamp shown.row.item shown.row.value (omega (arith, at, below))
+      aged_later top write.by.by.stamp by.stamp shown.row.item shown.row.value (omega (arith, at, below))
       (rest write.by.by write.by.begun (omega (arith, at, below, low)) shown.row.item shown.row.value write.wrote))
       ((atomic by begun).written shown.row shown.there))
 
@@ -202,21 +202,21 @@ module _ (o : Opening) (w : World) (right : list_all is_right_row o.items ≡ tr
       }
     where
       sees : (object : ℕ) → is_none (head_of (seen by.permit.view.rows object)) ≡ false
-          → IsAged by.stamp object (seen by.permit.view.rows object)
+          → IsAged top by.stamp object (seen by.permit.view.rows object)
       sees object headed = seen_aged n rest by begun (omega (arith, low)) object headed
 
       there_is : (object : ℕ) → Contains (objects_changed (seen by.permit.view.rows) by.permit.view.ask) object
-          → IsAged by.stamp object (seen by.permit.view.rows object)
+          → IsAged top by.stamp object (seen by.permit.view.rows object)
       there_is object c = sees object (changed_there by.permit (granted by begun).granted object c)
 
-      item_aged : (item : ℕ) → MayWrite (seen by.permit.view.rows) by.stamp by.permit.view.ask item → IsOld item by.stamp
+      item_aged : (item : ℕ) → MayWrite (seen by.permit.view.rows) by.stamp by.permit.view.ask item → IsOld top item by.stamp
       item_aged item (New new adding c) =
           record { known = λ high. let e : number_of item ≡ by.stamp = new_number by.stamp item c in omega (arith, e) }
       item_aged item (Object object c) = (there_is object c).own
       item_aged item (ListOf object other c whose) = (there_is object c).lists item whose
 
       lists_aged : IsWrittenAs (seen by.permit.view.rows) by.stamp by.permit.view.ask i v → (number : ℕ)
-          → Contains (list_of v) number → IsOld number by.stamp
+          → Contains (list_of v) number → IsOld top number by.stamp
       lists_aged (Made adding c own) number l =
           let e : number ≡ list by.stamp = own number l in
           let q : number_of (list by.stamp) ≡ by.stamp = number_of-item 2 by.stamp (omega arith) in

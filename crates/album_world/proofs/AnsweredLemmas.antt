@@ -2,7 +2,7 @@
 use Rattle.std.proofs.Common.{◌≡◌, ℕ, zero, suc, ◌<◌, Bool, true, false, length, List, [], ◌∷◌, sym, subst, refl, arith}
 use Rattle.std.specs.List.{list_any, slice_index_or, AllPairs}
 use Rattle.album_items.specs.ItemIds.{place_of}
-use Rattle.album_items.specs.Openings.{is_opening}
+use Rattle.album_items.specs.Openings.{is_base_opening}
 use Rattle.album_items.specs.declared.openings.Opening.{Opening}
 use Rattle.album_partition.specs.Marks.{commits, discards}
 use Rattle.album_partition.specs.Partition.{PartitionState}
@@ -70,7 +70,7 @@ in_turn (a ∷ xs) h i zero d lt l = absurd (omega arith)
 in_turn (a ∷ xs) h zero (suc j) d lt l = h.0 (slice_index_or xs j d) (got xs j d (omega arith))
 in_turn (a ∷ xs) h (suc i) (suc j) d lt l = in_turn xs h.1 i j d (omega arith) (omega arith)
 
-pub answers_are_to_requests : (o : Opening) (es : List Event) → is_opening o ≡ true
+pub answers_are_to_requests : (o : Opening) (es : List Event) → is_base_opening o ≡ true
     → AnswersAreToRequests (terms_of o) (run_of o es)
 answers_are_to_requests o es is =
     let q = always_requested o es is in
@@ -85,7 +85,7 @@ answers_are_to_requests o es is =
       in_turn = in_turn w.past.asked q.turns;
     }
 
-pub never_discarded : (o : Opening) (es : List Event) (t p r : ℕ) → is_opening o ≡ true
+pub never_discarded : (o : Opening) (es : List Event) (t p r : ℕ) → is_base_opening o ≡ true
     → IsCommittedAt (run_of o es) t p → list_any (discards t) (history (run_of o es) r) ≡ false
 never_discarded o es t p r is c =
     let k = always_kept o es is in

@@ -1,13 +1,13 @@
 -- Each event keeps what is true of each request, and its answer is the only one to its client's last request.
 use Rattle.std.proofs.Common.{◌≡◌, ℕ, ◌<◌, ◌+◌, arith, Bool, true, false, cond, not, nat_lt, nat_le, eqb, length, List, [], ◌∷◌, ◌++◌, Option, Some, None, option_to_list, option_map, Contains, Result, Ok, Err, ⊎_elim, sym, ap, ◌∙◌, subst, refl, append-nil, append_assoc, if◌then◌else◌}
 use Rattle.std.specs.List.{slice_get}
-use Rattle.album_stamps.specs.Clocks.{clock_after_next, next_of}
+use Rattle.album_stamps.specs.Clocks.{clock_after_reach, clock_after_next, next_of}
 use Rattle.album_stamps.specs.Outcome.{◌>>=◌}
 use Rattle.album_stamps.specs.Stamps.{is_client}
 use Rattle.album_stamps.specs.declared.limits.TheConstants.{MAX_READS, MAX_READ_ITEMS}
 use Rattle.album_stamps.specs.declared.refusals.Refusal.{Refusal}
 use Rattle.album_stamps.specs.declared.refusals.Refusal.TheVariants as refusal
-use Rattle.album_items.specs.Openings.{is_opening}
+use Rattle.album_items.specs.Openings.{is_base_opening}
 use Rattle.album_items.specs.declared.openings.Opening.{Opening}
 use Rattle.album_calls.specs.declared.messages.Message.{Message}
 use Rattle.album_calls.specs.declared.nodes.Node.{Node}
@@ -22,7 +22,7 @@ use Rattle.album_reader.specs.Rounds.{Step, stepped}
 use Rattle.album_reader.specs.Rounds.Step.{Same, Next, Done, Gone}
 use Rattle.album_views.specs.Asks.{objects_of}
 use Rattle.album_views.specs.Checks.{refusal_of}
-use Rattle.album_views.specs.ReadSets.{names_of}
+use Rattle.album_views.specs.ReadSets.{names_of, looker_of}
 use Rattle.album_views.specs.Steps.{again}
 use Rattle.album_views.specs.Steps.{stepped as viewed}
 use Rattle.album_views.specs.Views.{ViewingState, is_closed}
@@ -331,28 +331,28 @@ module _ (o : Opening) (w : World) (k : IsKept o w) (c : ℕ) (q : IsRequestedBu
         go false = reads_again began (record { ask = pending_ask.viewing.ask; reads = pending_ask.viewing.reads + 1 }) items refl
 
   done_had : (pending_ask : PendingAsk) → ReadsFor w c pending_ask → ((p : ℕ) → BeganFrom w begun_here.partitions p) → (tag : ℕ)
-      → (rows : List ReadVersion) → IsHad w c (read_ends t x tag pending_ask (Some rows) (viewed pending_ask.viewing rows))
-  done_had pending_ask u began tag rows = go (is_closed pending_ask.viewing.ask rows)
+      → (rows : List ReadVersion) → IsHad w c (read_ends t x tag pending_ask (Some rows) (viewed (looker_of t.policy pending_ask.principal) pending_ask.viewing rows))
+  done_had pending_ask u began tag rows = go (is_closed (looker_of t.policy pending_ask.principal) pending_ask.viewing.ask rows)
     where
       wide : (f : Bool) → IsHad w c (read_ends t x tag pending_ask (Some rows)
-          (if f then Busy Wide else again pending_ask.viewing (names_of rows pending_ask.viewing.ask)))
+          (if f then Busy Wide else again pending_ask.viewing (names_of rows (looker_of t.policy pending_ask.principal) pending_ask.viewing.ask)))
       wide true = answers_had pending_ask u (Some rows) tag x number own None (answer.Busy Wide) (λ ws e. e)
-      wide false = again_had pending_ask u (Some rows) tag began (names_of rows pending_ask.viewing.ask)
+      wide false = again_had pending_ask u (Some rows) tag began (names_of rows (looker_of t.policy pending_ask.principal) pending_ask.viewing.ask)
 
       go : (f : Bool) → IsHad w c (read_ends t x tag pending_ask (Some rows)
-          (if f then Closed (record { ask = pending_ask.viewing.ask; rows = rows }) else
-          (if nat_lt MAX_READ_ITEMS (length (names_of rows pending_ask.viewing.ask)) then Busy Wide else again
-          pending_ask.viewing (names_of rows pending_ask.viewing.ask))))
+          (if f then Closed (record { looker = looker_of t.policy pending_ask.principal; ask = pending_ask.viewing.ask; rows = rows }) else
+          (if nat_lt MAX_READ_ITEMS (length (names_of rows (looker_of t.policy pending_ask.principal) pending_ask.viewing.ask)) then Busy Wide else again
+          pending_ask.viewing (names_of rows (looker_of t.policy pending_ask.principal) pending_ask.viewing.ask))))
       go true =
           let basis = basis_on t.policy pending_ask.principal rows in
-          rules_had pending_ask u (Some rows) tag (record x { clock = clock_after_rows x.clock rows }) number
-          (rows_client x.clock rows ∙ own) (Some (notes_of basis pending_ask.viewing.ask))
+          rules_had pending_ask u (Some rows) tag (record x { clock = clock_after_rows (clock_after_reach x.clock t.first) rows }) number
+          (rows_client (clock_after_reach x.clock t.first) rows ∙ own) (Some (notes_of basis pending_ask.viewing.ask))
           (record {
-            view = record { ask = pending_ask.viewing.ask; rows = rows };
+            view = record { looker = looker_of t.policy pending_ask.principal; ask = pending_ask.viewing.ask; rows = rows };
             principal = pending_ask.principal;
             policy = t.policy;
           }) refl refl (ruling_of basis pending_ask.viewing.ask)
-      go false = wide (nat_lt MAX_READ_ITEMS (length (names_of rows pending_ask.viewing.ask)))
+      go false = wide (nat_lt MAX_READ_ITEMS (length (names_of rows (looker_of t.policy pending_ask.principal) pending_ask.viewing.ask)))
 
   reading_had : (pending_ask : PendingAsk) → ReadsFor w c pending_ask → ((p : ℕ) → BeganFrom w begun_here.partitions p) → (tag : ℕ)
       → (s : Step) → IsHad w c (read_transition t x tag pending_ask s)
@@ -667,7 +667,7 @@ run_requested o some w k q [] = q
 run_requested o some w k q (e ∷ es) = run_requested o some (happens (terms_of o) w e) (event_kept o some w k e)
     (event_requested o some w k q e) es
 
-pub always_requested : (o : Opening) (es : List Event) → is_opening o ≡ true → IsRequested (run_of o es)
+pub always_requested : (o : Opening) (es : List Event) → is_base_opening o ≡ true → IsRequested (run_of o es)
 always_requested o es is =
     let d = opening_is o is in
     run_requested o d.some (start o) (start_kept o d)

@@ -36,6 +36,8 @@ use Rattle.album_world.specs.Busy.{HasCause}
 use Rattle.album_world.proofs.ListLemmas.{In, contains, within, in_left, in_right, in_cases, in_option, in_mapped, self_eqb, and_right}
 use Rattle.album_world.proofs.Invariant.{IsKept}
 use Rattle.album_world.proofs.TurnLemmas.{IsNew, client_cases, begun_other}
+use Rattle.album_views.specs.ReadSets.{looker_of}
+use Rattle.album_eval.specs.declared.policies.Policy.{Policy}
 
 -- ---- the invariant
 
@@ -51,7 +53,7 @@ IsLed t w given (answer.Denied reasons) = IsOnView t w given.client given.last
     (λ case. Finds case (finding.Denied reasons))
 IsLed t w given (answer.Missing object) = IsOnView t w given.client given.last
     (λ case. Finds case (finding.Missing object))
-IsLed t w given (answer.Busy why) = HasCause w given why
+IsLed t w given (answer.Busy why) = HasCause t.policy w given why
 IsLed t w given (answer.Committed s) = IsOnView t w given.client given.last (IsBegunBy w given.client s)
 IsLed t w given (answer.Aborted s) = IsOnView t w given.client given.last (IsBegunBy w given.client s)
 IsLed t w given (answer.Unsettled s why) = IsOnView t w given.client given.last (IsBegunFull t w given.client s)
@@ -66,7 +68,7 @@ pub record IsWriteOn (t : Terms) (w : World) (c : ℕ) (z : WritingState) (T : T
   pub made : In read w.past.reads
   pub own : read.begun.client ≡ c
   pub shown : read.rows ≡ Some rows
-  pub view : IsView (record { ask = read.ask; rows = rows })
+  pub view : IsView (record { looker = looker_of t.policy read.principal; ask = read.ask; rows = rows })
   pub granted : IsPermit (permit_on t.policy read.principal read.ask rows)
   pub by : Transaction
   pub begun : In by w.past.transactions
@@ -180,8 +182,9 @@ module _ (t : Terms) (w1 w2 : World) (g : Adds w1 w2) where
       (λ (d : (why ≡ refusal.StampsSpent) × IsSpent w1 c). inr (d.0, le_trans d.1 (g.clocks c)))
       h
 
-  cause_adds : (given : PastAnswer) (why : Why) → HasCause w1 given why → HasCause w2 given why
-  cause_adds given why h =
+  cause_adds : (policy : Policy) (given : PastAnswer) (why : Why) → HasCause policy w1 given why
+      → HasCause policy w2 given why
+  cause_adds policy given why h =
       record {
         read = h.read;
         last_is = h.last_is;
@@ -194,7 +197,7 @@ module _ (t : Terms) (w1 w2 : World) (g : Adds w1 w2) where
   led_adds given (answer.Served served) h = view_adds given.client given.last _ _ (λ case e. e) h
   led_adds given (answer.Denied reasons) h = view_adds given.client given.last _ _ (λ case e. e) h
   led_adds given (answer.Missing object) h = view_adds given.client given.last _ _ (λ case e. e) h
-  led_adds given (answer.Busy why) h = cause_adds given why h
+  led_adds given (answer.Busy why) h = cause_adds t.policy given why h
   led_adds given (answer.Committed s) h = view_adds given.client given.last (IsBegunBy w1 given.client s)
       (IsBegunBy w2 given.client s) (begun_adds given.client s) h
   led_adds given (answer.Aborted s) h = view_adds given.client given.last (IsBegunBy w1 given.client s)
@@ -361,7 +364,7 @@ module _ (o : Opening) (w : World) (k : IsKept o w) (b : IsBooked (terms_of o) w
   begun_here = last_begun w.past.begun c
 
   module _ (up : old.clock.counter ≤ t.client.clock.counter) (news : (r : Transaction) → t.writes ≡ Some r
-      → IsNew c old.clock.counter t r) where
+      → IsNew c o.first old.clock.counter t r) where
     -- a stamp that was drawn before isn't that of a write that begins now
     not_new : (d s : ℕ) → IsDrawnBy w d s → (r : Transaction) → t.writes ≡ Some r → r.stamp ≡ s → ⊥
     not_new d s h r l e =

@@ -6,7 +6,7 @@ use Rattle.album_stamps.specs.declared.limits.TheConstants.{MAX_COUNTER}
 use Rattle.album_stamps.specs.declared.refusals.Refusal.{Refusal}
 use Rattle.album_stamps.specs.declared.refusals.Refusal.TheVariants as refusal
 use Rattle.album_stamps.specs.Stamps.{stamp_number, counter_of}
-use Rattle.album_stamps.specs.Clocks.{ClockState, clock_after_see, clock_after_next, next_of}
+use Rattle.album_stamps.specs.Clocks.{clock_after_reach, ClockState, clock_after_see, clock_after_next, next_of}
 use Rattle.album_items.specs.ItemIds.{place_of}
 use Rattle.album_calls.specs.Nodes.{is_part, is_client}
 use Rattle.album_calls.specs.declared.messages.Body.{Body}
@@ -62,6 +62,17 @@ pub rows_raise : (clock : ClockState) (rows : List ReadVersion) → clock.counte
 rows_raise clock [] = le_refl _
 rows_raise clock (f ∷ rows) = let l : clock.counter ≤ (clock_after_see clock f.stamp).counter = omega arith in
     le_trans l (rows_raise (clock_after_see clock f.stamp) rows)
+
+-- so it is where the clock reaches a counter first, and that counter is reached
+pub reach_raise : (clock : ClockState) (first : ℕ) (rows : List ReadVersion)
+    → clock.counter ≤ (clock_after_rows (clock_after_reach clock first) rows).counter
+reach_raise clock first rows = let l : clock.counter ≤ (clock_after_reach clock first).counter = omega arith in
+    le_trans l (rows_raise (clock_after_reach clock first) rows)
+
+pub reached : (clock : ClockState) (first : ℕ) (rows : List ReadVersion)
+    → first ≤ (clock_after_rows (clock_after_reach clock first) rows).counter
+reached clock first rows = let l : first ≤ (clock_after_reach clock first).counter = omega arith in
+    le_trans l (rows_raise (clock_after_reach clock first) rows)
 
 -- a clock that has seen a snapshot is at no lower counter than any stamp in it
 pub rows_seen : (clock : ClockState) (rows : List ReadVersion) (row : ReadVersion) → In row rows

@@ -229,7 +229,7 @@ module _ (o : Opening) (w1 w2 : World) (g : Grows o w1 w2) where
   )
   answer_grows (answer.Refused why) h = tt
 
-  pub drawn_grows : (r : Transaction) → IsDrawn w1 r → IsDrawn w2 r
+  pub drawn_grows : (r : Transaction) → IsDrawn o.first w1 r → IsDrawn o.first w2 r
   drawn_grows r h = record {
     counter = h.counter;
     client = h.client;

@@ -338,11 +338,11 @@ IsAnswer o w (answer.Refused why) = Unit {0}
 
 -- ---- transactions
 
-pub record IsDrawn (w : World) (r : Transaction) : Type 0 where
+pub record IsDrawn (first : ℕ) (w : World) (r : Transaction) : Type 0 where
   pub counter : ℕ
   pub client : ℕ
   pub is : r.stamp ≡ counter * 65536 + client
-  pub rises : 0 < counter
+  pub rises : first < counter
   pub low : 0 < client
   pub high : client < 65536
   pub old : counter ≤ (client_at w.now.clients client).clock.counter
@@ -357,7 +357,7 @@ pub record IsKept (o : Opening) (w : World) : Type 0 where
   pub fine : (m : Message) → In m w.now.messages → IsFine o w m.from m.to m.body
   pub from : (m : Message) → In m w.now.messages → IsTagged w m.from m.tag
   pub to : (m : Message) → In m w.now.messages → IsTagged w m.to m.tag
-  pub drawn : (r : Transaction) → In r w.past.transactions → IsDrawn w r
+  pub drawn : (r : Transaction) → In r w.past.transactions → IsDrawn o.first w r
   pub unique : (r s : Transaction) → In r w.past.transactions → In s w.past.transactions → r.stamp ≡ s.stamp → r ≡ s
   pub clients : (c : ℕ) → IsClient o w c (client_at w.now.clients c) (last_begun w.past.begun c).partitions
   pub reads : (f : Read) (rows : List ReadVersion) → In f w.past.reads → f.rows ≡ Some rows

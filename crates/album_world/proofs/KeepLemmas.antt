@@ -4,7 +4,7 @@ use Rattle.std.proofs.lemmas.Bool.{and_parts, eqb-true}
 use Rattle.album_lists.specs.declared.lists.Ace.{Ace}
 use Rattle.album_items.specs.ItemBack.{kind_of-item}
 use Rattle.album_items.specs.ItemIds.{picture, album, list, group, kind_of, number_of, place_of}
-use Rattle.album_items.specs.Openings.{Row, is_opening}
+use Rattle.album_items.specs.Openings.{Row, is_base_opening, greatest_number}
 use Rattle.album_items.specs.Transactions.{items_written}
 use Rattle.album_items.specs.Values.{head_of, home_of, children_of, list_of, members_of}
 use Rattle.album_items.specs.declared.openings.Opening.{Opening}
@@ -43,7 +43,7 @@ use Rattle.album_world.proofs.MarkLemmas.{version_is}
 use Rattle.album_world.proofs.PlaceLemmas.{place_in, item_in}
 use Rattle.album_world.proofs.PromiseLemmas.{outcomes_are_true, views_are_read_atomic, writes_are_granted}
 use Rattle.album_world.proofs.RunLemmas.{always_kept, opening_is}
-use Rattle.album_world.proofs.StayLemmas.{right_rows, stamps_high, views_whole, what_is_committed_stays}
+use Rattle.album_world.proofs.StayLemmas.{low_rows, stamps_high, views_whole, what_is_committed_stays}
 use Rattle.album_world.proofs.ValueLemmas.{IsRewritten, IsWrittenAs, written_as}
 use Rattle.album_world.proofs.ValueLemmas.IsWrittenAs.{Made, Rewritten, Gone, Listed}
 
@@ -83,7 +83,7 @@ new_kind stamp i c group_is = ⊎_elim
     (in_uncons k))
     (in_uncons (within (picture stamp ∷ album stamp ∷ list stamp ∷ []) c))
 
-module _ (o : Opening) (es : List Event) (opens : is_opening o ≡ true) where
+module _ (o : Opening) (es : List Event) (opens : is_base_opening o ≡ true) where
   abbrev pub w : World
   w = run_of o es
 
@@ -94,15 +94,15 @@ module _ (o : Opening) (es : List Event) (opens : is_opening o ≡ true) where
       → (first ≡ 0 → was ≡ value.Missing → ⊥) → P
   not_made i first was by from begun above new there =
       let number : number_of i ≡ by.stamp = new_number by.stamp i new in
-      let drawn : 65535 < by.stamp = stamps_high o es opens by begun in
-      let high : 65535 < number_of i = omega (arith, number, drawn) in
+      let drawn : greatest_number o.first < by.stamp = stamps_high o es opens by begun in
+      let high : greatest_number o.first < number_of i = omega (arith, number, drawn) in
       absurd (⊎_elim
       (λ (f : (first ≡ 0) × (was ≡ first_value o.items i)).
-      there f.0 (f.1 ∙ first_missing o.items i (right_rows o opens) high))
+      there f.0 (f.1 ∙ first_missing (greatest_number o.first) o.items i (low_rows o opens) high))
       (λ (c : IsCommittedAs (terms_of o) w i first was).
       let granted = writes_are_granted o es opens in
       let one = granted.versions (place_of o.parts i) i first was c.is in
-      let old = (ages o w (right_rows o opens) granted.granted (views_whole o es opens) (suc one.by.stamp) one.by one.begun
+      let old = (ages o w (low_rows o opens) granted.granted (views_whole o es opens) (suc one.by.stamp) one.by one.begun
       (omega arith) i was one.wrote).own in
       let at : one.by.stamp ≡ first = one.at in
       let known : number_of i ≤ one.by.stamp = old.known high in
@@ -261,7 +261,7 @@ module _ (o : Opening) (es : List Event) (opens : is_opening o ≡ true) where
 -- ---- the promises
 
 pub acknowledged :
-    (o : Opening) (es : List Event) (given : PastAnswer) (stamp : ℕ) → is_opening o ≡ true
+    (o : Opening) (es : List Event) (given : PastAnswer) (stamp : ℕ) → is_base_opening o ≡ true
     → Contains (run_of o es).past.answers given → given.answer ≡ answer.Committed stamp
     → IsOfWrite (run_of o es) given.client stamp (IsKeptWhole (terms_of o) (run_of o es))
 acknowledged o es given stamp opens here e =
@@ -269,7 +269,7 @@ acknowledged o es given stamp opens here e =
     record { by = h.by; begun = h.begun; own = h.own; at = h.at; holds = committed_whole o es opens h.by h.begun h.holds }
 
 pub what_is_read :
-    (o : Opening) (es : List Event) (read : Read) (rows : List ReadVersion) (row : ReadVersion) → is_opening o ≡ true
+    (o : Opening) (es : List Event) (read : Read) (rows : List ReadVersion) (row : ReadVersion) → is_base_opening o ≡ true
     → Contains (run_of o es).past.reads read → read.rows ≡ Some rows → Contains rows row
     → IsVersion o (run_of o es) row.item row.stamp row.value
 what_is_read o es read rows row opens made shown here = ⊎_elim inl
@@ -279,7 +279,7 @@ what_is_read o es read rows row opens made shown here = ⊎_elim inl
     ((views_are_read_atomic o es opens read rows made shown).written row here)
 
 pub children_stay :
-    (o : Opening) (es : List Event) (number child first last : ℕ) (was is : Value) → is_opening o ≡ true → o.checked ≡ true
+    (o : Opening) (es : List Event) (number child first last : ℕ) (was is : Value) → is_base_opening o ≡ true → o.checked ≡ true
     → IsLaterVersion o (run_of o es) (album number) first last was is
     → NoneBetween (terms_of o) (run_of o es) (λ by. TakesOut child by.permit.view.ask) (album number) first last
     → Contains (children_of was) child → Contains (children_of is) child
@@ -287,7 +287,7 @@ children_stay o es number child first last was is opens checked after =
     child_stays o es opens checked (album number) first last was is after child (kind_of-item 1 number (omega arith))
 
 pub titles_stay :
-    (o : Opening) (es : List Event) (object first last : ℕ) (was is : Value) (title : List ℕ) → is_opening o ≡ true
+    (o : Opening) (es : List Event) (object first last : ℕ) (was is : Value) (title : List ℕ) → is_base_opening o ≡ true
     → o.checked ≡ true → kind_of object ≢ 2 → IsLaterVersion o (run_of o es) object first last was is
     → NoneBetween (terms_of o) (run_of o es) (λ by. SetsTitle object by.permit.view.ask) object first last
     → title_field was ≡ Some title → title_field is ≡ Some title
@@ -296,7 +296,7 @@ titles_stay o es object first last was is title opens checked kind after =
     (λ e. absurd (cc)) DeletesTitled (λ shown stamp a v r. r.title) kind
 
 pub contents_stay :
-    (o : Opening) (es : List Event) (object first last : ℕ) (was is : Value) (content : List ℕ) → is_opening o ≡ true
+    (o : Opening) (es : List Event) (object first last : ℕ) (was is : Value) (content : List ℕ) → is_base_opening o ≡ true
     → o.checked ≡ true → kind_of object ≢ 2 → IsLaterVersion o (run_of o es) object first last was is
     → NoneBetween (terms_of o) (run_of o es) (λ by. SetsContent object by.permit.view.ask) object first last
     → content_field was ≡ Some content → content_field is ≡ Some content
@@ -305,7 +305,7 @@ contents_stay o es object first last was is content opens checked kind after =
     (λ e. absurd (cc)) DeletesFilled (λ shown stamp a v r. r.content) kind
 
 pub homes_stay :
-    (o : Opening) (es : List Event) (object first last : ℕ) (was is : Value) (home : ℕ) → is_opening o ≡ true
+    (o : Opening) (es : List Event) (object first last : ℕ) (was is : Value) (home : ℕ) → is_base_opening o ≡ true
     → o.checked ≡ true → kind_of object ≢ 2 → IsLaterVersion o (run_of o es) object first last was is
     → NoneBetween (terms_of o) (run_of o es) (λ by. TakesOut object by.permit.view.ask) object first last
     → home_of was ≡ home ∷ [] → home_of is ≡ home ∷ []
@@ -314,7 +314,7 @@ homes_stay o es object first last was is home opens checked kind after =
     (λ e. absurd (cc)) DeletesChild (λ shown stamp a v r. r.home) kind
 
 pub heads_stay :
-    (o : Opening) (es : List Event) (object first last : ℕ) (was is : Value) (head : Head) → is_opening o ≡ true
+    (o : Opening) (es : List Event) (object first last : ℕ) (was is : Value) (head : Head) → is_base_opening o ≡ true
     → o.checked ≡ true → kind_of object ≢ 2 → IsLaterVersion o (run_of o es) object first last was is
     → NoneBetween (terms_of o) (run_of o es) (λ by. HandsOver object by.permit.view.ask) object first last
     → head_of was ≡ Some head → head_of is ≡ Some head
@@ -323,7 +323,7 @@ heads_stay o es object first last was is head opens checked kind after =
     (λ e. absurd (cc)) Deletes (λ shown stamp a v r. r.head) kind
 
 pub lists_stay :
-    (o : Opening) (es : List Event) (number first last : ℕ) (was is : Value) (entries : List Ace) → is_opening o ≡ true
+    (o : Opening) (es : List Event) (number first last : ℕ) (was is : Value) (entries : List Ace) → is_base_opening o ≡ true
     → o.checked ≡ true → IsLaterVersion o (run_of o es) (list number) first last was is
     → NoneBetween (terms_of o) (run_of o es)
     (λ by. SetsList (seen by.permit.view.rows) (list number) by.permit.view.ask) (list number) first last
@@ -332,7 +332,7 @@ lists_stay o es number first last was is entries opens checked after =
     list_stays o es opens checked (list number) first last was is after entries (kind_of-item 2 number (omega arith))
 
 pub groups_stay :
-    (o : Opening) (es : List Event) (number first last : ℕ) (was is : Value) → is_opening o ≡ true
+    (o : Opening) (es : List Event) (number first last : ℕ) (was is : Value) → is_base_opening o ≡ true
     → o.checked ≡ true → IsLaterVersion o (run_of o es) (group number) first last was is
     → NoneBetween (terms_of o) (run_of o es) (λ by. SetsMembers (group number) by.permit.view.ask) (group number) first last
     → members_of is ≡ members_of was
@@ -340,7 +340,7 @@ groups_stay o es number first last was is opens checked after =
     members_stay o es opens checked (group number) first last was is after (kind_of-item 3 number (omega arith))
 
 pub deleted_stays :
-    (o : Opening) (es : List Event) (object first last : ℕ) (was is : Value) → is_opening o ≡ true
+    (o : Opening) (es : List Event) (object first last : ℕ) (was is : Value) → is_base_opening o ≡ true
     → o.checked ≡ true → kind_of object ≢ 2 → first ≢ 0 → IsLaterVersion o (run_of o es) object first last was is
     → was ≡ value.Missing → is ≡ value.Missing
 deleted_stays o es object first last was is opens checked kind some after =

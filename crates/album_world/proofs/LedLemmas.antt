@@ -1,7 +1,7 @@
 -- Each transition of a client is booked: its answer, notes and write rest on the view that the client had read last.
 use Rattle.std.proofs.Common.{◌≡◌, ℕ, ◌<◌, ◌≤◌, ◌+◌, ◌*◌, Bool, true, false, cond, nat_lt, nat_le, length, List, [], ◌∷◌, ◌++◌, Option, Some, None, Result, Ok, Err, IfOk, ◌⊎◌, inl, inr, ⊎_elim, sym, ap, ◌∙◌, subst, refl, arith, ltb-true, ltb-false, lt-ltb, le_refl, le_of_eq, le_trans, if◌then◌else◌}
 use Rattle.std.proofs.lemmas.Bool.{leb-true, leb-false}
-use Rattle.album_stamps.specs.Clocks.{ClockState, clock_after_next, next_of}
+use Rattle.album_stamps.specs.Clocks.{clock_after_reach, ClockState, clock_after_next, next_of}
 use Rattle.album_stamps.proofs.Drawing.{next-greater}
 use Rattle.album_stamps.specs.Stamps.{is_client}
 use Rattle.album_stamps.specs.declared.limits.TheConstants.{CLIENTS, MAX_READS, MAX_READ_ITEMS, MAX_COUNTER}
@@ -17,7 +17,7 @@ use Rattle.album_reader.specs.Answers.{ReadVersion}
 use Rattle.album_reader.specs.Rounds.{Step, stepped}
 use Rattle.album_reader.specs.Rounds.Step.{Same, Next, Done, Gone}
 use Rattle.album_views.specs.Checks.{refusal_of}
-use Rattle.album_views.specs.ReadSets.{names_of}
+use Rattle.album_views.specs.ReadSets.{names_of, looker_of}
 use Rattle.album_views.specs.Steps.{again}
 use Rattle.album_views.specs.Steps.{stepped as viewed}
 use Rattle.album_views.specs.Views.{ViewingState, IsView, IsClosed, is_closed}
@@ -65,7 +65,7 @@ use Rattle.album_world.specs.Outcomes.{IsRefusedFor}
 use Rattle.album_world.specs.Busy.{IsNarrow}
 use Rattle.album_world.proofs.ListLemmas.{In, contains, within, in_right, in_cases, in_nil, and_both, self_eqb, some_same, none_some}
 use Rattle.album_world.proofs.ListLemmas.In.{here}
-use Rattle.album_world.proofs.ClientLemmas.{rows_client, rows_raise, rows_seen, IsDraw, draw_is, next_client, next_raise, given_to_is}
+use Rattle.album_world.proofs.ClientLemmas.{rows_client, reach_raise, reached, rows_seen, IsDraw, draw_is, next_client, next_raise, given_to_is}
 use Rattle.album_world.proofs.Invariant.{IsKept, IsDoing}
 use Rattle.album_world.proofs.TurnLemmas.{IsNew, not_same, same_now}
 use Rattle.album_world.proofs.ReplyLemmas.{with_past}
@@ -140,7 +140,7 @@ module _ (o : Opening) (w : World) (k : IsKept o w) (b : IsBooked (terms_of o) w
         (λ z l. subst (λ (y : Answer). IsNotedFor next (past_answer (read_now rows ∷ w.past.reads) c y) y) (some_same l) tt)
         (λ a l. none_some l)
 
-    again_booked : (rows : Option (List ReadVersion)) → ((read_now rows).rows ≡ None) ⊎ IsNarrow (read_now rows)
+    again_booked : (rows : Option (List ReadVersion)) → ((read_now rows).rows ≡ None) ⊎ IsNarrow t.policy (read_now rows)
         → (items : List ℕ)
         → IsBooked t (changed w (AtClient c (read_ends t x tag pending_ask rows (again pending_ask.viewing items))))
     again_booked rows vain items = go (nat_le MAX_READS (pending_ask.viewing.reads + 1)) refl
@@ -185,13 +185,13 @@ module _ (o : Opening) (w : World) (k : IsKept o w) (b : IsBooked (terms_of o) w
 
     -- ---- a view
 
-    module _ (rows : List ReadVersion) (closed : IsClosed pending_ask.viewing.ask rows) where
+    module _ (rows : List ReadVersion) (closed : IsClosed (looker_of t.policy pending_ask.principal) pending_ask.viewing.ask rows) where
       abbrev here_read : Read
       here_read = read_now (Some rows)
 
       abbrev permit : PermitState
       permit = record {
-        view = record { ask = pending_ask.viewing.ask; rows = rows };
+        view = record { looker = looker_of t.policy pending_ask.principal; ask = pending_ask.viewing.ask; rows = rows };
         principal = pending_ask.principal;
         policy = t.policy;
       }
@@ -202,7 +202,7 @@ module _ (o : Opening) (w : World) (k : IsKept o w) (b : IsBooked (terms_of o) w
       based : IsBasis t.policy pending_ask.principal rows basis
       based = basis-based t.policy pending_ask.principal rows
 
-      is_view : IsView (record { ask = pending_ask.viewing.ask; rows = rows })
+      is_view : IsView (record { looker = looker_of t.policy pending_ask.principal; ask = pending_ask.viewing.ask; rows = rows })
       is_view = record { sound = taken_flawless pending_ask.viewing.ask pending_ask.principal counted.taken; closed = closed }
 
       on_view : (v : World) → In here_read v.past.reads → (P : PermitState → Type 0) → P permit
@@ -222,13 +222,13 @@ module _ (o : Opening) (w : World) (k : IsKept o w) (b : IsBooked (terms_of o) w
       notes = notes_of basis pending_ask.viewing.ask
 
       abbrev seen : Client
-      seen = record x { clock = clock_after_rows x.clock rows }
+      seen = record x { clock = clock_after_rows (clock_after_reach x.clock o.first) rows }
 
       seen_own : seen.clock.client ≡ c
-      seen_own = rows_client x.clock rows ∙ own
+      seen_own = rows_client (clock_after_reach x.clock o.first) rows ∙ own
 
       seen_up : x.clock.counter ≤ seen.clock.counter
-      seen_up = rows_raise x.clock rows
+      seen_up = reach_raise x.clock o.first rows
 
       -- the answer and the notes of this event
       abbrev over_with : TransitionState → TransitionState
@@ -280,10 +280,14 @@ module _ (o : Opening) (w : World) (k : IsKept o w) (b : IsBooked (terms_of o) w
 
           later : (row : ReadVersion) → In row rows → row.stamp < stamp
           later row i = subst (λ (f : Result ℕ Refusal). IfOk f (λ s. row.stamp < s)) is_next
-              (next-greater seen.clock row.stamp (rows_seen x.clock rows row i))
+              (next-greater seen.clock row.stamp (rows_seen (clock_after_reach x.clock o.first) rows row i))
 
           above : x.clock.counter < drawn.clock.counter
           above = let a : x.clock.counter ≤ seen.clock.counter = seen_up in
+              let e : drawn.clock.counter ≡ seen.clock.counter + 1 = d.counter in omega (arith, a, e)
+
+          rises : o.first < drawn.clock.counter
+          rises = let a = reached x.clock o.first rows in
               let e : drawn.clock.counter ≡ seen.clock.counter + 1 = d.counter in omega (arith, a, e)
 
           is : stamp ≡ drawn.clock.counter * 65536 + c
@@ -301,10 +305,11 @@ module _ (o : Opening) (w : World) (k : IsKept o w) (b : IsBooked (terms_of o) w
           }
 
           is_new : (turn : TransitionState) → turn.client.clock.counter ≡ drawn.clock.counter → (r : Transaction)
-              → r.stamp ≡ stamp → IsNew c x.clock.counter turn r
+              → r.stamp ≡ stamp → IsNew c o.first x.clock.counter turn r
           is_new turn same r e = record {
             at = drawn.clock.counter;
             is = e ∙ is;
+            rises = rises;
             above = above;
             low = low;
             high = high;
@@ -426,7 +431,7 @@ module _ (o : Opening) (w : World) (k : IsKept o w) (b : IsBooked (terms_of o) w
       rules_booked : (f : Finding) → ruling_of basis pending_ask.viewing.ask ≡ f
           → IsBooked t (changed w (AtClient c (over_with (rules_by t seen tag permit f))))
       rules_booked finding.Granted e =
-          grants_booked (record { taken = counted.taken; basis = basis; based = based; granted = e })
+          grants_booked (record { taken = counted.taken; looks = refl; basis = basis; based = based; granted = e })
           (served_for permit pending_ask.viewing.ask) refl
       rules_booked (finding.Denied reasons) e = answers_booked seen number seen_own seen_up (answer.Denied reasons)
           (λ v made at none. on_view v made _ (record { basis = basis; based = based; is = e }))
@@ -436,14 +441,14 @@ module _ (o : Opening) (w : World) (k : IsKept o w) (b : IsBooked (terms_of o) w
     -- ---- a snapshot
 
     done_booked : (rows : List ReadVersion)
-        → IsBooked t (changed w (AtClient c (read_ends t x tag pending_ask (Some rows) (viewed pending_ask.viewing rows))))
-    done_booked rows = go (is_closed pending_ask.viewing.ask rows) refl
+        → IsBooked t (changed w (AtClient c (read_ends t x tag pending_ask (Some rows) (viewed (looker_of t.policy pending_ask.principal) pending_ask.viewing rows))))
+    done_booked rows = go (is_closed (looker_of t.policy pending_ask.principal) pending_ask.viewing.ask rows) refl
       where
-        wide : (IsClosed pending_ask.viewing.ask rows → ⊥) → (f : Bool)
-            → nat_lt MAX_READ_ITEMS (length (names_of rows pending_ask.viewing.ask)) ≡ f
+        wide : (IsClosed (looker_of t.policy pending_ask.principal) pending_ask.viewing.ask rows → ⊥) → (f : Bool)
+            → nat_lt MAX_READ_ITEMS (length (names_of rows (looker_of t.policy pending_ask.principal) pending_ask.viewing.ask)) ≡ f
             → IsBooked t (changed w
             (AtClient c (read_ends t x tag pending_ask (Some rows)
-            (if f then Busy Wide else again pending_ask.viewing (names_of rows pending_ask.viewing.ask)))))
+            (if f then Busy Wide else again pending_ask.viewing (names_of rows (looker_of t.policy pending_ask.principal) pending_ask.viewing.ask)))))
         wide unclosed true e = busy_booked Wide (Some rows) (λ v made. record {
           read = read_now (Some rows);
           last_is = is_last (Some rows);
@@ -460,18 +465,18 @@ module _ (o : Opening) (w : World) (k : IsKept o w) (b : IsBooked (terms_of o) w
               rows = rows;
               lacking = record { shown = refl; lacking = unclosed };
               narrow = ltb-false MAX_READ_ITEMS _ e;
-            })) (names_of rows pending_ask.viewing.ask)
+            })) (names_of rows (looker_of t.policy pending_ask.principal) pending_ask.viewing.ask)
 
-        go : (f : Bool) → is_closed pending_ask.viewing.ask rows ≡ f
+        go : (f : Bool) → is_closed (looker_of t.policy pending_ask.principal) pending_ask.viewing.ask rows ≡ f
             → IsBooked t (changed w
             (AtClient c (read_ends t x tag pending_ask (Some rows)
-            (if f then Closed (record { ask = pending_ask.viewing.ask; rows = rows }) else
-            (if nat_lt MAX_READ_ITEMS (length (names_of rows pending_ask.viewing.ask)) then Busy Wide else again
-            pending_ask.viewing (names_of rows pending_ask.viewing.ask))))))
-        go true e = rules_booked rows (closed-is rows pending_ask.viewing.ask e)
+            (if f then Closed (record { looker = looker_of t.policy pending_ask.principal; ask = pending_ask.viewing.ask; rows = rows }) else
+            (if nat_lt MAX_READ_ITEMS (length (names_of rows (looker_of t.policy pending_ask.principal) pending_ask.viewing.ask)) then Busy Wide else again
+            pending_ask.viewing (names_of rows (looker_of t.policy pending_ask.principal) pending_ask.viewing.ask))))))
+        go true e = rules_booked rows (closed-is rows (looker_of t.policy pending_ask.principal) pending_ask.viewing.ask e)
             (ruling_of (basis_on t.policy pending_ask.principal rows) pending_ask.viewing.ask) refl
-        go false e = wide (not-closed rows pending_ask.viewing.ask e)
-            (nat_lt MAX_READ_ITEMS (length (names_of rows pending_ask.viewing.ask))) refl
+        go false e = wide (not-closed rows (looker_of t.policy pending_ask.principal) pending_ask.viewing.ask e)
+            (nat_lt MAX_READ_ITEMS (length (names_of rows (looker_of t.policy pending_ask.principal) pending_ask.viewing.ask))) refl
 
     -- ---- a message in a read
 

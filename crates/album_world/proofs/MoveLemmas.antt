@@ -2,7 +2,7 @@
 -- (`few_prepared`, `none_committed`). By an ask (`asked_done`) and by a message (`taken_done`) it has had its turn, and
 -- it is still the client of its number (`number_turn`).
 use Rattle.std.proofs.Common.{◌≡◌, ℕ, ◌≤◌, Bool, true, false, List, [], ◌∷◌, length, map, Option, Some, None, Result, Ok, Err, refl, sym, ap, ◌∙◌, subst, arith, option_map, option_to_list, ◌++◌, IsOkAnd}
-use Rattle.album_stamps.specs.Clocks.{ClockState, clock_after_next, next_of}
+use Rattle.album_stamps.specs.Clocks.{clock_after_reach, ClockState, clock_after_next, next_of}
 use Rattle.album_stamps.specs.declared.refusals.Refusal.{Refusal}
 use Rattle.album_calls.specs.declared.messages.Message.{Message}
 use Rattle.album_eval.specs.declared.facts.Principal.{Principal}
@@ -45,6 +45,7 @@ use Rattle.album_permits.specs.declared.outs.Out.TheVariants as out
 use Rattle.album_world.specs.Changes.{asks_by, client_takes_by}
 use Rattle.album_world.specs.Moves.{IsInstalled, IsChangedBy, idle_tag, is_writing}
 use Rattle.album_world.specs.Runs.{numbers_after, outs_of_transition}
+use Rattle.album_views.specs.ReadSets.{looker_of}
 
 -- ---- how many messages
 
@@ -106,7 +107,7 @@ module _ (terms : Terms) (x : Client) (d : Phase) where
   same_views tag who (Again viewing items) = refl
   same_views tag who (Closed view) =
       ap (λ (t : TransitionState). record t { noted = Some (notes_of (basis_on terms.policy who view.rows) view.ask) })
-      (same_rules (clock_after_rows x.clock view.rows) tag _ (ruling_of (basis_on terms.policy who view.rows) view.ask))
+      (same_rules (clock_after_rows (clock_after_reach x.clock terms.first) view.rows) tag _ (ruling_of (basis_on terms.policy who view.rows) view.ask))
   same_views tag who (Busy why) = refl
 
   same_read : (tag : ℕ) (pending_ask : PendingAsk) (f : ReadStep)
@@ -116,7 +117,7 @@ module _ (terms : Terms) (x : Client) (d : Phase) where
   same_read tag pending_ask (Done rows) =
       ap (λ (t : TransitionState). record t {
         over = Some (record { ask = pending_ask.viewing.ask; principal = pending_ask.principal; rows = Some rows });
-      }) (same_views tag pending_ask.principal (viewed pending_ask.viewing rows))
+      }) (same_views tag pending_ask.principal (viewed (looker_of terms.policy pending_ask.principal) pending_ask.viewing rows))
   same_read tag pending_ask (Gone items) =
       ap (λ (t : TransitionState). record t {
         over = Some (record { ask = pending_ask.viewing.ask; principal = pending_ask.principal; rows = None });
@@ -166,14 +167,14 @@ module _ (terms : Terms) (x : Client) where
   number_views : (tag : ℕ) (who : Principal) (f : ViewStep) → (views_by terms x tag who f).client.number ≡ x.number
   number_views tag who (Again viewing items) = refl
   number_views tag who (Closed view) =
-      number_rules (clock_after_rows x.clock view.rows) tag _ (ruling_of (basis_on terms.policy who view.rows) view.ask)
+      number_rules (clock_after_rows (clock_after_reach x.clock terms.first) view.rows) tag _ (ruling_of (basis_on terms.policy who view.rows) view.ask)
   number_views tag who (Busy why) = refl
 
   number_read : (tag : ℕ) (pending_ask : PendingAsk) (f : ReadStep)
       → (read_transition terms x tag pending_ask f).client.number ≡ x.number
   number_read tag pending_ask (Same round) = refl
   number_read tag pending_ask (Next round messages) = refl
-  number_read tag pending_ask (Done rows) = number_views tag pending_ask.principal (viewed pending_ask.viewing rows)
+  number_read tag pending_ask (Done rows) = number_views tag pending_ask.principal (viewed (looker_of terms.policy pending_ask.principal) pending_ask.viewing rows)
   number_read tag pending_ask (Gone items) = number_views tag pending_ask.principal (again pending_ask.viewing items)
 
 number_prepare : (x : Client) (tag : ℕ) (f : WriteStep) → (prepare_transition x tag f).client.number ≡ x.number

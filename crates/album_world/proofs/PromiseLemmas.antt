@@ -5,7 +5,7 @@ use Rattle.album_stamps.specs.Outcome.{◌>>=◌}
 use Rattle.album_stamps.specs.Stamps.{is_client}
 use Rattle.album_stamps.specs.declared.refusals.Refusal.{Refusal}
 use Rattle.album_stamps.specs.declared.refusals.Refusal.TheVariants as refusal
-use Rattle.album_items.specs.Openings.{is_opening}
+use Rattle.album_items.specs.Openings.{is_base_opening}
 use Rattle.album_items.specs.Openings.{Row}
 use Rattle.album_items.specs.Places.{rows_placed_at}
 use Rattle.album_items.specs.ItemIds.{place_of}
@@ -132,7 +132,7 @@ run_booked o some w k b [] = b
 run_booked o some w k b (e ∷ es) = run_booked o some (happens (terms_of o) w e) (event_kept o some w k e)
     (event_booked o some w k b e) es
 
-pub always_booked : (o : Opening) (es : List Event) → is_opening o ≡ true → IsBooked (terms_of o) (run_of o es)
+pub always_booked : (o : Opening) (es : List Event) → is_base_opening o ≡ true → IsBooked (terms_of o) (run_of o es)
 always_booked o es is =
     let d = opening_is o is in
     run_booked o d.some (start o) (start_kept o d)
@@ -171,7 +171,7 @@ ruled_by t w given (answer.Unsettled s why) h = map_view t w given (IsBegunFull 
 ruled_by t w given (answer.Refused why) h = map_view t w given
     (λ case. IsPermit case × IsRefusedFor w given.client why case) IsPermit (λ case e. e.0) h
 
-pub rulings_hold : (o : Opening) (es : List Event) → is_opening o ≡ true → RulingsHold (terms_of o) (run_of o es)
+pub rulings_hold : (o : Opening) (es : List Event) → is_base_opening o ≡ true → RulingsHold (terms_of o) (run_of o es)
 rulings_hold o es is =
     let b = always_booked o es is in
     record {
@@ -188,7 +188,7 @@ one_finding case f g a b =
     (record { same = λ item n. refl }) a.based b.based
     ∙ b.is
 
-caused_by : (t : Terms) (w : World) (given : PastAnswer) (a : Answer) → IsLed t w given a → IsCaused w given a
+caused_by : (t : Terms) (w : World) (given : PastAnswer) (a : Answer) → IsLed t w given a → IsCaused t.policy w given a
 caused_by t w given (answer.Served served) h = tt
 caused_by t w given (answer.Denied reasons) h = tt
 caused_by t w given (answer.Missing object) h = tt
@@ -198,7 +198,7 @@ caused_by t w given (answer.Aborted s) h = tt
 caused_by t w given (answer.Unsettled s why) h = tt
 caused_by t w given (answer.Refused why) h = tt
 
-pub busy_has_its_cause : (o : Opening) (es : List Event) → is_opening o ≡ true → BusyHasItsCause (run_of o es)
+pub busy_has_its_cause : (o : Opening) (es : List Event) → is_base_opening o ≡ true → BusyHasItsCause (terms_of o) (run_of o es)
 busy_has_its_cause o es is given h = caused_by (terms_of o) (run_of o es) given given.answer
     ((always_booked o es is).led given (within _ h))
 
@@ -226,7 +226,7 @@ true_outcome o some w k given (answer.Refused why) h d =
     map_view (terms_of o) w given (λ case. IsPermit case × IsRefusedFor w given.client why case)
     (IsRefusedFor w given.client why) (λ case e. e.1) h
 
-pub outcomes_are_true : (o : Opening) (es : List Event) → is_opening o ≡ true
+pub outcomes_are_true : (o : Opening) (es : List Event) → is_base_opening o ≡ true
     → OutcomesAreTrue (terms_of o) (run_of o es)
 outcomes_are_true o es is given h =
     let d = opening_is o is in
@@ -234,10 +234,10 @@ outcomes_are_true o es is given h =
     true_outcome o d.some (run_of o es) k given given.answer ((always_booked o es is).led given (within _ h))
     (k.answers given (within _ h))
 
-pub views_are_read_atomic : (o : Opening) (es : List Event) → is_opening o ≡ true → ViewsAreReadAtomic o (run_of o es)
+pub views_are_read_atomic : (o : Opening) (es : List Event) → is_base_opening o ≡ true → ViewsAreReadAtomic o (run_of o es)
 views_are_read_atomic o es is = views_atomic o (run_of o es) (always_kept o es is)
 
-pub views_are_fresh : (o : Opening) (es : List Event) → is_opening o ≡ true → ViewsAreFresh (terms_of o) (run_of o es)
+pub views_are_fresh : (o : Opening) (es : List Event) → is_base_opening o ≡ true → ViewsAreFresh (terms_of o) (run_of o es)
 views_are_fresh o es is = views_fresh o (run_of o es) (always_kept o es is)
 
 -- what isn't placed at a partition, the partition has no value of
@@ -276,7 +276,7 @@ of_one o w k p i t v h =
       alone = λ other l e. k.unique other s.of (within _ l) s.begun (e ∙ sym s.stamp);
     }
 
-pub writes_are_granted : (o : Opening) (es : List Event) → is_opening o ≡ true
+pub writes_are_granted : (o : Opening) (es : List Event) → is_base_opening o ≡ true
     → WritesAreGranted (terms_of o) (run_of o es)
 writes_are_granted o es is = record {
   granted = λ by l. (always_booked o es is).granted by (within _ l);

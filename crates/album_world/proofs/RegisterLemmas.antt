@@ -1,11 +1,11 @@
 -- Clients in the order of their first asks, for `Clients`: a client is at the index of its number, or nowhere. They are
 -- the values of a map, whose keys are their numbers.
-use Rattle.std.proofs.Common.{◌≡◌, ℕ, zero, suc, ◌+◌, ◌<◌, ◌≤◌, Bool, true, false, cond, not, ◌||◌, ◌==◌, ltb, List, [], ◌∷◌, ◌++◌, map, length, set, get_or, Option, Some, None, position, Result, Ok, Err, IsOk, IsOkAnd, IfOk, OnErr, IfSome, IfNone, refl, sym, ap, ◌∙◌, subst, arith}
+use Rattle.std.proofs.Common.{◌≡◌, ℕ, zero, suc, ◌+◌, ◌<◌, ◌≤◌, Bool, true, false, cond, not, ◌||◌, ◌==◌, ltb, List, [], ◌∷◌, ◌++◌, map, length, set, get_or, drop, max, Option, Some, None, position, Result, Ok, Err, IsOk, IsOkAnd, IfOk, OnErr, IfSome, IfNone, refl, sym, ap, ◌∙◌, subst, arith}
 use Rattle.std.specs.List.{list_any, position_or_len, slice_get}
 use Rattle.std.specs.Map.{keys_of, values_of}
 use Rattle.std.proofs.lemmas.Bool.{eqb-true, ltb-false, ltb-true}
-use Rattle.std.proofs.lemmas.List.{map-append}
-use Rattle.std.proofs.lemmas.Option.{get_or_from_slice_get}
+use Rattle.std.proofs.lemmas.List.{drop_more, map-append}
+use Rattle.std.proofs.lemmas.Option.{get_or_from_slice_get, slice_get_within}
 use Rattle.indexmap.specs.IndexMap.{IndexMap, insert_entry, keys, set_value_at, values, with_value_at}
 use Rattle.indexmap.proofs.CallerLemmas.{keys-with_value_at}
 use Rattle.album_stamps.specs.declared.refusals.Refusal.{Refusal}
@@ -18,7 +18,7 @@ use Rattle.album_client.specs.Terms.{Terms}
 use Rattle.album_client.specs.Clients.{Client, newcomer}
 use Rattle.album_client.specs.Steps.{TransitionState}
 use Rattle.album_permits.specs.declared.outs.Out.{Out}
-use Rattle.album_world.specs.State.{client_at, with_client}
+use Rattle.album_world.specs.State.{client_at, highest_counter, with_client}
 use Rattle.album_world.specs.Changes.{Change, asks_unless}
 use Rattle.album_world.specs.Changes.Change.{Nothing, AtPart, AtClient, Stops}
 use Rattle.album_world.specs.Moves.{IsChangedBy, IsInstalled}
@@ -368,3 +368,20 @@ pub ruleset asking = (may_at, new_client, keys_kept, left)
 
 -- a client takes a message
 pub ruleset taking = (taken_at, new_takes_nothing, keys_kept, left)
+
+-- from an index on, the greatest counter is the client's there, or a later one's
+pub highest_next : (clients : List Client) (i : ℕ) (client : Client) → slice_get clients i ≡ Some client
+    → highest_counter (drop i clients) ≡ max client.clock.counter (highest_counter (drop (i + 1) clients))
+highest_next clients i client e =
+    ap highest_counter (drop_more clients i client (slice_get_within clients i client e))
+    ∙ ap (λ (z : Client). max z.clock.counter (highest_counter (drop (i + 1) clients)))
+    (get_or_from_slice_get clients i client client e)
+
+-- the greatest of three: once the greater of the first two is taken, the rest is left
+pub max_passed : (high counter rest whole next : ℕ) → max high (max counter rest) ≡ whole → high < counter → next ≡ counter
+    → max next rest ≡ whole
+max_passed high counter rest whole next is above taken = omega (arith, is, above, taken)
+
+pub max_kept : (high counter rest whole next : ℕ) → max high (max counter rest) ≡ whole → counter ≤ high → next ≡ high
+    → max next rest ≡ whole
+max_kept high counter rest whole next is below kept = omega (arith, is, below, kept)

@@ -3,7 +3,7 @@ use Rattle.std.proofs.Common.{◌≡◌, ℕ, ◌<◌, ◌≤◌, ◌+◌, ◌*�
 use Rattle.std.specs.Option.{option_map_or}
 use Rattle.album_stamps.specs.declared.refusals.Refusal.{Refusal}
 use Rattle.album_stamps.specs.declared.refusals.Refusal.TheVariants as refusal
-use Rattle.album_stamps.specs.Clocks.{ClockState, clock_after_next, next_of}
+use Rattle.album_stamps.specs.Clocks.{clock_after_reach, ClockState, clock_after_next, next_of}
 use Rattle.album_items.specs.ItemIds.{place_of}
 use Rattle.album_items.specs.Openings.{Row}
 use Rattle.album_items.specs.Places.{rows_placed_at}
@@ -61,11 +61,12 @@ use Rattle.album_world.proofs.ListLemmas.{In, in_right, in_cases, in_map, filter
 use Rattle.album_world.proofs.ListLemmas.In.{here}
 use Rattle.album_world.proofs.MarkLemmas.{IsPreparedIn, prepared_in, wrote}
 use Rattle.album_world.proofs.PlaceLemmas.{place_in, item_in, stamp_in, in_stamps}
-use Rattle.album_world.proofs.ClientLemmas.{rows_client, rows_raise, draw_is, next_client, next_raise, each_item, own_nothing, none_found, there_in, IsFoundBy, found_is, put_cases, put_own, given_to_is}
+use Rattle.album_world.proofs.ClientLemmas.{rows_client, reach_raise, reached, draw_is, next_client, next_raise, each_item, own_nothing, none_found, there_in, IsFoundBy, found_is, put_cases, put_own, given_to_is}
 use Rattle.album_world.proofs.Invariant.{IsKept, IsPrepareOf, bases_for, IsAsk, IsSettled, IsValue, IsFine, IsTagged, GetsWith, AnswersWith, IsAsked, IsAnswered, FirstRound, SecondRound, IsCollectedStamp, HasFresh, IsAsking, IsFetching, IsRound, IsReading, IsWriting, HasPrepared, HasCommitted, IsDoing, IsAnswer, IsRead, IsDone}
 use Rattle.album_world.proofs.GrowthLemmas.{begun_grows, stamp_grows, has_fresh_grows, settled_grows}
 use Rattle.album_world.proofs.WroteLemmas.{written_here}
 use Rattle.album_world.proofs.TurnLemmas.{IsSent, IsNew, turn_kept, turn_grows, doing_lasts}
+use Rattle.album_views.specs.ReadSets.{looker_of}
 
 node_tag : (w : World) (n : Node) (c g : ℕ) → n ≡ ToClient c → IsTagged w n g
     → g ≤ tag_of (client_at w.now.clients c).phase
@@ -228,10 +229,10 @@ module _ (o : Opening) (some : 0 < o.parts) (w : World) (k : IsKept o w) (c : �
         }))
         (λ r i. none_some i) reads (λ b i. none_some i)
 
-    writes_kept : 0 < c → c < 65536 → x.clock.counter < y.clock.counter → (permit : PermitState) (stamp : ℕ)
+    writes_kept : 0 < c → c < 65536 → x.clock.counter < y.clock.counter → o.first < y.clock.counter → (permit : PermitState) (stamp : ℕ)
         → stamp ≡ y.clock.counter * 65536 + c
         → IsKept o (changed w (AtClient c (with_past (write_begins (terms_of o) y tag permit stamp) e n)))
-    writes_kept low high above permit stamp is =
+    writes_kept low high above rises permit stamp is =
         let t = with_past (write_begins (terms_of o) y tag permit stamp) e n in
         let next = changed w (AtClient c t) in
         let z = round_for (terms_of o) y tag permit stamp in
@@ -257,20 +258,21 @@ module _ (o : Opening) (some : 0 < o.parts) (w : World) (k : IsKept o w) (c : �
           fine = prepare_fine o next q.0 z (rows_placed_at q.0 o.parts (effect_of permit stamp)) of refl;
         })
         (record { of = r; begun = mine; stamp = refl; parts = refl; client = ny; given = λ p l. inl l })
-        (λ s i. subst (λ (a : Transaction). IsNew c x.clock.counter t a) (some_same i)
-        (record { at = y.clock.counter; is = is; above = above; low = low; high = high; drawn = le_refl _ }))
+        (λ s i. subst (λ (a : Transaction). IsNew c o.first x.clock.counter t a) (some_same i)
+        (record { at = y.clock.counter; is = is; rises = rises; above = above; low = low; high = high; drawn = le_refl _ }))
         reads (λ b i. none_some i)
 
-    unless_kept : 0 < c → c < 65536 → x.clock.counter < y.clock.counter → (permit : PermitState) (stamp : ℕ)
+    unless_kept : 0 < c → c < 65536 → x.clock.counter < y.clock.counter → o.first < y.clock.counter
+        → (permit : PermitState) (stamp : ℕ)
         → stamp ≡ y.clock.counter * 65536 + c → (full : Bool)
         → IsKept o (changed w (AtClient c (with_past (writes_unless (terms_of o) y tag permit stamp full) e n)))
-    unless_kept low high above permit stamp is true = ends_kept (answer.Refused refusal.AlbumFull) tt
-    unless_kept low high above permit stamp is false = writes_kept low high above permit stamp is
+    unless_kept low high above rises permit stamp is true = ends_kept (answer.Refused refusal.AlbumFull) tt
+    unless_kept low high above rises permit stamp is false = writes_kept low high above rises permit stamp is
 
   -- ---- a view, or none
 
   module _ (y : Client) (ny : y.number ≡ c) (oy : y.clock.client ≡ c) (up : x.clock.counter ≤ y.clock.counter)
-      (e : Option Ended) (n : Option (List Note))
+      (lifted : o.first ≤ y.clock.counter) (e : Option Ended) (n : Option (List Note))
       (reads : (d : Ended) (rows : List ReadVersion) → e ≡ Some d → d.rows ≡ Some rows → IsRead o w began rows) (tag : ℕ)
       (was : tag_of x.phase ≡ tag) (low : 0 < c) (high : c < 65536) where
     abbrev drawn : Client
@@ -285,8 +287,8 @@ module _ (o : Opening) (some : 0 < o.parts) (w : World) (k : IsKept o w) (c : �
         let is : stamp ≡ drawn.clock.counter * 65536 + c =
         q.stamp_is ∙ ap (λ (z : ℕ). z * 65536 + y.clock.client) (sym q.counter)
         ∙ ap (λ (z : ℕ). drawn.clock.counter * 65536 + z) oy in
-        unless_kept drawn ny (q.client ∙ oy) (omega (arith, above)) e n reads tag was low high above permit stamp is
-        (is_full_for permit stamp)
+        unless_kept drawn ny (q.client ∙ oy) (omega (arith, above)) e n reads tag was low high above
+        (omega (arith, lifted, one)) permit stamp is (is_full_for permit stamp)
     draws_kept permit (Err r) d =
         ends_kept drawn ny (next_client y.clock ∙ oy) (le_trans up (next_raise y.clock)) e n reads tag was
         (answer.Refused r) tt
@@ -313,8 +315,9 @@ module _ (o : Opening) (some : 0 < o.parts) (w : World) (k : IsKept o w) (c : �
   views_kept low high e reads tag was who (Closed view) =
       let permit : PermitState = record { view = view; principal = who; policy = (terms_of o).policy } in
       let basis = basis_on (terms_of o).policy who view.rows in
-      rules_kept (record x { clock = clock_after_rows x.clock view.rows }) number
-      (rows_client x.clock view.rows ∙ own) (rows_raise x.clock view.rows) e (Some (notes_of basis view.ask))
+      rules_kept (record x { clock = clock_after_rows (clock_after_reach x.clock o.first) view.rows }) number
+      (rows_client (clock_after_reach x.clock o.first) view.rows ∙ own) (reach_raise x.clock o.first view.rows)
+      (reached x.clock o.first view.rows) e (Some (notes_of basis view.ask))
       reads tag was low high permit (ruling_of basis view.ask)
 
   -- ---- a message in a read
@@ -453,7 +456,7 @@ module _ (o : Opening) (some : 0 < o.parts) (w : World) (k : IsKept o w) (c : �
         (Some (record { ask = pending_ask.viewing.ask; principal = pending_ask.principal; rows = Some rows }))
         (λ d rs i q. subst (λ (z : List ReadVersion). IsRead o w began z)
         (some_same (ap (λ (z : Ended). z.rows) (some_same i) ∙ q)) (is_read r ts h a))
-        r.asker.tag tag pending_ask.principal (viewed pending_ask.viewing rows)
+        r.asker.tag tag pending_ask.principal (viewed (looker_of (terms_of o).policy pending_ask.principal) pending_ask.viewing rows)
 
     outcome_kept : (r : RoundState) → IsReading o w c began r → tag_of x.phase ≡ r.asker.tag → (b : Bool)
         → are_there r.answers ≡ b

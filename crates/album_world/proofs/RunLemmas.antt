@@ -7,7 +7,7 @@ use Rattle.album_stamps.specs.declared.limits.TheConstants.{CLIENTS, MAX_PARTS, 
 use Rattle.album_stamps.specs.declared.refusals.Refusal.{Refusal}
 use Rattle.album_stamps.specs.declared.refusals.Refusal.TheVariants as refusal
 use Rattle.album_items.specs.Places.{rows_placed_at}
-use Rattle.album_items.specs.Openings.{is_opening, has_parts, has_limit, has_policy, has_few_items, is_right_row, has_single_rows, has_own_lists, has_fit_lists}
+use Rattle.album_items.specs.Openings.{is_base_opening, has_counts, has_parts, has_limit, has_policy, has_first, has_single_rows, has_own_value, is_low_row, greatest_number}
 use Rattle.album_items.specs.declared.openings.Opening.{Opening}
 use Rattle.album_calls.specs.declared.messages.Message.{Message}
 use Rattle.album_calls.specs.declared.nodes.Node.{Node}
@@ -45,12 +45,11 @@ pub record IsOpening (o : Opening) : Type 0 where
   pub low : MIN_MARKS ≤ o.limit
   pub high : o.limit ≤ MAX_MARKS
 
-pub opening_is : (o : Opening) → is_opening o ≡ true → IsOpening o
+pub opening_is : (o : Opening) → is_base_opening o ≡ true → IsOpening o
 opening_is o is =
-    let counts = and_left (has_parts o.parts && has_limit o.limit && has_policy o.policy) (has_few_items o.items)
-    (and_left _ (list_all is_right_row o.items)
-    (and_left _ (has_single_rows o.items && has_own_lists o.items && has_fit_lists o.items) is)) in
-    let both = and_left (has_parts o.parts && has_limit o.limit) (has_policy o.policy) counts in
+    let counts = and_left (has_counts o) (has_single_rows o.items && list_all has_own_value o.items && list_all (is_low_row (greatest_number o.first)) o.items) is in
+    let both = and_left (has_parts o.parts && has_limit o.limit) (has_policy o.policy)
+    (and_left (has_parts o.parts && has_limit o.limit && has_policy o.policy) (has_first o.first) counts) in
     let parts = and_left (has_parts o.parts) (has_limit o.limit) both in
     let limit = and_right (has_parts o.parts) (has_limit o.limit) both in
     record {
@@ -194,5 +193,5 @@ run_kept : (o : Opening) → 0 < o.parts → (w : World) → IsKept o w → (es 
 run_kept o some w k [] = k
 run_kept o some w k (e ∷ es) = run_kept o some (happens (terms_of o) w e) (event_kept o some w k e) es
 
-pub always_kept : (o : Opening) (es : List Event) → is_opening o ≡ true → IsKept o (run_of o es)
+pub always_kept : (o : Opening) (es : List Event) → is_base_opening o ≡ true → IsKept o (run_of o es)
 always_kept o es is = let d = opening_is o is in run_kept o d.some (start o) (start_kept o d) es

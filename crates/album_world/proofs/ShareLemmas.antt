@@ -2,7 +2,7 @@
 use Rattle.std.proofs.Common.{◌≡◌, ◌≤◌, ℕ, Bool, true, false, List, Contains, is_some, nat_lt, ⊎_elim, refl, sym, ap, ◌∙◌, subst, arith, ltb-true, ltb-false}
 use Rattle.std.proofs.lemmas.Bool.{and_parts}
 use Rattle.album_stamps.specs.declared.limits.TheConstants.{CLIENTS}
-use Rattle.album_items.specs.Openings.{Row, is_opening}
+use Rattle.album_items.specs.Openings.{Row, is_base_opening}
 use Rattle.album_items.specs.Transactions.{items_written}
 use Rattle.album_items.specs.declared.openings.Opening.{Opening}
 use Rattle.album_partition.specs.Marks.{value_in, first_value}
@@ -75,7 +75,7 @@ module _ (world : World) (by : Transaction) where
         }))
         go false later = ltb-false other.stamp by.stamp later
 
-pub no_part : (opening : Opening) (events : List Event) → is_opening opening ≡ true → NoViewHoldsAPartOfAShare (run_of opening events)
+pub no_part : (opening : Opening) (events : List Event) → is_base_opening opening ≡ true → NoViewHoldsAPartOfAShare (run_of opening events)
 no_part opening events is by lists members read rows one other share made shown c l d m at =
     let world = run_of opening events in
     let granted = (writes_are_granted opening events is).granted by share.begun in

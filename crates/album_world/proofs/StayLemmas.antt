@@ -4,7 +4,7 @@ use Rattle.std.proofs.Common.{◌≡◌, ◌≢◌, ℕ, zero, suc, ◌<◌, ◌
 use Rattle.std.specs.List.{list_any, list_all}
 use Rattle.std.proofs.lemmas.Bool.{eqb-true, eqb-false}
 use Rattle.album_items.specs.ItemIds.{picture, album, list, number_of, place_of}
-use Rattle.album_items.specs.Openings.{Row, is_opening, is_right_row, has_parts, has_limit, has_policy, has_few_items, has_single_rows, has_own_lists, has_fit_lists}
+use Rattle.album_items.specs.Openings.{Row, is_base_opening, has_counts, has_own_value, has_single_rows, is_low_row, greatest_number}
 use Rattle.album_items.specs.declared.openings.Opening.{Opening}
 use Rattle.album_items.specs.declared.values.Value.{Value}
 use Rattle.album_items.specs.declared.values.Value.TheVariants.{Missing}
@@ -60,8 +60,8 @@ live ms i t v is = go (list_any (commits t) ms) (list_any (discards t) ms) (list
     go false false false e f g = wrote_none ms t i v g (version_wrote ms i t v is)
 
 module _ (o : Opening) (w : World) (granted : WritesAreGranted (terms_of o) w) (updates : LosesNoUpdate (terms_of o) w)
-    (right : list_all is_right_row o.items ≡ true)
-    (drawn_high : (by : Transaction) → Contains w.past.transactions by → 65535 < by.stamp)
+    (right : list_all (is_low_row (greatest_number o.first)) o.items ≡ true)
+    (drawn_high : (by : Transaction) → Contains w.past.transactions by → greatest_number o.first < by.stamp)
     (pending : (i t : ℕ) → IsPendingFor (terms_of o) w i t → IsMadeOnItsView (terms_of o) w i t)
     (atomic : (by : Transaction) → Contains w.past.transactions by
     → IsReadAtomic (writes_in_world w) (first_value o.items) by.permit.view.rows) where
@@ -128,7 +128,7 @@ module _ (o : Opening) (w : World) (granted : WritesAreGranted (terms_of o) w) (
       (subst (λ (ws : List Row). Contains ws (i, v)) g.writes.effect (contains (pair_in by.writes i v wrote_it))))
     where
       go :
-          ((item : ℕ) → IsNamed (seen by.permit.view.rows) by.permit.view.ask item → IsShownBy by.permit.view.rows item)
+          ((item : ℕ) → IsNamed (seen by.permit.view.rows) by.permit.view.looker by.permit.view.ask item → IsShownBy by.permit.view.rows item)
           → IsWrittenAs (seen by.permit.view.rows) by.stamp by.permit.view.ask i v
           → IsShownBy by.permit.view.rows i ⊎ Contains (picture by.stamp ∷ album by.stamp ∷ list by.stamp ∷ []) i
       go read (Made adding new own) = inr new
@@ -145,9 +145,9 @@ module _ (o : Opening) (w : World) (granted : WritesAreGranted (terms_of o) w) (
       → stamp_seen by.permit.view.rows i ≡ 0 → seen by.permit.view.rows i ≡ first_value o.items i
   shows_first by i v begun wrote_it none = ⊎_elim of_row
       (λ (gone : seen by.permit.view.rows i ≡ Missing). ⊎_elim of_row
-      (λ new. gone ∙ sym (first_missing o.items i right
+      (λ new. gone ∙ sym (first_missing (greatest_number o.first) o.items i right
       (let number : number_of i ≡ by.stamp = new_number by.stamp i new in
-      let high : 65535 < by.stamp = drawn_high by begun in omega (arith, number, high))))
+      let high : greatest_number o.first < by.stamp = drawn_high by begun in omega (arith, number, high))))
       (read_or_made by i v begun wrote_it))
       (shown_or_missing by.permit.view.rows i)
     where
@@ -249,7 +249,7 @@ made_keeps t w P i first was (Written by is begun wrote committed below rest) to
 
 -- the view of each write is read atomic
 pub views_whole :
-    (o : Opening) (es : List Event) → is_opening o ≡ true → (by : Transaction)
+    (o : Opening) (es : List Event) → is_base_opening o ≡ true → (by : Transaction)
     → Contains (run_of o es).past.transactions by
     → IsReadAtomic (writes_in_world (run_of o es)) (first_value o.items) by.permit.view.rows
 views_whole o es opens by begun =
@@ -257,34 +257,37 @@ views_whole o es opens by begun =
     subst (λ (p : PermitState). IsReadAtomic (writes_in_world (run_of o es)) (first_value o.items) p.view.rows) (sym g.on)
     (views_are_read_atomic o es opens g.read g.rows g.made g.shown)
 
--- the rows of an opening are right
-pub right_rows : (o : Opening) → is_opening o ≡ true → list_all is_right_row o.items ≡ true
-right_rows o opens =
-    and_right (has_parts o.parts && has_limit o.limit && has_policy o.policy && has_few_items o.items)
-    (list_all is_right_row o.items)
-    (and_left _ (has_single_rows o.items && has_own_lists o.items && has_fit_lists o.items) opens)
+-- the rows of an opening have low numbers
+pub low_rows : (o : Opening) → is_base_opening o ≡ true → list_all (is_low_row (greatest_number o.first)) o.items ≡ true
+low_rows o opens =
+    and_right (has_single_rows o.items && list_all has_own_value o.items)
+    (list_all (is_low_row (greatest_number o.first)) o.items)
+    (and_right (has_counts o)
+    (has_single_rows o.items && list_all has_own_value o.items && list_all (is_low_row (greatest_number o.first)) o.items)
+    opens)
 
 -- no opening has the number of a stamp that was drawn
 pub stamps_high :
-    (o : Opening) (es : List Event) → is_opening o ≡ true → (by : Transaction)
-    → Contains (run_of o es).past.transactions by → 65535 < by.stamp
+    (o : Opening) (es : List Event) → is_base_opening o ≡ true → (by : Transaction)
+    → Contains (run_of o es).past.transactions by → greatest_number o.first < by.stamp
 stamps_high o es opens by begun =
     let d = (always_kept o es opens).drawn by (within _ begun) in
-    let rises : 0 < d.counter = d.rises in
+    let rises : o.first < d.counter = d.rises in
+    let low : 0 < d.client = d.low in
     let is : by.stamp ≡ d.counter * 65536 + d.client = d.is in
-    omega (arith, rises, is)
+    omega (arith, rises, low, is)
 
 pub made_from :
-    (o : Opening) (es : List Event) (i first last : ℕ) (was is : Value) → is_opening o ≡ true → o.checked ≡ true
+    (o : Opening) (es : List Event) (i first last : ℕ) (was is : Value) → is_base_opening o ≡ true → o.checked ≡ true
     → IsLaterVersion o (run_of o es) i first last was is
     → IsMadeFrom (terms_of o) (run_of o es) i first was last is
 made_from o es i first last was is opens checked after =
     made_below o (run_of o es) (writes_are_granted o es opens) (no_update_is_lost o es opens checked)
-    (right_rows o opens) (stamps_high o es opens) (pending_is_made o es opens checked) (views_whole o es opens)
+    (low_rows o opens) (stamps_high o es opens) (pending_is_made o es opens checked) (views_whole o es opens)
     i first was after.earlier (suc last) last is (omega arith) after.order after.later
 
 pub what_is_committed_stays :
-    (o : Opening) (es : List Event) (P : Value → Type 0) (i first last : ℕ) (was is : Value) → is_opening o ≡ true
+    (o : Opening) (es : List Event) (P : Value → Type 0) (i first last : ℕ) (was is : Value) → is_base_opening o ≡ true
     → o.checked ≡ true → IsLaterVersion o (run_of o es) i first last was is
     → IsKeptBetween (terms_of o) (run_of o es) P i first last → P was → P is
 what_is_committed_stays o es P i first last was is opens checked after kept holds =

@@ -12,7 +12,7 @@ use Rattle.album_world.specs.Past.{World}
 use Rattle.album_world.specs.Changes.{Change, change_of}
 use Rattle.album_world.specs.Runs.{changed_by, happens, now_after, outs_by, outs_of, run, run_of, start, event_outputs}
 use Rattle.album_world.specs.Seen.{WorldState, IsDone, IsRefused, IsStepped, LeadsTo, IsReached, IsInPast, IsExtendedBy, AreStepped, AreInPast, AreExtendedBy, done_of}
-use Rattle.album_items.specs.Openings.{is_opening}
+use Rattle.album_items.specs.Openings.{is_base_opening}
 use Rattle.album_world.proofs.AskedLemmas.{answers_last, always_requested}
 use Rattle.album_world.proofs.EventLemmas.{answers_are_kept, notes_are_kept}
 use Rattle.album_world.proofs.RunLemmas.{opening_is, always_kept}
@@ -49,7 +49,7 @@ behind_more o es e old new outs b d = record {
       ∙ sym (ap (λ (w : World). w.now) (run_more (terms_of o) (start o) es e));
 }
 
-in_past_of : (o : Opening) (es : List Event) → is_opening o ≡ true → (e : Event) (outs : List Out)
+in_past_of : (o : Opening) (es : List Event) → is_base_opening o ≡ true → (e : Event) (outs : List Out)
     → outs ≡ event_outputs (terms_of o) (run_of o es) e → IsInPast (happens (terms_of o) (run_of o es) e) outs
 in_past_of o es is e outs same =
     let t = terms_of o in
@@ -62,7 +62,7 @@ in_past_of o es is e outs same =
     })
 
 -- the past of the run with the event has the outputs of the event
-pub in_past_given : (o : Opening) (es : List Event) → is_opening o ≡ true → (e : Event)
+pub in_past_given : (o : Opening) (es : List Event) → is_base_opening o ≡ true → (e : Event)
     → IsInPast (run_of o (es ++ e ∷ [])) (event_outputs (terms_of o) (run_of o es) e)
 in_past_given o es is e =
     subst (λ (w : World). IsInPast w (event_outputs (terms_of o) (run_of o es) e)) (sym (run_more (terms_of o) (start o) es e))

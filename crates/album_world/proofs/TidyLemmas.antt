@@ -1,7 +1,7 @@
 -- Each turn of a client is tidy.
 use Rattle.std.proofs.Common.{◌≡◌, ℕ, ◌+◌, ◌*◌, ◌≤◌, arith, Bool, true, false, not, nat_lt, eqb, eqb-true, ◌==◌, List, [], ◌∷◌, ◌⊎◌, inl, inr, ⊎_elim, Option, Some, None, Result, Ok, Err, sym, ap, ◌∙◌, subst, refl, le_refl, le_trans, le_of_eq, if◌then◌else◌}
 use Rattle.std.specs.List.{slice_get, list_any}
-use Rattle.album_stamps.specs.Clocks.{ClockState, clock_after_next, next_of}
+use Rattle.album_stamps.specs.Clocks.{clock_after_reach, ClockState, clock_after_next, next_of}
 use Rattle.album_stamps.specs.Outcome.{◌>>=◌}
 use Rattle.album_stamps.specs.Stamps.{is_client}
 use Rattle.album_stamps.specs.declared.refusals.Refusal.{Refusal}
@@ -48,7 +48,8 @@ use Rattle.album_world.specs.Changes.{Change, asks_unless, asks_by, part_takes, 
 use Rattle.album_world.specs.Changes.Change.{Nothing, AtPart, AtClient, Stops}
 use Rattle.album_world.specs.Events.{IsDrawnNow, IsTidy}
 use Rattle.album_world.proofs.ListLemmas.{none_some, some_same, or_cases, true_or, or_true, same_or_not, self_eqb}
-use Rattle.album_world.proofs.ClientLemmas.{client_same, client_other, rows_client, rows_raise, draw_is, next_client, next_raise}
+use Rattle.album_world.proofs.ClientLemmas.{client_same, client_other, rows_client, reach_raise, draw_is, next_client, next_raise}
+use Rattle.album_views.specs.ReadSets.{looker_of}
 
 -- Where it is answered, no write begins. The client is the same, its clock has not been set back, and the stamp of a
 -- write that begins is the one that it drew.
@@ -150,8 +151,8 @@ module _ (terms : Terms) (now : Now) (c : ℕ) where
   views_tidy tag who (Busy why) = same_tidy _ refl refl (λ a e. refl) refl
   views_tidy tag who (Closed view) =
       let permit : PermitState = record { view = view; principal = who; policy = terms.policy } in
-      let steady = rules_steady (record x { clock = clock_after_rows x.clock view.rows }) refl
-      (rows_client x.clock view.rows) (rows_raise x.clock view.rows) tag permit
+      let steady = rules_steady (record x { clock = clock_after_rows (clock_after_reach x.clock terms.first) view.rows }) refl
+      (rows_client (clock_after_reach x.clock terms.first) view.rows) (reach_raise x.clock terms.first view.rows) tag permit
       (ruling_of (basis_on terms.policy who view.rows) view.ask) in
       record {
         over = steady.over;
@@ -176,7 +177,7 @@ module _ (terms : Terms) (now : Now) (c : ℕ) where
   read_tidy pending_ask tag (Same round) = same_tidy _ refl refl (λ a e. none_some e) refl
   read_tidy pending_ask tag (Next round sent) = same_tidy _ refl refl (λ a e. none_some e) refl
   read_tidy pending_ask tag (Done rows) =
-      read_ends_tidy _ _ (views_tidy tag pending_ask.principal (viewed pending_ask.viewing rows))
+      read_ends_tidy _ _ (views_tidy tag pending_ask.principal (viewed (looker_of terms.policy pending_ask.principal) pending_ask.viewing rows))
   read_tidy pending_ask tag (Gone items) =
       read_ends_tidy _ _ (views_tidy tag pending_ask.principal (again pending_ask.viewing items))
 

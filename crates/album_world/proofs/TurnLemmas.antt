@@ -43,9 +43,10 @@ pub record IsSent (o : Opening) (w : World) (c g : ℕ) (m : Message) : Type 0 w
   pub is : m ≡ record { from = ToClient c; to = Part part; tag = g; body = body }
   pub fine : IsFine o w (ToClient c) (Part part) body
 
-pub record IsNew (c counter : ℕ) (t : TransitionState) (r : Transaction) : Type 0 where
+pub record IsNew (c first counter : ℕ) (t : TransitionState) (r : Transaction) : Type 0 where
   pub at : ℕ
   pub is : r.stamp ≡ at * 65536 + c
+  pub rises : first < at
   pub above : counter < at
   pub low : 0 < c
   pub high : c < 65536
@@ -155,7 +156,7 @@ module _ (o : Opening) (w : World) (k : IsKept o w) (c : ℕ) (t : TransitionSta
     doing_lasts (phase.Commits x) h = writing_lasts x (HasCommitted w) (HasCommitted next)
         (λ q u e. any_grows o w next gr (commits u) q e) h
 
-  pub not_same : (r s : Transaction) → In r w.past.transactions → IsNew c old.clock.counter t s → r.stamp ≡ s.stamp → ⊥
+  pub not_same : (r s : Transaction) → In r w.past.transactions → IsNew c o.first old.clock.counter t s → r.stamp ≡ s.stamp → ⊥
   not_same r s h n e =
       let d = k.drawn r h in
       let a : d.counter * 65536 + d.client ≡ n.at * 65536 + c = sym d.is ∙ e ∙ n.is in
@@ -170,7 +171,7 @@ module _ (o : Opening) (w : World) (k : IsKept o w) (c : ℕ) (t : TransitionSta
   pub turn_kept : tag_of old.phase ≤ tag_of t.client.phase → old.clock.counter ≤ t.client.clock.counter
       → ((m : Message) → In m t.sent → IsSent o next c (tag_of t.client.phase) m)
       → IsDoing o next c (last_begun next.past.begun c).partitions t.client.phase
-      → ((r : Transaction) → t.writes ≡ Some r → IsNew c old.clock.counter t r)
+      → ((r : Transaction) → t.writes ≡ Some r → IsNew c o.first old.clock.counter t r)
       → ((e : Ended) (rows : List ReadVersion) → t.over ≡ Some e → e.rows ≡ Some rows
       → IsRead o w (last_begun w.past.begun c).partitions rows)
       → ((a : Answer) → t.answer ≡ Some a → IsAnswer o w a)
@@ -200,7 +201,7 @@ module _ (o : Opening) (w : World) (k : IsKept o w) (c : ℕ) (t : TransitionSta
               counter = n.at;
               client = c;
               is = n.is;
-              rises = let a : old.clock.counter < n.at = n.above in omega (arith, a);
+              rises = n.rises;
               low = n.low;
               high = n.high;
               old = subst (λ (z : Client). n.at ≤ z.clock.counter) (sym same_now) n.drawn;

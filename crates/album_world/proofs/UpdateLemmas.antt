@@ -1,11 +1,11 @@
 -- No update is lost in a checked world: the law `no_update_is_lost` cites the lemma of its name. A version that is
--- pending was made on its view too (`pending_on_view`), for `StayLemmas`.
+-- pending was made on its view too (`pending_on_view`), for `StayLemmas`. Restarts cite `base_is` and `chained_at`.
 use Rattle.std.proofs.Common.{◌≡◌, ℕ, ◌<◌, ◌++◌, Bool, true, false, cond, ◌==◌, List, [], ◌∷◌, map, Contains, Option, Some, None, is_some, refl, sym, ap, ◌∙◌, subst, arith}
 use Rattle.std.specs.List.{slice_get, zip}
 use Rattle.std.proofs.lemmas.Bool.Decides.{Decides-eqb}
 use Rattle.std.proofs.lemmas.List.{append_assoc}
 use Rattle.album_items.specs.ItemIds.{place_of}
-use Rattle.album_items.specs.Openings.{Row, is_opening}
+use Rattle.album_items.specs.Openings.{Row, is_base_opening}
 use Rattle.album_items.specs.declared.openings.Opening.{Opening}
 use Rattle.album_partition.specs.declared.marks.Mark.{Mark}
 use Rattle.album_partition.specs.declared.marks.Mark.TheVariants.{Prepared, Committed}
@@ -46,7 +46,7 @@ zipped f (r ∷ rows) i e = go (r.0 == i) refl e (zipped f rows i)
     go false g h rest = let x = rest h in (x.0, one_before (r, f r) (x.0, f x.0) (zip rows (map f rows)) x.1, x.2)
 
 -- each base of a Prepare that was followed is the latest version of its item
-base_is : (ms : List Mark) (t : ℕ) (permit : PermitState) (ws : List Row) (i : ℕ) → are_bases ms t ws (bases_for permit ws) ≡ true
+pub base_is : (ms : List Mark) (t : ℕ) (permit : PermitState) (ws : List Row) (i : ℕ) → are_bases ms t ws (bases_for permit ws) ≡ true
     → is_some (value_in ws i) ≡ true → latest ms i ≡ stamp_seen permit.view.rows i
 base_is ms t permit ws i based there =
     let z = zipped (λ (row : Row). stamp_seen permit.view.rows row.0) ws i there in
@@ -75,7 +75,7 @@ module _ (o : Opening) (w : World) (k : IsKept o w) (on : o.checked ≡ true) wh
   legal_at : (p : ℕ) → is_legal (history w p) ≡ true
   legal_at p = (k.sound p).legal
 
-  chained_at : (p : ℕ) → is_chained (history w p) ≡ true
+  pub chained_at : (p : ℕ) → is_chained (history w p) ≡ true
   chained_at p = go (slice_get w.now.partitions p) refl
     where
       go : (f : Option PartitionState) → slice_get w.now.partitions p ≡ f → is_chained (marks_of f) ≡ true
@@ -144,10 +144,10 @@ module _ (o : Opening) (w : World) (k : IsKept o w) (on : o.checked ≡ true) wh
     made_on = made_on_view;
   }
 
-pub no_update_is_lost : (o : Opening) (es : List Event) → is_opening o ≡ true → NoUpdateIsLost o (run_of o es)
+pub no_update_is_lost : (o : Opening) (es : List Event) → is_base_opening o ≡ true → NoUpdateIsLost o (run_of o es)
 no_update_is_lost o es is on = world_loses_none o (run_of o es) (always_kept o es is) on
 
 pub pending_is_made :
-    (o : Opening) (es : List Event) → is_opening o ≡ true → o.checked ≡ true → (i t : ℕ)
+    (o : Opening) (es : List Event) → is_base_opening o ≡ true → o.checked ≡ true → (i t : ℕ)
     → IsPendingFor (terms_of o) (run_of o es) i t → IsMadeOnItsView (terms_of o) (run_of o es) i t
 pending_is_made o es is on = pending_on_view o (run_of o es) (always_kept o es is) on

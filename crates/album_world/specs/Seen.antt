@@ -2,7 +2,7 @@
 use Rattle.std.specs.Prelude.{◌≡◌, ◌≢◌, ℕ, true, ◌++◌, List, [], ◌∷◌, Result, Ok, Err, IsOk, Contains, if◌then◌else◌}
 use Rattle.album_stamps.specs.declared.refusals.Refusal.{Refusal}
 use Rattle.album_stamps.specs.declared.refusals.Refusal.TheVariants.{OutOfMemory, BadOpening}
-use Rattle.album_items.specs.Openings.{is_opening}
+use Rattle.album_items.specs.Openings.{is_opening, is_base_opening}
 use Rattle.album_items.specs.declared.openings.Opening.{Opening}
 use Rattle.album_permits.specs.declared.notes.Note.{Note}
 use Rattle.album_client.specs.Terms.{Terms, terms_of}
@@ -23,11 +23,12 @@ pub record WorldState : Type 0 where
   pub kept : Now
 
 -- a world as it opens
+abbrev pub first_world : Opening → WorldState
+first_world opening = record { terms = terms_of opening; kept = (start opening).now }
+
+-- where the opening passes its check
 abbrev pub opened : Opening → Result WorldState Refusal
-opened opening =
-    if is_opening opening
-    then Ok (record { terms = terms_of opening; kept = (start opening).now })
-    else Err BadOpening
+opened opening = if is_opening opening then Ok (first_world opening) else Err BadOpening
 
 -- ---- a step
 
@@ -78,10 +79,10 @@ done_of (event ∷ events) (Err why ∷ results) = done_of events results
 
 -- ---- the past
 
--- From this opening, which passes its check, these events lead to the world that is seen. (Code keeps none of them:
--- they are one of the pasts that the world may have.)
+-- From this opening, on which partitions may open, these events lead to the world that is seen. (Code keeps none of
+-- them: they are one of the pasts that the world may have.)
 pub record LeadsTo (opening : Opening) (events : List Event) (world : WorldState) : Type 0 where
-  pub passes : is_opening opening ≡ true
+  pub passes : is_base_opening opening ≡ true
   pub terms : world.terms ≡ terms_of opening
   pub kept : world.kept ≡ (run_of opening events).now
 

@@ -1,5 +1,5 @@
 -- What a world keeps. Its code has this, and no more.
-use Rattle.std.specs.Prelude.{ℕ, zero, suc, Bool, ◌==◌, nat_lt, List, [], ◌∷◌, Option, Some, None, if◌then◌else◌}
+use Rattle.std.specs.Prelude.{ℕ, zero, suc, Bool, ◌==◌, nat_lt, List, [], ◌∷◌, Option, Some, None, if◌then◌else◌, max}
 use Rattle.std.specs.List.{list_any, slice_get}
 use Rattle.album_calls.specs.declared.messages.Message.{Message}
 use Rattle.album_partition.specs.Partition.{PartitionState}
@@ -44,6 +44,11 @@ abbrev pub with_client : Client → List Client → List Client
 with_client client [] = client ∷ []
 with_client client (first ∷ clients) =
     if first.number == client.number then client ∷ clients else first ∷ with_client client clients
+
+-- the greatest counter of any client's clock, and 0 where none has asked
+abbrev pub highest_counter : List Client → ℕ
+highest_counter [] = 0
+highest_counter (client ∷ clients) = max client.clock.counter (highest_counter clients)
 
 -- the client was stopped
 abbrev pub is_stopped : Now → ℕ → Bool

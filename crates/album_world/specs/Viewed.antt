@@ -1,6 +1,7 @@
 -- On which view an ask was ruled.
 use Rattle.std.specs.Prelude.{◌≡◌, ℕ, List, Option, Some, Contains}
 use Rattle.album_reader.specs.Answers.{ReadVersion}
+use Rattle.album_views.specs.ReadSets.{looker_of}
 use Rattle.album_views.specs.Views.{IsView}
 use Rattle.album_permits.specs.Permits.{PermitState, permit_on}
 use Rattle.album_client.specs.Terms.{Terms}
@@ -16,7 +17,7 @@ pub record IsOnView
   pub made : Contains world.past.reads read
   pub own : read.begun.client ≡ client
   pub shown : read.rows ≡ Some rows
-  pub view : IsView (record { ask = read.ask; rows = rows })
+  pub view : IsView (record { looker = looker_of terms.policy read.principal; ask = read.ask; rows = rows })
   pub holds : Holds (permit_on terms.policy read.principal read.ask rows)
 
 -- the answer rests on a view that has the property

@@ -1,9 +1,9 @@
 //! The clients that have asked.
 ghost use Rattle.std.specs.Prelude.{◌≡◌, ◌≢◌, ◌<◌, ◌≤◌, ◌^◌, ◌++◌, ◌∷◌, false, [], length, Err, IsOk, IsOkAnd, IsOkUnless, IfOk, IfErr, IfSome, IfNone, OnOk, OnErr, MatchResult};
-ghost use Rattle.album_stamps.specs.declared.limits.TheConstants.{MAX_READ_ITEMS};
+ghost use Rattle.album_stamps.specs.declared.limits.TheConstants.{MAX_COUNTER, MAX_READ_ITEMS};
 ghost use Rattle.album_client.specs.Clients.{newcomer};
 ghost use Rattle.album_world.specs.Registers.{AreChangedBy, StandsAt, asks_of, has_number, takes_of};
-ghost use Rattle.album_world.specs.State.{client_at};
+ghost use Rattle.album_world.specs.State.{client_at, highest_counter};
 
 use crate::client_events;
 use album_calls::Message;
@@ -44,6 +44,21 @@ impl Clients {
         Clients {
             by_number: IndexMap::new(alloc),
         }
+    }
+
+    /// The greatest counter of any client's clock, and 0 where none has asked.
+    pub fn highest_counter(&self) -> u64
+        ensures highest { result ≡ highest_counter self.now }
+        ensures range { result ≤ MAX_COUNTER }
+    {
+        let mut highest = 0;
+        for index in 0..self.by_number.len() {
+            let counter = self.by_number[index].clock.counter();
+            if highest < counter {
+                highest = counter;
+            }
+        }
+        highest
     }
 
     /// The client's index, if it has asked.

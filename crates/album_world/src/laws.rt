@@ -1,9 +1,9 @@
 //! What holds of every run of a world: of every list of events, from any opening.
-ghost use Rattle.std.specs.Prelude.{◌≡◌, ◌≢◌, ◌≤◌, ℕ, Bool, List, [], ◌∷◌, true, false, Ok, Some, Contains};
+ghost use Rattle.std.specs.Prelude.{◌≡◌, ◌≢◌, ◌<◌, ◌≤◌, ℕ, Bool, List, [], ◌∷◌, true, false, Ok, Some, Contains};
 ghost use Rattle.std.specs.List.{list_any};
 ghost use Rattle.album_lists.specs.declared.lists.Ace.{Ace};
 ghost use Rattle.album_items.specs.ItemIds.{album, group, kind_of, list};
-ghost use Rattle.album_items.specs.Openings.{is_opening};
+ghost use Rattle.album_items.specs.Openings.{greatest_number, is_base_opening};
 ghost use Rattle.album_items.specs.Values.{children_of, head_of, home_of, members_of};
 ghost use Rattle.album_items.specs.declared.openings.Opening.{Opening};
 ghost use Rattle.album_items.specs.declared.values.Head.{Head};
@@ -20,7 +20,7 @@ ghost use Rattle.album_permits.specs.declared.notes.Note.{Note};
 ghost use Rattle.album_permits.specs.declared.serving.Served.{Served};
 ghost use Rattle.album_client.specs.Terms.{Terms, terms_of};
 ghost use Rattle.album_client.specs.Grants.{served_for};
-ghost use Rattle.album_client.specs.Steps.{TransitionState};
+ghost use Rattle.album_client.specs.Steps.{Transaction, TransitionState};
 ghost use Rattle.album_world.specs.Atomic.{NoViewHoldsAPartOfAShare, ViewsAreReadAtomic};
 ghost use Rattle.album_world.specs.Busy.{BusyHasItsCause};
 ghost use Rattle.album_world.specs.Changes.Change.{AtClient};
@@ -51,7 +51,7 @@ ghost use Rattle.album_permits.specs.declared.outs.Out.TheVariants as Out;
 /// is what the written policy says of the closed view that its client had read last. The policy is the opening's. It
 /// looks at that view's lists, owners and groups.
 pub fn rulings_hold()
-    ensures { (opening : Opening) (events : List Happening) → is_opening opening ≡ true
+    ensures { (opening : Opening) (events : List Happening) → is_base_opening opening ≡ true
         → RulingsHold (terms_of opening) (run_of opening events) }
 {}
 
@@ -71,28 +71,28 @@ pub fn what_is_served_is_what_is_asked()
 /// the effect of that grant, at a stamp greater than all that it saw. Each version of a partition is of exactly one of
 /// these writes.
 pub fn writes_are_granted()
-    ensures { (opening : Opening) (events : List Happening) → is_opening opening ≡ true
+    ensures { (opening : Opening) (events : List Happening) → is_base_opening opening ≡ true
         → WritesAreGranted (terms_of opening) (run_of opening events) }
 {}
 
 /// A law: views are read atomic, and so is every snapshot that a client finishes. No two of its rows fracture it. Each
 /// value is what a committed write wrote at its stamp, or the opening's value.
 pub fn views_are_read_atomic()
-    ensures { (opening : Opening) (events : List Happening) → is_opening opening ≡ true
+    ensures { (opening : Opening) (events : List Happening) → is_base_opening opening ≡ true
         → ViewsAreReadAtomic opening (run_of opening events) }
 {}
 
 /// A law: no view holds a part of a share. Where a view has one of the lists and groups of a share as the share wrote
 /// it, it has each other of them, if it has it, as the share wrote it or as a later write did.
 pub fn no_view_holds_a_part_of_a_share()
-    ensures { (opening : Opening) (events : List Happening) → is_opening opening ≡ true
+    ensures { (opening : Opening) (events : List Happening) → is_base_opening opening ≡ true
         → NoViewHoldsAPartOfAShare (run_of opening events) }
 {}
 
 /// A law: views are fresh. Each item's stamp is at least that of every write that its partition had committed
 /// before the event that began the view's read.
 pub fn views_are_fresh()
-    ensures { (opening : Opening) (events : List Happening) → is_opening opening ≡ true
+    ensures { (opening : Opening) (events : List Happening) → is_base_opening opening ≡ true
         → ViewsAreFresh (terms_of opening) (run_of opening events) }
 {}
 
@@ -101,7 +101,7 @@ pub fn views_are_fresh()
 /// has committed either of these, nobody has read it, and this never changes. Refused is answered only where the album
 /// is full or the client's clock is spent.
 pub fn outcomes_are_true()
-    ensures { (opening : Opening) (events : List Happening) → is_opening opening ≡ true
+    ensures { (opening : Opening) (events : List Happening) → is_base_opening opening ≡ true
         → OutcomesAreTrue (terms_of opening) (run_of opening events) }
 {}
 
@@ -109,7 +109,7 @@ pub fn outcomes_are_true()
 /// above the latest. Each committed version was made on the one that the view of its own write shows: that is the
 /// opening's or is committed, and is the next one below. So no write undoes one that its author did not see.
 pub fn no_update_is_lost()
-    ensures { (opening : Opening) (events : List Happening) → is_opening opening ≡ true
+    ensures { (opening : Opening) (events : List Happening) → is_base_opening opening ≡ true
         → NoUpdateIsLost opening (run_of opening events) }
 {}
 
@@ -119,13 +119,13 @@ pub fn no_update_is_lost()
 /// stay in the same way.
 pub fn what_is_committed_stays()
     ensures versions { (opening : Opening) (events : List Happening) (item first last : ℕ) (was is : Value)
-        → is_opening opening ≡ true
+        → is_base_opening opening ≡ true
         → opening.checked ≡ true
         → IsLaterVersion opening (run_of opening events) item first last was is
         → IsMadeFrom (terms_of opening) (run_of opening events) item first was last is }
     ensures tests { (opening : Opening) (events : List Happening) (test : Value → Bool) (item first last : ℕ)
         (was is : Value)
-        → is_opening opening ≡ true
+        → is_base_opening opening ≡ true
         → opening.checked ≡ true
         → IsLaterVersion opening (run_of opening events) item first last was is
         → IsKeptBetween (terms_of opening) (run_of opening events) (Passes test) item first last
@@ -141,20 +141,20 @@ pub fn what_is_committed_stays()
 /// keeps its entries, and a group its members, unless they are set. What is deleted stays so.
 pub fn acknowledged_writes_stay()
     ensures acknowledged { (opening : Opening) (events : List Happening) (given : PastAnswer) (stamp : ℕ)
-        → is_opening opening ≡ true
+        → is_base_opening opening ≡ true
         → Contains (run_of opening events).past.answers given
         → given.answer ≡ answer.Committed stamp
         → IsOfWrite (run_of opening events) given.client stamp
         (IsKeptWhole (terms_of opening) (run_of opening events)) }
     ensures read { (opening : Opening) (events : List Happening) (read : Read) (rows : List ReadVersion)
         (row : ReadVersion)
-        → is_opening opening ≡ true
+        → is_base_opening opening ≡ true
         → Contains (run_of opening events).past.reads read
         → read.rows ≡ Some rows
         → Contains rows row
         → IsVersion opening (run_of opening events) row.item row.stamp row.value }
     ensures children { (opening : Opening) (events : List Happening) (number child first last : ℕ) (was is : Value)
-        → is_opening opening ≡ true
+        → is_base_opening opening ≡ true
         → opening.checked ≡ true
         → IsLaterVersion opening (run_of opening events) (album number) first last was is
         → NoneBetween (terms_of opening) (run_of opening events) (λ by. TakesOut child by.permit.view.ask)
@@ -163,7 +163,7 @@ pub fn acknowledged_writes_stay()
         → Contains (children_of is) child }
     ensures titles { (opening : Opening) (events : List Happening) (object first last : ℕ) (was is : Value)
         (title : List ℕ)
-        → is_opening opening ≡ true
+        → is_base_opening opening ≡ true
         → opening.checked ≡ true
         → kind_of object ≢ 2
         → IsLaterVersion opening (run_of opening events) object first last was is
@@ -173,7 +173,7 @@ pub fn acknowledged_writes_stay()
         → title_field is ≡ Some title }
     ensures contents { (opening : Opening) (events : List Happening) (object first last : ℕ) (was is : Value)
         (content : List ℕ)
-        → is_opening opening ≡ true
+        → is_base_opening opening ≡ true
         → opening.checked ≡ true
         → kind_of object ≢ 2
         → IsLaterVersion opening (run_of opening events) object first last was is
@@ -183,7 +183,7 @@ pub fn acknowledged_writes_stay()
         → content_field is ≡ Some content }
     ensures homes { (opening : Opening) (events : List Happening) (object first last : ℕ) (was is : Value)
         (home : ℕ)
-        → is_opening opening ≡ true
+        → is_base_opening opening ≡ true
         → opening.checked ≡ true
         → kind_of object ≢ 2
         → IsLaterVersion opening (run_of opening events) object first last was is
@@ -193,7 +193,7 @@ pub fn acknowledged_writes_stay()
         → home_of is ≡ home ∷ [] }
     ensures heads { (opening : Opening) (events : List Happening) (object first last : ℕ) (was is : Value)
         (head : Head)
-        → is_opening opening ≡ true
+        → is_base_opening opening ≡ true
         → opening.checked ≡ true
         → kind_of object ≢ 2
         → IsLaterVersion opening (run_of opening events) object first last was is
@@ -203,7 +203,7 @@ pub fn acknowledged_writes_stay()
         → head_of is ≡ Some head }
     ensures lists { (opening : Opening) (events : List Happening) (number first last : ℕ) (was is : Value)
         (entries : List Ace)
-        → is_opening opening ≡ true
+        → is_base_opening opening ≡ true
         → opening.checked ≡ true
         → IsLaterVersion opening (run_of opening events) (list number) first last was is
         → NoneBetween (terms_of opening) (run_of opening events)
@@ -211,14 +211,14 @@ pub fn acknowledged_writes_stay()
         → was ≡ value.List entries
         → is ≡ value.List entries }
     ensures members { (opening : Opening) (events : List Happening) (number first last : ℕ) (was is : Value)
-        → is_opening opening ≡ true
+        → is_base_opening opening ≡ true
         → opening.checked ≡ true
         → IsLaterVersion opening (run_of opening events) (group number) first last was is
         → NoneBetween (terms_of opening) (run_of opening events)
         (λ by. SetsMembers (group number) by.permit.view.ask) (group number) first last
         → members_of is ≡ members_of was }
     ensures deleted { (opening : Opening) (events : List Happening) (object first last : ℕ) (was is : Value)
-        → is_opening opening ≡ true
+        → is_base_opening opening ≡ true
         → opening.checked ≡ true
         → kind_of object ≢ 2
         → first ≢ 0
@@ -231,21 +231,28 @@ pub fn acknowledged_writes_stay()
 /// where the last read that an ask may have found an item gone, or its snapshot is not closed and names no more items
 /// than can be read.
 pub fn busy_has_its_cause()
-    ensures { (opening : Opening) (events : List Happening) → is_opening opening ≡ true
-        → BusyHasItsCause (run_of opening events) }
+    ensures { (opening : Opening) (events : List Happening) → is_base_opening opening ≡ true
+        → BusyHasItsCause (terms_of opening) (run_of opening events) }
 {}
 
 /// A law: answers are to requests. Each answer is the only answer to a request of its client. It rests on what was read
 /// for that request alone, after the request was made. An outcome is that of the one write that was begun for the
 /// request; with any other answer, no write was begun. No client makes a request before its last one is answered.
 pub fn answers_are_to_requests()
-    ensures { (opening : Opening) (events : List Happening) → is_opening opening ≡ true
+    ensures { (opening : Opening) (events : List Happening) → is_base_opening opening ≡ true
         → AnswersAreToRequests (terms_of opening) (run_of opening events) }
+{}
+
+/// A law: each stamp that is drawn is above every number that the opening has or names, and above each stamp of the
+/// epochs before. So no stamp is drawn twice, and no object is made with the number of another.
+pub fn stamps_are_above_the_opening()
+    ensures { (opening : Opening) (events : List Happening) (by : Transaction) → is_base_opening opening ≡ true
+        → Contains (run_of opening events).past.transactions by → greatest_number opening.first < by.stamp }
 {}
 
 /// A law: what one partition has committed, no partition has discarded.
 pub fn committed_is_never_discarded()
-    ensures { (opening : Opening) (events : List Happening) (stamp part other : ℕ) → is_opening opening ≡ true
+    ensures { (opening : Opening) (events : List Happening) (stamp part other : ℕ) → is_base_opening opening ≡ true
         → IsCommittedAt (run_of opening events) stamp part
         → list_any (discards stamp) (history (run_of opening events) other) ≡ false }
 {}

@@ -1,6 +1,8 @@
 //! A world: its events, and their outputs.
-ghost use Rattle.std.specs.Prelude.{◌≡◌, ◌≢◌, ℕ, length, slice_get, option_copied, Ok, Err, IsOk, IfOk, IfErr, OnErr, IsOkUnless};
+ghost use Rattle.std.specs.Prelude.{◌≡◌, ◌≢◌, ◌≤◌, ℕ, true, [], length, slice_get, option_copied, Ok, Err, IsOk, IfOk, IfErr, OnErr, IsOkUnless};
 ghost use Rattle.album_stamps.specs.Outcome.{Makes};
+ghost use Rattle.album_stamps.specs.declared.limits.TheConstants.{MAX_COUNTER};
+ghost use Rattle.album_items.specs.Openings.{is_base_opening};
 ghost use Rattle.album_client.specs.Terms.{terms_of};
 ghost use Rattle.album_world.specs.Atomic.{ViewsAreReadAtomic};
 ghost use Rattle.album_world.specs.Busy.{BusyHasItsCause};
@@ -10,8 +12,8 @@ ghost use Rattle.album_world.specs.Granted.{WritesAreGranted};
 ghost use Rattle.album_world.specs.Outcomes.{OutcomesAreTrue};
 ghost use Rattle.album_world.specs.Requests.{AnswersAreToRequests};
 ghost use Rattle.album_world.specs.Rulings.{RulingsHold};
-ghost use Rattle.album_world.specs.Seen.{AreStepped, IsExtendedBy, IsDone, IsReached, OfEachPast, AreExtendedBy, opened};
-ghost use Rattle.album_world.specs.State.{message_of};
+ghost use Rattle.album_world.specs.Seen.{AreStepped, IsExtendedBy, IsDone, IsReached, OfEachPast, AreExtendedBy, LeadsTo, first_world, opened};
+ghost use Rattle.album_world.specs.State.{highest_counter, message_of};
 ghost use Rattle.album_world.specs.Updates.{NoUpdateIsLost};
 
 use crate::clients::Clients;
@@ -63,10 +65,25 @@ impl World {
     /// # Errors
     ///
     /// `BadOpening` exactly where the opening's check refuses it. Else `OutOfMemory`.
+    #[tactic(auto, using(album_items::proofs::BaseLemmas::opening_is_base))]
     pub fn open(alloc: Global, opening: &Opening) -> Result<World, Refusal>
         ensures { Makes (λ world. world) result (opened opening.now) }
     {
         opening.check()?;
+        World::open_on(alloc, opening)
+    }
+
+    /// A world that opens on what an epoch has left, or on an opening that passes its check: on a base.
+    ///
+    /// # Errors
+    ///
+    /// `OutOfMemory`.
+    pub fn open_on(alloc: Global, opening: &Opening) -> Result<World, Refusal>
+        requires base { is_base_opening opening.now ≡ true }
+        ensures world { IfOk result (λ world. world ≡ first_world opening.now) }
+        ensures leads { IfOk result (λ world. LeadsTo opening.now [] world) }
+        ensures memory { IsOkUnless result Refusal.OutOfMemory }
+    {
         let terms = terms_of(opening);
         let stopped = Stopped::new(alloc)?;
         let partitions = Partition::all_of(alloc, opening)?;
@@ -119,7 +136,7 @@ impl World {
         ensures views_are_fresh { OfEachPast self.new (λ opening past. ViewsAreFresh (terms_of opening) past) }
         ensures outcomes_are_true { OfEachPast self.new (λ opening past. OutcomesAreTrue (terms_of opening) past) }
         ensures no_update_is_lost { OfEachPast self.new NoUpdateIsLost }
-        ensures busy_has_its_cause { OfEachPast self.new (λ opening past. BusyHasItsCause past) }
+        ensures busy_has_its_cause { OfEachPast self.new (λ opening past. BusyHasItsCause (terms_of opening) past) }
         ensures answers_are_to_requests { OfEachPast self.new
             (λ opening past. AnswersAreToRequests (terms_of opening) past) }
     {
@@ -149,7 +166,7 @@ impl World {
         ensures views_are_fresh { OfEachPast self.new (λ opening past. ViewsAreFresh (terms_of opening) past) }
         ensures outcomes_are_true { OfEachPast self.new (λ opening past. OutcomesAreTrue (terms_of opening) past) }
         ensures no_update_is_lost { OfEachPast self.new NoUpdateIsLost }
-        ensures busy_has_its_cause { OfEachPast self.new (λ opening past. BusyHasItsCause past) }
+        ensures busy_has_its_cause { OfEachPast self.new (λ opening past. BusyHasItsCause (terms_of opening) past) }
         ensures answers_are_to_requests { OfEachPast self.new
             (λ opening past. AnswersAreToRequests (terms_of opening) past) }
     {
@@ -179,6 +196,14 @@ impl World {
         ensures { result ≡ length self.now.kept.messages }
     {
         self.state.messages.len() as u64
+    }
+
+    /// The greatest counter of any client's clock, and 0 where none has asked: no stamp was drawn with a greater one.
+    pub fn highest_counter(&self) -> u64
+        ensures highest { result ≡ highest_counter self.now.kept.clients }
+        ensures range { result ≤ MAX_COUNTER }
+    {
+        self.state.clients.highest_counter()
     }
 
     /// For contracts alone: some past leads to this world.

@@ -50,7 +50,7 @@ module _ (permit : PermitState) (stamp : ℕ) where
   -- the item is named, or new
   abbrev Known : Ask → ℕ → Type 0
   Known asked item =
-      IsNamed lookup asked item
+      IsNamed lookup permit.view.looker asked item
       ⊎ (IsTrue (is_adding asked) × Contains (picture stamp ∷ album stamp ∷ list stamp ∷ []) item)
 
   abbrev KnownOf : Ask → Write → Type 0

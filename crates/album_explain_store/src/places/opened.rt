@@ -1,11 +1,13 @@
-//! Where an opening as a whole is none: the line, and its part. The header is tested first, then how many items there
-//! are, then each item by itself, and then the items together.
+//! Where an opening as a whole is none: the line, and its part. The header is tested first. In a first epoch it is then
+//! how many items there are, then each item by itself, and then the items together; in a later one whether the items
+//! rise, then whether each has a value of its kind, and then their numbers.
 use album_access::AceFlags;
 use album_explain::Found;
 use album_items::{ItemId, Opening, Value, has_own_value};
 use album_lists::Ace;
 use album_stamps::{
-    MAX_CHILDREN, MAX_MARKS, MAX_OPENING_ITEMS, MAX_OPENING_NUMBER, MAX_PARTS, MIN_MARKS,
+    CLIENTS, MAX_CHILDREN, MAX_COUNTER, MAX_MARKS, MAX_OPENING_ITEMS, MAX_OPENING_NUMBER,
+    MAX_PARTS, MIN_MARKS,
 };
 use bitflags::Flags;
 use std::alloc::{AllocError, Global};
@@ -21,6 +23,9 @@ pub(crate) fn bad_opening(
         return at_line(alloc, header_line, part, Some(value));
     }
     let rows = opening.items.as_slice();
+    if opening.first > 0 {
+        return bad_later(alloc, opening.first, rows, lines);
+    }
     if rows.len() > MAX_OPENING_ITEMS {
         let at = format!(in alloc; "line {}", line_of(lines, MAX_OPENING_ITEMS))?;
         return Ok(Some(Found { at, value: None }));
@@ -57,10 +62,56 @@ fn bad_header(opening: &Opening) -> Option<(&'static str, u64)> {
     if !(MIN_MARKS..=MAX_MARKS).contains(&opening.limit) {
         return Some(("open.limit", opening.limit));
     }
-    if !matches!(opening.policy, 1 | 2) {
+    if !matches!(opening.policy, 1 | 2 | 3) {
         return Some(("open.policy", opening.policy));
     }
+    if opening.first > MAX_COUNTER {
+        return Some(("open.first", opening.first));
+    }
     None
+}
+
+/// What is wrong with the items of a later epoch: one isn't above the one before, has a value of another kind, or has
+/// or names a number that no stamp of the epochs before had.
+fn bad_later(
+    alloc: Global,
+    first: u64,
+    rows: &[(ItemId, Value)],
+    lines: &[u64],
+) -> Result<Option<Found>, AllocError> {
+    for (index, row) in rows.iter().enumerate() {
+        if index > 0 && row.0 <= rows[index - 1].0 {
+            return at_line(alloc, line_of(lines, index), "item", None);
+        }
+    }
+    for (index, row) in rows.iter().enumerate() {
+        if !has_own_value(row) {
+            return at_line(alloc, line_of(lines, index), "value", None);
+        }
+    }
+    let greatest = first
+        .saturating_mul(CLIENTS)
+        .saturating_add(MAX_OPENING_NUMBER);
+    for (index, row) in rows.iter().enumerate() {
+        let line = line_of(lines, index);
+        if row.0.number() > greatest {
+            return at_line(alloc, line, "item", None);
+        }
+        if let Some((part, value)) = bad_number(greatest, &row.1) {
+            return at_line(alloc, line, part, Some(value));
+        }
+        if let Some(child) = bad_child(greatest, row.1.children()) {
+            return at_child(alloc, line, child);
+        }
+    }
+    Ok(None)
+}
+
+/// The first child whose number is too great.
+fn bad_child(greatest: u64, children: &[ItemId]) -> Option<usize> {
+    children
+        .iter()
+        .position(|child| child.number() > greatest)
 }
 
 /// What is wrong with an item by itself.
@@ -71,26 +122,26 @@ fn bad_row(alloc: Global, line: u64, row: &(ItemId, Value)) -> Result<Option<Fou
     if row.0.number() > MAX_OPENING_NUMBER {
         return at_line(alloc, line, "item", None);
     }
-    if let Some((part, value)) = bad_number(&row.1) {
+    if let Some((part, value)) = bad_number(MAX_OPENING_NUMBER, &row.1) {
         return at_line(alloc, line, part, Some(value));
     }
     bad_children(alloc, line, row.1.children())
 }
 
 /// The number of a list or of a home that is too great.
-fn bad_number(value: &Value) -> Option<(&'static str, u64)> {
+fn bad_number(greatest: u64, value: &Value) -> Option<(&'static str, u64)> {
     let home = match value {
         Value::Picture(picture) => Some(picture.home),
         Value::Album(album) => album.home,
         Value::Missing | Value::List(_) | Value::Group(_) => None,
     };
     if let Some(head) = value.head() {
-        if head.list > MAX_OPENING_NUMBER {
+        if head.list > greatest {
             return Some(("value.list", head.list));
         }
     }
     match home {
-        Some(home) if home > MAX_OPENING_NUMBER => Some(("value.home", home)),
+        Some(home) if home > greatest => Some(("value.home", home)),
         _ => None,
     }
 }
@@ -101,10 +152,8 @@ fn bad_children(
     line: u64,
     children: &[ItemId],
 ) -> Result<Option<Found>, AllocError> {
-    for (index, child) in children.iter().enumerate() {
-        if child.number() > MAX_OPENING_NUMBER {
-            return at_child(alloc, line, index);
-        }
+    if let Some(index) = bad_child(MAX_OPENING_NUMBER, children) {
+        return at_child(alloc, line, index);
     }
     if children.len() > MAX_CHILDREN {
         return at_line(alloc, line, "value.children", None);

@@ -79,6 +79,7 @@ const OPEN: Rows = &[
     ("limit", Form::PerhapsWhole),
     ("policy", Form::PerhapsWhole),
     ("checked", Form::PerhapsTruth),
+    ("first", Form::PerhapsWhole),
     ("trace", Form::PerhapsTruth),
 ];
 

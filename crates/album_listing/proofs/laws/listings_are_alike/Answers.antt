@@ -1,5 +1,5 @@
-use Rattle.album_listing.proofs.Looking.{listed-by-either}
+use Rattle.album_listing.proofs.Looking.{listed-by-any}
 use Rattle.album_listing.proofs.laws.listings_are_alike.Goals as goal
 
 pub returns : goal.returns
-returns c = listed-by-either
+returns c = listed-by-any

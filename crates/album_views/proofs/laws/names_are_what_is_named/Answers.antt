@@ -7,13 +7,13 @@ pub returns-clause-named : goal.returns-clause-named
 returns-clause-named c = names-named-by
 
 pub returns-clause-single : goal.returns-clause-single
-returns-clause-single c = λ rows ask. names-single rows ask
+returns-clause-single c = λ rows looker ask. names-single rows looker ask
 
 pub returns-clause-order : goal.returns-clause-order
 returns-clause-order c = names-fixed
 
 pub returns-clause-one : goal.returns-clause-one
-returns-clause-one c = λ rows ask names fixed named. names-one rows ask names fixed (λ item h. named item (has-Contains names item h))
+returns-clause-one c = λ rows looker ask names fixed named. names-one rows looker ask names fixed (λ item h. named item (has-Contains names item h))
 
 pub returns-clause-closed : goal.returns-clause-closed
-returns-clause-closed c = λ rows ask. (closed-is rows ask, is-closed rows ask)
+returns-clause-closed c = λ rows looker ask. (closed-is rows looker ask, is-closed rows looker ask)

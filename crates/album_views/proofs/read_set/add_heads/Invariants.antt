@@ -8,4 +8,4 @@ use Rattle.album_views.proofs.read_set.add_heads.Given as goal
 abbrev pub invariant-loop-subject : goal.invariant-loop-subject
 invariant-loop-subject l =
     l.names.keys
-    ≡ insert_all ◌==◌ l.initial.names.keys (flat_map (named_by_head (seen l.snapshot)) (take l.subject-index l.subjects))
+    ≡ insert_all ◌==◌ l.initial.names.keys (flat_map (named_by_head (seen l.snapshot) l.looker l.ask) (take l.subject-index l.subjects))

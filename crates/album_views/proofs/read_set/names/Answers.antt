@@ -10,13 +10,13 @@ use Rattle.album_views.proofs.read_set.names.Goals.{else-loop-index-test, then-l
 -- no name was looked at yet
 pub loop-index-init : goal.loop-index-init
 loop-index-init c =
-    looked-first (seen c.args.snapshot.now) c.args.ask.now c.in_ok-names.names.keys c.in_ok-names.ensures
+    looked-first (seen c.args.snapshot.now) c.args.looker.now c.args.ask.now c.in_ok-names.names.keys c.in_ok-names.ensures
 
 -- one name more
 pub loop-index-preserved : goal.loop-index-preserved
 loop-index-preserved c =
     let at : slice_get c.loop-index.names.keys c.loop-index.index ≡ Some c.in-Some.item.now = sym c.in-Some.ensures.key in
-    looked-more (seen c.args.snapshot.now) c.args.ask.now c.loop-index.index c.loop-index.names.keys
+    looked-more (seen c.args.snapshot.now) c.args.looker.now c.args.ask.now c.loop-index.index c.loop-index.names.keys
     c.add_groups_in_group.new.names.keys c.in-Some.item.now
     (slice_get_within c.loop-index.names.keys c.loop-index.index c.in-Some.item.now at)
     (sym (get_or_from_slice_get c.loop-index.names.keys c.loop-index.index c.in-Some.item.now c.in-Some.item.now at))
@@ -36,6 +36,6 @@ returns-clause-names c =
           ])
     ] in
     items
-    ∙ names-one c.args.snapshot.now c.args.ask.now c.loop-index.names.keys
-    (looked-all (seen c.args.snapshot.now) c.args.ask.now c.loop-index.index c.loop-index.names.keys past c.loop-index.invariant)
+    ∙ names-one c.args.snapshot.now c.args.looker.now c.args.ask.now c.loop-index.names.keys
+    (looked-all (seen c.args.snapshot.now) c.args.looker.now c.args.ask.now c.loop-index.index c.loop-index.names.keys past c.loop-index.invariant)
     c.loop-index.invariant.named

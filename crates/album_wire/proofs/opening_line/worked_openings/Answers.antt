@@ -18,6 +18,14 @@ pub returns-clause-not_checked : goal.returns-clause-not_checked
 unfolding lines_on_literals
 returns-clause-not_checked c = refl
 
+pub returns-clause-after_epochs : goal.returns-clause-after_epochs
+unfolding lines_on_literals
+returns-clause-after_epochs c = refl
+
+pub returns-clause-after_nothing : goal.returns-clause-after_nothing
+unfolding lines_on_literals
+returns-clause-after_nothing c = refl
+
 pub returns-clause-checked_by_number : goal.returns-clause-checked_by_number
 unfolding lines_on_literals
 returns-clause-checked_by_number c = refl

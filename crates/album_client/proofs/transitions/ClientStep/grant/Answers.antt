@@ -6,4 +6,4 @@ use Rattle.album_client.proofs.transitions.ClientStep.grant.Goals as goal
 pub returns-in-Ok-clause-transition : goal.returns-in-Ok-clause-transition
 returns-in-Ok-clause-transition c =
     let reads = sym c.writes.ensures ∙ c.if-writes.false in
-    rw (served_only c.args.permit c.in-Ok.served reads c.in-Ok.ensures.served) c.end_ask.ensures
+    rw (served_only c.args.permit c.in-Ok.served c.view-view.ensures.granted reads c.in-Ok.ensures.served) c.end_ask.ensures

@@ -7,6 +7,7 @@ use Rattle.album_sessions.specs.Sessions.{SessionState}
 use Rattle.album_sessions.proofs.ReadingLemmas.{plain_for, readable_first, reads_begin, shown_first, started_way}
 use Rattle.album_sessions.proofs.session.Session.begin.Goals as goal
 use Rattle.album_views.specs.Asks.{objects_of}
+use Rattle.album_views.specs.ReadSets.{looker_of}
 
 pub start-requires : goal.start-requires
 start-requires g c = record {
@@ -32,7 +33,7 @@ returns-clause-way g c = λ session still.
     IfOk-weaker c.start.result _ _ (started_way policy who ask session false now c.start.new.self now.cut transition
     c.start.ensures.same refl (λ proper.
     reads_begin policy false who ask session now terms client tag (objects_of ask) transition first proper parts taken still sound
-    (plain_for session.cut now.cut ask who taken
+    (plain_for session.cut now.cut (looker_of policy who) ask who taken
     (readable_first policy false who ask session now terms client tag (objects_of ask) transition first proper)
     still.sound sound still.on.grown)))
     c.start.ensures.starts

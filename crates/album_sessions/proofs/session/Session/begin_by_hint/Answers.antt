@@ -4,6 +4,7 @@ use Rattle.album_sessions.specs.Sessions.{SessionState}
 use Rattle.album_sessions.specs.Steps.{client_step_in, terms_in}
 use Rattle.album_sessions.proofs.ReadingLemmas.{hint_for, readable_first, reads_begin, shown_first, started_way, still_self}
 use Rattle.album_sessions.proofs.session.Session.begin_by_hint.Goals as goal
+use Rattle.album_views.specs.ReadSets.{looker_of}
 
 pub start-requires : goal.start-requires
 start-requires g c =
@@ -28,6 +29,6 @@ returns-in-Ok-clause-way g c =
     (λ proper.
     reads_begin policy true who ask now now (terms_in policy now) (client_step_in now) begun.tag begun.items transition begun.is proper refl
     c.requires.taken (still_self now sound) sound
-    (hint_for now.cut now.cut ask who begun.items c.requires.taken begun.objects
+    (hint_for now.cut now.cut (looker_of policy who) ask who begun.items c.requires.taken begun.objects
     (readable_first policy true who ask now now (terms_in policy now) (client_step_in now) begun.tag begun.items transition begun.is proper) sound))
     c.in-Ok.started c.in-Ok.ensures.starts
