@@ -9,7 +9,7 @@ answers=$(mktemp) || exit
 trap 'kill $service 2> /dev/null; rm -f "$answers"' EXIT
 
 "$album" serve "$port" --conns 2 > "$answers" << 'OPENING' &
-{"open":{"checked":true,"parts":3}}
+{"open":{"checked":true,"parts":3,"policy":3}}
 {"item":"picture/0","value":{"content":"736561","group":0,"home":0,"list":0,"owner":"amy@users","title":"Sea"}}
 {"item":"list/0","value":{"entries":[["audit","EVERYONE@",1,48],["allow","OWNER@",2032127,0],["allow","EVERYONE@",1,0]]}}
 {"begin":true}
