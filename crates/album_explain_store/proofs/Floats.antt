@@ -18,6 +18,7 @@ no_float_in_taken number taken = go taken.kind
     go kind.Deliver = refl
     go kind.Sweep = refl
     go kind.Stop = refl
+    go kind.Restart = refl
     go kind.Trim = refl
     go kind.Who = refl
     go kind.Pending = refl

@@ -40,6 +40,7 @@ kind_of_event (event.Trim part item) = kind.Trim
 abbrev pub kind_of_events : Spelled → Kind
 kind_of_events (spelled.One event) = kind_of_event event
 kind_of_events (spelled.Range first last) = kind.Deliver
+kind_of_events spelled.Restart = kind.Restart
 
 -- the line of an event
 abbrev pub event_reading : Line → Result Taken Refusal

@@ -60,6 +60,7 @@ fn kind_of_events(events: &Spelled) -> Kind
     match events {
         Spelled::One(event) => kind_of_event(event),
         Spelled::Range(..) => Kind::Deliver,
+        Spelled::Restart => Kind::Restart,
     }
 }
 

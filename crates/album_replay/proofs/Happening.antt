@@ -21,7 +21,7 @@ use Rattle.album_lines.specs.Output.{refusal_line}
 use Rattle.album_lines.specs.Lines.{Line}
 use Rattle.album_wire.specs.declared.event_shape.Spelled.{Spelled}
 use Rattle.album_replay.specs.Replay.{Happens, Delivers, Spells, Runs, IsPrinted, event_line_read, outputs_text, event_text, delivery_text, text_in, delivered}
-use Rattle.album_replay.specs.Stages.{Leads, MayLead, with_past}
+use Rattle.album_replay.specs.Epochs.{Leads, MayLead, with_past}
 use Rattle.album_judge.specs.declared.fault.Fault.{Fault}
 use Rattle.album_judge.specs.Writes.{Writes, IsPrefixOf, LeavesOf}
 use Rattle.album_replay.proofs.Leaving.{writes_left, leaves_before, leaves_behind}

@@ -1,5 +1,5 @@
 -- What a replay prints is as it is promised: for the law, and for `replay`.
-use Rattle.std.proofs.Common.{◌≡◌, ℕ, List, [], ◌∷◌, ◌++◌, map, filter, Bool, true, false, not, Option, Some, None, Result, Ok, Err, inl, inr, ⊎_elim, refl, sym, ap, ◌∙◌, subst, append_assoc, append-nil, Contains, if◌then◌else◌}
+use Rattle.std.proofs.Common.{◌≡◌, ◌+◌, ℕ, List, [], ◌∷◌, ◌++◌, map, filter, Bool, true, false, not, Option, Some, None, Result, Ok, Err, inl, inr, ⊎_elim, refl, sym, ap, ◌∙◌, subst, append_assoc, append-nil, Contains, if◌then◌else◌}
 use Rattle.std.specs.Bool.{MatchBool}
 use Rattle.std.specs.List.{flat_map}
 use Rattle.std.specs.Option.{IfSome}
@@ -12,7 +12,7 @@ use Rattle.album_items.specs.Openings.{Row, is_opening, is_base_opening}
 use Rattle.album_items.proofs.BaseLemmas.{opening_is_base}
 use Rattle.album_items.specs.declared.openings.Opening.{Opening}
 use Rattle.album_calls.specs.declared.messages.Message.{Message}
-use Rattle.album_client.specs.Terms.{Terms, terms_of}
+use Rattle.album_client.specs.Terms.{terms_of}
 use Rattle.album_world.specs.State.{Now}
 use Rattle.album_world.specs.Past.{World}
 use Rattle.album_world.specs.Changes.{Change, change_of}
@@ -35,9 +35,13 @@ use Rattle.album_wire.specs.declared.event_shape.Spelled.TheVariants as spelled
 use Rattle.album_wire.specs.declared.opening_line.OpeningLine.{OpeningLine}
 use Rattle.album_wire.specs.declared.opening_line.OpeningLine.TheVariants as line
 use Rattle.album_wire.specs.declared.opening_shape.Header.{Header}
-use Rattle.album_replay.specs.Replay.{Stage, Unopened, BeingOpened, Running, Over, Step, refused, silently, opening_of, first_line, later_line, opened_by, message_shown, event_text, delivery_text, Happens, Delivers, Runs, opening_line_read, event_line_read, IsOpened, IsPrinted, IsRun, Takes, IsStep, Replays, IsReplay, end_text}
-use Rattle.album_replay.specs.Promise.{opening_said, item_said, SpellsOpening, events_read, events_spelled, AreAmong, Spell, IsSpelledBy, AllHold, IsOf, Printed, Refused, Output, text_of, IsRight, IsAsPromised}
+use Rattle.album_replay.specs.Replay.{Epoch, epoch_after, Stage, Unopened, BeingOpened, Running, Over, Step, refused, silently, opening_of, first_line, later_line, opened_by, message_shown, event_text, delivery_text, Happens, Delivers, Runs, opening_line_read, event_line_read, IsOpened, IsPrinted, IsRun, IsRestart, Takes, IsStep, Replays, IsReplay, end_text}
+use Rattle.album_replay.specs.Promise.{IsCarriedOver, Opens, opening_said, item_said, events_read, events_spelled, AreAmong, Spell, IsSpelledBy, AllHold, IsOf, Printed, Refused, Restarted, Output, text_of, IsRight, IsAsPromised}
 use Rattle.album_replay.specs.Promise.AreAmong.{nothing, taken, left}
+use Rattle.album_replay.specs.Promise.Opens.{First, Next}
+use Rattle.album_restarts.specs.Next.{IsNextOpening}
+use Rattle.album_restarts.proofs.BaseLemmas.{next_base}
+use Rattle.album_restarts.proofs.NextLemmas.{rows_carried}
 use Rattle.album_judge.specs.Writes.{Writes}
 
 -- ---- some of the events
@@ -115,9 +119,17 @@ is_of w outs h (out.Sent n) i = tt
 is_of w outs h (out.Noted c n) i = h.notes c n i
 is_of w outs h (out.Answered c a) i = (h.requests c a i, h.answers c a i)
 
--- lines that have been read, of an input, and what the first of them spell
+-- ---- the epoch that runs
+
+-- each epoch opens on a base
+opens_base : (lines : List Line) (number : ℕ) (o : Opening) → Opens lines number o → is_base_opening o ≡ true
+opens_base _ _ _ (First lines o h) = opening_is_base o h.passes
+opens_base _ _ _ (Next lines others line number o n es opens among said over) =
+    next_base o n es (opens_base lines number o opens) over.leaves
+
+-- lines that have been read, of an input, and the epoch that the first of them led to
 module _ (input lines later first others : List Line) (before : input ≡ lines ++ later) (split : lines ≡ first ++ others)
-    (o : Opening) (opens : SpellsOpening first o) where
+    (number : ℕ) (o : Opening) (opens : Opens first number o) where
   -- the outputs of the event are of the world after it
   event_parts : (es all : List Event) (e : Event) (trace : Bool) → AreAmong (es ++ e ∷ []) (events_spelled others)
       → (ch : Change) → change_of (terms_of o) (run_of o es).now e ≡ Ok ch
@@ -127,9 +139,9 @@ module _ (input lines later first others : List Line) (before : input ≡ lines 
       let w = run_of o es in
       let outs = outs_of w.now ch in
       let shown : Out → Option Message = λ output. message_shown trace (now_after w.now ch) output in
-      let of : Out → Printed = λ output. Output lines o (es ++ e ∷ []) output (shown output) in
+      let of : Out → Printed = λ output. Output lines number o (es ++ e ∷ []) output (shown output) in
       let past : IsInPast (run_of o (es ++ e ∷ [])) outs = subst (IsInPast (run_of o (es ++ e ∷ [])))
-      (ap (outs_by w.now) is) (in_past_given o es (opening_is_base o opens.passes) e) in
+      (ap (outs_by w.now) is) (in_past_given o es (opens_base first number o opens) e) in
       record {
         parts = map of outs;
         whole = text_map outs of (λ output. out_line output (shown output)) (λ output. refl);
@@ -140,7 +152,7 @@ module _ (input lines later first others : List Line) (before : input ≡ lines 
               later = later;
               before = before;
               spelled = record { first = first; others = others; split = split; opens = opens; among = among };
-              hold = all_hold o (es ++ e ∷ []) (opening_is_base o opens.passes);
+              hold = all_hold o (es ++ e ∷ []) (opens_base first number o opens);
               is = is_of (run_of o (es ++ e ∷ [])) outs past d.0 (contains d.1);
             });
       }
@@ -230,17 +242,15 @@ spelled_more lines l b e =
 -- ---- the stage of a replay
 
 -- the lines that were read spell the world
-pub record RunsIt (done : List Line) (terms : Terms) (world : World) : Type 0 where
-  pub opening : Opening
+pub record RunsIt (done : List Line) (epoch : Epoch) (world : World) : Type 0 where
   pub events : List Event
-  pub spelled : Spell done opening events
-  pub of : terms ≡ terms_of opening
-  pub now : world ≡ run_of opening events
+  pub spelled : Spell done epoch.number epoch.opening events
+  pub now : world ≡ run_of epoch.opening events
 
 abbrev StandsBy : List Line → Stage → Type 0
 StandsBy done Unopened = opening_said done ≡ []
 StandsBy done (BeingOpened header rows) = opening_said done ≡ Ok (line.Open header) ∷ map item_said rows
-StandsBy done (Running terms trace world) = RunsIt done terms world
+StandsBy done (Running epoch world) = RunsIt done epoch world
 StandsBy done Over = Unit {0}
 
 -- a line is taken: what is printed of it, and the stage of the replay then
@@ -265,10 +275,9 @@ module _ (input done : List Line) (l : Line) (later : List Line) (before : input
   blank_stands : is_blank l ≡ true → (stage : Stage) → StandsBy done stage → StandsBy now_done stage
   blank_stands e Unopened h = said_more done l true e ∙ append-nil (opening_said done) ∙ h
   blank_stands e (BeingOpened header rows) h = said_more done l true e ∙ append-nil (opening_said done) ∙ h
-  blank_stands e (Running terms trace world) h =
+  blank_stands e (Running epoch world) h =
       let s = h.spelled in
       record {
-        opening = h.opening;
         events = h.events;
         spelled = record {
           first = s.first;
@@ -278,7 +287,6 @@ module _ (input done : List Line) (l : Line) (later : List Line) (before : input
           among = subst (AreAmong h.events) (sym (spelled_more s.others l true e))
               (among_more h.events (events_spelled s.others) [] s.among);
         };
-        of = h.of;
         now = h.now;
       }
   blank_stands e Over h = tt
@@ -319,34 +327,38 @@ module _ (input done : List Line) (l : Line) (later : List Line) (before : input
         o : Opening
         o = opening_of header rows
 
+        epoch : Epoch
+        epoch = record { opening = o; number = 1; trace = header.trace }
+
         go : (b : Bool) → is_opening o ≡ b
-            → step ≡ (if b then silently (Running (terms_of o) header.trace (start o)) else refused BadOpening)
+            → step ≡ (if b then silently (Running epoch (start o)) else refused BadOpening)
             → IsTaken input now_done step
-        go true passes k = silent_taken input now_done (Running (terms_of o) header.trace (start o)) step
+        go true passes k = silent_taken input now_done (Running epoch (start o)) step
             (record {
-              opening = o;
               events = [];
               spelled = record {
                 first = now_done;
                 others = [];
                 split = sym (append-nil now_done);
-                opens = record {
+                opens = First now_done o (record {
                   header = header;
                   rows = rows;
                   said = later_said header rows h line.Begin e;
                   is = refl;
                   passes = passes;
-                };
+                });
                 among = nothing;
               };
-              of = refl;
               now = refl;
             }) k
         go false passes k = over_taken input now_done BadOpening step k
     later_taken header rows h (Err r) e step is = over_taken input now_done r step is
 
     -- a line of events
-    module _ (o : Opening) (es : List Event) (s : Spell done o es) (trace : Bool) where
+    module _ (epoch : Epoch) (es : List Event) (s : Spell done epoch.number epoch.opening es) where
+      abbrev o : Opening
+      o = epoch.opening
+
       abbrev others_now : List Line
       others_now = s.others ++ l ∷ []
 
@@ -354,13 +366,12 @@ module _ (input done : List Line) (l : Line) (later : List Line) (before : input
       split_now = ap (λ (z : List Line). z ++ l ∷ []) s.split ∙ append_assoc s.first s.others (l ∷ [])
 
       -- the stage once some of the line's events have happened
-      stands_now : (terms : Terms) → terms ≡ terms_of o → (line_events : List Event)
+      stands_now : (line_events : List Event)
           → events_spelled others_now ≡ events_spelled s.others ++ line_events → (next : World) (text : List ℕ)
-          → Goes input now_done later s.first others_now before split_now o s.opens es (events_spelled s.others ++ line_events)
-          next text
-          → RunsIt now_done terms next
-      stands_now terms of line_events here next text g = record {
-        opening = o;
+          → Goes input now_done later s.first others_now before split_now epoch.number o s.opens es
+          (events_spelled s.others ++ line_events) next text
+          → RunsIt now_done epoch next
+      stands_now line_events here next text g = record {
         events = g.some;
         spelled = record {
           first = s.first;
@@ -369,15 +380,12 @@ module _ (input done : List Line) (l : Line) (later : List Line) (before : input
           opens = s.opens;
           among = subst (AreAmong g.some) (sym here) g.among;
         };
-        of = of;
         now = g.now;
       }
 
       -- nothing has happened
-      still_now : (terms : Terms) → terms ≡ terms_of o → (next : World) → next ≡ run_of o es
-          → RunsIt now_done terms next
-      still_now terms of next same = record {
-        opening = o;
+      still_now : (next : World) → next ≡ run_of o es → RunsIt now_done epoch next
+      still_now next same = record {
         events = es;
         spelled = record {
           first = s.first;
@@ -387,54 +395,93 @@ module _ (input done : List Line) (l : Line) (later : List Line) (before : input
           among = subst (AreAmong es) (sym (spelled_more s.others l false dark))
               (among_more es (events_spelled s.others) (events_read (event_line_read l)) s.among);
         };
-        of = of;
         now = same;
       }
 
-      pub record IsRunOn (terms : Terms) (next : World) (text : List ℕ) : Type 0 where
-        pub stands : RunsIt now_done terms next
+      pub record IsRunOn (next : World) (text : List ℕ) : Type 0 where
+        pub stands : RunsIt now_done epoch next
         pub parts : Parts input text
 
       runs_on : (r : Result Spelled Refusal) → event_line_read l ≡ r → (next : World) (text : List ℕ)
-          → Runs (terms_of o) trace (run_of o es) r next text → IsRunOn (terms_of o) next text
+          → Runs (terms_of o) epoch.trace (run_of o es) r next text → IsRunOn next text
       runs_on (Ok (spelled.One e)) read next text h =
           let here : events_spelled others_now ≡ events_spelled s.others ++ e ∷ [] =
           spelled_more s.others l false dark ∙ ap (λ (z : Result Spelled Refusal). events_spelled s.others ++ events_read z) read in
-          let g = happens_parts input now_done later s.first others_now before split_now o s.opens event_text
-          (λ t n ch. refl) (λ t n r. refused_part input r) es (events_spelled s.others) [] e trace s.among
+          let g = happens_parts input now_done later s.first others_now before split_now epoch.number o s.opens event_text
+          (λ t n ch. refl) (λ t n r. refused_part input r) es (events_spelled s.others) [] e epoch.trace s.among
           (here ∙ sym (append-nil (events_spelled s.others ++ e ∷ []))) next text h in
-          record { stands = stands_now (terms_of o) refl (e ∷ []) here next text g; parts = g.parts }
+          record { stands = stands_now (e ∷ []) here next text g; parts = g.parts }
       runs_on (Ok (spelled.Range a b)) read next text h =
           let here : events_spelled others_now ≡ events_spelled s.others ++ deliveries a b =
           spelled_more s.others l false dark ∙ ap (λ (z : Result Spelled Refusal). events_spelled s.others ++ events_read z) read in
-          let g = delivers_parts input now_done later s.first others_now before split_now o s.opens (deliveries a b) es
-          (events_spelled s.others) trace s.among here next text h in
-          record { stands = stands_now (terms_of o) refl (deliveries a b) here next text g; parts = g.parts }
+          let g = delivers_parts input now_done later s.first others_now before split_now epoch.number o s.opens
+          (deliveries a b) es (events_spelled s.others) epoch.trace s.among here next text h in
+          record { stands = stands_now (deliveries a b) here next text g; parts = g.parts }
+      runs_on (Ok spelled.Restart) read next text h = absurd h
       runs_on (Err r) read next text h = record {
-        stands = still_now (terms_of o) refl next h.0;
+        stands = still_now next h.0;
         parts = subst (Parts input) (sym h.1) (refused_part input r);
       }
 
-      printed_on : (next : World) (text : List ℕ) → IsPrinted (terms_of o) trace l (run_of o es) next text
-          → IsRunOn (terms_of o) next text
+      printed_on : (next : World) (text : List ℕ) → IsPrinted (terms_of o) epoch.trace l (run_of o es) next text
+          → IsRunOn next text
       printed_on next text (inl h) = runs_on (event_line_read l) refl next text h
       printed_on next text (inr h) = record {
-        stands = still_now (terms_of o) refl next h.0;
+        stands = still_now next h.0;
         parts = subst (Parts input) (sym h.1) (refused_part input OutOfMemory);
       }
 
-    run_taken : (terms : Terms) (trace : Bool) (world : World) → RunsIt done terms world → (step : Step)
-        → IsRun terms trace world l step → IsTaken input now_done step
-    run_taken terms trace world h step r =
-        let printed : IsPrinted (terms_of h.opening) trace l (run_of h.opening h.events) r.world_then step.text =
-        subst (λ (t : Terms). IsPrinted t trace l (run_of h.opening h.events) r.world_then step.text) h.of
-        (subst (λ (w : World). IsPrinted terms trace l w r.world_then step.text) h.now r.printed) in
-        let on = printed_on h.opening h.events h.spelled trace r.world_then step.text printed in
-        record {
-          stands = subst (StandsBy now_done) (sym r.runs)
-              (subst (λ (t : Terms). RunsIt now_done t r.world_then) (sym h.of) on.stands);
-          parts = on.parts;
-        }
+    run_taken : (epoch : Epoch) (world : World) → RunsIt done epoch world → (step : Step)
+        → IsRun epoch world l step → IsTaken input now_done step
+    run_taken epoch world h step r =
+        let printed : IsPrinted (terms_of epoch.opening) epoch.trace l (run_of epoch.opening h.events) r.world_then step.text =
+        subst (λ (w : World). IsPrinted (terms_of epoch.opening) epoch.trace l w r.world_then step.text) h.now r.printed in
+        let on = printed_on epoch h.events h.spelled r.world_then step.text printed in
+        record { stands = subst (StandsBy now_done) (sym r.runs) on.stands; parts = on.parts }
+
+    -- a restart
+    module _ (epoch : Epoch) (world : World) (h : RunsIt done epoch world) (step : Step) (r : IsRestart epoch world l step) where
+      over : IsCarriedOver epoch.opening h.events r.next
+      over =
+          let leaves = subst (λ (w : World). IsNextOpening epoch.opening w.now r.next) h.now r.leaves in
+          let base = opens_base h.spelled.first epoch.number epoch.opening h.spelled.opens in
+          record { leaves = leaves; rows = rows_carried epoch.opening r.next h.events base leaves }
+
+      opens_now : Opens now_done (epoch.number + 1) r.next
+      opens_now =
+          let s = h.spelled in
+          let split : now_done ≡ s.first ++ s.others ++ l ∷ [] = ap (λ (z : List Line). z ++ l ∷ []) s.split in
+          subst (λ (z : List Line). Opens z (epoch.number + 1) r.next) (sym split)
+          (Next s.first s.others l epoch.number epoch.opening r.next h.events s.opens s.among r.said over)
+
+      runs_now : RunsIt now_done (epoch_after epoch r.next) (start r.next)
+      runs_now = record {
+        events = [];
+        spelled = record {
+          first = now_done;
+          others = [];
+          split = sym (append-nil now_done);
+          opens = opens_now;
+          among = nothing;
+        };
+        now = refl;
+      }
+
+      abbrev part : Printed
+      part = Restarted now_done (epoch.number + 1) r.next
+
+      restart_taken : IsTaken input now_done step
+      restart_taken = record {
+        stands = subst (StandsBy now_done) (sym r.opens) runs_now;
+        parts = subst (Parts input) (sym r.printed) (record {
+          parts = part ∷ [];
+          whole = sym (append-nil (text_of part));
+          right = λ p i. ⊎_elim
+              (λ (e : p ≡ part). subst (IsRight input) (sym e)
+              (record { later = later; before = before; opens = opens_now }))
+              (λ j. in_nil j) (in_uncons i);
+        });
+      }
 
     opened_taken : (says : Step) (step : Step) → IsOpened says step
         → ((s : Step) → s ≡ says → IsTaken input now_done s) → IsTaken input now_done step
@@ -445,7 +492,8 @@ module _ (input done : List Line) (l : Line) (later : List Line) (before : input
     dark_taken Unopened h step t = opened_taken _ step t (first_taken h (opening_line_read l) refl)
     dark_taken (BeingOpened header rows) h step t =
         opened_taken _ step t (later_taken header rows h (opening_line_read l) refl)
-    dark_taken (Running terms trace world) h step t = run_taken terms trace world h step t
+    dark_taken (Running epoch world) h step (inl t) = run_taken epoch world h step t
+    dark_taken (Running epoch world) h step (inr t) = restart_taken epoch world h step t
     dark_taken Over h step t = silent_taken input now_done Over step tt t
 
   line_taken : (stage : Stage) → StandsBy done stage → (step : Step) → IsStep stage l step → IsTaken input now_done step
@@ -481,7 +529,7 @@ lines_taken input done (l ∷ lines) is stage h last text r =
 end_parts : (input : List Line) (last : Stage) → Parts input (end_text last)
 end_parts input Unopened = refused_part input BadOpening
 end_parts input (BeingOpened header rows) = refused_part input BadOpening
-end_parts input (Running terms trace world) = no_parts input
+end_parts input (Running epoch world) = no_parts input
 end_parts input Over = no_parts input
 
 pub as_promised : (input text : List ℕ) → IsReplay input text → IsAsPromised input text
@@ -494,11 +542,11 @@ as_promised input text r =
       right = λ part i. parts.right part (within _ i);
     }
 
-pub runs_what_lines_spell : (lines : List Line) (terms : Terms) (trace : Bool) (world : World) (text : List ℕ)
-    → Replays Unopened lines (Running terms trace world) text → IsSpelledBy lines terms world
-runs_what_lines_spell lines terms trace world text r =
-    let h = (lines_taken lines [] lines refl Unopened refl (Running terms trace world) text r).stands in
-    record { opening = h.opening; events = h.events; spelled = h.spelled; terms_are = h.of; is = h.now }
+pub runs_what_lines_spell : (lines : List Line) (epoch : Epoch) (world : World) (text : List ℕ)
+    → Replays Unopened lines (Running epoch world) text → IsSpelledBy lines epoch world
+runs_what_lines_spell lines epoch world text r =
+    let h = (lines_taken lines [] lines refl Unopened refl (Running epoch world) text r).stands in
+    record { events = h.events; spelled = h.spelled; is = h.now }
 
 -- a text that is written keeps the promise
 pub promised : (input a b : Option (List ℕ)) → IfSome input (λ i. Writes (IsReplay i) a b)

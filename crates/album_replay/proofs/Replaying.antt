@@ -1,9 +1,11 @@
 -- The text of a replay: there is one of each input, and one of more lines follows that of the first. For the laws of
 -- `replays`.
-use Rattle.std.proofs.Common.{◌≡◌, ℕ, List, [], ◌∷◌, ◌++◌, Bool, true, false, cond, Result, Ok, Err, inl, refl, sym, ap, ◌∙◌, subst, append_assoc}
+use Rattle.std.proofs.Common.{◌≡◌, ℕ, List, [], ◌∷◌, ◌++◌, Bool, true, false, cond, Result, Ok, Err, ◌⊎◌, inl, inr, refl, sym, ap, ◌∙◌, subst, append_assoc}
 use Rattle.std.specs.Bool.{MatchBool}
 use Rattle.album_stamps.specs.declared.refusals.Refusal.{Refusal}
-use Rattle.album_client.specs.Terms.{Terms}
+use Rattle.album_stamps.specs.declared.refusals.Refusal.TheVariants.{OutOfMemory}
+use Rattle.album_lines.specs.Output.{refusal_line}
+use Rattle.album_client.specs.Terms.{Terms, terms_of}
 use Rattle.album_world.specs.Past.{World}
 use Rattle.album_world.specs.Runs.{happens}
 use Rattle.album_permits.specs.declared.events.Event.{Event}
@@ -27,20 +29,22 @@ delivers terms trace world (event ∷ events) = (
   refl,
 )
 
-runs : (terms : Terms) (trace : Bool) (world : World) (read : Result Spelled Refusal)
+prints : (terms : Terms) (trace : Bool) (world : World) (read : Result Spelled Refusal)
     → Runs terms trace world read (line_run terms trace world read).0 (line_run terms trace world read).1
-runs terms trace world (Ok (spelled.One event)) = inl (refl, refl)
-runs terms trace world (Ok (spelled.Range first last)) = delivers terms trace world (deliveries first last)
-runs terms trace world (Err refusal) = (refl, refl)
+    ⊎ (((line_run terms trace world read).0 ≡ world) × ((line_run terms trace world read).1 ≡ refusal_line OutOfMemory))
+prints terms trace world (Ok (spelled.One event)) = inl (inl (refl, refl))
+prints terms trace world (Ok (spelled.Range first last)) = inl (delivers terms trace world (deliveries first last))
+prints terms trace world (Ok spelled.Restart) = inr (refl, refl)
+prints terms trace world (Err refusal) = inl (refl, refl)
 
 takes : (stage : Stage) (line : Line) → Takes stage line (taken stage line)
 takes Unopened line = inl refl
 takes (BeingOpened header rows) line = inl refl
-takes (Running terms trace world) line = record {
-  world_then = (line_run terms trace world (event_line_read line)).0;
+takes (Running epoch world) line = inl (record {
+  world_then = (line_run (terms_of epoch.opening) epoch.trace world (event_line_read line)).0;
   runs = refl;
-  printed = inl (runs terms trace world (event_line_read line));
-}
+  printed = prints (terms_of epoch.opening) epoch.trace world (event_line_read line);
+})
 takes Over line = refl
 
 pub steps : (stage : Stage) (line : Line) → IsStep stage line (step_of stage line)

@@ -1,5 +1,5 @@
 -- What a line makes of the stage of a replay. For the methods of `Stage`, and for `take_lines` and `finish`.
-use Rattle.std.proofs.Common.{◌≡◌, ◌≢◌, ◌⊎◌, ◌+◌, ◌<◌, ℕ, List, [], ◌∷◌, ◌++◌, length, map, take, drop, get_or, Bool, true, false, Option, Result, Ok, Err, OnErr, IfErr, inl, inr, refl, sym, ap, ◌∙◌, subst, append_assoc, append-nil, if◌then◌else◌}
+use Rattle.std.proofs.Common.{◌≡◌, ◌≢◌, ◌⊎◌, ◌+◌, ◌<◌, ℕ, List, [], ◌∷◌, ◌++◌, length, map, take, drop, get_or, Bool, true, false, Option, Result, Ok, Err, OnOk, OnErr, IfErr, inl, inr, refl, sym, ap, ◌∙◌, subst, append_assoc, append-nil, if◌then◌else◌}
 use Rattle.std.specs.Bool.{MatchBool}
 use Rattle.std.specs.Io.KnownBytes.{Appends}
 use Rattle.album_stamps.specs.declared.refusals.Refusal.{Refusal}
@@ -7,10 +7,18 @@ use Rattle.album_stamps.specs.declared.refusals.Refusal.TheVariants.{OutOfMemory
 use Rattle.album_items.specs.Openings.{is_opening}
 use Rattle.album_items.specs.declared.openings.Opening.{Opening}
 use Rattle.std.proofs.KnownBytes.{Appends-trans, Appends-nil}
-use Rattle.album_client.specs.Terms.{terms_of}
-use Rattle.album_world.specs.Past.{Past}
+use Rattle.album_client.specs.Terms.{Terms}
+use Rattle.album_world.specs.Past.{Past, World}
 use Rattle.album_world.specs.Runs.{start}
-use Rattle.album_world.specs.Seen.{WorldState, opened}
+use Rattle.album_world.specs.Seen.{WorldState, IsExtendedBy, first_world, opened}
+use Rattle.album_permits.specs.declared.events.Event.{Event}
+use Rattle.album_permits.specs.declared.outs.Out.{Out}
+use Rattle.album_items.proofs.BaseLemmas.{opening_is_base}
+use Rattle.std.proofs.lemmas.Result.{IfErr-weaker, on_ok_weaker}
+use Rattle.album_wire.specs.TalkJson.{talk_text}
+use Rattle.album_wire.specs.declared.event_shape.Spelled.{Spelled}
+use Rattle.album_wire.specs.declared.event_shape.Spelled.TheVariants as spelled
+use Rattle.album_wire.specs.declared.talk_json.TalkOut.TheVariants as talk
 use Rattle.album_wire.specs.declared.opening_line.OpeningLine.{OpeningLine}
 use Rattle.album_lines.specs.Lines.{Line, is_blank}
 use Rattle.album_lines.specs.Output.{refusal_line}
@@ -19,10 +27,11 @@ use Rattle.album_judge.specs.declared.fault.Fault.TheVariants.{Reading, Writing,
 use Rattle.album_replay.specs.declared.openings.SoFar.{SoFar}
 use Rattle.album_replay.specs.declared.engine.stages.Stage.{Stage as Kept}
 use Rattle.album_replay.specs.declared.engine.stages.Stage.TheVariants as kept
-use Rattle.album_replay.specs.Replay.{Stage, Running, Over, Step, IsStep, IsOpened, IsRun, IsPrinted, Takes, Prints, Replays, begun, opened_by, refused, silently, end_text, replayed}
-use Rattle.album_replay.specs.Stages.{GoesOn, Opens, Steps, Replayed, Ends, IsLeftAmid, IsLeftAtEnd, Leads, MayLead, is_over, no_past, stage_of, step_by, with_past}
-use Rattle.album_judge.specs.Writes.{Writes, IsPrefixOf, LeavesOf}
-use Rattle.album_replay.proofs.Happening.{memory_or_not}
+use Rattle.album_replay.specs.Replay.{Epoch, Spells, event_line_read, Stage, Running, Over, Step, IsStep, IsOpened, IsRun, IsPrinted, Takes, Prints, Replays, begun, opened_by, refused, silently, end_text, replayed}
+use Rattle.album_replay.specs.Epochs.{EpochState, HasLed, first_epoch, IsAfter, Restarts, MayRestart, running, TakesLine, PrintsLine, Leads, MayLead, with_past}
+use Rattle.album_replay.specs.Stages.{GoesOn, Opens, Steps, Replayed, Ends, IsLeftAmid, IsLeftAtEnd, is_over, no_past, stage_of, step_by}
+use Rattle.album_judge.specs.Writes.{Writes, IsPrefixOf, IsCutShort, LeavesOf}
+use Rattle.album_replay.proofs.Happening.{memory_or_not, line_done, line_left, line_refused, line_written, line_begun}
 use Rattle.album_replay.proofs.Leaving.{writes_left}
 use Rattle.album_replay.proofs.Replaying.{replays, replays_append}
 use Rattle.album_judge.proofs.Answering.{goes_on}
@@ -76,22 +85,25 @@ module _ (taken : OpeningLine → Step) (read : Result OpeningLine Refusal) wher
 
 -- the world opens, or doesn't
 module _ (o : Opening) (trace : Bool) where
-  abbrev opened_if : Bool → Result WorldState Refusal
-  opened_if b = if b then Ok (record { terms = terms_of o; kept = (start o).now }) else Err BadOpening
+  abbrev epoch : Epoch
+  epoch = record { opening = o; number = 1; trace = trace }
+
+  abbrev opened_if : Bool → Result EpochState Refusal
+  opened_if b = if b then Ok (record { of = epoch; world = first_world o }) else Err BadOpening
 
   abbrev begun_if : Bool → Step
-  begun_if b = if b then silently (Running (terms_of o) trace (start o)) else refused BadOpening
+  begun_if b = if b then silently (Running epoch (start o)) else refused BadOpening
 
-  opens_by : (b : Bool) (world : WorldState) → opened_if b ≡ Ok world
-      → begun_if b ≡ silently (stage_of (kept.Running trace world) no_past)
-  opens_by true world e =
-      let is : record { terms = terms_of o; kept = (start o).now } ≡ world = cc in
-      ap (λ (w : WorldState). silently (stage_of (kept.Running trace w) no_past)) is
-  opens_by false world e = absurd (cc)
+  opens_by : (b : Bool) (first : EpochState) → opened_if b ≡ Ok first
+      → begun_if b ≡ silently (stage_of (kept.Running first) no_past)
+  opens_by true first e =
+      let is : record { of = epoch; world = first_world o } ≡ first = cc in
+      ap (λ (k : EpochState). silently (stage_of (kept.Running k) no_past)) is
+  opens_by false first e = absurd (cc)
 
-  pub world_opens : (world : WorldState) → opened o ≡ Ok world
-      → begun o trace ≡ silently (stage_of (kept.Running trace world) no_past)
-  world_opens world e = opens_by (is_opening o) world e
+  pub world_opens : (first : EpochState) → first_epoch o trace ≡ Ok first
+      → begun o trace ≡ silently (stage_of (kept.Running first) no_past)
+  world_opens first e = opens_by (is_opening o) first e
 
   refused_by : (b : Bool) (why : Refusal) → opened_if b ≡ Err why → begun_if b ≡ refused why
   refused_by true why e = absurd (cc)
@@ -99,13 +111,13 @@ module _ (o : Opening) (trace : Bool) where
       let is : BadOpening ≡ why = cc in
       ap refused is
 
-  pub world_refused : (why : Refusal) → opened o ≡ Err why → begun o trace ≡ refused why
+  pub world_refused : (why : Refusal) → first_epoch o trace ≡ Err why → begun o trace ≡ refused why
   world_refused why e = refused_by (is_opening o) why e
 
 pub over : (kept : Kept) (past : Past) → is_over kept ≡ true → stage_of kept past ≡ Over
 over kept.Unopened past is = cc
 over (kept.BeingOpened header rows) past is = cc
-over (kept.Running trace world) past is = cc
+over (kept.Running epoch) past is = cc
 over kept.Over past is = refl
 
 -- ---- lines
@@ -234,34 +246,187 @@ module _ (old : Stage) (line : Line) (says : Step) (opening : (step : Step) → 
       ))
       fault a b w
 
--- a line of events
-module _ (trace : Bool) (old : WorldState) (past : Past) (line : Line) (is : is_blank line ≡ false) where
-  pub events_taken : (new : WorldState) (a b : Option (List ℕ))
-      → new.terms ≡ old.terms
-      → Writes (Leads (IsPrinted old.terms trace line) old new past) a b
-      → Writes (Steps (kept.Running trace old) past line (kept.Running trace new)) a b
-  events_taken new a b same w =
-      let next = stage_of (kept.Running trace new) w.1.0 in
-      let step = step_from next w.0 in
-      let run : IsRun old.terms trace (with_past old past) line step =
-      record {
-        world_then = with_past new w.1.0;
-        runs = ap (λ terms. Running terms trace (with_past new w.1.0)) same;
-        printed = w.1.1;
-      } in
-      (w.0, (w.1.0, not_skipped (stage_of (kept.Running trace old) past) line step is run), w.2)
+-- a line of an epoch
+module _ (old : EpochState) (past : Past) (line : Line) where
+  module _ (led : HasLed old.of.opening old.world) where
+    -- its events run
+    goes_on_running : (next : World) (text : List ℕ) → IsPrinted old.world.terms old.of.trace line (with_past old.world past) next text
+        → IsRun old.of (with_past old.world past) line (step_from (Running old.of next) text)
+    goes_on_running next text printed = record {
+      world_then = next;
+      runs = refl;
+      printed = subst (λ (t : Terms). IsPrinted t old.of.trace line (with_past old.world past) next text) led.1.terms printed;
+    }
 
-  pub events_left : (fault : Fault) (a b : Option (List ℕ))
-      → Writes (LeavesOf fault (MayLead (IsPrinted old.terms trace line) old past)) a b
-      → Writes (LeavesOf fault (Prints (stage_of (kept.Running trace old) past) line)) a b
-  events_left fault a b w =
-      writes_left (MayLead (IsPrinted old.terms trace line) old past) (Prints (stage_of (kept.Running trace old) past) line)
-      (λ text h.
-      let next = Running old.terms trace h.0 in
-      let step = step_from next text in
-      let run : IsRun old.terms trace (with_past old past) line step =
-      record { world_then = h.0; runs = refl; printed = h.1 } in
-      (next, not_skipped (stage_of (kept.Running trace old) past) line step is run))
+    pub events_taken : (new : WorldState) (a b : Option (List ℕ))
+        → Writes (Leads (IsPrinted old.world.terms old.of.trace line) old.world new past) a b
+        → Writes (TakesLine old past line (record { of = old.of; world = new })) a b
+    events_taken new a b w =
+        (w.0, (w.1.0, inl (goes_on_running (with_past new w.1.0) w.0 w.1.1)), w.2)
+
+    pub events_left : (fault : Fault) (a b : Option (List ℕ))
+        → Writes (LeavesOf fault (MayLead (IsPrinted old.world.terms old.of.trace line) old.world past)) a b
+        → Writes (LeavesOf fault (PrintsLine old past line)) a b
+    events_left fault a b w =
+        writes_left (MayLead (IsPrinted old.world.terms old.of.trace line) old.world past) (PrintsLine old past line)
+        (λ text h. (Running old.of h.0, inl (goes_on_running h.0 text h.1)))
+        fault a b w
+
+  -- it is a restart, and the next epoch opens
+  module _ (said : event_line_read line ≡ Ok spelled.Restart) where
+    restarts : (new : EpochState) → IsAfter old new
+        → Takes (running old past) line (step_from (running new no_past) (talk_text (talk.Restarted new.of.number)))
+    restarts new h = inr (record {
+      said = said;
+      next = new.of.opening;
+      leaves = h.leaves;
+      opens = (λ i. Running (h.of i) (with_past (h.world i) no_past));
+      printed = ap (λ (e : Epoch). talk_text (talk.Restarted e.number)) h.of;
+    })
+
+    -- memory runs out on it
+    refused_restart : Takes (running old past) line (step_from (running old past) (refusal_line OutOfMemory))
+    refused_restart = inl (record { world_then = with_past old.world past; runs = refl; printed = inr (refl, refl) })
+
+    restarts_so : (new : EpochState) (text : List ℕ) → Restarts old new text → TakesLine old past line new text
+    restarts_so new text (inl h) = (
+      no_past,
+      subst (λ (t : List ℕ). Takes (running old past) line (step_from (running new no_past) t)) (sym h.1)
+          (restarts new h.0),
+    )
+    restarts_so new text (inr h) = (
+      past,
+      subst (λ (e : EpochState). Takes (running old past) line (step_from (running e past) text)) (sym h.0)
+          (subst (λ (t : List ℕ). Takes (running old past) line (step_from (running old past) t)) (sym h.1)
+          refused_restart),
+    )
+
+    pub restart_taken : (new : EpochState) (a b : Option (List ℕ)) → Writes (Restarts old new) a b
+        → Writes (TakesLine old past line new) a b
+    restart_taken new a b w = (w.0, restarts_so new w.0 w.1, w.2)
+
+    pub restart_left : (fault : Fault) (a b : Option (List ℕ)) → Writes (LeavesOf fault (MayRestart old)) a b
+        → Writes (LeavesOf fault (PrintsLine old past line)) a b
+    restart_left fault a b w =
+        writes_left (MayRestart old) (PrintsLine old past line)
+        (λ text h. let t = restarts_so h.0 text h.1 in (running h.0 t.0, t.1))
+        fault a b w
+
+-- ---- what a restart writes
+
+module _ (old new : EpochState) (after : IsAfter old new) (text : List ℕ)
+    (is : text ≡ talk_text (talk.Restarted new.of.number)) where
+  restarted : Restarts old new text
+  restarted = inl (after, is)
+
+  pub restart_written : {X : Type 0} (r : Result X Fault) (a b : Option (List ℕ)) → OnOk r (Appends a b text)
+      → OnOk r (Writes (Restarts old new) a b)
+  restart_written r a b w = on_ok_weaker r (λ x. (text, restarted, x)) w
+
+  pub restart_cut : {X : Type 0} (r : Result X Fault) (a b : Option (List ℕ))
+      → OnErr r (Writes (IsCutShort (λ whole. whole ≡ text)) a b) → IfErr r (λ fault. fault ≡ Writing)
+      → IfErr r (λ fault. Writes (LeavesOf fault (MayRestart old)) a b)
+  restart_cut (Ok x) a b w why = tt
+  restart_cut (Err fault) a b w why =
+      subst (λ (f : Fault). Writes (LeavesOf f (MayRestart old)) a b) (sym why)
+      (writes_left (λ whole. whole ≡ text) (MayRestart old)
+      (λ whole e. (new, subst (Restarts old new) (sym e) restarted)) Writing a b w)
+
+module _ (old : EpochState) (why : Refusal) (is : why ≡ OutOfMemory) where
+  not_restarted : Restarts old old (refusal_line why)
+  not_restarted = inr (refl, ap refusal_line is)
+
+  pub restart_refused : {X : Type 0} (r : Result X Fault) (a b : Option (List ℕ)) → OnOk r (Appends a b (refusal_line why))
+      → OnOk r (Writes (Restarts old old) a b)
+  restart_refused r a b w = on_ok_weaker r (λ x. (refusal_line why, not_restarted, x)) w
+
+  pub restart_unsaid : {X : Type 0} (r : Result X Fault) (a b : Option (List ℕ))
+      → IfErr r (λ fault. Writes (LeavesOf fault (λ whole. whole ≡ refusal_line why)) a b)
+      → IfErr r (λ fault. Writes (LeavesOf fault (MayRestart old)) a b)
+  restart_unsaid r a b w =
+      IfErr-weaker r _ _
+      (λ fault x. writes_left (λ whole. whole ≡ refusal_line why) (MayRestart old)
+      (λ whole e. (old, subst (Restarts old old) (sym e) not_restarted)) fault a b x) w
+
+-- ---- an epoch's past
+
+-- it is the one that is said
+pub first_is : (o : Opening) (trace : Bool) (world : WorldState) → opened o ≡ Ok world
+    → first_epoch o trace ≡ Ok (record { of = record { opening = o; number = 1; trace = trace }; world = world })
+first_is o trace world e = go (is_opening o) e
+  where
+    go : (b : Bool) → (if b then Ok (first_world o) else Err BadOpening) ≡ Ok world
+        → opened_if o trace b ≡ Ok (record { of = record { opening = o; number = 1; trace = trace }; world = world })
+    go true k =
+        let same : first_world o ≡ world = cc in
+        ap (λ (w : WorldState).
+        let e : EpochState = record { of = record { opening = o; number = 1; trace = trace }; world = w } in
+        let r : Result EpochState Refusal = Ok e in
+        r) same
+    go false k = absurd (cc)
+
+-- the first one's world has none
+pub led_first : (o : Opening) (world : WorldState) → opened o ≡ Ok world → HasLed o world
+led_first o world e = go (is_opening o) refl e
+  where
+    go : (b : Bool) → is_opening o ≡ b → (if b then Ok (first_world o) else Err BadOpening) ≡ Ok world → HasLed o world
+    go true is k =
+        let same : first_world o ≡ world = cc in
+        subst (HasLed o) same ([], record { passes = opening_is_base o is; terms = refl; kept = refl })
+    go false is k = absurd (cc)
+
+pub led_on : (old new : WorldState) (event : Event) (outs : List Out) → IsExtendedBy old event new outs → (o : Opening)
+    → HasLed o old → HasLed o new
+led_on old new event outs extended o h = (h.0 ++ event ∷ [], (extended o h.0 h.1).0)
+
+pub led_still : (old new : WorldState) → new ≡ old → (o : Opening) → HasLed o old → HasLed o new
+led_still old new same o h = subst (HasLed o) (sym same) h
+
+-- ---- what a line of an epoch writes
+
+module _ (old : EpochState) (led : HasLed old.of.opening old.world) (past : Past) (line : Line) where
+  abbrev terms : Terms
+  terms = old.world.terms
+
+  abbrev trace : Bool
+  trace = old.of.trace
+
+  pub spelled_taken : (events : Spelled) → event_line_read line ≡ Ok events → (new : WorldState) (a b : Option (List ℕ))
+      → Writes (Leads (λ before next text. Spells terms trace before events next text) old.world new past) a b
+      → Writes (TakesLine old past line (record { of = old.of; world = new })) a b
+  spelled_taken events is new a b w =
+      events_taken old past line led new a b (line_done terms trace line events old.world new past is a b w)
+
+  pub spelled_left : (events : Spelled) → event_line_read line ≡ Ok events → (fault : Fault) (a b : Option (List ℕ))
+      → Writes (LeavesOf fault (MayLead (λ before next text. Spells terms trace before events next text) old.world past)) a b
+      → Writes (LeavesOf fault (PrintsLine old past line)) a b
+  spelled_left events is fault a b w =
+      events_left old past line led fault a b (line_left terms trace line events old.world past is fault a b w)
+
+  pub refusal_taken : (e : Refusal) → (e ≢ OutOfMemory → event_line_read line ≡ Err e) → (a b : Option (List ℕ))
+      → Appends a b (refusal_line e) → Writes (TakesLine old past line old) a b
+  refusal_taken e why a b w =
+      events_taken old past line led old.world a b
+      (line_written terms trace line old.world past (refusal_line e) (line_refused terms trace line e old.world past why) a b w)
+
+  pub refusal_left : (e : Refusal) → (e ≢ OutOfMemory → event_line_read line ≡ Err e) → (fault : Fault) (a b : Option (List ℕ))
+      → Writes (LeavesOf fault (λ text. text ≡ refusal_line e)) a b → Writes (LeavesOf fault (PrintsLine old past line)) a b
+  refusal_left e why fault a b w =
+      events_left old past line led fault a b
+      (line_begun terms trace line old.world past (refusal_line e) (line_refused terms trace line e old.world past why) fault a b w)
+
+-- a line that isn't blank
+module _ (old : EpochState) (past : Past) (line : Line) (is : is_blank line ≡ false) where
+  pub epoch_taken : (new : EpochState) (a b : Option (List ℕ)) → Writes (TakesLine old past line new) a b
+      → Writes (Steps (kept.Running old) past line (kept.Running new)) a b
+  epoch_taken new a b w =
+      (w.0, (w.1.0, not_skipped (running old past) line (step_from (running new w.1.0) w.0) is w.1.1), w.2)
+
+  pub epoch_left : (fault : Fault) (a b : Option (List ℕ)) → Writes (LeavesOf fault (PrintsLine old past line)) a b
+      → Writes (LeavesOf fault (Prints (stage_of (kept.Running old) past) line)) a b
+  epoch_left fault a b w =
+      writes_left (PrintsLine old past line) (Prints (running old past) line)
+      (λ text h. (h.0, not_skipped (running old past) line (step_from h.0 text) is h.1))
       fault a b w
 
 pub over_taken : (past : Past) (line : Line) (a : Option (List ℕ))

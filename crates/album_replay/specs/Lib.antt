@@ -1,4 +1,5 @@
 pub mod Replay
 pub mod Promise
 pub mod WorkedOpening
+pub mod Epochs
 pub mod Stages

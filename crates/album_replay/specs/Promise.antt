@@ -1,17 +1,19 @@
 -- What is promised of all that `replay` prints.
 --
--- The first lines of an input spell an opening, and the others events. Whatever is printed is either a refusal, or it
--- is an output of the world that opened so, once events of the lines before it, in their order, have happened there.
--- (An event that memory ran out on, or on whose line it did, is left out, and so are those that come later in the same
--- line.) On that world, and of its whole past, all promises hold; and each line that is printed as an answer is the one
--- answer to the last request that its client made there.
-use Rattle.std.specs.Prelude.{◌≡◌, ℕ, List, [], ◌∷◌, ◌++◌, not, true, map, filter, if◌then◌else◌, Contains, Option, Result, Ok, Err}
+-- The first lines of an input spell an opening, and the others events, up to a restart. Then the next epoch opens on
+-- what the world leaves, and the lines after the restart are its events. Whatever is printed is a refusal, or that the
+-- next epoch has opened, or it is an output of the world that opened so, once events of the lines before it, in their
+-- order, have happened there. (An event that memory ran out on, or on whose line it did, is left out, and so are those
+-- that come later in the same line.) On that world, and of its whole past, all promises hold; each line that is printed
+-- as an answer is the one answer to the last request that its client made there; and the opening of each epoch but the
+-- first is what the one before carries.
+use Rattle.std.specs.Prelude.{◌≡◌, ◌+◌, ℕ, List, [], ◌∷◌, ◌++◌, not, true, map, filter, if◌then◌else◌, Contains, Option, Result, Ok, Err}
 use Rattle.std.specs.List.{flat_map}
 use Rattle.album_stamps.specs.declared.refusals.Refusal.{Refusal}
 use Rattle.album_items.specs.Openings.{Row, is_opening}
 use Rattle.album_items.specs.declared.openings.Opening.{Opening}
 use Rattle.album_calls.specs.declared.messages.Message.{Message}
-use Rattle.album_client.specs.Terms.{Terms, terms_of}
+use Rattle.album_client.specs.Terms.{terms_of}
 use Rattle.album_world.specs.Past.{World}
 use Rattle.album_world.specs.Atomic.{ViewsAreReadAtomic}
 use Rattle.album_world.specs.Busy.{BusyHasItsCause}
@@ -35,7 +37,12 @@ use Rattle.album_wire.specs.declared.event_shape.Spelled.TheVariants as spelled
 use Rattle.album_wire.specs.declared.opening_line.OpeningLine.{OpeningLine}
 use Rattle.album_wire.specs.declared.opening_line.OpeningLine.TheVariants as line
 use Rattle.album_wire.specs.declared.opening_shape.Header.{Header}
-use Rattle.album_replay.specs.Replay.{event_line_read, opening_line_read, opening_of}
+use Rattle.album_wire.specs.TalkJson.{talk_text}
+use Rattle.album_wire.specs.declared.talk_json.TalkOut.TheVariants as talk
+use Rattle.album_epochs.specs.Carried.{AreNextRows}
+use Rattle.album_restarts.specs.Next.{IsNextOpening}
+use Rattle.album_restarts.specs.Worlds.{cut_of_world}
+use Rattle.album_replay.specs.Replay.{Epoch, event_line_read, opening_line_read, opening_of}
 
 -- ---- what lines spell
 
@@ -59,6 +66,7 @@ pub record SpellsOpening (lines : List Line) (opening : Opening) : Type 0 where
 abbrev pub events_read : Result Spelled Refusal → List Event
 events_read (Ok (spelled.One event)) = event ∷ []
 events_read (Ok (spelled.Range first last)) = deliveries first last
+events_read (Ok spelled.Restart) = []
 events_read (Err refusal) = []
 
 -- the events that lines spell, one line after another
@@ -71,21 +79,34 @@ pub data AreAmong : List Event → List Event → Type 0 where
   taken : {event : Event} {some all : List Event} → AreAmong some all → AreAmong (event ∷ some) (event ∷ all)
   left : {event : Event} {some all : List Event} → AreAmong some all → AreAmong some (event ∷ all)
 
--- the first of the lines spell the opening, and these are events of the others
-pub record Spell (lines : List Line) (opening : Opening) (events : List Event) : Type 0 where
+-- an epoch opens on what the one before carries
+pub record IsCarriedOver (opening : Opening) (events : List Event) (next : Opening) : Type 0 where
+  pub leaves : IsNextOpening opening (run_of opening events).now next
+  pub rows : AreNextRows (cut_of_world opening (run_of opening events)) next.items
+
+-- These lines led to the epoch of this number and opening: the first one's are those that spell it. The next one's go
+-- on with lines of which events have happened, and end in a restart; it opens on what is carried.
+pub data Opens : List Line → ℕ → Opening → Type 0 where
+  First : (lines : List Line) (opening : Opening) → SpellsOpening lines opening → Opens lines 1 opening
+  Next :
+      (lines others : List Line) (line : Line) (number : ℕ) (opening next : Opening) (events : List Event)
+      → Opens lines number opening → AreAmong events (events_spelled others)
+      → event_line_read line ≡ Ok spelled.Restart → IsCarriedOver opening events next
+      → Opens (lines ++ others ++ line ∷ []) (number + 1) next
+
+-- the first of the lines led to the epoch, and these are events of the others
+pub record Spell (lines : List Line) (number : ℕ) (opening : Opening) (events : List Event) : Type 0 where
   pub first : List Line
   pub others : List Line
   pub split : lines ≡ first ++ others
-  pub opens : SpellsOpening first opening
+  pub opens : Opens first number opening
   pub among : AreAmong events (events_spelled others)
 
--- the world is the run of the opening and of these events
-pub record IsSpelledBy (lines : List Line) (terms : Terms) (world : World) : Type 0 where
-  pub opening : Opening
+-- the world is the run of the epoch's opening and of these events
+pub record IsSpelledBy (lines : List Line) (epoch : Epoch) (world : World) : Type 0 where
   pub events : List Event
-  pub spelled : Spell lines opening events
-  pub terms_are : terms ≡ terms_of opening
-  pub is : world ≡ run_of opening events
+  pub spelled : Spell lines epoch.number epoch.opening events
+  pub is : world ≡ run_of epoch.opening events
 
 -- ---- what is printed
 
@@ -107,28 +128,40 @@ IsOf world (out.Noted client note) = IsNoteKept world client note
 IsOf world (out.Answered client answer) =
     IsAnsweredLast world client answer × Contains world.past.answers (past_answer world.past.reads client answer)
 
--- a part of what is printed: a refusal, or an output, once these lines are read, of the world that opened so and in
--- which these events have happened, with the message of it in a trace
+-- a part of what is printed: a refusal; that an epoch has opened, by these lines; or an output, once these lines are
+-- read, of the world of this epoch in which these events have happened, with the message of it in a trace
 pub data Printed : Type 0 where
   Refused : Refusal → Printed
-  Output : List Line → Opening → List Event → Out → Option Message → Printed
+  Restarted : List Line → (number : ℕ) → Opening → Printed
+  Output : List Line → (number : ℕ) → Opening → List Event → Out → Option Message → Printed
 
 -- its text
 abbrev pub text_of : Printed → List ℕ
 text_of (Refused refusal) = refusal_line refusal
-text_of (Output lines opening events output shown) = out_line output shown
+text_of (Restarted lines number opening) = talk_text (talk.Restarted number)
+text_of (Output lines number opening events output shown) = out_line output shown
 
--- the output is of the world that the lines before it spell, and all promises hold there
-pub record IsOutputOf (input lines : List Line) (opening : Opening) (events : List Event) (output : Out) : Type 0 where
+-- the lines before it led to the epoch
+pub record IsOpenedBy (input lines : List Line) (number : ℕ) (opening : Opening) : Type 0 where
   pub later : List Line
   pub before : input ≡ lines ++ later
-  pub spelled : Spell lines opening events
+  pub opens : Opens lines number opening
+
+-- the output is of the world that the lines before it spell, and all promises hold there
+pub record IsOutputOf
+    (input lines : List Line) (number : ℕ) (opening : Opening) (events : List Event) (output : Out)
+    : Type 0 where
+  pub later : List Line
+  pub before : input ≡ lines ++ later
+  pub spelled : Spell lines number opening events
   pub hold : AllHold opening (run_of opening events)
   pub is : IsOf (run_of opening events) output
 
 abbrev pub IsRight : List Line → Printed → Type 0
 IsRight input (Refused refusal) = Unit {0}
-IsRight input (Output lines opening events output shown) = IsOutputOf input lines opening events output
+IsRight input (Restarted lines number opening) = IsOpenedBy input lines number opening
+IsRight input (Output lines number opening events output shown) =
+    IsOutputOf input lines number opening events output
 
 -- ---- the promise
 

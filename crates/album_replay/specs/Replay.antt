@@ -1,5 +1,5 @@
 -- The text of a replay: what is printed of the lines of an opening, and of the events that the lines after it spell.
-use Rattle.std.specs.Prelude.{◌≡◌, ◌≢◌, ◌⊎◌, List, [], ◌∷◌, ◌++◌, ℕ, Bool, true, false, if◌then◌else◌, MatchBool, Option, Some, None, Result, Ok, Err}
+use Rattle.std.specs.Prelude.{◌≡◌, ◌≢◌, ◌⊎◌, ◌+◌, List, [], ◌∷◌, ◌++◌, ℕ, Bool, true, false, if◌then◌else◌, MatchBool, Option, Some, None, Result, Ok, Err}
 use Rattle.std.specs.List.{flat_map}
 use Rattle.album_stamps.specs.declared.refusals.Refusal.{Refusal}
 use Rattle.album_stamps.specs.declared.refusals.Refusal.TheVariants.{OutOfMemory, BadLine, BadRequest, BadOpening}
@@ -24,16 +24,25 @@ use Rattle.album_wire.specs.declared.event_shape.Spelled.TheVariants as spelled
 use Rattle.album_wire.specs.declared.opening_line.OpeningLine.{OpeningLine}
 use Rattle.album_wire.specs.declared.opening_line.OpeningLine.TheVariants as line
 use Rattle.album_wire.specs.declared.opening_shape.Header.{Header}
+use Rattle.album_restarts.specs.Next.{IsNextOpening}
+use Rattle.album_wire.specs.TalkJson.{talk_text}
+use Rattle.album_wire.specs.declared.talk_json.TalkOut.TheVariants as talk
 use Rattle.album_judge.specs.declared.fault.Fault.{Fault}
 use Rattle.album_judge.specs.declared.fault.Fault.TheVariants.{Reading, Writing, Memory}
 use Rattle.album_judge.specs.Writes.{IsPrefixOf, IsCutShort}
 
+-- An epoch: what it opened on, its number, of which the first is 1, and whether its messages are shown.
+pub record Epoch : Type 0 where
+  pub opening : Opening
+  pub number : ℕ
+  pub trace : Bool
+
 -- The stage of a replay between two lines. Nothing is opened yet; it is being opened, with these items so far; the
--- world runs, in a trace or not; or the opening was refused. Then nothing more is printed.
+-- world of an epoch runs; or the opening was refused. Then nothing more is printed.
 pub data Stage : Type 0 where
   Unopened : Stage
   BeingOpened : Header → List Row → Stage
-  Running : Terms → (trace : Bool) → World → Stage
+  Running : Epoch → World → Stage
   Over : Stage
 
 -- the stage once a line is taken, and what is printed of the line
@@ -62,10 +71,12 @@ opening_of header rows =
       items = rows;
     }
 
--- the world opens, where it may
+-- the world of the first epoch opens, where it may
 abbrev pub begun : Opening → Bool → Step
 begun opening trace =
-    if is_opening opening then silently (Running (terms_of opening) trace (start opening)) else refused BadOpening
+    if is_opening opening
+    then silently (Running (record { opening = opening; number = 1; trace = trace }) (start opening))
+    else refused BadOpening
 
 -- The header comes first, then the items, then that these are all; a line out of this order is a bad request.
 abbrev pub first_line : OpeningLine → Step
@@ -126,11 +137,12 @@ Delivers terms trace world (event ∷ events) next text =
     × Delivers terms trace between events next others
     × (text ≡ first ++ others)
 
--- the events that a line spells
+-- the events that a line spells; a restart is none of a world
 abbrev pub Spells : Terms → Bool → World → Spelled → World → List ℕ → Type 0
 Spells terms trace world (spelled.One event) next text = Happens event_text terms trace world event next text
 Spells terms trace world (spelled.Range first last) next text =
     Delivers terms trace world (deliveries first last) next text
+Spells terms trace world spelled.Restart next text = ⊥
 
 -- a refused line changes nothing
 abbrev pub Runs : Terms → Bool → World → Result Spelled Refusal → World → List ℕ → Type 0
@@ -159,16 +171,28 @@ IsPrinted terms trace line world next text =
     ⊎ ((next ≡ world) × (text ≡ refusal_line OutOfMemory))
 
 -- a step of the run
-pub record IsRun (terms : Terms) (trace : Bool) (world : World) (line : Line) (step : Step) : Type 0 where
+pub record IsRun (epoch : Epoch) (world : World) (line : Line) (step : Step) : Type 0 where
   pub world_then : World
-  pub runs : step.next ≡ Running terms trace world_then
-  pub printed : IsPrinted terms trace line world world_then step.text
+  pub runs : step.next ≡ Running epoch world_then
+  pub printed : IsPrinted (terms_of epoch.opening) epoch.trace line world world_then step.text
+
+-- the epoch that opens on this, after another one
+abbrev pub epoch_after : Epoch → Opening → Epoch
+epoch_after epoch next = record { opening = next; number = epoch.number + 1; trace = epoch.trace }
+
+-- The line is a restart: all clients and messages are gone, and the next epoch opens on what the world leaves.
+pub record IsRestart (epoch : Epoch) (world : World) (line : Line) (step : Step) : Type 0 where
+  pub said : event_line_read line ≡ Ok spelled.Restart
+  pub next : Opening
+  pub leaves : IsNextOpening epoch.opening world.now next
+  pub opens : step.next ≡ Running (epoch_after epoch next) (start next)
+  pub printed : step.text ≡ talk_text (talk.Restarted (epoch.number + 1))
 
 -- the step by a line that isn't blank
 abbrev pub Takes : Stage → Line → Step → Type 0
 Takes Unopened line step = IsOpened (opened_by first_line (opening_line_read line)) step
 Takes (BeingOpened header rows) line step = IsOpened (opened_by (later_line header rows) (opening_line_read line)) step
-Takes (Running terms trace world) line step = IsRun terms trace world line step
+Takes (Running epoch world) line step = IsRun epoch world line step ⊎ IsRestart epoch world line step
 Takes Over line step = step ≡ silently Over
 
 -- a blank line is skipped
@@ -188,7 +212,7 @@ Replays stage (line ∷ lines) last text =
 abbrev pub end_text : Stage → List ℕ
 end_text Unopened = refusal_line BadOpening
 end_text (BeingOpened header rows) = refusal_line BadOpening
-end_text (Running terms trace world) = []
+end_text (Running epoch world) = []
 end_text Over = []
 
 -- the text that is printed of an input
@@ -238,7 +262,7 @@ IsLeftOf Memory given text = StopsAmid Unopened (lines_of given) text ⊎ EndsAm
 abbrev pub IsOverBy : List ℕ → List ℕ → Type 0
 IsOverBy given text = Replays Unopened (ended given) Over text
 
--- ---- the same, where memory never runs out
+-- ---- the same, where memory runs out on each restart, and never else
 
 -- the deliveries of a range, with their texts one after another
 abbrev pub delivered : Terms → Bool → World → List Event → World × List ℕ
@@ -254,18 +278,20 @@ abbrev pub spelled_run : Terms → Bool → World → Spelled → World × List 
 spelled_run terms trace world (spelled.One event) =
     (happens terms world event, event_text trace world.now (change_of terms world.now event))
 spelled_run terms trace world (spelled.Range first last) = delivered terms trace world (deliveries first last)
+spelled_run terms trace world spelled.Restart = (world, refusal_line OutOfMemory)
 
 abbrev pub line_run : Terms → Bool → World → Result Spelled Refusal → World × List ℕ
 line_run terms trace world (Ok events) = spelled_run terms trace world events
 line_run terms trace world (Err refusal) = (world, refusal_line refusal)
 
-abbrev pub run_step : Terms → Bool → World × List ℕ → Step
-run_step terms trace ran = record { next = Running terms trace ran.0; text = ran.1 }
+abbrev pub run_step : Epoch → World × List ℕ → Step
+run_step epoch ran = record { next = Running epoch ran.0; text = ran.1 }
 
 abbrev pub taken : Stage → Line → Step
 taken Unopened line = opened_by first_line (opening_line_read line)
 taken (BeingOpened header rows) line = opened_by (later_line header rows) (opening_line_read line)
-taken (Running terms trace world) line = run_step terms trace (line_run terms trace world (event_line_read line))
+taken (Running epoch world) line =
+    run_step epoch (line_run (terms_of epoch.opening) epoch.trace world (event_line_read line))
 taken Over line = silently Over
 
 abbrev pub step_of : Stage → Line → Step

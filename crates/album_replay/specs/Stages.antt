@@ -3,10 +3,10 @@
 use Rattle.std.specs.Prelude.{◌≡◌, ◌≢◌, ◌⊎◌, ◌++◌, ℕ, List, [], Bool, true, false, Result, Ok, Err}
 use Rattle.album_stamps.specs.declared.refusals.Refusal.{Refusal}
 use Rattle.album_stamps.specs.declared.refusals.Refusal.TheVariants.{OutOfMemory}
-use Rattle.album_world.specs.Past.{Past, World}
-use Rattle.album_world.specs.Seen.{WorldState}
+use Rattle.album_world.specs.Past.{Past}
 use Rattle.album_lines.specs.Lines.{Line}
-use Rattle.album_replay.specs.Replay.{Stage, Unopened, BeingOpened, Running, Over, Step, IsStep, Replays, StopsAmid, EndsAmid, begun, opening_of, refused, silently, end_text}
+use Rattle.album_replay.specs.Epochs.{running}
+use Rattle.album_replay.specs.Replay.{Stage, Unopened, BeingOpened, Over, Step, IsStep, Replays, StopsAmid, EndsAmid, begun, opening_of, refused, silently, end_text}
 use Rattle.album_judge.specs.declared.fault.Fault.{Fault}
 use Rattle.album_judge.specs.declared.fault.Fault.TheVariants.{Reading, Writing, Memory}
 use Rattle.album_replay.specs.declared.openings.SoFar.{SoFar}
@@ -15,24 +15,12 @@ use Rattle.album_replay.specs.declared.engine.stages.Stage.{Stage as Kept}
 use Rattle.album_replay.specs.declared.engine.stages.Stage.TheVariants as kept
 use Rattle.album_judge.specs.Writes.{IsCutShort}
 
--- the world that is kept, where this has happened to it
-abbrev pub with_past : WorldState → Past → World
-with_past world past = record { now = world.kept; past = past }
-
 -- the stage of the engine
 abbrev pub stage_of : Kept → Past → Stage
 stage_of kept.Unopened past = Unopened
 stage_of (kept.BeingOpened header rows) past = BeingOpened header rows.items
-stage_of (kept.Running trace world) past = Running world.terms trace (with_past world past)
+stage_of (kept.Running epoch) past = running epoch past
 stage_of kept.Over past = Over
-
--- the world that was kept, with this past, leads to the one that is kept now, and this is printed
-abbrev pub Leads : (World → World → List ℕ → Type 0) → WorldState → WorldState → Past → List ℕ → Type 0
-Leads Goes old new past text = (after : Past) × Goes (with_past old past) (with_past new after) text
-
--- it leads to some world, and this is printed
-abbrev pub MayLead : (World → World → List ℕ → Type 0) → WorldState → Past → List ℕ → Type 0
-MayLead Goes old past text = (next : World) × Goes (with_past old past) next text
 
 -- ---- the opening
 
@@ -60,13 +48,11 @@ abbrev pub step_by : Result Kept Refusal → Step
 step_by (Ok next) = silently (stage_of next no_past)
 step_by (Err refusal) = refused refusal
 
--- ---- a line
-
 -- the opening was refused
 abbrev pub is_over : Kept → Bool
 is_over kept.Unopened = false
 is_over (kept.BeingOpened header rows) = false
-is_over (kept.Running trace world) = false
+is_over (kept.Running epoch) = false
 is_over kept.Over = true
 
 -- whatever had happened to the world, the line is taken, and this is printed of it

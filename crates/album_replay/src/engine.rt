@@ -8,6 +8,7 @@ ghost use Rattle.album_replay.specs.Replay.{IsReplay, IsLeftOf, IsOverBy};
 ghost use Rattle.album_replay.specs.Stages.{Replayed, Ends, IsLeftAmid, IsLeftAtEnd, stage_of};
 ghost use Rattle.album_judge.specs.Writes.{HasRead, Writes, Exchanges, IsPrefixOf};
 
+mod epochs;
 mod events;
 mod stages;
 

@@ -1,14 +1,13 @@
 //! The text of a replay: laws of it.
-ghost use Rattle.std.specs.Prelude.{◌≡◌, ◌++◌, Bool, List, [], ℕ, codes};
+ghost use Rattle.std.specs.Prelude.{◌≡◌, ◌++◌, List, [], ℕ, codes};
 ghost use Rattle.album_lines.specs.Lines.{Line, ended};
-ghost use Rattle.album_client.specs.Terms.{Terms};
 ghost use Rattle.album_world.specs.Past.{World};
 ghost use Rattle.album_replay.specs.Promise.{IsAsPromised, IsSpelledBy};
-ghost use Rattle.album_replay.specs.Replay.{Stage, Unopened, Running, Over, Replays, IsReplay, replay_text};
+ghost use Rattle.album_replay.specs.Replay.{Epoch, Stage, Unopened, Running, Over, Replays, IsReplay, replay_text};
 ghost use Rattle.album_replay.specs.WorkedOpening.{owners_all, trip_opened};
 ghost use Rattle.album_judge.specs.Writes.{IsPrefixOf};
 
-/// A law: each input has a text. It is computed, where memory never runs out.
+/// A law: each input has a text. It is computed, where memory runs out on each restart and never else.
 pub fn replays_are_computed()
     ensures { (input : List ℕ) → IsReplay input (replay_text input) }
 {}
@@ -28,17 +27,18 @@ pub fn replays_go_on()
     ensures over { (lines : List Line) → Replays Over lines Over [] }
 {}
 
-/// A law: what is printed of an input keeps the promise. Each part of it is a refusal, or an output of the world that
-/// the lines before it spell; on that world all promises hold, and what is printed as an answer is the one answer to
+/// A law: what is printed of an input keeps the promise. Each part of it is a refusal, or that the next epoch opens on
+/// what the one before carries, or an output of the world that the lines before it spell; on that world all promises hold, and what is printed as an answer is the one answer to
 /// its client's last request.
 pub fn what_replay_prints()
     ensures { (input text : List ℕ) → IsReplay input text → IsAsPromised input text }
 {}
 
-/// A law: the world of a replay in progress is the run of the opening and of the events that its lines spell.
+/// A law: the world of a replay in progress is the run of its epoch's opening and of events that its lines spell; and
+/// its lines led to that epoch.
 pub fn a_replay_runs_what_its_lines_spell()
-    ensures { (lines : List Line) (terms : Terms) (trace : Bool) (world : World) (text : List ℕ)
-        → Replays Unopened lines (Running terms trace world) text → IsSpelledBy lines terms world }
+    ensures { (lines : List Line) (epoch : Epoch) (world : World) (text : List ℕ)
+        → Replays Unopened lines (Running epoch world) text → IsSpelledBy lines epoch world }
 {}
 
 /// A law: texts of replays that were worked out by hand.

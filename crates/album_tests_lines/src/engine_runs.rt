@@ -62,6 +62,14 @@ const EVENTS: Script = Script {
     writes: &[81, 81, 38, 32, 31],
 };
 
+/// Two restarts; the second one's line has no end.
+const RESTARTS: Script = Script {
+    input: "{\"open\":{\"parts\":1}}\n{\"begin\":true}\n{\"restart\":true}\n{\"restart\":true}",
+    output: "{\"answer\":\"restarted\",\"epoch\":2}\n{\"answer\":\"restarted\",\"epoch\":3}\n",
+    ends: &[(53, 33)],
+    writes: &[33, 33],
+};
+
 /// An opening that is refused by its first line; the end of the second is in another piece.
 const REFUSED: Script = Script {
     input: "{\"begin\":true}\n{\"begin\":true}\n",
@@ -78,6 +86,11 @@ fn questions(rt: HostRuntime) {
 #[test]
 fn events(rt: HostRuntime) {
     assert_kept(&rt, &mut Replaying, rt.alloc(), &EVENTS);
+}
+
+#[test]
+fn restarts(rt: HostRuntime) {
+    assert_kept(&rt, &mut Replaying, rt.alloc(), &RESTARTS);
 }
 
 /// Once an opening is refused, nothing more is read: its first line ends in the third piece of seven bytes.

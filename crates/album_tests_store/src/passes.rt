@@ -20,6 +20,7 @@ fn opening(alloc: Global) -> Opening {
 }
 
 /// The words of a desk as it opens.
+#[tactic(auto, using(album_items::proofs::BaseLemmas::opening_is_base))]
 fn first_words(alloc: Global) -> Result<Vec<u64>, Refusal> {
     let opening = opening(alloc);
     opening.check()?;
@@ -38,6 +39,7 @@ fn a_new_desk_closes_with_zeros(rt: HostRuntime) {
 }
 
 /// The words of a desk whose partition 0 has made two marks.
+#[tactic(auto, using(album_items::proofs::BaseLemmas::opening_is_base))]
 fn words_of_two_marks(alloc: Global) -> Result<Vec<u64>, Refusal> {
     let opening = opening(alloc);
     opening.check()?;
@@ -62,6 +64,7 @@ fn a_closed_desk_counts_marks(rt: HostRuntime) {
 }
 
 /// The numbers that two passes draw, of two that there are, and why a third draws none.
+#[tactic(auto, using(album_items::proofs::BaseLemmas::opening_is_base))]
 fn drawn<R: Wait>(rt: &R, alloc: Global) -> Result<(u16, u16, Option<Refusal>), Refusal> {
     let opening = opening(alloc);
     opening.check()?;
@@ -84,6 +87,7 @@ fn numbers_rise(rt: HostRuntime) {
 
 /// How many marks of partition 0 a pass has seen: before its owner makes one, before the owner's pass is
 /// joined, and then.
+#[tactic(auto, using(album_items::proofs::BaseLemmas::opening_is_base))]
 fn seen(alloc: Global) -> Result<(u64, u64, u64), Refusal> {
     let opening = opening(alloc);
     opening.check()?;

@@ -11,13 +11,13 @@ use Rattle.album_eval.specs.declared.facts.Principal.{Principal}
 use Rattle.album_eval.proofs.Principals.{principal_spelled, spelled_principal}
 use Rattle.album_views.specs.declared.asks.Ask.{Ask}
 use Rattle.album_permits.specs.declared.events.Event.TheVariants as event
-use Rattle.album_lines.specs.Fields.{guard, sized, has, is_list, text_of, whole_of}
+use Rattle.album_lines.specs.Fields.{guard, sized, has, is_list, text_of, truth_of, whole_of}
 use Rattle.album_lines.specs.Spelling.{HasOnly, list_data}
 use Rattle.album_wire.specs.AskShape.{SpelledAsk, ask_shape_of}
-use Rattle.album_wire.specs.EventShape.{SpelledEvent, Asked, Whole, client_named, stamp_named, part_named, asked_shape_of, range_of, delivered_of, deliver_shape_of, sweep_of, sweep_shape_of, stop_shape_of, trim_of, trim_shape_of, event_shape_of}
+use Rattle.album_wire.specs.EventShape.{SpelledEvent, Asked, Whole, client_named, stamp_named, part_named, asked_shape_of, range_of, delivered_of, deliver_shape_of, sweep_of, sweep_shape_of, stop_shape_of, restart_shape_of, trim_of, trim_shape_of, event_shape_of}
 use Rattle.album_wire.specs.Asks.{ask_read}
 use Rattle.album_wire.specs.EventLine.{event_read, event_line_of}
-use Rattle.album_wire.specs.ObjectSpelling.{IsWhole, HasJust}
+use Rattle.album_wire.specs.ObjectSpelling.{IsWhole, IsTruth, HasMember, HasJust}
 use Rattle.album_wire.specs.AskSpelling.{IsAsk}
 use Rattle.album_wire.specs.EventSpelling.{IsPrincipal, IsClient, IsStamp, IsPart, IsAsked, IsRange, IsSweep, IsTrim, AreEvents, IsEventLine}
 use Rattle.album_wire.specs.declared.event_shape.Spelled.{Spelled}
@@ -25,7 +25,7 @@ use Rattle.album_wire.specs.declared.event_shape.Spelled.TheVariants as spelled
 use Rattle.album_wire.specs.declared.event_shape.TheConstants.{MAX_DELIVERIES, MAX_PART}
 use Rattle.album_lines.proofs.Steps.{step_taken, same_value, value_there, test_passed, taken, there}
 use Rattle.album_lines.proofs.Json.{whole_read, two, sized_read, same_two}
-use Rattle.album_wire.proofs.Forms.{step_then, on_test, on_true, on_false, IsString, read_whole, names_taken, names_then, member_taken, member_then, member_as, member_parts, is_in, is_out, line_by, known_taken, known_then, string_taken}
+use Rattle.album_wire.proofs.Forms.{step_then, on_test, on_true, on_false, IsString, read_whole, truth_form, read_truth, names_taken, names_then, member_taken, member_then, member_as, member_parts, is_in, is_out, line_by, known_taken, known_then, string_taken}
 use Rattle.album_wire.proofs.ItemSpelling.{ReadsItems, item_taken, item_then}
 use Rattle.album_wire.proofs.AskSpelling.{ask_spelled, ask_parts}
 
@@ -213,6 +213,20 @@ stop_spelled v s d h g =
     let is : AreEvents (spelled.One (event.Stop client.0)) d = record { names = names.0; value = client.1 } in
     same_events (spelled.One (event.Stop client.0)) v d same is
 
+restart_spelled : (v : Spelled) (s : SpelledEvent) (d : Data) → restart_shape_of d ≡ Ok s → event_read s ≡ Ok v
+    → AreEvents v d
+unfolding restart_shape_of event_read
+restart_spelled v s d h g =
+    let names = names_taken (codes "restart" ∷ []) d _ s h in
+    let restart = member_taken (codes "restart") d truth_of IsTruth truth_form _ s names.1 in
+    let test = step_taken (guard restart.0) _ s restart.2 in
+    let shape : Whole spelled.Restart ≡ s = same_value _ _ test.2 in
+    let same : spelled.Restart ≡ v = same_value _ _ (ap event_read shape ∙ g) in
+    let yes : HasMember (codes "restart") (IsTruth true) d =
+    subst (λ b. HasMember (codes "restart") (IsTruth b) d) (test_passed restart.0 test.0 test.1) restart.1 in
+    let is : AreEvents spelled.Restart d = record { names = names.0; value = yes } in
+    same_events spelled.Restart v d same is
+
 -- ---- events, by their shapes
 
 -- which of the objects with one member it is: none of those whose names are looked for before
@@ -243,7 +257,27 @@ trim_is s d names h =
     on_false (has (codes "ask") d) _ _ s (is_out _ (codes "ask") d names refl)
     (on_false (has (codes "deliver") d) _ _ s (is_out _ (codes "deliver") d names refl)
     (on_false (has (codes "sweep") d) _ _ s (is_out _ (codes "sweep") d names refl)
-    (on_false (has (codes "stop") d) _ _ s (is_out _ (codes "stop") d names refl) h)))
+    (on_false (has (codes "stop") d) _ _ s (is_out _ (codes "stop") d names refl)
+    (on_false (has (codes "restart") d) _ _ s (is_out _ (codes "restart") d names refl) h))))
+
+restart_is : (s : SpelledEvent) (d : Data) → HasOnly (codes "restart" ∷ []) d → has (codes "restart") d ≡ true
+    → restart_shape_of d ≡ Ok s → event_shape_of d ≡ Ok s
+restart_is s d names is h =
+    on_false (has (codes "ask") d) _ _ s (is_out _ (codes "ask") d names refl)
+    (on_false (has (codes "deliver") d) _ _ s (is_out _ (codes "deliver") d names refl)
+    (on_false (has (codes "sweep") d) _ _ s (is_out _ (codes "sweep") d names refl)
+    (on_false (has (codes "stop") d) _ _ s (is_out _ (codes "stop") d names refl)
+    (on_true (has (codes "restart") d) _ _ s is h))))
+
+restart_parts : (d : Data) → HasJust (codes "restart") (IsTruth true) d
+    → (s : SpelledEvent) × (event_shape_of d ≡ Ok s) × (event_read s ≡ Ok spelled.Restart)
+unfolding restart_shape_of event_read
+restart_parts d is =
+    let s : SpelledEvent = Whole spelled.Restart in
+    let shape : restart_shape_of d ≡ Ok s =
+    names_then (codes "restart" ∷ []) d _ s is.names
+    (member_then (codes "restart") d truth_of (IsTruth true) true (read_truth true) _ s is.value refl) in
+    (s, restart_is s d is.names (is_in (codes "restart") (IsTruth true) d is.value) shape, refl)
 
 deliver_parts : (number : ℕ) (d : Data) → HasJust (codes "deliver") (IsWhole number) d
     → (s : SpelledEvent) × (event_shape_of d ≡ Ok s) × (event_read s ≡ Ok (spelled.One (event.Deliver number)))
@@ -381,7 +415,8 @@ module _ (reads : ReadsItems) where
       (λ h. on_test (has (codes "deliver") d) _ _ s h (λ _ deliver. deliver_spelled v s d deliver g)
       (λ h. on_test (has (codes "sweep") d) _ _ s h (λ _ sweep. sweep_spelled v s d sweep g)
       (λ h. on_test (has (codes "stop") d) _ _ s h (λ _ stop. stop_spelled v s d stop g)
-      (λ trim. trim_spelled v s d trim g))))
+      (λ h. on_test (has (codes "restart") d) _ _ s h (λ _ restart. restart_spelled v s d restart g)
+      (λ trim. trim_spelled v s d trim g)))))
 
   events_parts : (v : Spelled) (d : Data) → AreEvents v d
       → (s : SpelledEvent) × (event_shape_of d ≡ Ok s) × (event_read s ≡ Ok v)
@@ -391,6 +426,7 @@ module _ (reads : ReadsItems) where
   events_parts (spelled.One (event.Stop client)) d is = stop_parts client d is
   events_parts (spelled.One (event.Trim part item)) d is = trim_parts part item d is
   events_parts (spelled.Range first last) d is = range_parts first last d is
+  events_parts spelled.Restart d is = restart_parts d is
 
   pub one_event_line : (events : Spelled) (bytes : List ℕ)
       → (event_line_of bytes ≡ Ok events) ↔ IsEventLine events bytes

@@ -151,6 +151,7 @@ no_float_in_talk (talk.Pending stamps) = rw (in_list whole_data (λ s. refl) sta
 no_float_in_talk talk.Swept = refl
 no_float_in_talk talk.Trimmed = refl
 no_float_in_talk (talk.Serving port) = refl
+no_float_in_talk (talk.Restarted epoch) = refl
 no_float_in_talk (talk.Totals audits alarms) = refl
 
 in_marks : (part : Figures) → has_float (marks_json part) ≡ false

@@ -16,7 +16,7 @@ use Rattle.album_wire.specs.ItemShapes.{child_of, head_shape_of, picture_shape_o
 use Rattle.album_wire.specs.OpeningShape.{header_of, open_shape_of, item_shape_of, begin_shape_of}
 use Rattle.album_wire.specs.OpeningLine.{value_read, opening_read, opening_line_of}
 use Rattle.album_wire.specs.AskShape.{read_shape_of, retitle_shape_of, replace_shape_of, new_list_shape_of, set_lists_shape_of, new_membership_shape_of, share_shape_of}
-use Rattle.album_wire.specs.EventShape.{part_named, asked_shape_of, range_of, deliver_shape_of, sweep_of, sweep_shape_of, stop_shape_of, trim_of, trim_shape_of}
+use Rattle.album_wire.specs.EventShape.{part_named, asked_shape_of, range_of, deliver_shape_of, sweep_of, sweep_shape_of, stop_shape_of, restart_shape_of, trim_of, trim_shape_of}
 use Rattle.album_wire.specs.Asks.{new_list_read, new_membership_read, ask_read}
 use Rattle.album_wire.specs.EventLine.{event_read, event_line_of}
 use Rattle.album_wire.specs.TalkShape.{hello_shape_of, talk_ask_shape_of, pending_shape_of, talk_sweep_shape_of, talk_trim_shape_of}
@@ -49,7 +49,7 @@ unfolding items_on_literals retitle_shape_of replace_shape_of new_list_shape_of 
 asks_on_literals = tt
 
 unfoldable pub parts_on_literals : ⊤
-unfolding part_named range_of deliver_shape_of sweep_of sweep_shape_of stop_shape_of trim_of trim_shape_of
+unfolding part_named range_of deliver_shape_of sweep_of sweep_shape_of stop_shape_of restart_shape_of trim_of trim_shape_of
 parts_on_literals = tt
 
 unfoldable pub events_on_literals : ⊤

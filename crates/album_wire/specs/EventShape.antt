@@ -7,7 +7,7 @@ use Rattle.album_stamps.specs.declared.refusals.Refusal.TheVariants.{BadRequest}
 use Rattle.album_stamps.specs.Outcome.{◌>>=◌}
 use Rattle.album_stamps.specs.Stamps.{client_of_number, stamp_of_value}
 use Rattle.album_permits.specs.declared.events.Event.TheVariants as event
-use Rattle.album_lines.specs.Fields.{guard, only_of, field_of, has, item_of, text_of, whole_of, is_list, sized}
+use Rattle.album_lines.specs.Fields.{guard, only_of, field_of, has, item_of, text_of, truth_of, whole_of, is_list, sized}
 use Rattle.album_wire.specs.ItemShapes.{item_named}
 use Rattle.album_wire.specs.AskShape.{SpelledAsk, spelled_ask, ask_shape_of}
 use Rattle.album_wire.specs.declared.event_shape.EventShape.{EventShape}
@@ -95,6 +95,14 @@ stop_shape_of d = do
   client ← field_of (codes "stop") d >>= client_named
   Ok (Whole (spelled.One (event.Stop client)))
 
+-- {"restart": true}
+unfoldable pub restart_shape_of : Data → Result SpelledEvent Refusal
+restart_shape_of d = do
+  _ ← only_of (codes "restart" ∷ []) d
+  restart ← field_of (codes "restart") d >>= truth_of
+  _ ← guard restart
+  Ok (Whole spelled.Restart)
+
 -- {item, part}
 unfoldable pub trim_of : Data → Result (ℕ × ℕ) Refusal
 trim_of d = do
@@ -117,4 +125,5 @@ event_shape_of d =
     else if has (codes "deliver") d then deliver_shape_of d
     else if has (codes "sweep") d then sweep_shape_of d
     else if has (codes "stop") d then stop_shape_of d
+    else if has (codes "restart") d then restart_shape_of d
     else trim_shape_of d

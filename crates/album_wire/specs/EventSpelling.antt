@@ -1,5 +1,5 @@
 -- The lines of events, as they are spelled.
-use Rattle.std.specs.Prelude.{◌≡◌, ◌≤◌, ◌<◌, ◌+◌, ℕ, List, [], ◌∷◌, codes, IsTrue}
+use Rattle.std.specs.Prelude.{◌≡◌, ◌≤◌, ◌<◌, ◌+◌, ℕ, true, List, [], ◌∷◌, codes, IsTrue}
 use Rattle.serde_json.specs.Data.{Data}
 use Rattle.album_stamps.specs.Stamps.{is_client, is_stamp}
 use Rattle.album_eval.specs.Matching.{IsPrincipalText}
@@ -8,7 +8,7 @@ use Rattle.album_views.specs.declared.asks.Ask.{Ask}
 use Rattle.album_permits.specs.declared.events.Event.{Event}
 use Rattle.album_permits.specs.declared.events.Event.TheVariants as event
 use Rattle.album_lines.specs.Spelling.{IsJson, HasOnly, IsText, whole_data, list_data}
-use Rattle.album_wire.specs.ObjectSpelling.{IsWhole, HasMember, HasJust}
+use Rattle.album_wire.specs.ObjectSpelling.{IsWhole, IsTruth, HasMember, HasJust}
 use Rattle.album_wire.specs.ItemSpelling.{IsItem}
 use Rattle.album_wire.specs.AskSpelling.{IsAsk}
 use Rattle.album_wire.specs.declared.event_shape.Spelled.{Spelled}
@@ -67,10 +67,11 @@ IsEvent (event.Sweep part stamp) = HasJust (codes "sweep") (IsSweep part stamp)
 IsEvent (event.Stop client) = HasJust (codes "stop") (IsClient client)
 IsEvent (event.Trim part item) = HasJust (codes "trim") (IsTrim part item)
 
--- the object of one event, or of the deliveries of a range
+-- the object of one event, of the deliveries of a range, or of a restart
 abbrev pub AreEvents : Spelled → Data → Type 0
 AreEvents (spelled.One event) = IsEvent event
 AreEvents (spelled.Range first last) = HasJust (codes "deliver") (IsRange first last)
+AreEvents spelled.Restart = HasJust (codes "restart") (IsTruth true)
 
 -- the bytes of a line that spells these events
 abbrev pub IsEventLine : Spelled → List ℕ → Type 0

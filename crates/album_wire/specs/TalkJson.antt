@@ -1,4 +1,4 @@
--- The lines that a service writes in addition to the answers to asks.
+-- The lines that a service or a replay writes in addition to the answers to asks.
 use Rattle.std.specs.Prelude.{ℕ, List, [], ◌∷◌, codes}
 use Rattle.serde_json.specs.Data.{Data, string}
 use Rattle.album_lines.specs.Spelling.{whole_data, list_data}
@@ -34,6 +34,13 @@ serving_json port = object_data (
     ∷ (codes "port", whole_data port)
     ∷ [])
 
+-- the epoch of this number has opened
+abbrev pub restarted_json : ℕ → Data
+restarted_json epoch = object_data (
+    (codes "answer", string (codes "restarted"))
+    ∷ (codes "epoch", whole_data epoch)
+    ∷ [])
+
 -- [those that succeeded, those that failed]
 abbrev pub counted_json : Counted → Data
 counted_json counted = list_data (whole_data counted.succeeded ∷ whole_data counted.failed ∷ [])
@@ -54,6 +61,7 @@ talk_json (out.Pending stamps) = pending_json stamps.items
 talk_json out.Swept = done_json (codes "swept")
 talk_json out.Trimmed = done_json (codes "trimmed")
 talk_json (out.Serving port) = serving_json port
+talk_json (out.Restarted epoch) = restarted_json epoch
 talk_json (out.Totals audits alarms) = totals_json audits alarms
 
 -- the line

@@ -57,6 +57,9 @@ pub fn worked_events()
     // 65536 has the client 0.
     ensures no_stamp { event_line_of (codes "{\"sweep\":{\"part\":0,\"stamp\":65536}}") ≡ Err Refusal.BadRequest }
     ensures stop { event_line_of (codes "{\"stop\":65535}") ≡ Ok (Spelled.One (Event.Stop 65535)) }
+    ensures restart { event_line_of (codes "{\"restart\":true}") ≡ Ok Spelled.Restart }
+    ensures no_restart { event_line_of (codes "{\"restart\":false}") ≡ Err Refusal.BadRequest }
+    ensures restart_with_more { event_line_of (codes "{\"restart\":true,\"epoch\":2}") ≡ Err Refusal.BadRequest }
     ensures trim { event_line_of
         (codes "{\"trim\":{\"item\":\"album/3\",\"part\":2}}")
         ≡ Ok (Spelled.One (Event.Trim 2 (album 3))) }

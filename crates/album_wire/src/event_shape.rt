@@ -1,17 +1,19 @@
 //! The shape of an event's line: {ask, client, who}, {deliver = number or [first, last]}, {sweep: {part, stamp}},
-//! {stop = client} or {trim: {item, part}}.
+//! {stop = client}, {restart} or {trim: {item, part}}.
 ghost use Rattle.std.specs.Prelude.{◌≡◌, ◌-◌, suc, nat_le};
 ghost use Rattle.std.specs.Option.{ok_or};
 ghost use Rattle.album_stamps.specs.Outcome.{Gives};
 ghost use Rattle.album_stamps.specs.Stamps.{client_of_number};
 ghost use Rattle.album_lines.specs.Fields.{under};
-ghost use Rattle.album_wire.specs.EventShape.{spelled_event, client_named, stamp_named, part_named, asked_shape_of, range_of, delivered_of, deliver_shape_of, sweep_of, sweep_shape_of, stop_shape_of, trim_of, trim_shape_of, event_shape_of};
+ghost use Rattle.album_wire.specs.EventShape.{spelled_event, client_named, stamp_named, part_named, asked_shape_of, range_of, delivered_of, deliver_shape_of, sweep_of, sweep_shape_of, stop_shape_of, restart_shape_of, trim_of, trim_shape_of, event_shape_of};
 ghost use Rattle.album_lines.specs.Trees.{value_data};
 
 use crate::ask_shape::{AskShape, ask_shape};
 use crate::item_shapes::item_under;
 use album_items::ItemId;
-use album_lines::{field, has, is_list, item, only, sized_list, text_under, whole, whole_under};
+use album_lines::{
+    field, has, is_list, item, only, sized_list, text_under, truth, whole, whole_under,
+};
 use album_permits::Event;
 use album_stamps::{ClientNo, Refusal, Stamp};
 use json::Value;
@@ -23,13 +25,15 @@ pub const MAX_DELIVERIES: u64 = 10_000;
 /// The greatest number that a line may give a partition.
 const MAX_PART: u64 = 65_535;
 
-/// The events that a line spells.
+/// The events that a line spells, or a restart.
 #[derive(Debug, Drop)]
 pub enum Spelled {
     One(Event),
     /// The deliveries from the first number up to the last: at most `MAX_DELIVERIES`, and none where the first
     /// is greater.
     Range(u64, u64),
+    /// The epoch ends, and the next one opens on what it leaves.
+    Restart,
 }
 
 /// The line of an event as it is spelled. Of every event but an ask, its shape is all.
@@ -55,6 +59,8 @@ pub(crate) fn event_shape<'a>(alloc: Global, value: &Value<'a>) -> Result<EventS
         sweep_shape(value)
     } else if has(value, "stop") {
         stop_shape(value)
+    } else if has(value, "restart") {
+        restart_shape(value)
     } else {
         trim_shape(value)
     }
@@ -138,6 +144,17 @@ fn stop_shape<'a>(value: &Value<'a>) -> Result<EventShape<'a>, Refusal>
     only(value, &["stop"])?;
     let client = client_under(value, "stop")?;
     Ok(EventShape::Whole(Spelled::One(Event::Stop(client))))
+}
+
+#[tactic(auto, unfolding(crate::specs::EventShape::restart_shape_of))]
+fn restart_shape<'a>(value: &Value<'a>) -> Result<EventShape<'a>, Refusal>
+    ensures { Gives spelled_event result (restart_shape_of (value_data value.now)) }
+{
+    only(value, &["restart"])?;
+    if !truth(field(value, "restart")?)? {
+        return Err(Refusal::BadRequest);
+    }
+    Ok(EventShape::Whole(Spelled::Restart))
 }
 
 #[tactic(auto, unfolding(crate::specs::EventShape::trim_shape_of))]

@@ -73,7 +73,10 @@ fn open_shape<'a>(value: &Value<'a>) -> Result<OpeningShape<'a>, Refusal>
 fn header_named(value: &Value<'_>) -> Result<Header, Refusal>
     ensures { Gives (λ header. header) result (header_of (value_data value.now)) }
 {
-    only(value, &["parts", "limit", "policy", "checked", "first", "trace"])?;
+    only(
+        value,
+        &["parts", "limit", "policy", "checked", "first", "trace"],
+    )?;
     let parts = whole_under(value, "parts")?;
     let limit = whole_or(DEFAULT_LIMIT, member(value, "limit"))?;
     let policy = whole_or(DEFAULT_POLICY, member(value, "policy"))?;

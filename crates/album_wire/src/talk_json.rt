@@ -4,7 +4,7 @@ ghost use Rattle.serde_json.specs.Data.{string};
 ghost use Rattle.serde_json.specs.View.{view, members_view};
 ghost use Rattle.album_lines.specs.Output.{line_text};
 ghost use Rattle.album_wire.specs.ValueJson.{members_named};
-ghost use Rattle.album_wire.specs.TalkJson.{hello_json, pending_json, done_json, serving_json, counted_json, totals_fields, totals_json, talk_json, talk_text};
+ghost use Rattle.album_wire.specs.TalkJson.{hello_json, pending_json, done_json, serving_json, restarted_json, counted_json, totals_fields, totals_json, talk_json, talk_text};
 
 use crate::message_json::stamps_json;
 use album_lines::{array_of, json_line, object_of, with_item, with_member};
@@ -19,7 +19,7 @@ pub struct Counted {
     pub failed: u64,
 }
 
-/// What a service says in addition to the answers to asks.
+/// What a service or a replay says in addition to the answers to asks.
 #[derive(Debug, Drop)]
 pub enum TalkOut {
     /// Who speaks is the client of this number.
@@ -30,6 +30,8 @@ pub enum TalkOut {
     Trimmed,
     /// The service listens at this port.
     Serving(u16),
+    /// The epoch of this number has opened. The first one is 1.
+    Restarted(u64),
     /// What the audit book has in all.
     Totals { audits: Counted, alarms: Counted },
 }
@@ -54,6 +56,7 @@ pub fn worked_talk_outs()
     ensures swept { talk_text TalkOut.Swept ≡ codes "{\"answer\":\"swept\"}\n" }
     ensures trimmed { talk_text TalkOut.Trimmed ≡ codes "{\"answer\":\"trimmed\"}\n" }
     ensures serving { talk_text (TalkOut.Serving 7070) ≡ codes "{\"answer\":\"serving\",\"port\":7070}\n" }
+    ensures restarted { talk_text (TalkOut.Restarted 2) ≡ codes "{\"answer\":\"restarted\",\"epoch\":2}\n" }
     ensures totals { talk_text (TalkOut.Totals
         (record { succeeded = 1; failed = 0 }) (record { succeeded = 0; failed = 2 }))
         ≡ codes "{\"alarms\":[0,2],\"audits\":[1,0]}\n" }
@@ -68,6 +71,7 @@ fn talk_json(alloc: Global, out: &TalkOut) -> Result<Value, AllocError>
         TalkOut::Swept => done_json(alloc, "swept"),
         TalkOut::Trimmed => done_json(alloc, "trimmed"),
         TalkOut::Serving(port) => serving_json(alloc, *port),
+        TalkOut::Restarted(epoch) => restarted_json(alloc, *epoch),
         TalkOut::Totals { audits, alarms } => totals_json(alloc, *audits, *alarms),
     }
 }
@@ -97,6 +101,13 @@ fn serving_json(alloc: Global, port: u16) -> Result<Value, AllocError>
 {
     let fields = answer_fields(alloc, "serving");
     object_of(with_member(alloc, fields, "port", Ok(Value::from(port))))
+}
+
+fn restarted_json(alloc: Global, epoch: u64) -> Result<Value, AllocError>
+    ensures { IfOk result (λ v. view v ≡ restarted_json epoch) }
+{
+    let fields = answer_fields(alloc, "restarted");
+    object_of(with_member(alloc, fields, "epoch", Ok(Value::from(epoch))))
 }
 
 /// What each but the totals begins with: the word that says which it is.

@@ -35,8 +35,8 @@ pub use laws::{
     a_read_begins_with_its_partitions, acknowledged_writes_stay, answers_are_to_requests,
     busy_has_its_cause, clocks_rise, committed_is_never_discarded, each_output_is_given_once,
     no_update_is_lost, no_view_holds_a_part_of_a_share, one_finding_of_a_view, outcomes_are_true,
-    outputs_are_in_the_past, rulings_hold, stamps_are_above_the_opening, stops_are_for_good, the_past_is_remembered,
-    transitions_are_tidy, views_are_fresh, views_are_read_atomic, what_is_committed_stays,
-    what_is_served_is_what_is_asked, writes_are_granted,
+    outputs_are_in_the_past, rulings_hold, stamps_are_above_the_opening, stops_are_for_good,
+    the_past_is_remembered, transitions_are_tidy, views_are_fresh, views_are_read_atomic,
+    what_is_committed_stays, what_is_served_is_what_is_asked, writes_are_granted,
 };
 pub use world::World;

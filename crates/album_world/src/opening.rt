@@ -1,5 +1,6 @@
-//! What of an opening a world's clients go by: its partitions, its policy, and whether it is checked. First values and
-//! limits go to the partitions, in `World::open`. Each client begins with a fresh clock, whatever the opening.
+//! What of an opening a world's clients go by: its partitions, its policy, whether it is checked, and the counter that
+//! clocks are above. First values and limits go to the partitions, in `World::open_on`. Each client begins with a fresh
+//! clock, which reaches that counter before it draws a stamp.
 ghost use Rattle.std.specs.Prelude.{◌≡◌, true};
 ghost use Rattle.album_items.specs.Openings.{is_base_opening};
 ghost use Rattle.album_client.specs.Terms.{terms_of};

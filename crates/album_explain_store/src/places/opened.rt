@@ -109,9 +109,7 @@ fn bad_later(
 
 /// The first child whose number is too great.
 fn bad_child(greatest: u64, children: &[ItemId]) -> Option<usize> {
-    children
-        .iter()
-        .position(|child| child.number() > greatest)
+    children.iter().position(|child| child.number() > greatest)
 }
 
 /// What is wrong with an item by itself.

@@ -186,6 +186,7 @@ pub(crate) fn parts_of(table: Table, line: &Value<'_>) -> Parts {
         Table::Event if has(line, "deliver") => &[("deliver", Part::Plain(Form::Deliver))],
         Table::Event if has(line, "sweep") => &[("sweep", Part::Sweep)],
         Table::Event if has(line, "stop") => &[("stop", Part::Plain(Form::Client))],
+        Table::Event if has(line, "restart") => &[("restart", Part::Plain(Form::True))],
         Table::Event => &[("trim", Part::Trim)],
         Table::Hello => &[("who", Part::Plain(Form::Who))],
         Table::Talk if has(line, "ask") => &[("ask", Part::Ask)],

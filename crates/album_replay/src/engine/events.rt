@@ -1,15 +1,16 @@
-//! The events of a line: they run one after another, and the outputs of each are written before the next.
+//! The events that a line spells: they run one after another, and the outputs of each are written before the next.
 ghost use Rattle.std.specs.Prelude.{◌≡◌, ◌==◌, ◌||◌, not, true, IfErr, OnOk};
 ghost use Rattle.std.specs.Option.{option_copied};
 ghost use Rattle.std.specs.Io.KnownBytes.{Appends};
 ghost use Rattle.album_stamps.specs.Outcome.{Gives};
 ghost use Rattle.album_stamps.specs.Refusals.{number_of};
+ghost use Rattle.album_items.specs.declared.openings.Opening.{Opening};
 ghost use Rattle.album_world.specs.Past.{Past};
 ghost use Rattle.album_wire.specs.EventLine.{deliveries};
 ghost use Rattle.album_lines.specs.Lines.{said};
 ghost use Rattle.album_wire.specs.OutJson.{out_line};
-ghost use Rattle.album_replay.specs.Replay.{Happens, Delivers, Spells, IsPrinted, delivery_text, text_in, event_line_read, message_shown, outputs_text};
-ghost use Rattle.album_replay.specs.Stages.{Leads, MayLead};
+ghost use Rattle.album_replay.specs.Replay.{Happens, Delivers, delivery_text, event_text, text_in, event_line_read, message_shown, outputs_text};
+ghost use Rattle.album_replay.specs.Epochs.{HasLed, Leads, MayLead};
 ghost use Rattle.album_judge.specs.Writes.{Writes, LeavesOf};
 
 use album_calls::Message;
@@ -23,55 +24,35 @@ use json::Scratch;
 use std::alloc::Global;
 use std::io::Write;
 
-/// Runs the events of a line, and writes their outputs; or the line's refusal, where it has one.
-pub(crate) fn run<W: Write>(
+/// The events that a line spells, or a restart. Of a line that is too long nothing is read.
+pub(crate) fn event_line(
     alloc: Global,
     scratch: &mut Scratch,
-    trace: bool,
-    world: &mut World,
     line: &LineIn,
-    writer: &mut W,
-) -> Result<(), Fault>
-    ensures ok { OnOk result ((past : Past) → Writes
-        (Leads (IsPrinted world.old.terms trace (said line.now)) world.old world.new past)
-        (W.contents writer.old) (W.contents writer.new)) }
-    ensures fault { IfErr result (λ fault. (past : Past) → Writes
-        (LeavesOf fault (MayLead (IsPrinted world.old.terms trace (said line.now)) world.old past))
-        (W.contents writer.old) (W.contents writer.new)) }
-    ensures terms { world.new.terms ≡ world.old.terms }
-{
-    match event_line(alloc, scratch, line) {
-        Ok(events) => run_events(alloc, trace, world, events, writer),
-        Err(refusal) => write_refused(alloc, refusal, writer),
-    }
-}
-
-/// The events that a line spells. Of a line that is too long nothing is read.
-fn event_line(alloc: Global, scratch: &mut Scratch, line: &LineIn) -> Result<Spelled, Refusal>
+) -> Result<Spelled, Refusal>
     ensures { Gives (λ events. events) result (event_line_read (said line.now)) }
 {
     read_event(alloc, scratch, line.bytes()?)
 }
 
-fn run_events<W: Write>(
+/// Runs an event that a line spells by itself.
+pub(crate) fn run_one<W: Write>(
     alloc: Global,
     trace: bool,
     world: &mut World,
-    events: Spelled,
+    event: Event,
     writer: &mut W,
 ) -> Result<(), Fault>
     ensures ok { OnOk result ((past : Past) → Writes
-        (Leads (λ before. Spells world.old.terms trace before events) world.old world.new past)
+        (Leads (λ before. Happens event_text world.old.terms trace before event) world.old world.new past)
         (W.contents writer.old) (W.contents writer.new)) }
     ensures fault { IfErr result (λ fault. (past : Past) → Writes
-        (LeavesOf fault (MayLead (λ before. Spells world.old.terms trace before events) world.old past))
+        (LeavesOf fault (MayLead (λ before. Happens event_text world.old.terms trace before event) world.old past))
         (W.contents writer.old) (W.contents writer.new)) }
     ensures terms { world.new.terms ≡ world.old.terms }
+    ensures led { (opening : Opening) → HasLed opening world.old → HasLed opening world.new }
 {
-    match events {
-        Spelled::One(event) => run_event(alloc, trace, false, world, &event, writer),
-        Spelled::Range(first, last) => deliver_range(alloc, trace, world, first, last, writer),
-    }
+    run_event(alloc, trace, false, world, &event, writer)
 }
 
 /// Runs the event, and writes its outputs, or why it is refused. Of one in a range that is written only for memory.
@@ -91,6 +72,7 @@ fn run_event<W: Write>(
         (MayLead (λ before. Happens (text_in in_range) world.old.terms trace before event.now) world.old past))
         (W.contents writer.old) (W.contents writer.new)) }
     ensures terms { world.new.terms ≡ world.old.terms }
+    ensures led { (opening : Opening) → HasLed opening world.old → HasLed opening world.new }
 {
     match world.step(event) {
         Ok(outs) => write_outputs(alloc, trace, world, &outs, writer),
@@ -111,7 +93,7 @@ fn is_printed(in_range: bool, refusal: Refusal) -> bool
 }
 
 /// Gives the messages of the range to whom they are sent.
-fn deliver_range<W: Write>(
+pub(crate) fn deliver_range<W: Write>(
     alloc: Global,
     trace: bool,
     world: &mut World,
@@ -127,6 +109,7 @@ fn deliver_range<W: Write>(
         (MayLead (λ before. Delivers world.old.terms trace before (deliveries first last)) world.old past))
         (W.contents writer.old) (W.contents writer.new)) }
     ensures terms { world.new.terms ≡ world.old.terms }
+    ensures led { (opening : Opening) → HasLed opening world.old → HasLed opening world.new }
 {
     if first > last {
         return Ok(());
@@ -154,6 +137,7 @@ fn deliver<W: Write>(
         world.old past))
         (W.contents writer.old) (W.contents writer.new)) }
     ensures terms { world.new.terms ≡ world.old.terms }
+    ensures led { (opening : Opening) → HasLed opening world.old → HasLed opening world.new }
 {
     run_event(alloc, trace, true, world, &Event::Deliver(number), writer)
 }

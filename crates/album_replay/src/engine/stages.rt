@@ -1,8 +1,8 @@
 //! The stage of a replay between two lines, and what a line makes of it.
 //!
 //! `replay` keeps one `Stage`, and gives it each line. The lines of the opening are gathered (`openings`), until one
-//! says that the items are all there: then the world opens. From then on the events of a line run in it (`events`). A
-//! replay whose opening is refused is over.
+//! says that the items are all there: then the first epoch begins (`epochs`). From then on the events of a line run in
+//! its world (`events`), and a restart begins the next epoch. A replay whose opening is refused is over.
 ghost use Rattle.std.specs.Prelude.{◌≡◌, ◌≢◌, [], IfErr, OnErr, OnOk};
 ghost use Rattle.std.specs.Io.KnownBytes.{Appends};
 ghost use Rattle.album_lines.specs.Lines.{said};
@@ -11,14 +11,13 @@ ghost use Rattle.album_replay.specs.Replay.{Prints, Step, begun, end_text, openi
 ghost use Rattle.album_replay.specs.Stages.{GoesOn, Opens, Steps, stage_of, step_by, no_past, is_over};
 ghost use Rattle.album_judge.specs.Writes.{Writes, LeavesOf};
 
-use crate::engine::events::run;
+use crate::engine::epochs::Epoch;
 use crate::openings::{SoFar, first_line, later_line, opening_of};
 use album_items::{ItemId, Value};
 use album_judge::{Fault, write_refused};
 use album_lines::LineIn;
 use album_stamps::Refusal;
 use album_wire::Header;
-use album_world::World;
 use json::Scratch;
 use std::alloc::Global;
 use std::io::Write;
@@ -31,8 +30,8 @@ pub(crate) enum Stage {
     Unopened,
     /// The world is being opened, with these items so far.
     BeingOpened(Header, Vec<(ItemId, Value)>),
-    /// The world runs, in a trace or not.
-    Running(bool, World),
+    /// The world of an epoch runs.
+    Running(Epoch),
     /// The opening was refused.
     Over,
 }
@@ -65,7 +64,7 @@ impl Stage {
                 let next = stage_after(alloc, later_line(alloc, scratch, *header, rows, line));
                 self.go_on(alloc, next, writer)
             }
-            Stage::Running(trace, world) => run(alloc, scratch, *trace, world, line, writer),
+            Stage::Running(epoch) => epoch.take(alloc, scratch, line, writer),
             Stage::Over => Ok(()),
         }
     }
@@ -130,11 +129,12 @@ fn stage_after(alloc: Global, so_far: Result<SoFar, Refusal>) -> Result<Stage, R
     }
 }
 
-/// The world opens, where it may.
+/// The first epoch begins, where its world may open.
 #[tactic(auto, using(crate::proofs::Standing::world_opens, crate::proofs::Standing::world_refused))]
 fn begin(alloc: Global, header: Header, rows: Vec<(ItemId, Value)>) -> Result<Stage, Refusal>
     ensures { Opens (begun (opening_of header rows.items) header.trace) result }
 {
-    let world = World::open(alloc, &opening_of(header, rows))?;
-    Ok(Stage::Running(header.trace, world))
+    let trace = header.trace;
+    let epoch = Epoch::first(alloc, opening_of(header, rows), trace)?;
+    Ok(Stage::Running(epoch))
 }

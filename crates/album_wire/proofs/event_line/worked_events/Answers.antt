@@ -34,6 +34,18 @@ pub returns-clause-stop : goal.returns-clause-stop
 unfolding lines_on_literals
 returns-clause-stop c = refl
 
+pub returns-clause-restart : goal.returns-clause-restart
+unfolding lines_on_literals
+returns-clause-restart c = refl
+
+pub returns-clause-no_restart : goal.returns-clause-no_restart
+unfolding lines_on_literals
+returns-clause-no_restart c = refl
+
+pub returns-clause-restart_with_more : goal.returns-clause-restart_with_more
+unfolding lines_on_literals
+returns-clause-restart_with_more c = refl
+
 pub returns-clause-trim : goal.returns-clause-trim
 unfolding lines_on_literals
 returns-clause-trim c = refl

@@ -18,6 +18,10 @@ pub returns-clause-serving : goal.returns-clause-serving
 unfolding lines_on_literals
 returns-clause-serving c = refl
 
+pub returns-clause-restarted : goal.returns-clause-restarted
+unfolding lines_on_literals
+returns-clause-restarted c = refl
+
 pub returns-clause-totals : goal.returns-clause-totals
 unfolding lines_on_literals
 returns-clause-totals c = refl

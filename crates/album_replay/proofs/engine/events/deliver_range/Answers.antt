@@ -14,6 +14,7 @@ loop-number-init g c = record {
   low = omega arith;
   high = c.if-first-last.false;
   terms = refl;
+  led = λ o h. h;
   written = range_begins c.args.world.now.terms c.args.trace c.args.first c.args.world.now (g.W.Write.contents c.args.writer.now);
 }
 
@@ -24,6 +25,7 @@ loop-number-preserved g c =
       low = omega (arith, i.low);
       high = omega (arith, c.loop-number-test.true);
       terms = c.in_ok-deliver.ensures.terms ∙ i.terms;
+      led = λ o h. c.in_ok-deliver.ensures.led o (i.led o h);
       written =
           range_more c.args.world.now.terms c.loop-number.world.terms i.terms c.args.trace c.args.first c.loop-number.number i.low
           c.args.world.now c.loop-number.world _ _ _ i.written c.deliver.new.world c.in_ok-deliver.ensures.ok;
@@ -67,3 +69,9 @@ returns-clause-fault g c =
 
 pub returns-clause-terms : goal.returns-clause-terms
 returns-clause-terms g c = c.deliver-2.ensures.terms ∙ c.loop-number.invariant.terms
+
+pub returns-in_err-deliver-clause-led : goal.returns-in_err-deliver-clause-led
+returns-in_err-deliver-clause-led g c = λ o h. c.in_err-deliver.ensures.led o (c.loop-number.invariant.led o h)
+
+pub returns-clause-led : goal.returns-clause-led
+returns-clause-led g c = λ o h. c.deliver-2.ensures.led o (c.loop-number.invariant.led o h)

@@ -4,12 +4,12 @@ use Rattle.album_replay.proofs.Standing.{world_opens, world_refused}
 use Rattle.album_replay.proofs.engine.stages.begin.Goals as goal
 
 -- it may not be opened
-pub returns-in_err-world : goal.returns-in_err-world
-returns-in_err-world c =
+pub returns-in_err-epoch : goal.returns-in_err-epoch
+returns-in_err-epoch c =
     let p = err_from_is_err_and c.from_residual.result c.from_residual.ensures.1 in
-    rw (p.1, p.2) (λ why. world_refused (opening_of c.args.header c.args.rows.items) c.args.header.trace c.in_err-world.field-0.0
-    ((rw c.opening_of.ensures at c.in_err-world.ensures.0) why))
+    rw (p.1, p.2) (λ why. world_refused (opening_of c.args.header c.args.rows.items) c.args.header.trace c.in_err-epoch.field-0.0
+    ((rw c.opening_of.ensures at c.in_err-epoch.ensures.0) why))
 
 -- it opens
 pub returns : goal.returns
-returns c = world_opens (opening_of c.args.header c.args.rows.items) c.args.header.trace c.in_ok-world.world (rw c.opening_of.ensures at c.in_ok-world.ensures)
+returns c = world_opens (opening_of c.args.header c.args.rows.items) c.args.header.trace c.in_ok-epoch.epoch (rw c.opening_of.ensures at c.in_ok-epoch.ensures)

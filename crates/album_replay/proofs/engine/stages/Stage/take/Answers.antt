@@ -2,7 +2,7 @@ use Rattle.std.proofs.Common.{sym, ◌∙◌}
 use Rattle.std.proofs.lemmas.Result.{IfErr-weaker, on_ok_weaker}
 use Rattle.album_lines.specs.Lines.{said}
 use Rattle.album_replay.specs.Replay.{Unopened, BeingOpened, first_line, later_line, opened_by, opening_line_read}
-use Rattle.album_replay.proofs.Standing.{blank_taken, opening_taken, opening_left, events_taken, events_left, over_taken}
+use Rattle.album_replay.proofs.Standing.{blank_taken, opening_taken, opening_left, epoch_taken, epoch_left, over_taken}
 use Rattle.album_replay.proofs.engine.stages.Stage.take.Goals as goal
 
 -- a blank line
@@ -54,22 +54,20 @@ returns-in-BeingOpened-clause-fault g c =
     (λ fault w past. rw c.in-BeingOpened.is (opening_left old line says (λ step h. h) is c.stage_after-next-in-BeingOpened.result (c.stage_after-next-in-BeingOpened.ensures says goes_on) fault _ _ w))
     c.go_on-in-BeingOpened.ensures.fault
 
--- a line of events
+-- a line of an epoch
 pub returns-in-Running-clause-ok : goal.returns-in-Running-clause-ok
 returns-in-Running-clause-ok g c =
     let is = sym c.is_blank.ensures ∙ c.if-is_blank.false in
-    on_ok_weaker c.run.result
-    (λ w past. rw c.in-Running.is (events_taken c.in-Running.trace c.in-Running.world past (said c.args.line.now) is
-    c.run.new.world _ _ c.run.ensures.terms (w past)))
-    c.run.ensures.ok
+    on_ok_weaker c.take.result
+    (λ w past. rw c.in-Running.is (epoch_taken c.in-Running.epoch past (said c.args.line.now) is c.take.new.self _ _ (w past)))
+    c.take.ensures.ok
 
 pub returns-in-Running-clause-fault : goal.returns-in-Running-clause-fault
 returns-in-Running-clause-fault g c =
     let is = sym c.is_blank.ensures ∙ c.if-is_blank.false in
-    IfErr-weaker c.run.result _ _
-    (λ fault w past. rw c.in-Running.is (events_left c.in-Running.trace c.in-Running.world past (said c.args.line.now) is
-    fault _ _ (w past)))
-    c.run.ensures.fault
+    IfErr-weaker c.take.result _ _
+    (λ fault w past. rw c.in-Running.is (epoch_left c.in-Running.epoch past (said c.args.line.now) is fault _ _ (w past)))
+    c.take.ensures.fault
 
 -- the opening was refused
 pub returns-in-Over-clause-ok : goal.returns-in-Over-clause-ok
