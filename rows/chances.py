@@ -1,7 +1,8 @@
 """Random scripts of a checked store: three clients ask at once, and their messages come in any order. What was answered
 committed, done one after another in the order of the stamps, gives exactly what is listed in the end. So nothing that was
-answered is lost, whatever came between. `rows/chances.py PROGRAM [--plain] [SCRIPTS]` says how many differ; with --plain
-the store isn't checked, and many do."""
+answered is lost, whatever came between. `rows/chances.py PROGRAM [--plain | --restarts] [SCRIPTS]` says how many differ;
+with --plain the store isn't checked, and many do. With --restarts the store restarts now and then: a write that isn't
+answered is done then exactly where each partition that got a part of it has prepared that."""
 import json
 import pathlib
 import random
@@ -31,7 +32,13 @@ class Script:
                  *(entries(number, PLAIN) for number in (0, 1)), *(entries(number, EVERYONE) for number in (2, 3))]
         self.write(opening(is_checked, *items))
         self.pictures = ["picture/0", "picture/1"]
-        self.sent, self.asked, self.done, self.answers = [], {}, [], []
+        self.done, self.answers = [], []
+        self.epoch, self.carried, self.let_go = 1, 0, 0
+        self.forget()
+
+    def forget(self):
+        """Nothing is on its way, nobody is to be answered, and nothing is prepared but what the epoch began with."""
+        self.sent, self.asked, self.prepares, self.prepared = [], {}, {}, set()
 
     def write(self, data):
         self.run.stdin.write(data)
@@ -46,18 +53,47 @@ class Script:
                 return
             if "say" in line:
                 self.sent.append(line["k"])
+                self.said(line)
+            elif line.get("answer") == "restarted":
+                want(self.epoch + 1, line["epoch"], "the epoch")
+                self.epoch += 1
             elif "client" in line and line["client"] in self.asked:
                 self.answered(self.asked.pop(line["client"]), line)
+
+    def said(self, line):
+        """What a message says of a write: where it is to be prepared, and where it is."""
+        if line["say"] == "prepare":
+            stamp, places = self.prepares.get(line["from"], (line["stamp"], set()))
+            places = places if stamp == line["stamp"] else set()
+            self.prepares[line["from"]] = line["stamp"], places | {line["to"]}
+        elif line["say"] == "prepared":
+            self.prepared.add((line["stamp"], line["from"]))
 
     def answered(self, asked, line):
         self.answers.append(line)
         if line.get("answer") == "committed":
-            self.done.append((line["stamp"], asked))
-            if asked["do"] == "add_picture":
-                self.pictures.append(f"picture/{line['stamp']}")
+            self.is_done(line["stamp"], asked)
+
+    def is_done(self, stamp, asked):
+        self.done.append((stamp, asked))
+        if asked["do"] == "add_picture":
+            self.pictures.append(f"picture/{stamp}")
+
+    def restarts(self):
+        """What is in doubt is done where it is prepared throughout, and else it never is."""
+        for client, asked in self.asked.items():
+            stamp, places = self.prepares.get(f"c{client}", (None, ()))
+            if stamp is not None and all((stamp, place) in self.prepared for place in places):
+                self.is_done(stamp, asked)
+                self.carried += 1
+            elif stamp is not None:
+                self.let_go += 1
+        self.forget()
+        self.event({"restart": True})
 
     def ask(self, client, asked):
         self.asked[client] = asked
+        self.prepares.pop(f"c{client}", None)
         self.event({"ask": asked, "client": client, "who": "amy@users"})
 
     def deliver(self):
@@ -117,18 +153,20 @@ def done_in_order(done):
     return {number: sorted([of, title[of]] for of in home if home[of] == number) for number in ALBUMS}
 
 
-def script(program, is_checked, seed):
-    """Runs one, and gives how many were aborted."""
+def script(program, is_checked, seed, restarts=0.0):
+    """Runs one, and gives how many were aborted, and how many that were in doubt were carried over a restart, and not."""
     run = Script(program, is_checked, seed)
     for _ in range(STEPS):
         run.goes_on()
+        if restarts and run.chance.random() < restarts:
+            run.restarts()
     run.settles()
     wanted = done_in_order(run.done)
     got = {number: run.listed(number) for number in ALBUMS}
     aborted = sum(answer.get("answer") == "aborted" for answer in run.answers)
     run.ends()
     want(wanted, got, f"what is listed after script {seed}")
-    return aborted
+    return aborted, run.carried, run.let_go
 
 
 def scripts(program, is_checked=True, count=SCRIPTS):
@@ -136,7 +174,7 @@ def scripts(program, is_checked=True, count=SCRIPTS):
     aborted = differ = 0
     for seed in range(count):
         try:
-            aborted += script(program, is_checked, seed)
+            aborted += script(program, is_checked, seed)[0]
         except (Differs, KeyError):
             if is_checked:
                 raise
@@ -145,10 +183,21 @@ def scripts(program, is_checked=True, count=SCRIPTS):
     want((True, True), (aborted > 0 or not is_checked, differ > 0 or is_checked), "whether writes raced")
 
 
+def restarted(program, count=SCRIPTS):
+    """In a checked store that restarts none differs, and some writes that were in doubt are carried, and some let go."""
+    carried = let_go = 0
+    for seed in range(count):
+        _, more, fewer = script(program, True, seed, restarts=0.04)
+        carried, let_go = carried + more, let_go + fewer
+    print_if_alone(f"{count} scripts, {carried} writes in doubt carried, {let_go} let go")
+    want((True, True), (carried > 0, let_go > 0), "whether writes were in doubt")
+
+
 def checks():
     """Each row: its name, how it is run on a program, and what it is."""
     yield "chances: random scripts of a checked store", lambda program, hold: wrong_of(hold, program), scripts
     yield "chances: random scripts of another store", lambda program, hold: wrong_of(hold, program, False), scripts
+    yield "chances: random scripts with restarts", lambda program, hold: wrong_of(hold, program), restarted
 
 
 def print_if_alone(text):
@@ -158,8 +207,12 @@ def print_if_alone(text):
 
 def main():
     program, *words = sys.argv[1:]
-    counts = [int(word) for word in words if word != "--plain"]
-    print(wrong_of(scripts, str(pathlib.Path(program).resolve()), "--plain" not in words, *counts) or "ok")
+    counts = [int(word) for word in words if not word.startswith("--")]
+    program = str(pathlib.Path(program).resolve())
+    if "--restarts" in words:
+        print(wrong_of(restarted, program, *counts) or "ok")
+    else:
+        print(wrong_of(scripts, program, "--plain" not in words, *counts) or "ok")
 
 
 if __name__ == "__main__":
