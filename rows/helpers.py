@@ -1,7 +1,7 @@
 """The helpers of examples/: the client, the script that writes deliveries, and the drawings of a trace.
 
 rows/script/NAME.jsonl is the example NAME with words that settle a client in the place of its deliveries, which have to
-come out as the example has them. rows/drawn has a trace, the script that it is of, and its three drawings."""
+come out as the example has them. rows/drawn has traces, the script that each is of, and its three drawings."""
 import json
 import os
 import pathlib
@@ -50,7 +50,7 @@ def a_client(program):
 
 def settled_examples(program):
     """Words that settle a client become the deliveries that an example has."""
-    for name in ("story", "second_policy"):
+    for name in ("story", "second_policy", "restart"):
         text = (ROWS / "script" / f"{name}.jsonl").read_bytes()
         want((0, (EXAMPLES / f"{name}.jsonl").read_bytes(), b""), ran("script", [], text, program), name)
 
@@ -85,12 +85,14 @@ def scripts_that_are_refused(program):
 
 
 def drawings(_program):
-    """A trace of three messages, one of which is lost, and of an answer, as it is drawn in each form."""
-    trace = (ROWS / "drawn" / "lost_commit.trace").read_bytes()
-    script = str(ROWS / "drawn" / "lost_commit.script")
-    for form, words in (("mermaid", [script]), ("text", ["--text", script]), ("svg", [script, "--svg"])):
-        wanted = (ROWS / "drawn" / f"lost_commit.{form}").read_bytes()
-        want((0, wanted, b""), ran("trace2mermaid", words, trace), form)
+    """Traces as they are drawn in each form: of three messages, one of which is lost, and of an answer; and of two epochs,
+    in each of which one message is lost."""
+    for name in ("restart", "lost_commit"):
+        trace = (ROWS / "drawn" / f"{name}.trace").read_bytes()
+        script = str(ROWS / "drawn" / f"{name}.script")
+        for form, words in (("mermaid", [script]), ("text", ["--text", script]), ("svg", [script, "--svg"])):
+            wanted = (ROWS / "drawn" / f"{name}.{form}").read_bytes()
+            want((0, wanted, b""), ran("trace2mermaid", words, trace), f"{name}.{form}")
     wanted = (ROWS / "drawn" / "lost_commit.text").read_bytes().replace(b"x|", b">|")
     want((0, wanted, b""), ran("trace2mermaid", ["--text"], trace), "a trace without its script")
 
