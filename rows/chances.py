@@ -1,8 +1,8 @@
 """Random scripts of a checked store: three clients ask at once, and their messages come in any order. What was answered
-committed, done one after another in the order of the stamps, gives exactly what is listed in the end. So nothing that was
-answered is lost, whatever came between. `rows/chances.py PROGRAM [--plain | --restarts] [SCRIPTS]` says how many differ;
-with --plain the store isn't checked, and many do. With --restarts the store restarts now and then: a write that isn't
-answered is done then exactly where each partition that got a part of it has prepared that."""
+committed, done one after another in the order of the stamps, gives exactly what is listed in the end. So nothing that
+was answered is lost, whatever came between. `rows/chances.py PROGRAM [--plain | --restarts] [SCRIPTS]` says how many
+differ; with --plain the store isn't checked, and many do. With --restarts the store restarts now and then: a write that
+isn't answered is done then exactly where each partition that got a part of it has prepared that."""
 import json
 import pathlib
 import random
@@ -154,7 +154,7 @@ def done_in_order(done):
 
 
 def script(program, is_checked, seed, restarts=0.0):
-    """Runs one, and gives how many were aborted, and how many that were in doubt were carried over a restart, and not."""
+    """Runs one: how many were aborted, and how many that were in doubt were carried over a restart, and let go."""
     run = Script(program, is_checked, seed)
     for _ in range(STEPS):
         run.goes_on()
@@ -184,7 +184,7 @@ def scripts(program, is_checked=True, count=SCRIPTS):
 
 
 def restarted(program, count=SCRIPTS):
-    """In a checked store that restarts none differs, and some writes that were in doubt are carried, and some let go."""
+    """In a checked store that restarts none differs. Some writes that were in doubt are carried, and some let go."""
     carried = let_go = 0
     for seed in range(count):
         _, more, fewer = script(program, True, seed, restarts=0.04)

@@ -85,8 +85,8 @@ def scripts_that_are_refused(program):
 
 
 def drawings(_program):
-    """Traces as they are drawn in each form: of three messages, one of which is lost, and of an answer; and of two epochs,
-    in each of which one message is lost."""
+    """Traces as they are drawn in each form: of three messages, one of which is lost, and of an answer; and of two
+    epochs, in each of which one message is lost."""
     for name in ("restart", "lost_commit"):
         trace = (ROWS / "drawn" / f"{name}.trace").read_bytes()
         script = str(ROWS / "drawn" / f"{name}.script")
