@@ -1,16 +1,16 @@
 """A restart after each delivery of a write at two partitions, and after each other order of its two Prepares.
 
-Two pictures of amy's lie with their lists at two partitions, and she hides both. Her request reads twice, which takes 28
-messages; then each partition is sent a Prepare, says that it has prepared, is sent a Commit, and says that it has
-committed: 36 in all. The write is there in the next epoch from where both Prepares are delivered, and else it never was."""
+Two pictures of amy's lie with their lists at two partitions, and she hides both. Her request reads twice, which takes
+28 messages; then each partition is sent a Prepare, says that it has prepared, is sent a Commit, and says that it has
+committed: 36 in all. Once both Prepares are delivered the next epoch has the write; before it has nothing of it."""
 import json
 import subprocess
 
 from serving import SECONDS, joined, want, wrong_of
 
 READ, PREPARES, ALL = 28, (29, 30), 36
-ITEMS = [[f"picture/{number}", {"content": "", "group": 0, "home": 0, "list": number, "owner": "amy@users", "title": "T"}]
-         for number in (0, 1)]
+PICTURE = {"content": "", "group": 0, "home": 0, "owner": "amy@users", "title": "T"}
+ITEMS = [[f"picture/{number}", PICTURE | {"list": number}] for number in (0, 1)]
 LISTS = [[f"list/{number}", {"entries": [["allow", "OWNER@", 2032127, 0], ["allow", "EVERYONE@", 1, 0]]}]
          for number in (0, 1)]
 HIDDEN = [[f"picture/{number}", [["allow", "OWNER@", 2032127, 0]]] for number in (0, 1)]
@@ -35,11 +35,11 @@ def printed(delivered):
     if ALL in delivered:
         yield COMMITTED
     yield {"answer": "restarted", "epoch": 2}
-    for number in (0, 1):
+    for of in ("picture/0", "picture/1"):
         if all(prepare in delivered for prepare in PREPARES):
-            yield {"answer": "denied", "client": 2, "reasons": [[f"picture/{number}", 1, "end"]]}
+            yield {"answer": "denied", "client": 2, "reasons": [[of, 1, "end"]]}
         else:
-            yield {"answer": "served", "client": 2, "content": "", "object": f"picture/{number}", "stamp": 0, "title": "T"}
+            yield {"answer": "served", "client": 2, "content": "", "object": of, "stamp": 0, "title": "T"}
 
 
 def lines(values):
@@ -61,5 +61,8 @@ def all_after(program, is_checked):
 
 def checks():
     """Each row: its name, how it is run on a program, and what it is."""
-    for kind, is_checked in (("a checked store", True), ("another store", False)):
-        yield f"restarts: after each delivery, in {kind}", lambda program, row: wrong_of(all_after, program, row), is_checked
+    def check(program, is_checked):
+        return wrong_of(all_after, program, is_checked)
+
+    yield "restarts: after each delivery, in a checked store", check, True
+    yield "restarts: after each delivery, in another store", check, False
