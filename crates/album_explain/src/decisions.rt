@@ -104,8 +104,8 @@ fn is_given(facts: &Facts, bit: u32) -> bool
     facts.principal.is_user(facts.owner) && gives_owner(facts.policy, bit)
 }
 
-/// Whether the policy gives the owner this bit: Two and Three give READ_ACL, which is bit 17, and WRITE_ACL, bit 18. Its
-/// twin in `album_eval` is `Policy::owner_bits`, which gives all of them as a mask.
+/// Whether the policy gives the owner this bit: Two and Three give READ_ACL, which is bit 17, and WRITE_ACL, bit 18.
+/// Its twin in `album_eval` is `Policy::owner_bits`, which gives all of them as a mask.
 fn gives_owner(policy: Policy, bit: u32) -> bool
     ensures { result ≡ gives_owner policy bit }
 {

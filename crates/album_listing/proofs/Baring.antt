@@ -165,21 +165,21 @@ module _
     (lookup : ℕ → Value) (looker inside : Option Principal) (asked inner : Ask)
     (within : (item : ℕ) → Contains (subjects_of (λ i. bare (lookup i)) inner) item → Contains (subjects_of lookup asked) item)
     (grouped : (item : ℕ) → Contains (subjects_of (λ i. bare (lookup i)) inner) item
-        → is_groupless (λ i. bare (lookup i)) inside inner item ≡ false → is_groupless lookup looker asked item ≡ false)
+    → is_groupless (λ i. bare (lookup i)) inside inner item ≡ false → is_groupless lookup looker asked item ≡ false)
   where
-  named-back : (item : ℕ) → IsNamed (λ i. bare (lookup i)) inside inner item → IsNamed lookup looker asked item
-  named-back item (Subject i s) = Subject i (within i s)
-  named-back item (ListOf s i subject c) =
-      ListOf s i (within s subject) (subst (λ (xs : List ℕ). Contains xs i) (list-bare (lookup s)) c)
-  named-back item (HeadGroupOf s i subject e c) =
-      HeadGroupOf s i (within s subject) (grouped s subject e)
-      (subst (λ (xs : List ℕ). Contains xs i) (head_group-bare (lookup s)) c)
-  named-back item (GroupInListOf s l i subject e c d) =
-      GroupInListOf s l i (within s subject) (grouped s subject e)
-      (subst (λ (xs : List ℕ). Contains xs l) (list-bare (lookup s)) c)
-      (subst (λ (xs : List ℕ). Contains xs i) (groups-bare (lookup l)) d)
-  named-back item (GroupInGroup g i named c) =
-      GroupInGroup g i (named-back g named) (subst (λ (xs : List ℕ). Contains xs i) (inner-bare (lookup g)) c)
+    named-back : (item : ℕ) → IsNamed (λ i. bare (lookup i)) inside inner item → IsNamed lookup looker asked item
+    named-back item (Subject i s) = Subject i (within i s)
+    named-back item (ListOf s i subject c) =
+        ListOf s i (within s subject) (subst (λ (xs : List ℕ). Contains xs i) (list-bare (lookup s)) c)
+    named-back item (HeadGroupOf s i subject e c) =
+        HeadGroupOf s i (within s subject) (grouped s subject e)
+        (subst (λ (xs : List ℕ). Contains xs i) (head_group-bare (lookup s)) c)
+    named-back item (GroupInListOf s l i subject e c d) =
+        GroupInListOf s l i (within s subject) (grouped s subject e)
+        (subst (λ (xs : List ℕ). Contains xs l) (list-bare (lookup s)) c)
+        (subst (λ (xs : List ℕ). Contains xs i) (groups-bare (lookup l)) d)
+    named-back item (GroupInGroup g i named c) =
+        GroupInGroup g i (named-back g named) (subst (λ (xs : List ℕ). Contains xs i) (inner-bare (lookup g)) c)
 
 -- the subjects of a bared snapshot are subjects
 pub subjects-back :
@@ -207,7 +207,7 @@ pub agree-bared :
     (looker inside : Option Principal) (asked inner : Ask) (one other : List ReadVersion)
     → ((item : ℕ) → Contains (subjects_of (λ i. bare (seen one i)) inner) item → Contains (subjects_of (seen one) asked) item)
     → ((item : ℕ) → Contains (subjects_of (λ i. bare (seen one i)) inner) item
-        → is_groupless (λ i. bare (seen one i)) inside inner item ≡ false → is_groupless (seen one) looker asked item ≡ false)
+    → is_groupless (λ i. bare (seen one i)) inside inner item ≡ false → is_groupless (seen one) looker asked item ≡ false)
     → AreRuledAlike looker asked one other → AgreeOn inside inner (bared one) (bared other)
 agree-bared looker inside asked inner one other within grouped alike =
     record {

@@ -28,8 +28,8 @@ pub fn replays_go_on()
 {}
 
 /// A law: what is printed of an input keeps the promise. Each part of it is a refusal, or that the next epoch opens on
-/// what the one before carries, or an output of the world that the lines before it spell; on that world all promises hold, and what is printed as an answer is the one answer to
-/// its client's last request.
+/// what the one before carries, or an output of the world that the lines before it spell. On that world all promises
+/// hold, and what is printed as an answer is the one answer to its client's last request.
 pub fn what_replay_prints()
     ensures { (input text : List ℕ) → IsReplay input text → IsAsPromised input text }
 {}

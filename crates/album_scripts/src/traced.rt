@@ -116,7 +116,10 @@ fn traced_header(alloc: Global, line: &[u8]) -> Result<Vec<u8>, Refusal> {
     let value = data(alloc, &mut scratch, text)?;
     only(&value, &["open"])?;
     let open = field(&value, "open")?;
-    only(open, &["checked", "first", "limit", "parts", "policy", "trace"])?;
+    only(
+        open,
+        &["checked", "first", "limit", "parts", "policy", "trace"],
+    )?;
 
     let mut writer = Writer::new(Vec::new(alloc));
     writer.begin_object()?;

@@ -18,12 +18,7 @@ use std::alloc::Global;
 pub type Asked = (Store, &'static str, Verb, &'static str);
 
 /// What is ruled on the view.
-fn rule(
-    alloc: Global,
-    view: View,
-    principal: &Principal,
-    policy: Policy,
-) -> Result<Ruled, Refusal>
+fn rule(alloc: Global, view: View, principal: &Principal, policy: Policy) -> Result<Ruled, Refusal>
     requires { view.looker ≡ looker_of policy principal.now }
 {
     if let Err(refusal) = view.ask().check(principal) {

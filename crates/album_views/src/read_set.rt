@@ -199,12 +199,7 @@ pub fn looker(policy: Policy, principal: &Principal) -> Result<Option<Principal>
 }
 
 /// Whether the owner's way is gone to the subject, so that no group is looked at for it.
-fn is_groupless(
-    snapshot: &Snapshot,
-    looker: &Option<Principal>,
-    ask: &Ask,
-    subject: ItemId,
-) -> bool
+fn is_groupless(snapshot: &Snapshot, looker: &Option<Principal>, ask: &Ask, subject: ItemId) -> bool
     ensures { result ≡ is_groupless (seen snapshot.now) looker.now ask.now subject }
 {
     match looker {

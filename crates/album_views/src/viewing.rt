@@ -114,12 +114,7 @@ impl Viewing {
     }
 
     /// The step by the snapshot, whose read set these are.
-    fn on_names(
-        self,
-        looker: Option<Principal>,
-        snapshot: Snapshot,
-        names: Vec<ItemId>,
-    ) -> ViewStep
+    fn on_names(self, looker: Option<Principal>, snapshot: Snapshot, names: Vec<ItemId>) -> ViewStep
         requires { names.items ≡ names_of snapshot looker self.ask }
         ensures step { result ≡ stepped looker self snapshot }
         ensures readable { AsksReadable result }
