@@ -4,3 +4,4 @@ pub mod ReplyLemmas
 pub mod KeeperLemmas
 pub mod SweepLemmas
 pub mod StartLemmas
+pub mod HeldLemmas

@@ -5,3 +5,4 @@ pub mod Replies
 pub mod Controls
 pub mod Keepers
 pub mod Firsts
+pub mod Held

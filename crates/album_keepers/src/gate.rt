@@ -1,7 +1,7 @@
 //! A gate: it sees each message that a partition takes, and may hold the partition up. Tests order messages by it.
 
 /// A partition's thread calls `enter` once it has taken its message of this number, from 0, and before
-/// it does what the message asks, and `leave` once its reply is sent: those that came in one mail enter one
+/// it does what the message asks, and `leave` once its reply is sent, or the log has it: those that came in one mail enter one
 /// after another, and leave when the replies to all of them are sent. Registrations and control
 /// requests aren't numbered, and don't call it.
 pub trait Gate {
@@ -12,6 +12,9 @@ pub trait Gate {
     /// A partition's thread calls it where it had no memory for what others wait for. It ends then, and the service is
     /// broken: its sessions answer `Closed`.
     fn fail(&self, _part: u16) {}
+
+    /// The same of the log's thread, where the log failed.
+    fn fail_log(&self) {}
 }
 
 /// A gate that does nothing.

@@ -10,18 +10,20 @@ ghost use Rattle.album_keepers.specs.Controls.{Answers, AnswersPending, AnswersT
 ghost use Rattle.album_keepers.specs.Keepers.{IsKeeper, IsNext};
 ghost use Rattle.album_passes.specs.Reads.{IsCommitted};
 ghost use Rattle.album_keepers.specs.Envelopes.{Shows, IsAnswered};
+ghost use Rattle.album_keepers.specs.Held.{stamp_prepared, IsCoveredAmong, IsCoveredBy};
 ghost use Rattle.album_keepers.specs.Settling.{stamps_in, own_commit, is_unsettled, settle_one, settled, AreSettledIn};
 
 use crate::control::{Control, ControlAnswer, ControlReply, ControlRequest};
 use crate::envelopes::{ReplyEnvelope, RequestEnvelope};
+use crate::log_entries::LogEntry;
 use crate::names::DeskNames;
-use album_calls::{Body, Message, Node, Reply, Request, Stamps};
+use album_calls::{Body, Message, Node, Reply, Request, Stamps, Vote};
 use album_items::ItemId;
 use album_partition::{Figures, Partition};
 use album_passes::{Desk, Owner, Pass};
 use album_stamps::{Refusal, Stamp};
 use album_terminate::StampState;
-use std::alloc::Global;
+use std::alloc::{AllocError, Global};
 use std::marker::{Model, PhantomData};
 
 /// A partition, with the owner of its history: what a partition's thread keeps. Each mark is made in
@@ -149,6 +151,45 @@ impl<J: DeskNames> PartitionKeeper<J> {
         let below = self.settled_below();
         let pass = self.owner.split(desk);
         ReplyEnvelope::new(message, reply, overtaken, below, pass)
+    }
+
+    /// What a log is to keep before the reply leaves: where it says that a stamp is prepared here, the mark that has
+    /// prepared it.
+    ///
+    /// # Errors
+    ///
+    /// As `entry_for`.
+    pub(crate) fn entry_of(&self, reply: &ReplyEnvelope<J>) -> Result<Option<LogEntry>, AllocError>
+        requires { reply.now.pass.cut ≡ self.now.owner.cut }
+        ensures { IfOk result (λ entry. IsCoveredBy entry reply.now) }
+    {
+        self.entry_for(reply.reply())
+    }
+
+    /// The same of a message that the partition sends.
+    ///
+    /// # Errors
+    ///
+    /// `AllocError`, also where there is no such mark, which can't be.
+    pub(crate) fn entry_for(&self, message: &Message) -> Result<Option<LogEntry>, AllocError>
+        ensures among { IfOk result (λ entry. IsCoveredAmong self.now.partition.marks entry message.now) }
+        ensures part { IfOk result (λ entry. IfSome entry (λ entry. entry.part ≡ self.now.partition.number)) }
+        ensures shown { self.now.partition.marks ≡ prefix_at self.now.owner.cut self.now.partition.number }
+    {
+        let part = self.part;
+        let Some(stamp) = stamp_prepared(message) else {
+            return Ok(None);
+        };
+        if !message.from().is_part(part) {
+            return Err(AllocError);
+        }
+        match self.partition.prepared(stamp) {
+            None => Err(AllocError),
+            Some(mark) => Ok(Some(LogEntry {
+                part,
+                mark: mark.copy()?,
+            })),
+        }
     }
 
     /// How much the partition has.
@@ -451,6 +492,18 @@ impl<J: DeskNames> PartitionKeeper<J> {
                 Ok(ControlAnswer::Trimmed)
             }
         }
+    }
+}
+
+/// The stamp of which the message says that its sender has prepared it: the answer to a Prepare, or a vote.
+fn stamp_prepared(message: &Message) -> Option<Stamp>
+    ensures { result ≡ stamp_prepared message.now.body }
+{
+    match message.body() {
+        Body::Request(_) => None,
+        Body::Reply(Reply::Prepared(stamp)) => Some(*stamp),
+        Body::Reply(Reply::Status(stamp, Vote::Prepared)) => Some(*stamp),
+        Body::Reply(_) => None,
     }
 }
 

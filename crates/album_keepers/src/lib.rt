@@ -22,10 +22,16 @@ mod envelopes;
 // A partition with the owner of its history.
 mod keeper;
 
+// What a service with a log keeps before it is said.
+mod held;
+mod log_entries;
+mod logger;
+
 // Its thread: how it waits, what it does, how it starts, and what tests hold it by.
 mod breakage;
 mod gate;
 mod mailbox;
+mod outbox;
 mod start;
 mod thread;
 
@@ -37,6 +43,8 @@ pub use breakage::Breakage;
 pub use control::{Control, ControlAnswer, ControlReply, ControlRequest};
 pub use envelopes::{ReplyEnvelope, RequestEnvelope};
 pub use gate::{Gate, Open};
+pub use held::HeldMail;
+pub use log_entries::{LogEntry, MarkLog, NoLog, NotKept};
 pub use mailbox::{Inbox, PartitionMail, SessionMail};
 pub use names::DeskNames;
-pub use start::start_all;
+pub use start::{start_all, start_log};

@@ -86,6 +86,11 @@ impl<T: Drop> Inbox<T> {
         }
     }
 
+    /// What is there by now.
+    pub fn next_there<R: Wait>(&mut self, rt: &R) -> Option<T> {
+        self.from.try_recv(rt).ok()
+    }
+
     /// The same, or `None` once the service is found broken.
     pub fn next_unless<R: Wait + time::Clock>(&mut self, rt: &R, breakage: &Breakage) -> Option<T> {
         if let Some(message) = self.look_or_nap(rt) {

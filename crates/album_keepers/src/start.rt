@@ -6,20 +6,25 @@ ghost use Rattle.album_keepers.specs.Firsts.{AreFirst, AreFirstOwners};
 
 use crate::breakage::Breakage;
 use crate::gate::Gate;
+use crate::held::HeldMail;
 use crate::keeper::PartitionKeeper;
+use crate::log_entries::MarkLog;
+use crate::logger::run_log;
 use crate::mailbox::{Inbox, PartitionMail};
 use crate::names::DeskNames;
-use crate::thread::{Outbox, PartitionLoop};
+use crate::outbox::{Outbox, copies_of};
+use crate::thread::PartitionLoop;
 use album_partition::Partition;
 use album_passes::{Desk, Owner};
 use crossbeam_channel::{Receiver, Sender};
 use std::alloc::{AllocError, Global};
+use std::marker::PhantomData;
 use std::sync::{Arc, Wait};
 use std::thread::{JoinHandle, Threads, spawn};
 use std::time;
 
 /// Starts the threads of all partitions, as they open, the last one first, and puts them into
-/// `threads`. Where one can't be had, those that run stay there.
+/// `threads`. What they prepare goes to the log, if there is one. Where a thread can't be had, those that run stay there.
 ///
 /// # Errors
 ///
@@ -39,6 +44,7 @@ pub fn start_all<
     mut partitions: Vec<Partition>,
     mailboxes: &[Sender<PartitionMail<J>>],
     mut mails: Vec<Receiver<PartitionMail<J>>>,
+    log: &Option<Sender<HeldMail<J>>>,
     threads: &mut Vec<JoinHandle<()>>,
 ) -> Result<(), AllocError>
     requires table { (arc_value desk.now).table ≡ J.table }
@@ -61,6 +67,7 @@ pub fn start_all<
             &mut partitions,
             mailboxes,
             &mut mails,
+            log,
             threads,
         )?;
     }
@@ -83,6 +90,7 @@ fn start_last<
     partitions: &mut Vec<Partition>,
     mailboxes: &[Sender<PartitionMail<J>>],
     mails: &mut Vec<Receiver<PartitionMail<J>>>,
+    log: &Option<Sender<HeldMail<J>>>,
     threads: &mut Vec<JoinHandle<()>>,
 ) -> Result<(), AllocError>
     requires table { (arc_value desk.now).table ≡ J.table }
@@ -94,7 +102,7 @@ fn start_last<
 {
     // Room first: a thread that runs is kept.
     threads.reserve(1)?;
-    let shared = Shared::<J, G>::copied(alloc, desk, gate, breakage, mailboxes)?;
+    let shared = Shared::<J, G>::copied(alloc, desk, gate, breakage, mailboxes, log)?;
     let Ok(keeper) = last_keeper::<J>(part, owners, partitions) else {
         drop(shared);
         return Err(AllocError);
@@ -143,6 +151,7 @@ impl<J: DeskNames, G: Drop> Shared<J, G> {
         gate: &Arc<G, Global>,
         breakage: &Arc<Breakage, Global>,
         mailboxes: &[Sender<PartitionMail<J>>],
+        log: &Option<Sender<HeldMail<J>>>,
     ) -> Result<Shared<J, G>, AllocError>
         requires table { (arc_value desk.now).table ≡ J.table }
         requires terms { (arc_value desk.now).terms ≡ J.terms }
@@ -150,7 +159,7 @@ impl<J: DeskNames, G: Drop> Shared<J, G> {
         let desk = Arc::try_clone(desk)?;
         let gate = Arc::try_clone(gate)?;
         let breakage = Arc::try_clone(breakage)?;
-        let outbox = outbox_to(alloc, mailboxes)?;
+        let outbox = outbox_to(alloc, mailboxes, log)?;
         Ok(Shared {
             desk,
             gate,
@@ -163,12 +172,14 @@ impl<J: DeskNames, G: Drop> Shared<J, G> {
 fn outbox_to<J: DeskNames>(
     alloc: Global,
     mailboxes: &[Sender<PartitionMail<J>>],
+    log: &Option<Sender<HeldMail<J>>>,
 ) -> Result<Outbox<J>, AllocError> {
-    let mut parts = Vec::new(alloc);
-    for mailbox in mailboxes {
-        parts.push(mailbox.clone()?)?;
-    }
-    Ok(Outbox::new(alloc, parts))
+    let parts = copies_of(alloc, mailboxes)?;
+    let log = match log {
+        None => None,
+        Some(log) => Some(log.clone()?),
+    };
+    Ok(Outbox::new(alloc, parts, log))
 }
 
 /// Starts the thread of a partition.
@@ -210,4 +221,65 @@ fn run_alone<J: DeskNames, R: Wait + time::Clock + Copy, G: Gate + Drop>(
     drop(post);
     drop(gate);
     drop(desk);
+}
+
+/// Starts the thread of a log. It keeps what comes here, and ends once all who could send
+/// it are gone.
+///
+/// # Errors
+///
+/// `AllocError`, also where the thread can't be had.
+pub fn start_log<
+    J: DeskNames + Send + 'static,
+    L: MarkLog + Drop + Send + 'static,
+    R: Threads + Wait + time::Clock + Copy + Send + 'static,
+    G: Gate + Drop + Send + Sync + 'static,
+>(
+    rt: R,
+    alloc: Global,
+    log: L,
+    gate: &Arc<G, Global>,
+    breakage: &Arc<Breakage, Global>,
+    mails: Receiver<HeldMail<J>>,
+) -> Result<JoinHandle<()>, AllocError> {
+    let gate = Arc::try_clone(gate)?;
+    let breakage = Arc::try_clone(breakage)?;
+    let shared = Logging {
+        log,
+        gate,
+        breakage,
+        of: PhantomData,
+    };
+    let body = move || log_alone(rt, alloc, shared, mails);
+    spawn(&rt, body).ok().ok_or(AllocError)
+}
+
+/// What the thread of a log owns, and what it shares with the others.
+#[derive(Drop)]
+struct Logging<J: DeskNames, L: MarkLog + Drop, G: Drop> {
+    log: L,
+    gate: Arc<G, Global>,
+    breakage: Arc<Breakage, Global>,
+    of: PhantomData<J>,
+}
+
+/// The body of that thread.
+fn log_alone<J: DeskNames, L: MarkLog + Drop, R: Wait + time::Clock + Copy, G: Gate + Drop>(
+    rt: R,
+    alloc: Global,
+    shared: Logging<J, L, G>,
+    mails: Receiver<HeldMail<J>>,
+) {
+    let Logging {
+        mut log,
+        gate,
+        breakage,
+        of: _,
+    } = shared;
+    let mut inbox = Inbox::new(mails);
+    run_log(&rt, alloc, &mut log, &*gate, &*breakage, &mut inbox);
+    drop(inbox);
+    drop(log);
+    drop(gate);
+    drop(breakage);
 }

@@ -128,7 +128,7 @@ impl History {
     }
 
     /// The mark that prepared the stamp, where it is pending or committed.
-    fn prepared(&self, stamp: Stamp) -> Option<&Mark>
+    pub fn prepared(&self, stamp: Stamp) -> Option<&Mark>
         ensures { option_copied result ≡ kept_mark self.now stamp }
     {
         match self.standing(stamp) {

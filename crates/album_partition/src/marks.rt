@@ -37,6 +37,24 @@ impl Mark {
         Ok(Mark::Prepared(stamp, writes, items.clone()?))
     }
 
+    /// The same once more. It shares the memory of the values.
+    ///
+    /// # Errors
+    ///
+    /// Where memory is refused.
+    pub fn copy(&self) -> Result<Mark, AllocError>
+        ensures { IfOk result (λ copy. copy ≡ self.now) }
+    {
+        Ok(match self {
+            Mark::Prepared(stamp, writes, items) => {
+                Mark::Prepared(*stamp, clone_of(writes)?, items.clone()?)
+            }
+            Mark::Committed(stamp) => Mark::Committed(*stamp),
+            Mark::Discarded(stamp) => Mark::Discarded(*stamp),
+            Mark::Trimmed(item) => Mark::Trimmed(*item),
+        })
+    }
+
     /// The stamp that it is of. A trim is of none.
     pub fn stamp(&self) -> Option<Stamp>
         ensures { result ≡ mark_stamp self.now }

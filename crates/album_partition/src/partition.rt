@@ -1,7 +1,9 @@
 //! A partition, and what it does with a message.
 ghost use Rattle.std.specs.Prelude.{[], ◌≡◌, ◌≤◌, true, IfOk, IfErr, OnOk, OnErr, IfSome, is_some, ◌||◌, ◌≢◌, ℕ, false, nat_lt, length, IsOk, Some, IsOkUnless, Ok, Err};
+ghost use Rattle.std.specs.Option.{option_copied};
 ghost use Rattle.album_stamps.specs.Outcome.{Makes};
 ghost use Rattle.album_partition.specs.Answers.{with_action, action_of, after, answer, reply_to, wants_memory};
+ghost use Rattle.album_partition.specs.History.{kept_mark};
 ghost use Rattle.album_partition.specs.Marks.{ArePending, state_of, is_legal, load, pending_stamps, latest};
 ghost use Rattle.album_partition.specs.Partition.{IsPartition, may_open, opening_state, opened};
 ghost use Rattle.album_partition.specs.Proper.{are_proper_marks};
@@ -244,6 +246,13 @@ impl Partition {
         ensures { result ≡ state_of self.now.marks stamp }
     {
         self.stored.state(stamp)
+    }
+
+    /// The mark that prepared the stamp, where it is pending or committed.
+    pub fn prepared(&self, stamp: Stamp) -> Option<&Mark>
+        ensures { option_copied result ≡ kept_mark self.now.marks stamp }
+    {
+        self.stored.prepared(stamp)
     }
 
     /// The marks that were made, in order.

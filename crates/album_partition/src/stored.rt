@@ -81,6 +81,13 @@ impl Stored {
         self.history.items(stamp)
     }
 
+    /// The mark that prepared the stamp, where it is pending or committed.
+    pub fn prepared(&self, stamp: Stamp) -> Option<&Mark>
+        ensures { option_copied result ≡ kept_mark self.now stamp }
+    {
+        self.history.prepared(stamp)
+    }
+
     /// The stamps that are pending, rising.
     pub fn pending(&self, alloc: Global) -> Result<Vec<Stamp>, AllocError>
         ensures { IfOk result (λ stamps. ArePending self.now stamps.items) }
