@@ -58,14 +58,14 @@ read_client client d is =
     let some : ok_or (client_of_number client) BadRequest ≡ Ok client = rw is.1 refl in
     step_then (whole_of d) _ client client (read_whole client d is.0) some
 
-stamp_form : (stamp : ℕ) (d : Data) → stamp_named d ≡ Ok stamp → IsStamp stamp d
+pub stamp_form : (stamp : ℕ) (d : Data) → stamp_named d ≡ Ok stamp → IsStamp stamp d
 stamp_form stamp d h =
     let n = step_taken (whole_of d) _ stamp h in
     let is = tested (is_stamp n.0) n.0 stamp n.2 in
     let Is : ℕ → Type 0 = λ m. IsStamp m d in
     subst Is is.1 (whole_read d n.0 n.1, is.0)
 
-read_stamp : (stamp : ℕ) (d : Data) → IsStamp stamp d → stamp_named d ≡ Ok stamp
+pub read_stamp : (stamp : ℕ) (d : Data) → IsStamp stamp d → stamp_named d ≡ Ok stamp
 read_stamp stamp d is =
     let some : ok_or (stamp_of_value stamp) BadRequest ≡ Ok stamp = rw is.1 refl in
     step_then (whole_of d) _ stamp stamp (read_whole stamp d is.0) some

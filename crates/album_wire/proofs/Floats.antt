@@ -1,6 +1,7 @@
 -- No line that is written has a float. For `write_out`: `no_float_in_note`, `no_float_in_answer` with those of its lists,
 -- and `no_float_in_message`; for `write_talk`: `no_float_in_talk`; for `write_record`: `no_float_in_record`; for
--- `write_figures`: `no_float_in_figures`.
+-- `write_figures`: `no_float_in_figures`; for the lines of an opening: `no_float_in_header` and
+-- `no_float_in_first_value`; for `write_mark`: `no_float_in_mark`.
 use Rattle.std.proofs.Common.{◌≡◌, ℕ, List, [], ◌∷◌, map, false, Some, None, Option, Result, IfOk, refl, ap, ◌∙◌}
 use Rattle.std.proofs.lemmas.Result.{IfOk-weaker}
 use Rattle.serde_json.specs.Data.{Data}
@@ -31,6 +32,10 @@ use Rattle.album_permits.specs.declared.answers.Answer.TheVariants as answer
 use Rattle.album_lines.specs.Spelling.{whole_data}
 use Rattle.album_wire.specs.ValueJson.{item_json, entry_json, member_json, home_json, value_json}
 use Rattle.album_wire.specs.MessageJson.{write_json, request_json, reply_json, message_json}
+use Rattle.album_wire.specs.MarkLine.{mark_json}
+use Rattle.album_wire.specs.OpeningJson.{opening_json}
+use Rattle.album_wire.specs.declared.opening_line.OpeningLine.TheVariants as opening
+use Rattle.album_wire.specs.declared.opening_shape.Header.{Header}
 use Rattle.album_wire.specs.RecordJson.{record_json}
 use Rattle.album_wire.specs.OutJson.{note_json, row_json, at_json, reason_json, group_served, entries_served, listed_json, denied_json, served_json, answer_json}
 use Rattle.album_wire.specs.TalkJson.{talk_json}
@@ -99,6 +104,16 @@ no_float_in_message number m = go m.body
     go : (b : Body) → has_float (message_json number (record m { body = b })) ≡ false
     go (body.Request r) = in_request _ r
     go (body.Reply r) = in_reply _ r
+
+pub no_float_in_header : (header : Header) → has_float (opening_json (opening.Open header)) ≡ false
+no_float_in_header header = refl
+
+pub no_float_in_first_value : (item : ℕ) (value : Value) → has_float (opening_json (opening.Item item value)) ≡ false
+no_float_in_first_value item value = rw (in_value value) refl
+
+pub no_float_in_mark : (part stamp : ℕ) (writes : List (ℕ × Value)) (items : List ℕ)
+    → has_float (mark_json part stamp writes items) ≡ false
+no_float_in_mark part stamp writes items = rw (in_items items, in_list write_json in_write writes) refl
 
 pub no_float_in_record : (client : ℕ) (who : Principal) (note : Note) → has_float (record_json client who note) ≡ false
 no_float_in_record client who note = refl

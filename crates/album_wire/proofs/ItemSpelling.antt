@@ -113,7 +113,7 @@ entries_parts list d is =
 
 -- ---- the home of an album
 
-nothing_read : (d : Data) → is_nothing d ≡ true → d ≡ null
+pub nothing_read : (d : Data) → is_nothing d ≡ true → d ≡ null
 nothing_read null h = refl
 nothing_read (boolean b) h = cc
 nothing_read (number n) h = cc

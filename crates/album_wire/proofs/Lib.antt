@@ -8,3 +8,7 @@ pub mod AskSpelling
 pub mod OpeningSpelling
 pub mod EventSpelling
 pub mod TalkSpelling
+pub mod MarkSpelling
+pub mod ReadBack
+pub mod OneLine
+pub mod Spellings

@@ -17,6 +17,9 @@ use Rattle.album_wire.specs.OpeningShape.{header_of, open_shape_of, item_shape_o
 use Rattle.album_wire.specs.OpeningLine.{value_read, opening_read, opening_line_of}
 use Rattle.album_wire.specs.AskShape.{read_shape_of, retitle_shape_of, replace_shape_of, new_list_shape_of, set_lists_shape_of, new_membership_shape_of, share_shape_of}
 use Rattle.album_wire.specs.EventShape.{part_named, asked_shape_of, range_of, deliver_shape_of, sweep_of, sweep_shape_of, stop_shape_of, restart_shape_of, trim_of, trim_shape_of}
+use Rattle.album_wire.specs.MarkShape.{write_shape_of, mark_shape_of}
+use Rattle.album_wire.specs.MarkLine.{write_read, mark_read, mark_line_of, mark_text}
+use Rattle.album_wire.specs.OpeningJson.{opening_text}
 use Rattle.album_wire.specs.Asks.{new_list_read, new_membership_read, ask_read}
 use Rattle.album_wire.specs.EventLine.{event_read, event_line_of}
 use Rattle.album_wire.specs.TalkShape.{hello_shape_of, talk_ask_shape_of, pending_shape_of, talk_sweep_shape_of, talk_trim_shape_of}
@@ -56,10 +59,14 @@ unfoldable pub events_on_literals : ⊤
 unfolding asks_on_literals parts_on_literals asked_shape_of ask_read event_read event_line_of
 events_on_literals = tt
 
+unfoldable pub marks_on_literals : ⊤
+unfolding part_named write_shape_of mark_shape_of write_read mark_read mark_line_of mark_text opening_text
+marks_on_literals = tt
+
 unfoldable pub talks_on_literals : ⊤
 unfolding read_shape_of hello_shape_of talk_ask_shape_of pending_shape_of talk_sweep_shape_of talk_trim_shape_of hello_line_of talk_read talk_line_of talk_text
 talks_on_literals = tt
 
 unfoldable pub lines_on_literals : ⊤
-unfolding is_utf8 chars serde_json_on_literals data_of openings_on_literals events_on_literals talks_on_literals out_line
+unfolding is_utf8 chars serde_json_on_literals data_of openings_on_literals events_on_literals marks_on_literals talks_on_literals out_line
 lines_on_literals = tt

@@ -20,3 +20,8 @@ pub mod OutJson
 pub mod RecordJson
 pub mod TalkJson
 pub mod FiguresJson
+pub mod OpeningJson
+pub mod MarkShape
+pub mod MarkLine
+pub mod MarkSpelling
+pub mod Spellable

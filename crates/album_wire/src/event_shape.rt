@@ -194,7 +194,7 @@ fn client_of(number: u64) -> Option<ClientNo>
 }
 
 /// A stamp.
-fn stamp_named(value: &Value<'_>) -> Result<Stamp, Refusal>
+pub(crate) fn stamp_named(value: &Value<'_>) -> Result<Stamp, Refusal>
     ensures { Gives (λ stamp. stamp) result (stamp_named (value_data value.now)) }
 {
     Stamp::read(whole(value)?).ok_or(Refusal::BadRequest)

@@ -180,7 +180,7 @@ fn child(value: &Value<'_>) -> Result<ItemId, Refusal>
     Ok(item)
 }
 
-fn may_be_child(item: ItemId) -> bool
+pub(crate) fn may_be_child(item: ItemId) -> bool
     ensures { result ≡ may_be_child item }
 {
     matches!(item.kind(), Kind::Picture | Kind::Album)

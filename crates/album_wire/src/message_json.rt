@@ -283,7 +283,10 @@ pub(crate) fn stamps_json(alloc: Global, stamps: &[Stamp]) -> Result<Value, Allo
     array_of(values)
 }
 
-fn writes_json(alloc: Global, writes: &[(ItemId, album_items::Value)]) -> Result<Value, AllocError>
+pub(crate) fn writes_json(
+    alloc: Global,
+    writes: &[(ItemId, album_items::Value)],
+) -> Result<Value, AllocError>
     ensures { IfOk result (λ v. view v ≡ writes_json writes.now) }
 {
     let mut values = Vec::with_capacity(alloc, writes.len());

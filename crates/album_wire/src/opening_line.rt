@@ -165,7 +165,7 @@ fn line_of(alloc: Global, shape: OpeningShape) -> Result<OpeningLine, Refusal>
 
 /// The values of the fields, in their order.
 #[tactic(auto, unfolding(crate::specs::OpeningLine::value_read))]
-fn value_of(alloc: Global, shape: ValueShape) -> Result<Value, Refusal>
+pub(crate) fn value_of(alloc: Global, shape: ValueShape) -> Result<Value, Refusal>
     ensures { Gives (λ value. value) result (value_read (spelled_value shape.entry)) }
 {
     match shape {
