@@ -161,7 +161,8 @@ kind_carried c i own proper = dite (ℕ_discrete (carried_stamp c i) 0)
         value_of w.0 has_right_kind i v
         (and_parts (are_rows_of (placed_at (place_of c.parts i) c.parts w.1) w.0) (list_all has_right_kind w.0) own_writes).1 w.3
 
-row_is : (rows : List Row) → IsStrictlySortedBy nat_cmp (items_written rows) → (row : Row) → Contains rows row → value_in rows row.0 ≡ Some row.1
+-- what such rows have of a row's item
+pub row_is : (rows : List Row) → IsStrictlySortedBy nat_cmp (items_written rows) → (row : Row) → Contains rows row → value_in rows row.0 ≡ Some row.1
 row_is rows h row n = by_key rows row.0 ∙ lookup-from_Contains (eq_by_cmp_equiv nat_cmp_total) row.0 row.1 rows (IsDistinct-from_sorted nat_cmp (items_written rows) h) n
 
 pub own_rows : (c : Cut) (rows : List Row) → AreNextRows c rows → list_all has_own_value c.opening ≡ true

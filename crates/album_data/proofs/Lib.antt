@@ -1,0 +1,4 @@
+pub mod KeptLemmas
+pub mod LineLemmas
+pub mod LogLemmas
+pub mod RecoveryLemmas

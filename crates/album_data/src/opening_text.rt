@@ -1,0 +1,51 @@
+//! The text of an opening, whole.
+ghost use Rattle.std.specs.Prelude.{◌≡◌, ◌++◌, List, IfOk, OnOk, IsOkUnless};
+ghost use Rattle.std.specs.List.{flat_map};
+ghost use Rattle.album_data.specs.Texts.{text_of_opening, header_of, rows_text};
+
+use album_items::{ItemId, Opening, Value};
+use album_stamps::Refusal;
+use album_wire::{Header, write_begin, write_first_value, write_header};
+use std::alloc::Global;
+
+/// The lines of an opening, by which a replay or a service opens on it too.
+///
+/// # Errors
+///
+/// `OutOfMemory`.
+pub fn text_of_opening(alloc: Global, opening: &Opening) -> Result<Vec<u8>, Refusal>
+    ensures text { IfOk result (λ text. text.items ≡ text_of_opening opening.now) }
+    ensures memory { IsOkUnless result Refusal.OutOfMemory }
+{
+    let mut text = write_header(alloc, header_of(opening))?;
+    add_rows(alloc, &mut text, opening.items.as_slice())?;
+    let last = write_begin(alloc)?;
+    text.extend_from_slice(&last)?;
+    Ok(text)
+}
+
+/// The header of an opening of which no message is printed.
+fn header_of(opening: &Opening) -> Header
+    ensures { result ≡ header_of opening.now }
+{
+    Header {
+        parts: opening.parts,
+        limit: opening.limit,
+        policy: opening.policy,
+        checked: opening.checked,
+        first: opening.first,
+        trace: false,
+    }
+}
+
+/// Adds the line of each row.
+fn add_rows(alloc: Global, text: &mut Vec<u8>, rows: &[(ItemId, Value)]) -> Result<(), Refusal>
+    ensures text { OnOk result (text.new.items ≡ text.old.items ++ rows_text rows.now) }
+    ensures memory { IsOkUnless result Refusal.OutOfMemory }
+{
+    for row in rows {
+        let line = write_first_value(alloc, row.0, &row.1)?;
+        text.extend_from_slice(&line)?;
+    }
+    Ok(())
+}
