@@ -3,9 +3,11 @@
 //! and `album ask` is a client of it. The command line and all but `serve` are album_commands'.
 #![tactic(auto)]
 
+mod data;
 mod descriptors;
 mod serving;
 
+use crate::data::{end_of, named};
 use crate::descriptors::fill_descriptors;
 use crate::serving::serve;
 use album_commands::{let_go, parse, refuse, refuse_words, run, status};
@@ -29,7 +31,10 @@ fn main(rt: HostRuntime) -> ExitCode {
     };
     let (mut input, mut output) = (rt.stdin(), rt.stdout());
     let status = if matches.subcommand_name() == Some("serve") {
-        serve(rt, rt.alloc(), input, &mut output, &matches)
+        match named(&rt, rt.alloc(), &matches, &mut input, &mut output) {
+            Ok(epoch) => serve(rt, rt.alloc(), input, &mut output, &matches, epoch),
+            Err(unbegun) => end_of(&rt, unbegun),
+        }
     } else {
         let has_prompt = input.is_terminal() && output.is_terminal();
         run(

@@ -1,8 +1,9 @@
 //! The subcommand `serve`: a service of the port that the command line names.
 
+use crate::data::Epoch;
 use album_commands::{TURNS, open, status};
 use album_judge::Fault;
-use album_port::{AuditFile, Host, Served, Serving, serve_beside, serve_until};
+use album_port::{AuditFile, Host, Served, Serving, serve_beside, serve_logged, serve_until};
 use album_stamps::Refusal;
 use album_talk::Admins;
 use clap::ArgMatches;
@@ -16,10 +17,10 @@ use std::sync::Wait;
 use std::thread::Threads;
 use std::time;
 
-/// How many seconds `--hello` and `--grace` are with `--until-eof`, where they aren't given.
+/// How many seconds `--hello` and `--grace` are with `--until-eof` and `--data`, where they aren't given.
 const LIMIT: u32 = 10;
 
-/// Runs the service that the command line names, to its end. The bound has that of `Host`, written out: the borrow
+/// Runs the service that the command line names, to its end, in this epoch of its folder, if it has one. The bound has that of `Host`, written out: the borrow
 /// checker wants the types that it names where `main` calls this.
 pub(crate) fn serve<T, R: Read + Send + Drop + 'static, W: Write>(
     rt: T,
@@ -27,6 +28,7 @@ pub(crate) fn serve<T, R: Read + Send + Drop + 'static, W: Write>(
     reader: R,
     writer: &mut W,
     matches: &ArgMatches<'_>,
+    epoch: Option<Epoch>,
 ) -> ExitCode
 where
     T: Net<Listener = TcpListener, Stream = TcpStream>
@@ -48,7 +50,7 @@ where
     match audit_file(&rt, alloc, matches) {
         Ok(audit) => served(
             &rt,
-            serve_port(rt, alloc, reader, writer, matches, admins, audit),
+            serve_port(rt, alloc, reader, writer, matches, admins, audit, epoch),
         ),
         Err(fault) => status(&rt, Err(fault)),
     }
@@ -80,9 +82,14 @@ fn serve_port<T: Host, R: Read + Send + Drop + 'static, W: Write>(
     matches: Option<&ArgMatches<'_>>,
     admins: Admins,
     audit: Option<AuditFile>,
+    epoch: Option<Epoch>,
 ) -> Result<Served, Fault> {
     let until_eof = matches.is_some_and(|m| m.get_flag("until-eof"));
-    let serving = serving_of(matches, admins, until_eof);
+    let serving = serving_of(matches, admins, until_eof || epoch.is_some());
+    if let Some(epoch) = epoch {
+        let input = until_eof.then_some(reader);
+        return serve_epoch(rt, alloc, epoch, input, writer, serving, audit);
+    }
     match matches.and_then(|m| m.get_str("opening")) {
         None => serve_input(rt, alloc, reader, writer, serving, audit, until_eof),
         Some(path) => {
@@ -91,6 +98,34 @@ fn serve_port<T: Host, R: Read + Send + Drop + 'static, W: Write>(
             serve_beside(rt, alloc, &mut opening, input, writer, serving, audit)
         }
     }
+}
+
+/// Serves the epoch. Where its log fails, standard error says why.
+fn serve_epoch<T: Host, R: Read + Send + Drop + 'static, W: Write>(
+    rt: T,
+    alloc: Global,
+    epoch: Epoch,
+    input: Option<R>,
+    writer: &mut W,
+    serving: Serving,
+    audit: Option<AuditFile>,
+) -> Result<Served, Fault> {
+    let Epoch {
+        folder,
+        opening,
+        log,
+        log_path,
+    } = epoch;
+    let Ok(failure) = log.failure() else {
+        return Err(Fault::Memory);
+    };
+    let outcome = serve_logged(rt, alloc, &opening, log, input, writer, serving, audit);
+    if let Some(error) = failure.get() {
+        let path = log_path.as_str();
+        let _ = eprintln!(rt; "album: {path}: {error}");
+    }
+    drop(folder);
+    outcome
 }
 
 /// The same, where the input has the opening. It calls `serve_beside` with no other input, and not `serve_for`: a call
@@ -110,10 +145,11 @@ fn serve_input<T: Host, R: Read + Send + Drop + 'static, W: Write>(
     serve_beside(rt, alloc, &mut reader, None::<R>, writer, serving, audit)
 }
 
-/// What the command line says of the service. Where it ends by its input, whoever connects has a limit of time.
-fn serving_of(matches: Option<&ArgMatches<'_>>, admins: Admins, until_eof: bool) -> Serving {
+/// What the command line says of the service. Where it ends by no number of connections, whoever connects has a limit of
+/// time.
+fn serving_of(matches: Option<&ArgMatches<'_>>, admins: Admins, goes_on: bool) -> Serving {
     let conns = matches.and_then(|m| m.get_one::<u16>("conns"));
-    let limit = if until_eof { LIMIT } else { 0 };
+    let limit = if goes_on { LIMIT } else { 0 };
     Serving {
         port: matches.and_then(|m| m.get_one::<u16>("PORT")).unwrap_or(0),
         conns: conns.unwrap_or(u16::MAX),
@@ -147,7 +183,7 @@ fn refuse_admins(rt: &impl Eprint, why: Refusal) -> ExitCode {
 }
 
 /// The status of a service that has ended.
-fn served(rt: &impl Eprint, outcome: Result<Served, Fault>) -> ExitCode {
+pub(crate) fn served(rt: &impl Eprint, outcome: Result<Served, Fault>) -> ExitCode {
     match outcome {
         Ok(Served::Done) => ExitCode::SUCCESS,
         Ok(Served::Refused) => ExitCode::from(1),

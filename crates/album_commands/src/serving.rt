@@ -21,6 +21,7 @@ pub(crate) fn serve_command<'a>(alloc: Global) -> Result<Command<'a>, AllocError
     let command = with_arg(command, hello_arg(alloc));
     let command = with_arg(command, grace_arg(alloc));
     let command = with_arg(command, opening_arg(alloc));
+    let command = with_arg(command, data_arg(alloc));
     let command = with_arg(command, admin_arg(alloc));
     let command = with_arg(command, stats_arg(alloc));
     with_arg(command, audit_arg(alloc))
@@ -73,6 +74,12 @@ fn opening_arg<'a>(alloc: Global) -> Arg<'a> {
         .long("opening")
         .value_name("FILE")
         .help("A file with the opening, in the place of standard input")
+}
+
+fn data_arg<'a>(alloc: Global) -> Arg<'a> {
+    Arg::new(alloc, "data").long("data").value_name("DIR").help(
+        "A folder that keeps what is written; the opening is read where it is empty",
+    )
 }
 
 fn admin_arg<'a>(alloc: Global) -> Arg<'a> {

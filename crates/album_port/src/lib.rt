@@ -9,7 +9,7 @@
 //! specs/Audits.antt says what the audit file has.
 //!
 //! `serve` ends with its connections; `serve_for` has options; `serve_until` ends with its input; `serve_beside` takes
-//! the opening from another input.
+//! the opening from another input; `serve_logged` has a log.
 #![tactic(auto)]
 
 // How a service is opened, and what it prints on standard error.
@@ -38,4 +38,6 @@ mod watch;
 
 pub use audit_file::AuditFile;
 pub use opening::opening_of_text;
-pub use port::{Host, Served, Serving, serve, serve_beside, serve_for, serve_until};
+pub use port::{
+    Host, Served, Serving, first_opening, serve, serve_beside, serve_for, serve_logged, serve_until,
+};

@@ -1,8 +1,8 @@
 //! The service of a port: it is opened by the lines that are read, and each connection has a thread and a session.
 //!
 //! `serve` calls `serve_for`. That, `serve_until` and `serve_beside` differ in what is read. Each of them calls
-//! `begin`, which opens the service's state and listens at the port, and then `serve_begun`. From there each calls the
-//! next:
+//! `begin`, which opens the service's state and listens at the port, and then `serve_begun`. `serve_logged` has its
+//! opening, and a log. From there each calls the next:
 //!
 //! - `serve_begun`, which prints the notices meanwhile, and the totals at the end;
 //! - `serve_opened`, which gives the service its names;
@@ -27,7 +27,7 @@ use album_items::Opening;
 use album_judge::{Fault, write_refused, write_text};
 use album_stamps::Refusal;
 use album_talk::Admins;
-use album_threads::{Gauge, Opened, OwnedSession, Service, ServiceNames};
+use album_threads::{Gauge, MarkLog, NoLog, Opened, OwnedSession, Service, ServiceNames};
 use album_wire::{Counted, TalkOut, write_talk};
 use crossbeam_channel::{Receiver, Sender, unbounded};
 use std::alloc::Global;
@@ -147,7 +147,16 @@ pub fn serve_for<T: Host, R: Read, W: Write>(
     audit: Option<AuditFile>,
 ) -> Result<Served, Fault> {
     let begun = begin(&rt, alloc, reader, writer, &serving, serving.conns)?;
-    serve_begun(rt, alloc, begun, None::<&[u8]>, writer, serving, audit)
+    serve_begun(
+        rt,
+        alloc,
+        begun,
+        None::<NoLog>,
+        None::<&[u8]>,
+        writer,
+        serving,
+        audit,
+    )
 }
 
 /// Serves as `serve_for` does, to the end of the input after the opening: then no connection begins any more, and each
@@ -170,7 +179,16 @@ where
     W: Write,
 {
     let begun = begin(&rt, alloc, &mut reader, writer, &serving, u16::MAX)?;
-    serve_begun(rt, alloc, begun, Some(reader), writer, serving, audit)
+    serve_begun(
+        rt,
+        alloc,
+        begun,
+        None::<NoLog>,
+        Some(reader),
+        writer,
+        serving,
+        audit,
+    )
 }
 
 /// Serves as `serve_until` does, where the opening is read by itself, and of the other input only the end counts.
@@ -200,7 +218,45 @@ where
         serving.conns
     };
     let begun = begin(&rt, alloc, opening, writer, &serving, sessions)?;
-    serve_begun(rt, alloc, begun, input, writer, serving, audit)
+    serve_begun(
+        rt,
+        alloc,
+        begun,
+        None::<NoLog>,
+        input,
+        writer,
+        serving,
+        audit,
+    )
+}
+
+/// Serves as `serve_until` does, on this opening, with a log that keeps what is prepared before anybody hears of it.
+/// Without an input it serves until the log fails.
+///
+/// # Errors
+///
+/// As `serve_for`; also `Writing`, where the log fails. Then nothing more is answered that isn't kept.
+pub fn serve_logged<T, L, R, W>(
+    rt: T,
+    alloc: Global,
+    opening: &Opening,
+    log: L,
+    input: Option<R>,
+    writer: &mut W,
+    serving: Serving,
+    audit: Option<AuditFile>,
+) -> Result<Served, Fault>
+where
+    T: Host,
+    L: MarkLog + Drop + Send + 'static,
+    R: Read + Send + Drop + 'static,
+    W: Write,
+{
+    let begun = match open_by(&rt, alloc, opening, writer, u16::MAX)? {
+        Ok(opened) => listen(&rt, alloc, opened, serving.port),
+        Err(served) => Err(served),
+    };
+    serve_begun(rt, alloc, begun, Some(log), input, writer, serving, audit)
 }
 
 /// What a service is run with, in addition to its opening: its port and limits, the input after that, if it is read,
@@ -208,6 +264,8 @@ where
 #[derive(Drop)]
 struct Setup<T> {
     serving: Serving,
+    /// Whether it ends by no number of connections: by its input, or never.
+    goes_on: bool,
     input: Option<Arc<Input, Global>>,
     journal: AuditJournal<T>,
     notices: Notices,
@@ -241,11 +299,30 @@ fn open<T: Host, R: Read, W: Write>(
     turns: u64,
     sessions: u16,
 ) -> Result<Result<Opened, Served>, Fault> {
-    match read_opening(alloc, reader, turns)? {
+    match first_opening(rt, alloc, reader, writer, turns)? {
         Ok(opening) => open_by(rt, alloc, &opening, writer, sessions),
+        Err(served) => Ok(Err(served)),
+    }
+}
+
+/// The opening that is read, in so many reads at most; or else it is answered why there is none.
+///
+/// # Errors
+///
+/// As `serve`.
+pub fn first_opening<T: Eprint, R: Read, W: Write>(
+    rt: &T,
+    alloc: Global,
+    reader: &mut R,
+    writer: &mut W,
+    turns: u64,
+) -> Result<Result<Opening, Served>, Fault> {
+    match read_opening(alloc, reader, turns)? {
+        Ok(opening) => Ok(Ok(opening)),
         Err(Unopened { line, why }) => {
             let _ = eprintln!(rt; "album: opening, line {line}: {}", why.name());
-            refuse(alloc, why, writer)
+            write_refused(alloc, why, writer)?;
+            Ok(Err(Served::Refused))
         }
     }
 }
@@ -289,10 +366,11 @@ fn listen<T: Host>(rt: &T, alloc: Global, opened: Opened, port: u16) -> Begun {
 }
 
 /// Serves what was opened, if anything was. From now on the input is read to its end, and notices are printed.
-fn serve_begun<T, R, W>(
+fn serve_begun<T, L, R, W>(
     rt: T,
     alloc: Global,
     begun: Begun,
+    log: Option<L>,
     reader: Option<R>,
     writer: &mut W,
     serving: Serving,
@@ -300,6 +378,7 @@ fn serve_begun<T, R, W>(
 ) -> Result<Served, Fault>
 where
     T: Host,
+    L: MarkLog + Drop + Send + 'static,
     R: Read + Send + Drop + 'static,
     W: Write,
 {
@@ -307,7 +386,8 @@ where
         Ok(begun) => begun,
         Err(served) => return Ok(served),
     };
-    let (printer, notices) = Printer::open(rt, alloc, reader.is_some())?;
+    let goes_on = reader.is_some() || log.is_some();
+    let (printer, notices) = Printer::open(rt, alloc, goes_on)?;
     let journal = AuditJournal::open(rt, alloc, notices.copy()?, audit)?;
     let input = match reader {
         Some(reader) => Some(Input::begin(rt, alloc, reader, waker.copy()?, serving.turns)?),
@@ -315,21 +395,23 @@ where
     };
     let setup = Setup {
         serving,
+        goes_on,
         input,
         journal,
         notices,
     };
-    let ended = serve_opened(rt, alloc, opened, &mut door, waker, writer, setup);
+    let ended = serve_opened(rt, alloc, opened, log, &mut door, waker, writer, setup);
     printer.close(&rt);
     print(alloc, &totals_out(ended?), writer)?;
     Ok(Served::Done)
 }
 
 /// Serves what was opened, under names of its own.
-fn serve_opened<T, W>(
+fn serve_opened<T, L, W>(
     rt: T,
     alloc: Global,
     opened: Opened,
+    log: Option<L>,
     door: &mut Door,
     waker: Waker,
     writer: &mut W,
@@ -337,9 +419,10 @@ fn serve_opened<T, W>(
 ) -> Result<Totals, Fault>
 where
     T: Host,
+    L: MarkLog + Drop + Send + 'static,
     W: Write,
 {
-    serve_all::<Brand, T, W>(rt, alloc, opened, door, waker, writer, setup)
+    serve_all::<Brand, T, L, W>(rt, alloc, opened, log, door, waker, writer, setup)
 }
 
 /// Opens the service, says so, and closes it once its connections have ended. What is printed meanwhile is sent as a
@@ -347,11 +430,12 @@ where
 ///
 /// # Errors
 ///
-/// Those of `attend_all`; `Memory`, also where a partition has ended for want of it; `Writing`.
-fn serve_all<J, T, W>(
+/// Those of `attend_all`; `Memory`, also where a partition has ended for want of it; `Writing`, also where the log failed.
+fn serve_all<J, T, L, W>(
     rt: T,
     alloc: Global,
     opened: Opened,
+    log: Option<L>,
     door: &mut Door,
     waker: Waker,
     writer: &mut W,
@@ -360,11 +444,12 @@ fn serve_all<J, T, W>(
 where
     J: ServiceNames + Send + Sync + 'static,
     T: Host,
+    L: MarkLog + Drop + Send + 'static,
     W: Write,
     requires named { opened ≡ opened_as J.table J.terms J.policy J.list
         J.audit_ok J.audit_failed J.alarm_ok J.alarm_failed }
 {
-    let service = Service::<J>::open(rt, alloc, opened, waker.copy()?)?;
+    let service = Service::<J>::open_logged(rt, alloc, opened, waker.copy()?, log)?;
     let done = say_and_attend(rt, alloc, &service, door, waker, writer, setup);
     close(&rt, service, done)
 }
@@ -375,9 +460,12 @@ where
     J: ServiceNames + Send + 'static,
     T: Threads + Wait,
 {
-    let is_broken = service.is_broken();
+    let (is_broken, has_lost_log) = (service.is_broken(), service.has_lost_log());
     let totals = service.close(rt);
     done?;
+    if has_lost_log {
+        return Err(Fault::Writing);
+    }
     if is_broken {
         return Err(Fault::Memory);
     }
@@ -486,11 +574,12 @@ fn shared_of<J: ServiceNames, T: Wait + Copy>(
     let gauge = service.gauge()?;
     let Setup {
         serving,
+        goes_on,
         input,
         journal,
         notices,
     } = setup;
-    let limits = limits_of(&serving, input.is_some());
+    let limits = limits_of(&serving, goes_on);
     let stats = serving.stats;
     let connections = Connections::new(
         alloc,

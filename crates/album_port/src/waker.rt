@@ -92,7 +92,7 @@ impl Waker {
     }
 }
 
-/// A gate that holds nothing up. Where a partition's thread fails, the thread that accepts is woken, and finds the
+/// A gate that holds nothing up. Where a partition's thread or the log fails, the thread that accepts is woken, and finds the
 /// service broken then.
 impl Gate for Waker {
     fn enter(&self, _part: u16, _number: u64) {}
@@ -100,6 +100,10 @@ impl Gate for Waker {
     fn leave(&self, _part: u16, _number: u64) {}
 
     fn fail(&self, _part: u16) {
+        self.wake();
+    }
+
+    fn fail_log(&self) {
         self.wake();
     }
 }

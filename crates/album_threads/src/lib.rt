@@ -20,12 +20,12 @@ mod visit;
 
 pub use album_grounds::{grounds_stay, no_new_enemy, reads_are_stable, reads_go_on};
 pub use album_keepers::{
-    Control, ControlAnswer, ControlReply, ControlRequest, DeskNames, Figures, Gate, Open,
-    PartitionMail, ReplyEnvelope, RequestEnvelope,
+    Control, ControlAnswer, ControlReply, ControlRequest, DeskNames, Figures, Gate, LogEntry,
+    MarkLog, NoLog, NotKept, Open, PartitionMail, ReplyEnvelope, RequestEnvelope,
 };
 pub use album_sessions::{Acknowledged, ServiceNames, Session, acknowledged_is_visible};
 pub use gauge::Gauge;
 pub use opened::Opened;
 pub use owned_session::OwnedSession;
 pub use service::Service;
-pub use visit::{Visit, with_opened, with_service};
+pub use visit::{Visit, with_logged, with_opened, with_service};

@@ -12,7 +12,9 @@ use album_audit::{AuditBook, Totals};
 use album_board::Board;
 use album_channels::PartitionChannel;
 use album_eval::Policy;
-use album_keepers::{Breakage, Gate, PartitionMail, start_all};
+use album_keepers::{
+    Breakage, Gate, HeldMail, MarkLog, NoLog, PartitionMail, start_all, start_log,
+};
 use album_passes::{Desk, Pass};
 use album_sessions::{Hints, ServiceNames, Session, Stripes};
 use album_stamps::Refusal;
@@ -45,6 +47,8 @@ pub struct Service<J: ServiceNames> {
     /// Of the partitions, in order.
     mailboxes: Vec<Sender<PartitionMail<J>>>,
     threads: Vec<JoinHandle<()>>,
+    /// The thread of the log, if there is one.
+    logging: Option<JoinHandle<()>>,
     breakage: Arc<Breakage, Global>,
     ghost table_is: { (arc_value desk).table ≡ J.table },
     ghost terms_are: { (arc_value desk).terms ≡ J.terms },
@@ -73,6 +77,24 @@ impl<J: ServiceNames + Send + 'static> Service<J> {
             J.audit_ok J.audit_failed J.alarm_ok J.alarm_failed }
         ensures memory { IsOkUnless result Refusal.OutOfMemory }
     {
+        Service::open_logged::<NoLog, R, G>(rt, alloc, opened, gate, None)
+    }
+
+    /// The same, with a thread for the log, if there is one. What a partition prepares is kept there before any session
+    /// or other partition hears of it.
+    ///
+    /// # Errors
+    ///
+    /// As `open`.
+    pub fn open_logged<
+        L: MarkLog + Drop + Send + 'static,
+        R: Threads + Wait + time::Clock + Copy + Send + 'static,
+        G: Gate + Drop + Send + Sync + 'static,
+    >(rt: R, alloc: Global, opened: Opened, gate: G, log: Option<L>) -> Result<Service<J>, Refusal>
+        requires named { opened ≡ opened_as J.table J.terms J.policy J.list
+            J.audit_ok J.audit_failed J.alarm_ok J.alarm_failed }
+        ensures memory { IsOkUnless result Refusal.OutOfMemory }
+    {
         let Opened {
             desk,
             parts,
@@ -97,6 +119,7 @@ impl<J: ServiceNames + Send + 'static> Service<J> {
         });
         let (mailboxes, mails) = mailboxes_for(alloc, owners.len())?;
         let mut threads = Vec::new(alloc);
+        let (to_log, logging) = begin_log(rt, alloc, log, &gate, &shared.breakage)?;
         let started = start_all(
             rt,
             alloc,
@@ -107,10 +130,13 @@ impl<J: ServiceNames + Send + 'static> Service<J> {
             partitions,
             &mailboxes,
             mails,
+            &to_log,
             &mut threads,
         );
+        // Its thread ends once the partitions' have, since nobody else can send to it.
+        drop(to_log);
         if started.is_err() {
-            leave_all(&rt, &mailboxes, threads);
+            leave_all(&rt, &mailboxes, threads, logging);
             return Err(Refusal::OutOfMemory);
         }
         let Shared {
@@ -135,6 +161,7 @@ impl<J: ServiceNames + Send + 'static> Service<J> {
             first,
             mailboxes,
             threads,
+            logging,
             breakage,
         })
     }
@@ -157,9 +184,10 @@ impl<J: ServiceNames + Send + 'static> Service<J> {
             first: _,
             mailboxes,
             threads,
+            logging,
             breakage: _,
         } = self;
-        leave_all(rt, &mailboxes, threads);
+        leave_all(rt, &mailboxes, threads, logging);
         book.lock(rt).totals()
     }
 }
@@ -242,10 +270,15 @@ impl<J: ServiceNames> Service<J> {
         Ok(channel)
     }
 
-    /// Whether a partition's thread has ended for want of memory. Then each session answers `Closed`, and all that is
+    /// Whether a partition's thread has ended for want of memory, or the log has failed. Then each session answers `Closed`, and all that is
     /// left is to close the service.
     pub fn is_broken(&self) -> bool {
         self.breakage.is_set()
+    }
+
+    /// Whether it is broken since its log failed.
+    pub fn has_lost_log(&self) -> bool {
+        self.breakage.is_by_log()
     }
 
     /// The totals of the audit book so far.
@@ -368,16 +401,45 @@ fn mailboxes_for<J: ServiceNames>(
     Ok((mailboxes, mails))
 }
 
-/// Has each partition's thread leave, and joins those that run.
+/// Starts the thread of the log, if there is one, and gives the mailbox to which the partitions send.
+///
+/// # Errors
+///
+/// `AllocError`, also where the thread can't be had.
+fn begin_log<
+    J: ServiceNames + Send + 'static,
+    L: MarkLog + Drop + Send + 'static,
+    R: Threads + Wait + time::Clock + Copy + Send + 'static,
+    G: Gate + Drop + Send + Sync + 'static,
+>(
+    rt: R,
+    alloc: Global,
+    log: Option<L>,
+    gate: &Arc<G, Global>,
+    breakage: &Arc<Breakage, Global>,
+) -> Result<(Option<Sender<HeldMail<J>>>, Option<JoinHandle<()>>), AllocError> {
+    let Some(log) = log else {
+        return Ok((None, None));
+    };
+    let (to_log, mails) = unbounded(alloc)?;
+    let thread = start_log(rt, alloc, log, gate, breakage, mails)?;
+    Ok((Some(to_log), Some(thread)))
+}
+
+/// Has each partition's thread leave, and joins those that run, and then that of the log, which ends after them.
 fn leave_all<J: ServiceNames, R: Threads + Wait>(
     rt: &R,
     mailboxes: &[Sender<PartitionMail<J>>],
     threads: Vec<JoinHandle<()>>,
+    logging: Option<JoinHandle<()>>,
 ) {
     for mailbox in mailboxes {
         leave(rt, mailbox);
     }
     for thread in threads {
+        thread.join(rt);
+    }
+    if let Some(thread) = logging {
         thread.join(rt);
     }
 }

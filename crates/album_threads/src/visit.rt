@@ -6,7 +6,7 @@ ghost use Rattle.album_threads.specs.Opened.{opened_as};
 use crate::opened::Opened;
 use crate::service::Service;
 use album_items::Opening;
-use album_keepers::{Gate, Open};
+use album_keepers::{Gate, MarkLog, NoLog, Open};
 use album_sessions::ServiceNames;
 use album_stamps::Refusal;
 use std::alloc::Global;
@@ -66,26 +66,68 @@ where
     G: Gate + Drop + Send + Sync + 'static,
     V: Visit<R>,
 {
-    visited_as::<Brand, R, G, V>(rt, alloc, opened, gate, visit)
+    visited_with::<NoLog, R, G, V>(rt, alloc, opened, gate, None, visit)
 }
 
-/// The same under the names J: of these `list` is the board's, and the last four are ledgers of the audit totals.
-fn visited_as<J, R, G, V>(
+/// The same with a log: what is prepared is kept there before anybody hears of it.
+///
+/// # Errors
+///
+/// `OutOfMemory`, also where a thread can't be had.
+pub fn with_logged<L, R, G, V>(
     rt: R,
     alloc: Global,
     opened: Opened,
     gate: G,
+    log: L,
+    visit: V,
+) -> Result<V::Answer, Refusal>
+where
+    L: MarkLog + Drop + Send + 'static,
+    R: Threads + Wait + time::Clock + Copy + Send + Sync + 'static,
+    G: Gate + Drop + Send + Sync + 'static,
+    V: Visit<R>,
+{
+    visited_with(rt, alloc, opened, gate, Some(log), visit)
+}
+
+/// The same with a log, if there is one.
+fn visited_with<L, R, G, V>(
+    rt: R,
+    alloc: Global,
+    opened: Opened,
+    gate: G,
+    log: Option<L>,
+    visit: V,
+) -> Result<V::Answer, Refusal>
+where
+    L: MarkLog + Drop + Send + 'static,
+    R: Threads + Wait + time::Clock + Copy + Send + Sync + 'static,
+    G: Gate + Drop + Send + Sync + 'static,
+    V: Visit<R>,
+{
+    visited_as::<Brand, L, R, G, V>(rt, alloc, opened, gate, log, visit)
+}
+
+/// The same under the names J: of these `list` is the board's, and the last four are ledgers of the audit totals.
+fn visited_as<J, L, R, G, V>(
+    rt: R,
+    alloc: Global,
+    opened: Opened,
+    gate: G,
+    log: Option<L>,
     visit: V,
 ) -> Result<V::Answer, Refusal>
 where
     J: ServiceNames + Send + Sync + 'static,
+    L: MarkLog + Drop + Send + 'static,
     R: Threads + Wait + time::Clock + Copy + Send + Sync + 'static,
     G: Gate + Drop + Send + Sync + 'static,
     V: Visit<R>,
     requires named { opened ≡ opened_as J.table J.terms J.policy J.list
         J.audit_ok J.audit_failed J.alarm_ok J.alarm_failed }
 {
-    let service = Service::<J>::open(rt, alloc, opened, gate)?;
+    let service = Service::<J>::open_logged(rt, alloc, opened, gate, log)?;
     let answer = visit.visit(&rt, alloc, &service);
     service.close(&rt);
     Ok(answer)

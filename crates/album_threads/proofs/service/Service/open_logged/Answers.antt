@@ -3,7 +3,7 @@ use Rattle.album_stamps.specs.declared.limits.TheConstants.{MAX_PARTS}
 use Rattle.album_passes.specs.Knowledge.{Terms}
 use Rattle.album_threads.specs.Opened.{OpenedState}
 use Rattle.album_keepers.proofs.StartLemmas.{owners_first, partitions_first}
-use Rattle.album_threads.proofs.service.Service.open.Goals as goal
+use Rattle.album_threads.proofs.service.Service.open_logged.Goals as goal
 
 pub start_all-started-requires-clause-few : goal.start_all-started-requires-clause-few
 start_all-started-requires-clause-few g c = λ κs apart.

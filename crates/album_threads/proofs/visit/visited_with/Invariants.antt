@@ -1,4 +1,4 @@
-use Rattle.album_threads.proofs.visit.with_opened.Given as goal
+use Rattle.album_threads.proofs.visit.visited_with.Given as goal
 
 -- the desk, the policy and the four ledgers that were opened here
 abbrev pub ghosts-visited_as-J-ServiceNames : goal.ghosts-visited_as-J-ServiceNames
