@@ -384,36 +384,47 @@ led_still old new same o h = subst (HasLed o) (sym same) h
 
 -- ---- what a line of an epoch writes
 
-module _ (old : EpochState) (led : HasLed old.of.opening old.world) (past : Past) (line : Line) where
+-- the epoch is seen as this one
+module _ (old seen : EpochState) (same : old ≡ seen) (led : HasLed old.of.opening old.world) (past : Past) (line : Line) where
   abbrev terms : Terms
   terms = old.world.terms
 
   abbrev trace : Bool
   trace = old.of.trace
 
+  abbrev Taken : EpochState → Option (List ℕ) → Option (List ℕ) → Type 0
+  Taken new a b = Writes (TakesLine seen past line new) a b
+
+  abbrev Left : Fault → Option (List ℕ) → Option (List ℕ) → Type 0
+  Left fault a b = Writes (LeavesOf fault (PrintsLine seen past line)) a b
+
   pub spelled_taken : (events : Spelled) → event_line_read line ≡ Ok events → (new : WorldState) (a b : Option (List ℕ))
       → Writes (Leads (λ before next text. Spells terms trace before events next text) old.world new past) a b
-      → Writes (TakesLine old past line (record { of = old.of; world = new })) a b
+      → Taken (record { of = old.of; world = new }) a b
   spelled_taken events is new a b w =
-      events_taken old past line led new a b (line_done terms trace line events old.world new past is a b w)
+      subst (λ (z : EpochState). Writes (TakesLine z past line (record { of = old.of; world = new })) a b) same
+      (events_taken old past line led new a b (line_done terms trace line events old.world new past is a b w))
 
   pub spelled_left : (events : Spelled) → event_line_read line ≡ Ok events → (fault : Fault) (a b : Option (List ℕ))
       → Writes (LeavesOf fault (MayLead (λ before next text. Spells terms trace before events next text) old.world past)) a b
-      → Writes (LeavesOf fault (PrintsLine old past line)) a b
+      → Left fault a b
   spelled_left events is fault a b w =
-      events_left old past line led fault a b (line_left terms trace line events old.world past is fault a b w)
+      subst (λ (z : EpochState). Writes (LeavesOf fault (PrintsLine z past line)) a b) same
+      (events_left old past line led fault a b (line_left terms trace line events old.world past is fault a b w))
 
   pub refusal_taken : (e : Refusal) → (e ≢ OutOfMemory → event_line_read line ≡ Err e) → (a b : Option (List ℕ))
-      → Appends a b (refusal_line e) → Writes (TakesLine old past line old) a b
+      → Appends a b (refusal_line e) → Taken old a b
   refusal_taken e why a b w =
-      events_taken old past line led old.world a b
-      (line_written terms trace line old.world past (refusal_line e) (line_refused terms trace line e old.world past why) a b w)
+      subst (λ (z : EpochState). Writes (TakesLine z past line old) a b) same
+      (events_taken old past line led old.world a b
+      (line_written terms trace line old.world past (refusal_line e) (line_refused terms trace line e old.world past why) a b w))
 
   pub refusal_left : (e : Refusal) → (e ≢ OutOfMemory → event_line_read line ≡ Err e) → (fault : Fault) (a b : Option (List ℕ))
-      → Writes (LeavesOf fault (λ text. text ≡ refusal_line e)) a b → Writes (LeavesOf fault (PrintsLine old past line)) a b
+      → Writes (LeavesOf fault (λ text. text ≡ refusal_line e)) a b → Left fault a b
   refusal_left e why fault a b w =
-      events_left old past line led fault a b
-      (line_begun terms trace line old.world past (refusal_line e) (line_refused terms trace line e old.world past why) fault a b w)
+      subst (λ (z : EpochState). Writes (LeavesOf fault (PrintsLine z past line)) a b) same
+      (events_left old past line led fault a b
+      (line_begun terms trace line old.world past (refusal_line e) (line_refused terms trace line e old.world past why) fault a b w))
 
 -- a line that isn't blank
 module _ (old : EpochState) (past : Past) (line : Line) (is : is_blank line ≡ false) where

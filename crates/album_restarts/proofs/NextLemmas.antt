@@ -30,6 +30,7 @@ use Rattle.album_world.proofs.ListLemmas.{within}
 use Rattle.album_world.proofs.PromiseLemmas.{writes_are_granted}
 use Rattle.album_world.proofs.RunLemmas.{always_kept}
 use Rattle.album_epochs.specs.Carried.{carried_stamp, carried_value, AreNextRows}
+use Rattle.album_epochs.proofs.BaseLemmas.{row_is}
 use Rattle.album_epochs.proofs.EpochLemmas.{there, at_carried}
 use Rattle.album_epochs.specs.Folding.{AreFolded}
 use Rattle.album_epochs.proofs.LeftLemmas.{sound_left}
@@ -41,12 +42,6 @@ use Rattle.album_restarts.proofs.StampLemmas.{stamp_low}
 use Rattle.album_restarts.proofs.SoundLemmas.{history_is, world_sound}
 
 -- ---- where a row is from
-
-pub row_is : (rows : List Row) → IsStrictlySortedBy nat_cmp (items_written rows) → (row : Row) → Contains rows row
-    → value_in rows row.0 ≡ Some row.1
-row_is rows h row n =
-    by_key rows row.0
-    ∙ lookup-from_Contains (eq_by_cmp_equiv nat_cmp_total) row.0 row.1 rows (IsDistinct-from_sorted nat_cmp (items_written rows) h) n
 
 -- a row has what is carried of its item
 pub row_carried : (c : Cut) (rows : List Row) → AreNextRows c rows → (row : Row) → Contains rows row → row.1 ≡ carried_value c row.0

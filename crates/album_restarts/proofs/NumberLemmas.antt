@@ -37,7 +37,7 @@ use Rattle.album_client.specs.Terms.{terms_of}
 use Rattle.album_world.specs.Atomic.{writes_in_world}
 use Rattle.album_world.specs.Granted.{IsGranted}
 use Rattle.album_world.specs.Past.{World}
-use Rattle.album_world.proofs.AgeLemmas.{new_number, pair_in}
+use Rattle.album_world.proofs.AgeLemmas.{changed_there, low_lists, new_number, pair_in}
 use Rattle.album_world.proofs.ListLemmas.{In, and_both, and_left, and_right, contains, in_all, in_cases, in_filter, in_map, in_nil, in_one, not_true, within}
 use Rattle.album_world.proofs.ListLemmas.In.{here, there}
 use Rattle.album_world.proofs.ShownLemmas.{IsShownBy, shown_or_missing}
@@ -105,22 +105,6 @@ low_row_more n m row le low =
     and_both (is_low m (number_of row.0)) (has_low_numbers m row.1)
     (is_low_more n m (number_of row.0) le (and_left (is_low n (number_of row.0)) (has_low_numbers n row.1) low))
     (low_more n m row.1 le (and_right (is_low n (number_of row.0)) (has_low_numbers n row.1) low))
-
--- the list that a head names has a low number
-listed : (n number : ℕ) → is_low n number ≡ true → (i : ℕ) → i ≡ list number → number_of i ≤ n
-listed n number low i e =
-    let l : number ≤ n = leb-true number n low in
-    let q : number_of (list number) ≡ number = number_of-item 2 number (omega arith) in
-    subst (λ (j : ℕ). number_of j ≤ n) (sym e) (omega (arith, l, q))
-
-low_lists : (n : ℕ) (v : Value) → has_low_numbers n v ≡ true → (i : ℕ) → Contains (list_of v) i → number_of i ≤ n
-low_lists n value.Missing low i c = in_nil (within [] c)
-low_lists n (value.Picture x) low i c =
-    listed n x.head.list (and_left (is_low n x.head.list) (is_low n x.home) low) i (in_one (within _ c))
-low_lists n (value.Album x) low i c =
-    listed n x.head.list (album_parts n x.head.list x.home x.children low).list_low i (in_one (within _ c))
-low_lists n (value.List x) low i c = in_nil (within [] c)
-low_lists n (value.Group x) low i c = listed n x.head.list low i (in_one (within _ c))
 
 -- ---- values with one thing changed
 
@@ -298,29 +282,6 @@ module _ (shown : ℕ → Value) (me : Principal) (stamp : ℕ) (low : (item : �
       each-append IsLow (flat_map (list_written shown) news) (map (members_written shown) groups) (lists_low news) (members_low groups)
 
 -- ---- what an ask changes is there
-
-in_needs : (needs : List (List Alternative)) (a : Alternative) → In a (flat_map (λ (need : List Alternative). need) needs)
-    → (need : List Alternative) × In need needs × In a need
-in_needs [] a h = in_nil h
-in_needs (need ∷ needs) a h = ⊎_elim
-    (λ k. (need, here, k))
-    (λ k. let r = in_needs needs a k in (r.0, there r.1, r.2))
-    (in_cases need (flat_map (λ (one : List Alternative). one) needs) h)
-
-changed_there : (permit : PermitState) → IsPermit permit → (object : ℕ)
-    → Contains (objects_changed (seen permit.view.rows) permit.view.ask) object
-    → is_none (head_of (seen permit.view.rows object)) ≡ false
-changed_there permit kept object c =
-    let basis = basis_for permit in
-    let needs = needs_of (seen permit.view.rows) permit.view.ask in
-    let all : List Alternative = flat_map (λ (need : List Alternative). need) needs in
-    let m = in_map (λ (a : Alternative). a.object) (filter (λ (a : Alternative). is_of_change a.mask) all) (within _ c) in
-    let n = in_needs needs m.0 (in_filter (λ (a : Alternative). is_of_change a.mask) m.0 all m.1).0 in
-    let met = in_all (is_need_met basis) needs (needs-met permit kept) n.1 in
-    let there_all = and_left (list_all (λ (a : Alternative). not (is_missing basis a.object)) n.0)
-    (list_any (λ (a : Alternative). is_granted_on basis a.object a.mask) n.0) met in
-    subst (λ (i : ℕ). is_none (head_of (seen permit.view.rows i)) ≡ false) (sym m.2)
-    (not_true (is_missing basis m.0.object) (in_all (λ (a : Alternative). not (is_missing basis a.object)) n.0 there_all n.2))
 
 -- ---- in a world
 

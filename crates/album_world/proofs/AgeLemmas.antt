@@ -56,7 +56,7 @@ in_needs (need ∷ needs) a h = ⊎_elim
 
 -- ---- what an ask may write is there
 
-changed_there : (permit : PermitState) → IsPermit permit → (object : ℕ)
+pub changed_there : (permit : PermitState) → IsPermit permit → (object : ℕ)
     → Contains (objects_changed (seen permit.view.rows) permit.view.ask) object
     → is_none (head_of (seen permit.view.rows object)) ≡ false
 changed_there permit kept object c =
@@ -79,7 +79,7 @@ listed top number low n e =
     let q : number_of (list number) ≡ number = number_of-item 2 number (omega arith) in
     subst (λ (i : ℕ). number_of i ≤ top) (sym e) (omega (arith, l, q))
 
-low_lists : (top : ℕ) (v : Value) → has_low_numbers top v ≡ true → (n : ℕ) → Contains (list_of v) n → number_of n ≤ top
+pub low_lists : (top : ℕ) (v : Value) → has_low_numbers top v ≡ true → (n : ℕ) → Contains (list_of v) n → number_of n ≤ top
 low_lists top value.Missing low n c = in_nil (within [] c)
 low_lists top (value.Picture x) low n c =
     listed top x.head.list (and_left (is_low top x.head.list) (is_low top x.home) low) n (in_one (within _ c))

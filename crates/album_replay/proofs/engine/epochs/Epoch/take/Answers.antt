@@ -1,4 +1,4 @@
-use Rattle.std.proofs.Common.{Ok, ap, ◌∙◌, subst, OnOk, IfErr}
+use Rattle.std.proofs.Common.{Ok, ap, ◌∙◌}
 use Rattle.std.proofs.lemmas.Result.{IfErr-weaker, on_ok_weaker}
 use Rattle.album_world.specs.Past.{Past}
 use Rattle.album_lines.specs.Lines.{said}
@@ -11,105 +11,45 @@ use Rattle.album_replay.proofs.engine.epochs.Epoch.take.Goals as goal
 -- an event by itself
 pub returns-in-Ok-One-clause-ok : goal.returns-in-Ok-One-clause-ok
 returns-in-Ok-One-clause-ok g c =
-    let a = g.W.Write.contents c.args.writer.now in
-    let b = g.W.Write.contents c.run_one.new.writer in
-    let line = said c.args.line.now in
-    let old : EpochState = record {
-      of = record { opening = c.self.inside.opening; number = c.self.inside.number; trace = c.self.inside.trace };
-      world = c.self.inside.world;
-    } in
-    let new : EpochState = record {
-      of = record { opening = c.self.inside.opening; number = c.self.inside.number; trace = c.self.inside.trace };
-      world = c.run_one.new.world;
-    } in
-    subst (λ (z : EpochState). OnOk c.run_one.result ((past : Past) → Writes (TakesLine z past line new) a b)) c.self.view_is
-    (on_ok_weaker c.run_one.result
-    (λ w past. spelled_taken old c.self.invariant past line (spelled.One c.in-Ok-One.event)
-    (c.in-Ok-One.ensures ∙ ap Ok c.in-Ok-One.field-0-is) c.run_one.new.world a b (w past))
-    c.run_one.ensures.ok)
+    on_ok_weaker c.run_one.result
+    (λ w past. spelled_taken _ _ c.self.view_is c.self.invariant past _ (spelled.One c.in-Ok-One.event)
+    (c.in-Ok-One.ensures ∙ ap Ok c.in-Ok-One.field-0-is) c.run_one.new.world _ _ (w past))
+    c.run_one.ensures.ok
 
 pub returns-in-Ok-One-clause-fault : goal.returns-in-Ok-One-clause-fault
 returns-in-Ok-One-clause-fault g c =
-    let a = g.W.Write.contents c.args.writer.now in
-    let b = g.W.Write.contents c.run_one.new.writer in
-    let line = said c.args.line.now in
-    let old : EpochState = record {
-      of = record { opening = c.self.inside.opening; number = c.self.inside.number; trace = c.self.inside.trace };
-      world = c.self.inside.world;
-    } in
-    subst (λ (z : EpochState). IfErr c.run_one.result
-    (λ fault. (past : Past) → Writes (LeavesOf fault (PrintsLine z past line)) a b)) c.self.view_is
-    (IfErr-weaker c.run_one.result _ _
-    (λ fault w past. spelled_left old c.self.invariant past line (spelled.One c.in-Ok-One.event)
-    (c.in-Ok-One.ensures ∙ ap Ok c.in-Ok-One.field-0-is) fault a b (w past))
-    c.run_one.ensures.fault)
+    IfErr-weaker c.run_one.result _ _
+    (λ fault w past. spelled_left _ _ c.self.view_is c.self.invariant past _ (spelled.One c.in-Ok-One.event)
+    (c.in-Ok-One.ensures ∙ ap Ok c.in-Ok-One.field-0-is) fault _ _ (w past))
+    c.run_one.ensures.fault
 
 -- a range
 pub returns-in-Ok-Range-clause-ok : goal.returns-in-Ok-Range-clause-ok
 returns-in-Ok-Range-clause-ok g c =
-    let a = g.W.Write.contents c.args.writer.now in
-    let b = g.W.Write.contents c.deliver_range.new.writer in
-    let line = said c.args.line.now in
-    let old : EpochState = record {
-      of = record { opening = c.self.inside.opening; number = c.self.inside.number; trace = c.self.inside.trace };
-      world = c.self.inside.world;
-    } in
-    let new : EpochState = record {
-      of = record { opening = c.self.inside.opening; number = c.self.inside.number; trace = c.self.inside.trace };
-      world = c.deliver_range.new.world;
-    } in
-    subst (λ (z : EpochState). OnOk c.deliver_range.result ((past : Past) → Writes (TakesLine z past line new) a b)) c.self.view_is
-    (on_ok_weaker c.deliver_range.result
-    (λ w past. spelled_taken old c.self.invariant past line (spelled.Range c.in-Ok-Range.first c.in-Ok-Range.last)
-    (c.in-Ok-Range.ensures ∙ ap Ok c.in-Ok-Range.field-0-is) c.deliver_range.new.world a b (w past))
-    c.deliver_range.ensures.ok)
+    on_ok_weaker c.deliver_range.result
+    (λ w past. spelled_taken _ _ c.self.view_is c.self.invariant past _ (spelled.Range c.in-Ok-Range.first c.in-Ok-Range.last)
+    (c.in-Ok-Range.ensures ∙ ap Ok c.in-Ok-Range.field-0-is) c.deliver_range.new.world _ _ (w past))
+    c.deliver_range.ensures.ok
 
 pub returns-in-Ok-Range-clause-fault : goal.returns-in-Ok-Range-clause-fault
 returns-in-Ok-Range-clause-fault g c =
-    let a = g.W.Write.contents c.args.writer.now in
-    let b = g.W.Write.contents c.deliver_range.new.writer in
-    let line = said c.args.line.now in
-    let old : EpochState = record {
-      of = record { opening = c.self.inside.opening; number = c.self.inside.number; trace = c.self.inside.trace };
-      world = c.self.inside.world;
-    } in
-    subst (λ (z : EpochState). IfErr c.deliver_range.result
-    (λ fault. (past : Past) → Writes (LeavesOf fault (PrintsLine z past line)) a b)) c.self.view_is
-    (IfErr-weaker c.deliver_range.result _ _
-    (λ fault w past. spelled_left old c.self.invariant past line (spelled.Range c.in-Ok-Range.first c.in-Ok-Range.last)
-    (c.in-Ok-Range.ensures ∙ ap Ok c.in-Ok-Range.field-0-is) fault a b (w past))
-    c.deliver_range.ensures.fault)
+    IfErr-weaker c.deliver_range.result _ _
+    (λ fault w past. spelled_left _ _ c.self.view_is c.self.invariant past _ (spelled.Range c.in-Ok-Range.first c.in-Ok-Range.last)
+    (c.in-Ok-Range.ensures ∙ ap Ok c.in-Ok-Range.field-0-is) fault _ _ (w past))
+    c.deliver_range.ensures.fault
 
 -- the line is refused
 pub returns-in-Err-clause-ok : goal.returns-in-Err-clause-ok
 returns-in-Err-clause-ok g c =
-    let a = g.W.Write.contents c.args.writer.now in
-    let b = g.W.Write.contents c.write_refused.new.writer in
-    let line = said c.args.line.now in
-    let old : EpochState = record {
-      of = record { opening = c.self.inside.opening; number = c.self.inside.number; trace = c.self.inside.trace };
-      world = c.self.inside.world;
-    } in
-    let new : EpochState = old in
-    subst (λ (z : EpochState). OnOk c.write_refused.result ((past : Past) → Writes (TakesLine z past line new) a b)) c.self.view_is
-    (on_ok_weaker c.write_refused.result
-    (λ w past. refusal_taken old c.self.invariant past line c.in-Err.refusal c.in-Err.ensures a b w)
-    c.write_refused.ensures.ok)
+    on_ok_weaker c.write_refused.result
+    (λ w past. refusal_taken _ _ c.self.view_is c.self.invariant past _ c.in-Err.refusal c.in-Err.ensures _ _ w)
+    c.write_refused.ensures.ok
 
 pub returns-in-Err-clause-fault : goal.returns-in-Err-clause-fault
 returns-in-Err-clause-fault g c =
-    let a = g.W.Write.contents c.args.writer.now in
-    let b = g.W.Write.contents c.write_refused.new.writer in
-    let line = said c.args.line.now in
-    let old : EpochState = record {
-      of = record { opening = c.self.inside.opening; number = c.self.inside.number; trace = c.self.inside.trace };
-      world = c.self.inside.world;
-    } in
-    subst (λ (z : EpochState). IfErr c.write_refused.result
-    (λ fault. (past : Past) → Writes (LeavesOf fault (PrintsLine z past line)) a b)) c.self.view_is
-    (IfErr-weaker c.write_refused.result _ _
-    (λ fault w past. refusal_left old c.self.invariant past line c.in-Err.refusal c.in-Err.ensures fault a b w)
-    c.write_refused.ensures.fault)
+    IfErr-weaker c.write_refused.result _ _
+    (λ fault w past. refusal_left _ _ c.self.view_is c.self.invariant past _ c.in-Err.refusal c.in-Err.ensures fault _ _ w)
+    c.write_refused.ensures.fault
 
 -- a restart
 pub returns-in-Ok-Restart-clause-ok : goal.returns-in-Ok-Restart-clause-ok
