@@ -74,15 +74,34 @@ def service(opening, connections, more=(), tool=(), program=ALBUM, errors=None):
 
 
 @contextlib.contextmanager
-def redis(commands):
+def durable(opening, program=ALBUM):
+    """A service of the opening's lines that keeps what it writes in a folder, as its process and its port. It ends by no
+    number of connections, so it is killed."""
+    port = free_port()
+    with tempfile.TemporaryFile() as lines, tempfile.TemporaryDirectory() as folder:
+        lines.write("".join(opening).encode())
+        lines.seek(0)
+        words = [program, "serve", str(port), "--data", folder]
+        with subprocess.Popen(words, stdin=lines, stdout=subprocess.PIPE) as process:
+            try:
+                if b'"serving"' not in process.stdout.readline():
+                    sys.exit("bench: the service doesn't begin")
+                yield process, port
+            finally:
+                process.kill()
+
+
+@contextlib.contextmanager
+def redis(commands, is_durable=False):
     """A Redis that has the store of these commands and the script, as its port and the script's name; None where there
-    is no Redis."""
+    is no Redis. A durable one answers no write before it is on the disk."""
     program = shutil.which("redis-server")
     if program is None:
         yield None
         return
     port = free_port()
-    words = [program, "--port", str(port), "--bind", "127.0.0.1", "--save", "", "--appendonly", "no"]
+    kept = ["--appendonly", "yes", "--appendfsync", "always"] if is_durable else ["--appendonly", "no"]
+    words = [program, "--port", str(port), "--bind", "127.0.0.1", "--save", "", *kept]
     with tempfile.TemporaryDirectory() as folder:
         with subprocess.Popen(words, cwd=folder, stdout=subprocess.DEVNULL) as server:
             try:

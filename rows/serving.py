@@ -2,6 +2,7 @@
 import json
 import re
 import resource
+import signal
 import socket
 import struct
 import subprocess
@@ -48,15 +49,18 @@ def free_port():
 
 class Service:
     """A running service, which is killed where it is left before its end. It may have further words on its command
-    line, an input that doesn't end with the opening, so many files and bytes of memory at most, and a file for what it
-    says."""
+    line, an input that doesn't end with the opening, so many files and bytes of memory and of a file at most,
+    and a file for what it says."""
 
-    def __init__(self, program, opening, conns, *words, goes_on=False, files=None, memory=None, errors=None):
+    def __init__(self, program, opening, conns, *words, goes_on=False, files=None, memory=None, size=None, errors=None):
         self.port = free_port()
         self.errors = tempfile.TemporaryFile() if errors is None else errors
 
         def limit():
-            for what, most in ((resource.RLIMIT_NOFILE, files), (resource.RLIMIT_AS, memory)):
+            if size is not None:
+                # A write beyond the size fails, and doesn't end the process.
+                signal.signal(signal.SIGXFSZ, signal.SIG_IGN)
+            for what, most in ((resource.RLIMIT_NOFILE, files), (resource.RLIMIT_AS, memory), (resource.RLIMIT_FSIZE, size)):
                 if most is not None:
                     resource.setrlimit(what, (most, most))
 
@@ -65,7 +69,8 @@ class Service:
             lines.seek(0)
             self.run = subprocess.Popen([program, "serve", str(self.port), "--conns", str(conns), *words],
                                         stdin=subprocess.PIPE if goes_on else lines, stdout=subprocess.PIPE,
-                                        stderr=self.errors, preexec_fn=limit)
+                                        stderr=self.errors, preexec_fn=limit,
+                                        restore_signals=size is None)
         if goes_on:
             self.run.stdin.write(opening)
             self.run.stdin.flush()

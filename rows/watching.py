@@ -26,9 +26,10 @@ def note(client, who, entry, success, alarm=False):
 
 
 def text_of(path):
-    """The lines of an audit file, without their moments."""
+    """The whole lines of an audit file, without their moments: the notes of others may be on their way."""
     with open(path, "rb") as file:
-        return untimed(file.read()).decode()
+        text = file.read()
+    return untimed(text[:text.rfind(b"\n") + 1]).decode()
 
 
 def notes_in_a_file(program, folder):
