@@ -62,9 +62,9 @@ pub trait MarkLog {
         ensures kept { (other : Entry) → keeps self.old other → keeps self.new other };
 }
 
-/// The log of a service that has none.
-#[derive(Debug, Drop)]
-pub enum NoLog {}
+/// The log of a service that has none: nothing is kept by it.
+#[derive(Clone, Copy, Debug)]
+pub struct NoLog;
 
 impl MarkLog for NoLog {
     ghost keeps = { λ _ _. ⊥ };
