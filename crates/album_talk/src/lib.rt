@@ -5,7 +5,7 @@
 //! out, a prefix of these lines was written before. What was noted for an answer is in the journal before any byte of
 //! the answer is written.
 //!
-//! Read `talk` first, the engine: `converse_with` reads, and `answer_lines` writes. `answers` asks the session for each
+//! Read `talk` first, the engine: `talk_on` reads, and `answer_lines` writes. `answers` asks the session for each
 //! line. specs/Talk.antt says what a talk is, in the order of the answers, their texts, a line and the whole. Who opens
 //! the session and accepts the connection is not known here: `album_port` does both.
 #![tactic(auto)]
@@ -22,4 +22,4 @@ mod talk;
 
 pub use admins::{Admins, only_admins_are_heard};
 pub use journal::{Journal, NoJournal};
-pub use talk::{converse, converse_with};
+pub use talk::{converse, converse_with, talk_on};

@@ -127,10 +127,72 @@ pub fn converse_with<J: ServiceNames, T: Wait + time::Clock, R: Read, W: Write, 
     ensures none { turns ≡ 0 → result ≡ Err Fault.Reading }
     ensures unread { turns ≡ 0 → R.remaining reader.new ≡ R.remaining reader.old }
 {
+    let mut who = None;
+    talk_on(
+        rt, alloc, reader, writer, session, admins, journal, &mut who, turns,
+    )
+}
+
+/// The same, where it may be said already who talks: so a talk goes on in another session, with another reader.
+///
+/// # Errors
+///
+/// As `converse_with`.
+pub fn talk_on<J: ServiceNames, T: Wait + time::Clock, R: Read, W: Write, A: Journal>(
+    rt: &T,
+    alloc: Global,
+    reader: &mut R,
+    writer: &mut W,
+    session: &mut Session<J>,
+    admins: &Admins,
+    journal: &A,
+    who: &mut Option<Principal>,
+    turns: u64,
+) -> Result<(), Fault>
+    // Without a fault the whole input was read, and exactly the lines' talk is written, from the old talker to the new.
+    ensures ok { OnOk result (IfSome (R.remaining reader.old) (λ input.
+        Writes (Talks J.terms.limit J.policy admins.now (record { who = who.old; session = session.old })
+        (lines_of input) (record { who = who.new; session = session.new }))
+        (W.contents writer.old) (W.contents writer.new))) }
+    ensures whole { OnOk result (IsAtEnd (R.remaining reader.new)) }
+
+    // On a fault, a prefix of a talk of the lines is written. In that talk the session has seen no more than it has at
+    // the end.
+    ensures err { OnErr result (IfSome (R.remaining reader.old) (λ input.
+        Writes (IsPrefixOf (MayTalk J.terms.limit J.policy admins.now session.new
+        (record { who = who.old; session = session.old }) (lines_of input)))
+        (W.contents writer.old) (W.contents writer.new))) }
+
+    // What is written then answers what was read, as in `converse_with`.
+    ensures fault { IfErr result (λ fault.
+        Exchanges (IsEndedBy fault (MayTalk J.terms.limit J.policy admins.now session.new
+        (record { who = who.old; session = session.old })))
+        (R.remaining reader.old) (R.remaining reader.new) (W.contents writer.old) (W.contents writer.new)) }
+
+    // Where a read failed, the talk of the lines that have ended has come to the new talker: another may go on from it.
+    ensures left { result ≡ Err Fault.Reading →
+        Exchanges (IsEndedBy Fault.Reading (λ lines text.
+        Talks J.terms.limit J.policy admins.now (record { who = who.old; session = session.old }) lines
+        (record { who = who.new; session = session.new }) text))
+        (R.remaining reader.old) (R.remaining reader.new) (W.contents writer.old) (W.contents writer.new) }
+
+    // What was noted for an answer is recorded before any byte of it is written, whether there is a fault or not.
+    ensures recorded { Writes (IsRecordedPart J.terms.limit J.policy admins.now (A.recorded journal.now)
+        (record { who = who.old; session = session.old })) (W.contents writer.old) (W.contents writer.new) }
+
+    // The session has only seen more.
+    ensures on { IsOn session.old session.new }
+
+    // A turn reads one piece at most.
+    ensures few { HasRead turns (R.remaining reader.old) (R.remaining reader.new) }
+
+    // No turn, no read.
+    ensures none { turns ≡ 0 → result ≡ Err Fault.Reading }
+    ensures unread { turns ≡ 0 → R.remaining reader.new ≡ R.remaining reader.old }
+{
     session.has_granted_writes();
     let mut lines = Lines::new(alloc);
     let mut scratch = Scratch::new(alloc);
-    let mut who = None;
     let mut piece = [0u8; PIECE];
     for _turn in 0..turns {
         let Ok(len) = reader.read(&mut piece) else {
@@ -144,7 +206,7 @@ pub fn converse_with<J: ServiceNames, T: Wait + time::Clock, R: Read, W: Write, 
                 session,
                 admins,
                 journal,
-                &mut who,
+                who,
                 lines,
                 writer,
             );
@@ -157,7 +219,7 @@ pub fn converse_with<J: ServiceNames, T: Wait + time::Clock, R: Read, W: Write, 
             session,
             admins,
             journal,
-            &mut who,
+            who,
             &ended,
             writer,
         )?;

@@ -3,20 +3,21 @@ use Rattle.std.proofs.lemmas.List.{length-take}
 use Rattle.std.proofs.lemmas.Result.{IfErr-weaker, on_ok_weaker, err_from_is_err_and}
 use Rattle.album_sessions.proofs.SessionLemmas.{on_self, on_trans}
 use Rattle.album_judge.specs.declared.engine.TheConstants.{PIECE}
-use Rattle.album_talk.specs.Talk.{stranger}
-use Rattle.album_talk.proofs.TalkTurns.{HasTalked, begins, has_read_more, prefix_so_far, turn_done, turn_left, turn_uncut, prefix_of_turn, last_done, last_left, prefix_of_last}
+use Rattle.album_talk.proofs.TalkTurns.{HasTalked, begins, left, left_by_failure, has_read_more, prefix_so_far, turn_done, turn_left, turn_uncut, prefix_of_turn, last_done, last_left, prefix_of_last}
 use Rattle.album_talk.proofs.Recording.{by_outcome, recorded_begins, recorded_part, recorded_joined, recorded_part_joined}
-use Rattle.album_talk.proofs.talk.converse_with.Goals as goal
+use Rattle.album_talk.proofs.talk.talk_on.Goals as goal
 
 pub loop-turn-init : goal.loop-turn-init
 loop-turn-init g c = record {
   talked = subst
       (λ (unfinished : Option (List ℕ)). HasTalked g.J.DeskNames.terms.limit g.J.ServiceNames.policy c.args.admins.now
-      c.args.session.now (stranger c.args.session.now) 0 unfinished
+      (record { who = c.args.who.now; session = c.args.session.now })
+      (record { who = c.args.who.now; session = c.args.session.now }) 0 unfinished
       (g.R.Read.remaining c.args.reader.now) (g.R.Read.remaining c.args.reader.now)
       (g.W.Write.contents c.args.writer.now) (g.W.Write.contents c.args.writer.now))
       (sym c.new-lines.ensures)
-      (begins g.J.DeskNames.terms.limit g.J.ServiceNames.policy c.args.admins.now c.args.session.now
+      (begins g.J.DeskNames.terms.limit g.J.ServiceNames.policy c.args.admins.now
+      (record { who = c.args.who.now; session = c.args.session.now })
       (g.R.Read.remaining c.args.reader.now) (g.W.Write.contents c.args.writer.now));
   recorded = recorded_begins g.J.DeskNames.terms.limit g.J.ServiceNames.policy c.args.admins.now (g.A.Journal.recorded c.args.journal.now) _ (g.W.Write.contents c.args.writer.now);
   on = on_self c.args.session.now c.has_granted_writes.ensures.sound;
