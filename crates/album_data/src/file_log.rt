@@ -8,6 +8,7 @@ use album_keepers::{LogEntry, MarkLog, NotKept};
 use album_log::{Log, LogError, is_whole_text};
 use sqlite_disk::Disk;
 use std::alloc::{AllocError, Global};
+use std::sync::atomic::{AtomicU64, Ordering};
 use std::sync::{Arc, OnceLock};
 
 /// A log whose lines are those of marks.
@@ -19,6 +20,8 @@ pub struct FileLog<D: Disk> {
     added: Vec<u8>,
     /// Why it failed, for whoever says so.
     failure: Arc<OnceLock<LogError>, Global>,
+    /// How many bytes of text it has, for whoever bounds it.
+    size: Arc<AtomicU64, Global>,
     ghost whole: { IsWholeText added.items },
 }
 
@@ -37,6 +40,7 @@ impl<D: Disk> FileLog<D> {
             log,
             added: Vec::new(alloc),
             failure: Arc::new(alloc, OnceLock::new())?,
+            size: Arc::new(alloc, AtomicU64::new(0))?,
         })
     }
 
@@ -47,6 +51,15 @@ impl<D: Disk> FileLog<D> {
     /// `AllocError`.
     pub fn failure(&self) -> Result<Arc<OnceLock<LogError>, Global>, AllocError> {
         Arc::try_clone(&self.failure)
+    }
+
+    /// Where it says how many bytes of text it has.
+    ///
+    /// # Errors
+    ///
+    /// `AllocError`.
+    pub fn size(&self) -> Result<Arc<AtomicU64, Global>, AllocError> {
+        Arc::try_clone(&self.size)
     }
 
     /// It fails, for this reason.
@@ -80,6 +93,8 @@ impl<D: Disk> MarkLog for FileLog<D> {
         self.log.is_at_rest();
         match self.log.append(&self.added) {
             Ok(()) => {
+                let more = self.added.len() as u64;
+                self.size.fetch_add(more, Ordering::SeqCst);
                 self.added.clear();
                 Ok(())
             }
