@@ -1,8 +1,10 @@
-//! The connections that come: each is given a session and a thread, or the reason why not.
-use crate::connections::{Connections, OpenConnection, attend};
+//! The connections that come: each is given a session and a thread, or the reason why not. Those that an epoch left
+//! come first in the next one.
+use crate::connections::{Connections, Conversation, attend};
 use crate::notices::Notice;
-use crate::port::{Host, Shared};
-use crate::resumed::Resumed;
+use crate::one_epoch::Shared;
+use crate::port::Host;
+use crate::resumed::Peer;
 use crate::waker::Door;
 use album_judge::write_refused;
 use album_stamps::Refusal;
@@ -11,7 +13,6 @@ use std::alloc::Global;
 use std::io::ErrorKind;
 use std::net::TcpStream;
 use std::sync::{Arc, Wait};
-use std::thread::{Scope, Threads};
 use std::time::{Duration, Instant};
 use std::{thread, time};
 
@@ -20,6 +21,9 @@ const NAP: u64 = 10;
 
 /// How often it sleeps so after a connection failed to come, unless one has ended meanwhile.
 const NAPS: u32 = 10;
+
+/// How many milliseconds an epoch that turns waits for a client that takes no answer.
+const STALL: u64 = 1_000;
 
 /// How the connections of a service are served.
 #[derive(Clone, Copy, Debug)]
@@ -38,69 +42,86 @@ pub(crate) struct Limits {
     pub until_closed: bool,
 }
 
+/// How the connections of an epoch end.
+#[derive(Clone, Copy, Debug)]
+pub(crate) enum Accepted {
+    /// All that count have ended, or the service is closed.
+    All,
+    /// The epoch turns, and those that are open go on in the next one.
+    Turned,
+}
+
 /// How many connections were counted, and how many had ended as one last failed to come. Where the service is closed:
-/// when those that are open are ended, and whether they are.
+/// when those that are open are ended, and whether they are. Where the epoch turns: when stalled ones are looked for.
 #[derive(Drop)]
 struct Count {
     counted: u16,
     failed_at: Option<u64>,
     until: Option<Instant>,
     is_cut: bool,
+    look_at: Option<Instant>,
     /// Whether it was said that no more are served.
     has_said: bool,
 }
 
-/// Accepts connections until all that are counted have ended, or they are closed.
-pub(crate) fn accept_all<'s, J, T, E>(
+/// Accepts connections until all that are counted have ended, or they are closed, or the epoch turns.
+pub(crate) fn accept_all<J, T>(
     rt: T,
     alloc: Global,
-    scope: &'s Scope<'s, E>,
     service: &Service<J>,
     door: &mut Door,
-    shared: &'s Shared<J, T>,
-)
+    shared: &Arc<Shared<J, T>, Global>,
+) -> Accepted
 where
-    J: ServiceNames + Send + Sync + 's,
-    T: Host + 's,
+    J: ServiceNames + Send + Sync + 'static,
+    T: Host,
 {
     let mut count = Count {
         counted: 0,
         failed_at: None,
         until: None,
         is_cut: false,
+        look_at: None,
         has_said: false,
     };
     for _ in rt.forever() {
         let is_closed = is_closed(&rt, service, shared);
         if is_closed {
+            shared.go_on_here();
             count.cut_late(&rt, shared);
+        } else if let Some(turn) = shared.begun_turn() {
+            if turn.is_quiet() {
+                return Accepted::Turned;
+            }
+            count.await_quiet(&rt, door, &shared.connections);
+            continue;
         }
+        go_on_all(rt, alloc, service, shared);
         let is_full = is_closed || count.is_full(shared);
         // Those beyond the last are refused while the others are served.
         let have_ended = is_full && shared.connections.await_end();
         if have_ended && (is_closed || !shared.limits.until_closed) {
-            return;
+            return Accepted::All;
         }
-        accept_one(rt, alloc, scope, service, door, shared, is_full, &mut count);
+        accept_one(rt, alloc, service, door, shared, is_full, &mut count);
     }
     // `forever` has no end.
     unreachable!()
 }
 
 /// Accepts one, if one has come, and else waits for one, or to be woken.
-fn accept_one<'s, J, T, E>(
+fn accept_one<J, T>(
     rt: T,
     alloc: Global,
-    scope: &'s Scope<'s, E>,
     service: &Service<J>,
     door: &mut Door,
-    shared: &'s Shared<J, T>,
+    shared: &Arc<Shared<J, T>, Global>,
     is_full: bool,
     count: &mut Count,
 )
 where
-    J: ServiceNames + Send + Sync + 's,
-    T: Host + 's,
+    J: ServiceNames + Send + Sync + 'static,
+    T: Host,
 {
     match door.accept() {
         Ok(stream) if is_full => {
@@ -109,11 +130,11 @@ where
         }
         Ok(stream) => {
             count.counted = count.counted.saturating_add(1);
-            welcome(rt, alloc, scope, service, shared, stream);
+            welcome(rt, alloc, service, shared, stream);
         }
         Err(error) if error.kind() == ErrorKind::WouldBlock => {
             if door.wait(count.left(&rt)).is_err() {
-                nap(&rt);
+                sleep(&rt);
             }
         }
         Err(_) => count.fail(&rt, &shared.connections),
@@ -193,6 +214,20 @@ impl Count {
         }
     }
 
+    /// The epoch turns, and waits for what is still to be answered, but not for a client that takes no answer.
+    fn await_quiet<T: Host>(&mut self, rt: &T, door: &mut Door, connections: &Connections) {
+        let now = Instant::now(rt).ok();
+        let until = self.look_at;
+        match (until, now) {
+            (Some(until), Some(now)) if now < until => {}
+            _ => {
+                connections.cut_stalled(rt);
+                self.look_at = now.and_then(|now| now.checked_add(Duration::from_millis(STALL)));
+            }
+        }
+        nap(rt, door);
+    }
+
     /// How long the thread that accepts may wait: until they are ended, if they are to be.
     fn left<T: time::Clock>(&self, rt: &T) -> Option<Duration> {
         if self.is_cut {
@@ -213,7 +248,7 @@ impl Count {
             self.counted = self.counted.saturating_add(1);
         }
         for _ in 0..NAPS {
-            nap(rt);
+            sleep(rt);
             if connections.ended() != ended {
                 return;
             }
@@ -221,8 +256,15 @@ impl Count {
     }
 }
 
-fn nap<T: time::Clock>(rt: &T) {
+fn sleep<T: time::Clock>(rt: &T) {
     thread::sleep(rt, Duration::from_millis(NAP));
+}
+
+/// Sleeps as long, or until it is woken.
+fn nap<T: time::Clock>(rt: &T, door: &mut Door) {
+    if door.wait(Some(Duration::from_millis(NAP))).is_err() {
+        sleep(rt);
+    }
 }
 
 /// Answers a connection why it is not served, and closes it.
@@ -232,25 +274,25 @@ fn turn_away(alloc: Global, stream: &TcpStream, why: Refusal) {
 }
 
 /// Gives a connection a session and a thread, or answers why it has none.
-fn welcome<'s, J, T, E>(
+fn welcome<J, T>(
     rt: T,
     alloc: Global,
-    scope: &'s Scope<'s, E>,
     service: &Service<J>,
-    shared: &'s Shared<J, T>,
+    shared: &Arc<Shared<J, T>, Global>,
     stream: TcpStream,
 )
 where
-    J: ServiceNames + Send + Sync + 's,
-    T: Host + 's,
+    J: ServiceNames + Send + Sync + 'static,
+    T: Host,
 {
     let _ = stream.set_read_timeout(shared.limits.idle);
     let _ = stream.set_write_timeout(shared.limits.idle);
-    let Ok(stream) = Arc::new(alloc, stream) else {
+    let _ = stream.set_nodelay(true);
+    let Ok(peer) = Arc::new(alloc, Peer::new(stream)) else {
         return;
     };
-    if let Err(why) = begin(rt, alloc, scope, service, shared, &stream) {
-        turn_away(alloc, &stream, why);
+    if let Err(why) = begin(rt, alloc, service, shared, &peer) {
+        turn_away(alloc, &peer.stream, why);
     }
 }
 
@@ -259,52 +301,107 @@ where
 /// # Errors
 ///
 /// As `OwnedSession::begin`; else `Closed`, where no connection begins any more; else `OutOfMemory`.
-fn begin<'s, J, T, E>(
+fn begin<J, T>(
     rt: T,
     alloc: Global,
-    scope: &'s Scope<'s, E>,
     service: &Service<J>,
-    shared: &'s Shared<J, T>,
-    stream: &Arc<TcpStream, Global>,
+    shared: &Arc<Shared<J, T>, Global>,
+    peer: &Arc<Peer, Global>,
 ) -> Result<(), Refusal>
 where
-    J: ServiceNames + Send + Sync + 's,
-    T: Host + 's,
+    J: ServiceNames + Send + Sync + 'static,
+    T: Host,
 {
-    let connection = open_connection(&rt, service, shared, stream)?;
-    let client = connection.owned.session.client();
-    let thread = scope.spawn(move || attend(alloc, shared, connection));
-    if thread.is_err() {
-        shared.connections.end(&rt, client);
+    let owned = session_of(&rt, service, shared)?;
+    let peer = Arc::try_clone(peer)?;
+    let number = shared.connections.begin(&rt, &peer)?;
+    let conversation = Conversation::new(&rt, alloc, number, peer, &shared.limits);
+    let begun = start(rt, alloc, shared, owned, conversation);
+    if begun.is_err() {
+        shared.connections.end(&rt, number);
         shared.connections.say_refused(&rt);
-        return Err(Refusal::OutOfMemory);
     }
-    Ok(())
+    begun
 }
 
-/// The connection is open, and has a session: one that rests, if there is any.
-fn open_connection<J: ServiceNames, T: Host>(
+/// A session that rests, or else a new one.
+///
+/// # Errors
+///
+/// As `OwnedSession::begin`.
+fn session_of<J: ServiceNames, T: Host>(
     rt: &T,
     service: &Service<J>,
     shared: &Shared<J, T>,
-    stream: &Arc<TcpStream, Global>,
-) -> Result<OpenConnection<J, T>, Refusal> {
-    let from = Resumed {
-        rt: *rt,
-        stream: Arc::try_clone(stream)?,
+) -> Result<OwnedSession<J, T>, Refusal> {
+    match shared.rested(rt) {
+        Some(owned) => Ok(owned),
+        None => OwnedSession::begin(rt, service),
+    }
+}
+
+/// The conversation has a thread.
+///
+/// # Errors
+///
+/// `OutOfMemory`, also where no thread is to be had.
+fn start<J, T>(
+    rt: T,
+    alloc: Global,
+    shared: &Arc<Shared<J, T>, Global>,
+    owned: OwnedSession<J, T>,
+    conversation: Conversation,
+) -> Result<(), Refusal>
+where
+    J: ServiceNames + Send + Sync + 'static,
+    T: Host,
+{
+    let shared = Arc::try_clone(shared)?;
+    let thread = thread::spawn(&rt, move || attend(alloc, &shared, owned, conversation));
+    match thread {
+        Ok(_) => Ok(()),
+        Err(_) => Err(Refusal::OutOfMemory),
+    }
+}
+
+/// Those that the epoch before has left go on in this one.
+fn go_on_all<J, T>(rt: T, alloc: Global, service: &Service<J>, shared: &Arc<Shared<J, T>, Global>)
+where
+    J: ServiceNames + Send + Sync + 'static,
+    T: Host,
+{
+    if shared.turn.is_none() {
+        return;
+    }
+    for conversation in shared.connections.take_left(&rt) {
+        go_on(rt, alloc, service, shared, conversation);
+    }
+}
+
+/// A conversation goes on in this epoch, or is told why not.
+fn go_on<J, T>(
+    rt: T,
+    alloc: Global,
+    service: &Service<J>,
+    shared: &Arc<Shared<J, T>, Global>,
+    conversation: Conversation,
+)
+where
+    J: ServiceNames + Send + Sync + 'static,
+    T: Host,
+{
+    let number = conversation.number;
+    let Ok(peer) = Arc::try_clone(&conversation.peer) else {
+        shared.connections.end(&rt, number);
+        return;
     };
-    let stream = Arc::try_clone(stream)?;
-    let owned = match shared.rested(rt) {
-        Some(owned) => owned,
-        None => OwnedSession::begin(rt, service)?,
+    let begun = match session_of(&rt, service, shared) {
+        Ok(owned) => start(rt, alloc, shared, owned, conversation),
+        Err(why) => Err(why),
     };
-    let number = shared
-        .connections
-        .begin(rt, owned.session.client(), &stream)?;
-    Ok(OpenConnection {
-        number,
-        owned,
-        from,
-        stream,
-    })
+    if let Err(why) = begun {
+        turn_away(alloc, &peer.stream, why);
+        shared.connections.end(&rt, number);
+        shared.connections.say_refused(&rt);
+    }
 }

@@ -1,26 +1,32 @@
-//! The connections of a service that are open. Each has a session and a thread of its own.
+//! The connections of a port that are open. In each epoch each has a session and a thread of its own.
 use crate::accepting::Limits;
-use crate::first_line::FirstLine;
 use crate::first_words::{FirstWords, Hearing, Said};
+use crate::incoming::Incoming;
 use crate::notices::{Notice, Notices};
-use crate::port::{Host, Shared};
-use crate::resumed::Resumed;
+use crate::one_epoch::Shared;
+use crate::port::Host;
+use crate::resumed::{Answered, Peer};
+use crate::turn::EpochReader;
 use crate::waker::Waker;
+use album_eval::Principal;
+use album_judge::Fault;
 use album_stamps::{ClientNo, Refusal};
-use album_talk::{Admins, converse_with};
+use album_talk::{Admins, talk_on};
 use album_threads::{OwnedSession, ServiceNames};
 use std::alloc::{AllocError, Global};
 use std::collections::BTreeMap;
-use std::net::{Shutdown, TcpStream};
+use std::net::Shutdown;
 use std::sync::atomic::{AtomicBool, AtomicU64, Ordering};
 use std::sync::{Arc, Mutex, Wait};
-use std::time;
 use std::time::Instant;
+use std::{mem, time};
 
-/// The streams of the connections that are open, by the numbers of their sessions.
+/// Whoever has a connection that is open, by its number.
 #[derive(Drop)]
-struct Streams {
-    open: BTreeMap<u16, Arc<TcpStream, Global>>,
+struct Peers {
+    open: BTreeMap<u64, Arc<Peer, Global>>,
+    /// Those that the epoch which turned has left to the next one.
+    left: Vec<Conversation>,
     /// Whether no connection begins any more.
     is_closed: bool,
 }
@@ -28,7 +34,8 @@ struct Streams {
 /// What the threads of the connections share with the one that accepts them.
 #[derive(Drop)]
 pub(crate) struct Connections {
-    streams: Mutex<Streams>,
+    alloc: Global,
+    peers: Mutex<Peers>,
     /// Wakes the thread that accepts.
     waker: Waker,
     /// Whether that thread waits for the last of them to end.
@@ -57,8 +64,10 @@ impl Connections {
         admins: Admins,
     ) -> Connections {
         Connections {
-            streams: Mutex::new(Streams {
+            alloc,
+            peers: Mutex::new(Peers {
                 open: BTreeMap::new(alloc),
+                left: Vec::new(alloc),
                 is_closed: false,
             }),
             waker,
@@ -78,30 +87,41 @@ impl Connections {
     /// # Errors
     ///
     /// `Closed`, where none begins any more; else `OutOfMemory`.
-    pub(crate) fn begin<T: Wait>(
-        &self,
-        rt: &T,
-        client: ClientNo,
-        stream: &Arc<TcpStream, Global>,
-    ) -> Result<u64, Refusal> {
-        let stream = Arc::try_clone(stream)?;
-        let mut streams = self.streams.lock(rt);
-        if streams.is_closed {
+    pub(crate) fn begin<T: Wait>(&self, rt: &T, peer: &Arc<Peer, Global>) -> Result<u64, Refusal> {
+        let peer = Arc::try_clone(peer)?;
+        let mut peers = self.peers.lock(rt);
+        if peers.is_closed {
             return Err(Refusal::Closed);
         }
-        let _ = streams.open.insert(client.number(), stream)?;
-        let before = self.begun.fetch_add(1, Ordering::SeqCst);
-        Ok(before.saturating_add(1))
+        let number = self.begun().saturating_add(1);
+        let _ = peers.open.insert(number, peer)?;
+        self.begun.fetch_add(1, Ordering::SeqCst);
+        Ok(number)
     }
 
-    /// The connection of this session has ended. Where the last is waited for, and this is it, that is told.
-    pub(crate) fn end<T: Wait>(&self, rt: &T, client: ClientNo) {
-        let stream = self.streams.lock(rt).open.remove(&client.number());
-        drop(stream);
+    /// The connection of this number has ended. Where the last is waited for, and this is it, that is told.
+    pub(crate) fn end<T: Wait>(&self, rt: &T, number: u64) {
+        let peer = self.peers.lock(rt).open.remove(&number);
+        drop(peer);
         self.ended.fetch_add(1, Ordering::SeqCst);
         if self.awaits_end.load(Ordering::SeqCst) && self.have_ended() {
             self.waker.wake();
         }
+    }
+
+    /// The epoch turns, and the conversation is for the next one. Without memory for that it ends.
+    fn leave<T: Wait>(&self, rt: &T, conversation: Conversation) {
+        let number = conversation.number;
+        let is_left = self.peers.lock(rt).left.push(conversation).is_ok();
+        if !is_left {
+            self.end(rt, number);
+        }
+        self.waker.wake();
+    }
+
+    /// The conversations that go on in this epoch.
+    pub(crate) fn take_left<T: Wait>(&self, rt: &T) -> Vec<Conversation> {
+        mem::replace(&mut self.peers.lock(rt).left, Vec::new(self.alloc))
     }
 
     /// The end of the last one is told from now on. Returns whether each has ended.
@@ -152,12 +172,12 @@ impl Connections {
     /// No connection begins any more, and those that are open are read to the end of what has come: each line that is
     /// there is answered still. The thread that accepts is woken.
     pub(crate) fn close<T: Wait>(&self, rt: &T) {
-        let mut streams = self.streams.lock(rt);
-        for (_, stream) in &streams.open {
-            let _ = stream.shutdown(Shutdown::Read);
+        let mut peers = self.peers.lock(rt);
+        for (_, peer) in &peers.open {
+            let _ = peer.stream.shutdown(Shutdown::Read);
         }
-        let is_first = !streams.is_closed;
-        streams.is_closed = true;
+        let is_first = !peers.is_closed;
+        peers.is_closed = true;
         if is_first {
             self.waker.wake();
         }
@@ -165,9 +185,19 @@ impl Connections {
 
     /// Ends the connections that are open still, also those whose client takes no answer.
     pub(crate) fn cut<T: Wait>(&self, rt: &T) {
-        let streams = self.streams.lock(rt);
-        for (_, stream) in &streams.open {
-            let _ = stream.shutdown(Shutdown::Both);
+        let peers = self.peers.lock(rt);
+        for (_, peer) in &peers.open {
+            let _ = peer.stream.shutdown(Shutdown::Both);
+        }
+    }
+
+    /// Ends those whose client has taken nothing since the last look: an epoch that turns doesn't wait for them.
+    pub(crate) fn cut_stalled<T: Wait>(&self, rt: &T) {
+        let peers = self.peers.lock(rt);
+        for (_, peer) in &peers.open {
+            if peer.is_stalled() {
+                let _ = peer.stream.shutdown(Shutdown::Both);
+            }
         }
     }
 
@@ -181,45 +211,106 @@ impl Connections {
 
     /// Whether none begins any more.
     pub(crate) fn is_closed<T: Wait>(&self, rt: &T) -> bool {
-        self.streams.lock(rt).is_closed
+        self.peers.lock(rt).is_closed
     }
 }
 
-/// Who talks over a connection, from its thread.
+/// A connection's talk, whatever epoch it is in.
 #[derive(Drop)]
-pub(crate) struct OpenConnection<J: ServiceNames, T: Wait + Copy> {
+pub(crate) struct Conversation {
     /// How many connections had begun by when it did.
     pub number: u64,
-    pub owned: OwnedSession<J, T>,
-    /// What the connection is read by, and what its answers are written to.
-    pub from: Resumed<T>,
-    pub stream: Arc<TcpStream, Global>,
+    pub peer: Arc<Peer, Global>,
+    incoming: Incoming,
+    said: Said,
+    /// Who talks, once that is answered.
+    who: Option<Principal>,
 }
 
-/// Answers the lines of a connection, to its end. Where a note can't be written, no connection is answered any more.
-pub(crate) fn attend<J, T>(alloc: Global, shared: &Shared<J, T>, connection: OpenConnection<J, T>)
+impl Conversation {
+    /// Nothing has been said. Who it is has to be said within the limit, if there is one.
+    pub(crate) fn new<T: time::Clock>(
+        rt: &T,
+        alloc: Global,
+        number: u64,
+        peer: Arc<Peer, Global>,
+        limits: &Limits,
+    ) -> Conversation {
+        let until = match limits.hello {
+            Some(hello) => Instant::now(rt).ok().and_then(|now| now.checked_add(hello)),
+            None => None,
+        };
+        Conversation {
+            number,
+            peer,
+            incoming: Incoming::new(alloc, until),
+            said: Said::new(),
+            who: None,
+        }
+    }
+}
+
+/// How a conversation ends in an epoch.
+#[derive(Drop)]
+enum Ended {
+    /// The next epoch goes on with it.
+    Left,
+    /// With the connection; and what is to be printed of that, unless it ended well.
+    Over(Option<Notice>),
+}
+
+/// Answers the lines of a connection, to its end, or to that of the epoch. Where a note can't be written, no connection
+/// is answered any more.
+pub(crate) fn attend<J, T>(
+    alloc: Global,
+    shared: &Arc<Shared<J, T>, Global>,
+    owned: OwnedSession<J, T>,
+    mut conversation: Conversation,
+)
 where
     J: ServiceNames + Send + Sync,
     T: Host,
 {
-    let OpenConnection {
-        number,
-        mut owned,
-        from,
-        stream,
-    } = connection;
+    let mut owned = owned;
+    let rt = owned.rt;
+    match talk(alloc, shared, &mut owned, &mut conversation) {
+        Ended::Left => {
+            drop(owned);
+            shared.connections.leave(&rt, conversation);
+        }
+        Ended::Over(notice) => {
+            finish(alloc, shared, owned, &conversation, notice);
+            // Until here it is busy: what it has noted is written by the epoch's journal.
+            if let Some(turn) = &shared.turn {
+                turn.leave(&conversation.peer);
+            }
+        }
+    }
+}
+
+/// The connection has ended so.
+fn finish<J, T>(
+    alloc: Global,
+    shared: &Arc<Shared<J, T>, Global>,
+    owned: OwnedSession<J, T>,
+    conversation: &Conversation,
+    notice: Option<Notice>,
+)
+where
+    J: ServiceNames + Send + Sync,
+    T: Host,
+{
     let (rt, client) = (owned.rt, owned.session.client());
-    let said = Said::new();
-    if let Some(notice) = talk(alloc, shared, &mut owned, &said, from, &stream) {
-        let of = name_of(&rt, alloc, number, client, &said);
+    if let Some(notice) = notice {
+        let of = name_of(&rt, alloc, client, conversation);
         shared.connections.notices.send_of(&rt, of.ok(), notice);
     }
     shared.journal.forget(&rt, &owned.session);
     if shared.journal.has_failed() {
         shared.connections.close(&rt);
     }
-    shared.connections.end(&rt, client);
     shared.rest(owned);
+    shared.connections.end(&rt, conversation.number);
 }
 
 /// How a connection is named on standard error.
@@ -230,37 +321,54 @@ where
 fn name_of<T: Wait>(
     rt: &T,
     alloc: Global,
-    number: u64,
     client: ClientNo,
-    said: &Said,
+    conversation: &Conversation,
 ) -> Result<String, AllocError> {
-    let (client, who) = (client.number(), said.text(rt, alloc)?);
+    let (number, client) = (conversation.number, client.number());
+    let who = conversation.said.text(rt, alloc)?;
     format!(in alloc; "connection {number}, client {client}, {who}")
 }
 
-/// Answers the lines of a connection, and gives what is to be printed of how it ended, unless it ended well.
+/// Answers the lines of a connection, and gives how that ended.
 fn talk<J, T>(
     alloc: Global,
-    shared: &Shared<J, T>,
+    shared: &Arc<Shared<J, T>, Global>,
     owned: &mut OwnedSession<J, T>,
-    said: &Said,
-    from: Resumed<T>,
-    stream: &TcpStream,
-) -> Option<Notice>
+    conversation: &mut Conversation,
+) -> Ended
 where
     J: ServiceNames + Send + Sync,
     T: Host,
 {
-    let _ = stream.set_nodelay(true);
     let rt = owned.rt;
+    let Conversation {
+        number: _,
+        peer,
+        incoming,
+        said,
+        who,
+    } = conversation;
+    let said: &Said = said;
+    let peer: &Peer = peer;
     let hearing = Hearing {
         journal: &shared.journal,
         connections: &shared.connections,
         said,
     };
-    let mut from = first_words(&rt, from, said, &shared.limits);
-    let mut to = stream;
-    let done = converse_with(
+    let from = FirstWords {
+        rt,
+        peer,
+        incoming,
+        said,
+        idle: shared.limits.idle,
+    };
+    let mut from = EpochReader {
+        from,
+        turn: shared.turn.as_ref(),
+        has_left: false,
+    };
+    let mut to = Answered { peer };
+    let done = talk_on(
         &rt,
         alloc,
         &mut from,
@@ -268,30 +376,19 @@ where
         &mut owned.session,
         &shared.connections.admins,
         &hearing,
+        who,
         shared.limits.turns,
     );
-    if from.first.is_request() {
-        return Some(Notice::Http);
-    }
-    done.err().map(Notice::Fault)
+    ended_by(&from, done)
 }
 
-/// What the connection is read by until it has said who it is, within the limits.
-fn first_words<'a, T: Host>(
-    rt: &T,
-    from: Resumed<T>,
-    said: &'a Said,
-    limits: &Limits,
-) -> FirstWords<'a, T> {
-    let until = match limits.hello {
-        Some(hello) => Instant::now(rt).ok().and_then(|now| now.checked_add(hello)),
-        None => None,
-    };
-    FirstWords {
-        from,
-        said,
-        until,
-        idle: limits.idle,
-        first: FirstLine::new(),
+/// How a conversation has ended that was read so.
+fn ended_by<T>(from: &EpochReader<'_, T>, done: Result<(), Fault>) -> Ended {
+    if from.has_left {
+        return Ended::Left;
     }
+    if from.from.incoming.first.is_request() {
+        return Ended::Over(Some(Notice::Http));
+    }
+    Ended::Over(done.err().map(Notice::Fault))
 }

@@ -1,7 +1,7 @@
 //! What a connection says until it has said who it is: how long that may take, and what it may not be.
 use crate::connections::Connections;
-use crate::first_line::FirstLine;
-use crate::resumed::Resumed;
+use crate::incoming::Incoming;
+use crate::resumed::{Peer, Resumed};
 use album_eval::Principal;
 use album_judge::Fault;
 use album_talk::Journal;
@@ -60,45 +60,53 @@ impl Said {
 /// that begins like a request of HTTP.
 #[derive(Drop)]
 pub(crate) struct FirstWords<'a, T> {
-    pub from: Resumed<T>,
+    pub rt: T,
+    pub peer: &'a Peer,
+    pub incoming: &'a mut Incoming,
     /// Whether it has said who it is.
     pub said: &'a Said,
-    /// By when it has to, if there is a limit.
-    pub until: Option<Instant>,
     /// How long it may say nothing afterwards.
     pub idle: Option<Duration>,
-    pub first: FirstLine,
 }
 
-impl<T: Wait + time::Clock> Read for FirstWords<'_, T> {
+impl<T: Wait + time::Clock + Copy> Read for FirstWords<'_, T> {
     fn read(&mut self, buf: &mut [u8]) -> io::Result<usize> {
-        if self.first.is_request() {
+        let mut from = Resumed {
+            rt: self.rt,
+            stream: &self.peer.stream,
+        };
+        if self.incoming.first.is_request() {
             return Err(io::Error::from(ErrorKind::InvalidData));
         }
         if self.said.is_known() {
             self.lift_limit();
-            return self.from.read(buf);
+            return from.read(buf);
         }
         self.limit()?;
-        let len = self.from.read(buf)?;
+        let len = from.read(buf)?;
         match buf.get(..len) {
-            Some(piece) => Ok(self.first.admit(piece)),
+            Some(piece) => Ok(self.incoming.first.admit(piece)),
             None => Ok(len),
         }
     }
 }
 
-impl<T: Wait + time::Clock> FirstWords<'_, T> {
+impl<T: Wait + time::Clock + Copy> FirstWords<'_, T> {
+    /// Whether something of the epoch before is read again.
+    pub(crate) fn has_rest(&self) -> bool {
+        self.incoming.has_rest()
+    }
+
     /// The next read ends by the limit, or by the one of each silence, whichever comes first.
     ///
     /// # Errors
     ///
     /// `TimedOut`, where the limit has passed.
     fn limit(&self) -> io::Result<()> {
-        let Some(until) = self.until else {
+        let Some(until) = self.incoming.until else {
             return Ok(());
         };
-        let left = until.saturating_duration_since(Instant::now(&self.from.rt)?);
+        let left = until.saturating_duration_since(Instant::now(&self.rt)?);
         if left.is_zero() {
             return Err(io::Error::from(ErrorKind::TimedOut));
         }
@@ -106,13 +114,13 @@ impl<T: Wait + time::Clock> FirstWords<'_, T> {
             Some(idle) => left.min(idle),
             None => left,
         };
-        self.from.stream.set_read_timeout(Some(most))
+        self.peer.stream.set_read_timeout(Some(most))
     }
 
     /// From now on each silence alone is limited.
     fn lift_limit(&mut self) {
-        if self.until.take().is_some() {
-            let _ = self.from.stream.set_read_timeout(self.idle);
+        if self.incoming.until.take().is_some() {
+            let _ = self.peer.stream.set_read_timeout(self.idle);
         }
     }
 }

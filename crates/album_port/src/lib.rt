@@ -3,13 +3,14 @@
 //! What comes in: a reader of the opening, the port, and then what the connections say. What goes out: to each of these
 //! its talk, which is `album_talk`'s; to a writer that the port is served, and at the end the totals; or a fault.
 //!
-//! Read `port` first: it opens a service (`opening`), gives each connection a thread (`accepting`, `connections`),
-//! writes its notes to a file (`audit`, `log`, `writer`) and prints its figures (`watch`). `waker` waits for whoever
-//! connects, `resumed` reads anew after an interruption, and `first_words` reads until it is said who talks.
-//! specs/Audits.antt says what the audit file has.
+//! Read `port` first: it opens a service (`opening`), whose epoch (`one_epoch`) gives each connection a thread
+//! (`accepting`, `connections`), writes its notes to a file (`audit`, `log`, `writer`) and prints its figures
+//! (`watch`). `waker` waits for whoever connects, `resumed` reads anew after an interruption, and `first_words` reads
+//! until it is said who talks. specs/Audits.antt says what the audit file has.
 //!
 //! `serve` ends with its connections; `serve_for` has options; `serve_until` ends with its input; `serve_beside` takes
-//! the opening from another input; `serve_logged` has a log.
+//! the opening from another input. A `Port` (`epochs`) is served from epoch to epoch, each with a log: its connections
+//! stay (`turn`), and what they have said before is answered in the next one (`incoming`).
 #![tactic(auto)]
 
 // How a service is opened, and what it prints on standard error.
@@ -28,16 +29,20 @@ mod accepting;
 mod connections;
 mod first_line;
 mod first_words;
+mod incoming;
 mod input;
 mod resumed;
+mod turn;
 mod waker;
 
-// The service.
+// The service, and its epochs.
+mod epochs;
+mod one_epoch;
 mod port;
 mod watch;
 
 pub use audit_file::AuditFile;
+pub use epochs::{EpochEnd, Port};
 pub use opening::opening_of_text;
-pub use port::{
-    Host, Served, Serving, first_opening, serve, serve_beside, serve_for, serve_logged, serve_until,
-};
+pub use port::{Host, Served, Serving, first_opening, serve, serve_beside, serve_for, serve_until};
+pub use turn::LogBound;

@@ -92,8 +92,8 @@ impl Waker {
     }
 }
 
-/// A gate that holds nothing up. Where a partition's thread or the log fails, the thread that accepts is woken, and finds the
-/// service broken then.
+/// A gate that holds nothing up. Where a partition's thread or the log fails, the thread that accepts is woken, and
+/// finds the service broken then.
 impl Gate for Waker {
     fn enter(&self, _part: u16, _number: u64) {}
 

@@ -4,16 +4,21 @@ ghost use Rattle.std.specs.Prelude.{◌≤◌, ◌*◌, ◌↔◌, IsTrue};
 use crate::connections::Connections;
 use crate::moments::now;
 use crate::notices::Notice;
+use crate::one_epoch::Shared;
+use crate::port::Host;
 use album_threads::{Figures, Gauge, ServiceNames};
 use album_wire::{Counted, ServiceFigures, write_figures};
 use crossbeam_channel::{Receiver, RecvTimeoutError};
 use std::alloc::{AllocError, Global};
-use std::sync::Wait;
+use std::sync::{Arc, Wait};
 use std::time;
-use std::time::Duration;
+use std::time::{Duration, Instant};
 
 /// How many seconds lie between two looks, where nobody wants figures.
 const PAUSE: u32 = 10;
+
+/// How many milliseconds lie between two looks at whether the epoch is to turn.
+const TURN_PAUSE: u64 = 50;
 
 /// Of what it was warned: of the marks of these partitions, and of the connections.
 #[derive(Drop)]
@@ -23,28 +28,50 @@ struct Warned {
 }
 
 /// Looks at the figures each so many seconds, until it is ended. Where `stats` is not 0 they are printed each time.
-pub(crate) fn watch<J: ServiceNames, T: Wait + time::Clock>(
+/// Where epochs turn it looks more often, and has this one turn where a partition has nearly as many marks as it may
+/// have, or the log as many bytes.
+pub(crate) fn watch<J: ServiceNames, T: Host>(
     rt: &T,
     alloc: Global,
-    gauge: &Gauge<J>,
-    connections: &Connections,
-    stats: u32,
+    shared: &Arc<Shared<J, T>, Global>,
     ended: &Receiver<()>,
 ) {
-    let seconds = if stats == 0 { PAUSE } else { stats };
-    let pause = Duration::from_secs(u64::from(seconds));
+    let seconds = if shared.stats == 0 {
+        PAUSE
+    } else {
+        shared.stats
+    };
+    let period = Duration::from_secs(u64::from(seconds));
+    let pause = match &shared.turn {
+        None => period,
+        Some(_) => period.min(Duration::from_millis(TURN_PAUSE)),
+    };
     let mut warned = Warned {
         parts: Vec::new(alloc),
         connections: false,
     };
+    let mut last = Instant::now(rt).ok();
     for _ in rt.forever() {
         if ends_within(rt, ended, pause) {
             return;
         }
-        look(rt, alloc, gauge, connections, stats, &mut warned);
+        let now = Instant::now(rt).ok();
+        let is_due = shared.turn.is_none() || is_past(last, now, period);
+        if is_due {
+            last = now;
+        }
+        look(rt, alloc, shared, is_due, &mut warned);
     }
     // `forever` has no end.
     unreachable!()
+}
+
+/// Whether so much time lies between the two, as far as the clock says.
+fn is_past(last: Option<Instant>, now: Option<Instant>, period: Duration) -> bool {
+    match (last, now) {
+        (Some(last), Some(now)) => now.saturating_duration_since(last) >= period,
+        _ => true,
+    }
 }
 
 /// Waits so long, or until it is ended. Returns whether it is.
@@ -55,24 +82,41 @@ fn ends_within<T: Wait + time::Clock>(rt: &T, ended: &Receiver<()>, pause: Durat
     }
 }
 
-/// Looks at them once.
-fn look<J: ServiceNames, T: Wait + time::Clock>(
+/// Looks at them once. Where they are due, it warns of what is nearly spent, and prints them.
+fn look<J: ServiceNames, T: Host>(
     rt: &T,
     alloc: Global,
-    gauge: &Gauge<J>,
-    connections: &Connections,
-    stats: u32,
+    shared: &Arc<Shared<J, T>, Global>,
+    is_due: bool,
     warned: &mut Warned,
 ) {
     // Without memory, or where a partition's thread has ended, there are none this time.
-    let Ok(parts) = gauge.figures(rt) else {
+    let Ok(parts) = shared.gauge.figures(rt) else {
         return;
     };
-    let figures = figures_of(rt, gauge, connections, parts);
-    let _ = warned.warn(rt, alloc, connections, &figures);
-    if stats > 0 {
-        print(rt, alloc, connections, &figures);
+    let connections = &shared.connections;
+    let has_turn = shared.turn.is_some();
+    if let Some(turn) = &shared.turn
+        && (turn.has_long_log() || parts.iter().any(has_nearly_all))
+    {
+        turn.begin();
     }
+    if is_due {
+        let figures = figures_of(rt, &shared.gauge, connections, parts);
+        let _ = warned.warn(rt, alloc, connections, has_turn, &figures);
+        if shared.stats > 0 {
+            print(rt, alloc, connections, &figures);
+        }
+    }
+}
+
+/// Whether the partition has nine tenths of the marks that it may have, or no two more. Without a mark it has room for
+/// what there is room for.
+fn has_nearly_all(has: &Figures) -> bool {
+    let made = has.marks.saturating_add(has.pending);
+    made > 0
+        && (9 * u128::from(has.limit) <= 10 * u128::from(made)
+            || made.saturating_add(2) > has.limit)
 }
 
 fn figures_of<J: ServiceNames, T: Wait>(
@@ -138,7 +182,7 @@ fn dated<T: time::Clock>(
 }
 
 impl Warned {
-    /// Warns once of each thing that is nearly spent.
+    /// Warns once of each thing that is nearly spent, unless the epoch turns before that.
     ///
     /// # Errors
     ///
@@ -148,11 +192,12 @@ impl Warned {
         rt: &T,
         alloc: Global,
         connections: &Connections,
+        has_turn: bool,
         figures: &ServiceFigures,
     ) -> Result<(), AllocError> {
         for (part, has) in figures.parts.iter().enumerate() {
             let made = has.marks.saturating_add(has.pending);
-            if is_nearly_spent(made, has.limit) && !self.parts.contains(&part) {
+            if !has_turn && is_nearly_spent(made, has.limit) && !self.parts.contains(&part) {
                 self.parts.push(part)?;
                 let limit = has.limit;
                 let text = format!(in alloc; "partition {part}: {made} of {limit} marks")?;

@@ -1,4 +1,4 @@
-use Rattle.album_port.proofs.port.serve_opened.Given as goal
+use Rattle.album_port.proofs.one_epoch.serve_opened.Given as goal
 
 -- the desk, the policy and the ledgers that were opened here
 abbrev pub ghosts-serve_all-J-ServiceNames : goal.ghosts-serve_all-J-ServiceNames
