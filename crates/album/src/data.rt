@@ -7,17 +7,16 @@ use album_judge::{Fault, write_refused};
 use album_log::{Log, LogError, read_text};
 use album_port::{Served, first_opening, opening_of_text};
 use album_stamps::Refusal;
-use clap::ArgMatches;
 use sqlite_disk::Disk;
 use sqlite_std_file::File as DiskFile;
 use std::alloc::{AllocError, Global};
 use std::io::{Read, Write};
 use std::process::ExitCode;
 
-/// An epoch of a folder, which nobody else has: what it opens on, and its log.
+/// An epoch of a folder: what it opens on, and its log.
 #[derive(Drop)]
 pub(crate) struct Epoch {
-    pub folder: Folder,
+    pub number: u64,
     pub opening: Opening,
     pub log: FileLog<DiskFile>,
     /// The path of the log's file.
@@ -33,8 +32,12 @@ pub(crate) enum Unbegun {
     Folder(String, FolderError),
     /// The log of this file failed.
     Log(String, LogError),
-    /// So many lines of the log of this file can be read.
-    Damaged(String, u64, Refusal),
+    /// The folder has no epoch.
+    Empty(String),
+    /// The log of this file has fewer lines.
+    Short(String, u64),
+    /// The line of this number in the log of this file, from this byte on, can't be read.
+    Damaged(String, u64, usize, Refusal),
     /// The opening of the newest epoch is none.
     BadOpening(String, Refusal),
 }
@@ -51,50 +54,90 @@ impl From<Fault> for Unbegun {
     }
 }
 
-/// The next epoch of the folder that the command line names, if it names one.
-pub(crate) fn named<R: Read, W: Write>(
+/// The folder of this path, which nobody else has from now on.
+pub(crate) fn open_folder(rt: &HostRuntime, alloc: Global, path: &str) -> Result<Folder, Unbegun> {
+    match Folder::open(rt, path) {
+        Ok(folder) => Ok(folder),
+        Err(error) => Err(Unbegun::Folder(String::from_str(alloc, path)?, error)),
+    }
+}
+
+/// The number of the folder's newest epoch, if it has one.
+pub(crate) fn newest_of(
     rt: &HostRuntime,
     alloc: Global,
-    matches: &ArgMatches<'_>,
-    reader: &mut R,
-    writer: &mut W,
-) -> Result<Option<Epoch>, Unbegun> {
-    let matches = matches.subcommand_matches("serve");
-    let Some(path) = matches.and_then(|m| m.get_str("data")) else {
-        return Ok(None);
-    };
-    let file = matches.and_then(|m| m.get_str("opening"));
-    begin(rt, alloc, path, file, reader, writer).map(Some)
+    folder: &Folder,
+    path: &str,
+) -> Result<Option<u64>, Unbegun> {
+    match folder.newest(rt) {
+        Ok(newest) => Ok(newest),
+        Err(error) => Err(Unbegun::Folder(String::from_str(alloc, path)?, error)),
+    }
 }
 
 /// Begins the next epoch of the folder: on what its newest epoch leaves, or, where it has none, on the opening that is
 /// read from the file, if there is one, and else from the input.
-fn begin<R: Read, W: Write>(
+pub(crate) fn begin<R: Read, W: Write>(
     rt: &HostRuntime,
     alloc: Global,
+    folder: &Folder,
     path: &str,
     file: Option<&str>,
     reader: &mut R,
     writer: &mut W,
 ) -> Result<Epoch, Unbegun> {
-    let folder = match Folder::open(rt, path) {
-        Ok(folder) => folder,
-        Err(error) => return Err(Unbegun::Folder(String::from_str(alloc, path)?, error)),
-    };
-    let newest = match folder.newest(rt) {
-        Ok(newest) => newest,
-        Err(error) => return Err(Unbegun::Folder(String::from_str(alloc, path)?, error)),
-    };
-    match newest {
+    match newest_of(rt, alloc, folder, path)? {
         None => {
             let opening = read_first(rt, alloc, file, reader, writer)?;
             epoch_on(rt, alloc, folder, 1, opening)
         }
-        Some(number) => {
-            let opening = opening_after(rt, alloc, &folder, number)?;
-            epoch_on(rt, alloc, folder, number.saturating_add(1), opening)
+        Some(number) => begin_after(rt, alloc, folder, number),
+    }
+}
+
+/// Begins the epoch after the one of this number.
+pub(crate) fn begin_after(
+    rt: &HostRuntime,
+    alloc: Global,
+    folder: &Folder,
+    number: u64,
+) -> Result<Epoch, Unbegun> {
+    let text = read_log(rt, alloc, folder, number)?;
+    let opening = what_follows(rt, alloc, folder, number, &text)?;
+    epoch_on(rt, alloc, folder, number.saturating_add(1), opening)
+}
+
+/// Begins the epoch after the one of this number, on so many lines of its log. The log stays as it is.
+pub(crate) fn repair(
+    rt: &HostRuntime,
+    alloc: Global,
+    folder: &Folder,
+    number: u64,
+    lines: u64,
+) -> Result<(), Unbegun> {
+    let text = read_log(rt, alloc, folder, number)?;
+    let Some(end) = end_of_lines(&text, lines) else {
+        let name = path_or_memory(folder.log_path(rt, number))?;
+        return Err(Unbegun::Short(name, lines));
+    };
+    let opening = what_follows(rt, alloc, folder, number, text.get(..end).unwrap_or(&text))?;
+    let _begun = epoch_on(rt, alloc, folder, number.saturating_add(1), opening)?;
+    Ok(())
+}
+
+/// Where so many lines end, if there are so many.
+fn end_of_lines(text: &[u8], lines: u64) -> Option<usize> {
+    let (mut left, mut end) = (lines, 0);
+    for (index, byte) in text.iter().enumerate() {
+        if left == 0 {
+            break;
+        }
+        if *byte == b'\n' {
+            left -= 1;
+            end = index.saturating_add(1);
         }
     }
+    if left == 0 { Some(end) } else { None }
 }
 
 /// The opening of a folder's first epoch.
@@ -124,14 +167,13 @@ fn read_first<R: Read, W: Write>(
     Ok(opening)
 }
 
-/// What the epoch of this number leaves to the next one.
-fn opening_after(
+/// The text of whole lines that the log of this epoch has.
+pub(crate) fn read_log(
     rt: &HostRuntime,
     alloc: Global,
     folder: &Folder,
     number: u64,
-) -> Result<Opening, Unbegun> {
-    let opening = read_epoch(rt, alloc, folder, number)?;
+) -> Result<Vec<u8>, Unbegun> {
     let name = path_or_memory(folder.log_path(rt, number))?;
     let mut disk = match folder.open_log(rt, number) {
         Ok(disk) => disk,
@@ -140,17 +182,29 @@ fn opening_after(
     if !disk.may_be_used() {
         return Err(Unbegun::Log(name, LogError::Closed));
     }
-    let text = match read_text(alloc, &mut disk) {
-        Ok(text) => text,
-        Err(error) => return Err(Unbegun::Log(name, error)),
-    };
-    match next_opening(alloc, &opening, &text) {
+    read_text(alloc, &mut disk).map_err(|error| Unbegun::Log(name, error))
+}
+
+/// What the epoch of this number leaves to the next one, where its log has this text.
+pub(crate) fn what_follows(
+    rt: &HostRuntime,
+    alloc: Global,
+    folder: &Folder,
+    number: u64,
+    text: &[u8],
+) -> Result<Opening, Unbegun> {
+    let opening = read_epoch(rt, alloc, folder, number)?;
+    let name = path_or_memory(folder.log_path(rt, number))?;
+    match next_opening(alloc, &opening, text) {
         Ok(next) => match next.check() {
             Ok(()) => Ok(next),
             Err(why) => Err(Unbegun::BadOpening(name, why)),
         },
         Err(Unread::OutOfMemory) => Err(Unbegun::Ended(Err(Fault::Memory))),
-        Err(Unread::Damaged { line, why }) => Err(Unbegun::Damaged(name, line, why)),
+        Err(Unread::Damaged { line, why }) => {
+            let byte = end_of_lines(text, line.saturating_sub(1)).unwrap_or(0);
+            Err(Unbegun::Damaged(name, line, byte, why))
+        }
         Err(Unread::BadOpening) => Err(Unbegun::BadOpening(name, Refusal::BadOpening)),
         Err(Unread::Spent) => Err(Unbegun::BadOpening(name, Refusal::StampsSpent)),
     }
@@ -178,12 +232,12 @@ fn read_epoch(
     }
 }
 
-/// The epoch of this number, which begins on the opening. Its log is there before its opening is, and from then on it is
-/// the newest. The one before the last is removed.
+/// The epoch of this number, which begins on the opening. Its log is there before its opening is, and from then on it
+/// is the newest. The one before the last is removed.
 fn epoch_on(
     rt: &HostRuntime,
     alloc: Global,
-    folder: Folder,
+    folder: &Folder,
     number: u64,
     opening: Opening,
 ) -> Result<Epoch, Unbegun> {
@@ -212,7 +266,7 @@ fn epoch_on(
         let _ = folder.forget(rt, number - 2);
     }
     Ok(Epoch {
-        folder,
+        number,
         opening,
         log: FileLog::new(alloc, log)?,
         log_path: name,
@@ -224,25 +278,24 @@ fn path_or_memory(path: Result<String, FolderError>) -> Result<String, Unbegun> 
     path.map_err(|_| Unbegun::Ended(Err(Fault::Memory)))
 }
 
-/// Says why no epoch begins, and gives the status.
-pub(crate) fn end_of(rt: &HostRuntime, unbegun: Unbegun) -> ExitCode {
-    match unbegun {
+/// Says why no epoch begins, and gives the status. Of damage it says besides what comes of it.
+pub(crate) fn end_of(rt: &HostRuntime, unbegun: Unbegun, so: &str) -> ExitCode {
+    let _ = match unbegun {
         Unbegun::Ended(outcome) => return served(rt, outcome),
-        Unbegun::Folder(name, error) => {
-            let _ = eprintln!(rt; "album: {name}: {error}");
-        }
-        Unbegun::Log(name, error) => {
-            let _ = eprintln!(rt; "album: {name}: {error}");
-        }
-        Unbegun::Damaged(name, line, why) => {
-            let _ = eprintln!(rt;
-                "album: {name}: line {line} is damaged ({}): nothing is served",
-                why.name()
-            );
+        Unbegun::Folder(name, error) => eprintln!(rt; "album: {name}: {error}"),
+        Unbegun::Log(name, error) => eprintln!(rt; "album: {name}: {error}"),
+        Unbegun::Empty(name) => eprintln!(rt; "album: {name}: it has no epoch"),
+        Unbegun::Short(name, lines) => eprintln!(rt;
+            "album: {name}: it has less than {lines} lines"
+        ),
+        Unbegun::Damaged(name, line, byte, why) => {
+            let why = why.name();
+            eprintln!(rt; "album: {name}: line {line}, from byte {byte}, is damaged ({why}){so}")
         }
         Unbegun::BadOpening(name, why) => {
-            let _ = eprintln!(rt; "album: {name}: {}: nothing is served", why.name());
+            let why = why.name();
+            eprintln!(rt; "album: {name}: {why}{so}")
         }
-    }
+    };
     ExitCode::from(1)
 }

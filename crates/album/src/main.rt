@@ -1,13 +1,15 @@
 //! The program `album`. `album judge` answers each line of standard input by one line, and `album replay` prints what
 //! the events that its lines spell bring about in a store. `album serve` runs a store for whoever connects to a port,
-//! and `album ask` is a client of it. The command line and all but `serve` are album_commands'.
+//! and `album ask` is a client of it. `album check-data` looks at the folder of a service that has
+//! ended. The command line and all but `serve` and `check-data` are album_commands'.
 #![tactic(auto)]
 
+mod checking;
 mod data;
 mod descriptors;
 mod serving;
 
-use crate::data::{end_of, named};
+use crate::checking::check_data;
 use crate::descriptors::fill_descriptors;
 use crate::serving::serve;
 use album_commands::{let_go, parse, refuse, refuse_words, run, status};
@@ -30,21 +32,20 @@ fn main(rt: HostRuntime) -> ExitCode {
         Err(error) => return refuse(&rt, &error),
     };
     let (mut input, mut output) = (rt.stdin(), rt.stdout());
-    let status = if matches.subcommand_name() == Some("serve") {
-        match named(&rt, rt.alloc(), &matches, &mut input, &mut output) {
-            Ok(epoch) => serve(rt, rt.alloc(), input, &mut output, &matches, epoch),
-            Err(unbegun) => end_of(&rt, unbegun),
+    let status = match matches.subcommand_name() {
+        Some("serve") => serve(rt, &rt, rt.alloc(), input, &mut output, &matches),
+        Some("check-data") => check_data(&rt, rt.alloc(), &mut output, &matches),
+        _ => {
+            let has_prompt = input.is_terminal() && output.is_terminal();
+            run(
+                &rt,
+                rt.alloc(),
+                &mut input,
+                &mut output,
+                &matches,
+                has_prompt,
+            )
         }
-    } else {
-        let has_prompt = input.is_terminal() && output.is_terminal();
-        run(
-            &rt,
-            rt.alloc(),
-            &mut input,
-            &mut output,
-            &matches,
-            has_prompt,
-        )
     };
     let_go(matches);
     status

@@ -1,9 +1,12 @@
 //! The subcommand `serve`: a service of the port that the command line names.
 
-use crate::data::Epoch;
+use crate::data::{Epoch, Unbegun, begin, begin_after, end_of, open_folder};
 use album_commands::{TURNS, open, status};
+use album_data::Folder;
 use album_judge::Fault;
-use album_port::{AuditFile, Host, Served, Serving, serve_beside, serve_logged, serve_until};
+use album_port::{
+    AuditFile, EpochEnd, Host, LogBound, Port, Served, Serving, serve_beside, serve_until,
+};
 use album_stamps::Refusal;
 use album_talk::Admins;
 use clap::ArgMatches;
@@ -20,15 +23,15 @@ use std::time;
 /// How many seconds `--hello` and `--grace` are with `--until-eof` and `--data`, where they aren't given.
 const LIMIT: u32 = 10;
 
-/// Runs the service that the command line names, to its end, in this epoch of its folder, if it has one. The bound has that of `Host`, written out: the borrow
-/// checker wants the types that it names where `main` calls this.
+/// Runs the service that the command line names, to its end. The files of a folder are the host's. The bound has that
+/// of `Host`, written out: the borrow checker wants the types that it names where `main` calls this.
 pub(crate) fn serve<T, R: Read + Send + Drop + 'static, W: Write>(
     rt: T,
+    host: &HostRuntime,
     alloc: Global,
     reader: R,
     writer: &mut W,
     matches: &ArgMatches<'_>,
-    epoch: Option<Epoch>,
 ) -> ExitCode
 where
     T: Net<Listener = TcpListener, Stream = TcpStream>
@@ -47,12 +50,21 @@ where
         Ok(admins) => admins,
         Err(why) => return refuse_admins(&rt, why),
     };
-    match audit_file(&rt, alloc, matches) {
-        Ok(audit) => served(
+    let audit = match audit_file(&rt, alloc, matches) {
+        Ok(audit) => audit,
+        Err(fault) => return status(&rt, Err(fault)),
+    };
+    match matches.and_then(|m| m.get_str("data")) {
+        None => served(
             &rt,
-            serve_port(rt, alloc, reader, writer, matches, admins, audit, epoch),
+            serve_port(rt, alloc, reader, writer, matches, admins, audit),
         ),
-        Err(fault) => status(&rt, Err(fault)),
+        Some(path) => match serve_folder(
+            rt, host, alloc, path, reader, writer, matches, admins, audit,
+        ) {
+            Ok(outcome) => served(&rt, Ok(outcome)),
+            Err(unbegun) => end_of(host, unbegun, ": nothing is served"),
+        },
     }
 }
 
@@ -82,14 +94,9 @@ fn serve_port<T: Host, R: Read + Send + Drop + 'static, W: Write>(
     matches: Option<&ArgMatches<'_>>,
     admins: Admins,
     audit: Option<AuditFile>,
-    epoch: Option<Epoch>,
 ) -> Result<Served, Fault> {
-    let until_eof = matches.is_some_and(|m| m.get_flag("until-eof"));
-    let serving = serving_of(matches, admins, until_eof || epoch.is_some());
-    if let Some(epoch) = epoch {
-        let input = until_eof.then_some(reader);
-        return serve_epoch(rt, alloc, epoch, input, writer, serving, audit);
-    }
+    let until_eof = is_until_eof(matches);
+    let serving = serving_of(matches, admins, until_eof);
     match matches.and_then(|m| m.get_str("opening")) {
         None => serve_input(rt, alloc, reader, writer, serving, audit, until_eof),
         Some(path) => {
@@ -100,32 +107,100 @@ fn serve_port<T: Host, R: Read + Send + Drop + 'static, W: Write>(
     }
 }
 
+/// Whether the service ends with its input.
+fn is_until_eof(matches: Option<&ArgMatches<'_>>) -> bool {
+    matches.is_some_and(|m| m.get_flag("until-eof"))
+}
+
+/// Serves the port from a folder: what was committed there is served, and what is committed is kept there. The port
+/// comes first: without it no epoch begins.
+fn serve_folder<T: Host, R: Read + Send + Drop + 'static, W: Write>(
+    rt: T,
+    host: &HostRuntime,
+    alloc: Global,
+    path: &str,
+    mut reader: R,
+    writer: &mut W,
+    matches: Option<&ArgMatches<'_>>,
+    admins: Admins,
+    audit: Option<AuditFile>,
+) -> Result<Served, Unbegun> {
+    let folder = open_folder(host, alloc, path)?;
+    let serving = serving_of(matches, admins, true);
+    let Some(mut port) = Port::open(rt, alloc, serving)? else {
+        return Ok(Served::NoPort);
+    };
+    let file = matches.and_then(|m| m.get_str("opening"));
+    let first = begin(host, alloc, &folder, path, file, &mut reader, writer)?;
+    if is_until_eof(matches) {
+        port.end_with(rt, alloc, reader)?;
+    }
+    let ended = serve_epochs(
+        rt, host, alloc, &folder, first, &mut port, writer, matches, audit,
+    )?;
+    Ok(port.close(rt, alloc, ended, writer)?)
+}
+
+/// Serves one epoch of the folder after another. Each but the first begins on what the one before has left.
+fn serve_epochs<T: Host, W: Write>(
+    rt: T,
+    host: &HostRuntime,
+    alloc: Global,
+    folder: &Folder,
+    first: Epoch,
+    port: &mut Port,
+    writer: &mut W,
+    matches: Option<&ArgMatches<'_>>,
+    audit: Option<AuditFile>,
+) -> Result<Result<EpochEnd, Fault>, Unbegun> {
+    let (mut epoch, mut audit) = (first, audit);
+    for _ in rt.forever() {
+        let number = epoch.number;
+        match serve_epoch(rt, alloc, epoch, log_most(matches), port, writer, audit) {
+            Ok(EpochEnd::Turned) => {}
+            ended => return Ok(ended),
+        }
+        epoch = begin_after(host, alloc, folder, number)?;
+        audit = audit_file(&rt, alloc, matches)?;
+    }
+    // `forever` has no end.
+    unreachable!()
+}
+
+/// With how many bytes of its log an epoch turns.
+fn log_most(matches: Option<&ArgMatches<'_>>) -> u64 {
+    let megabytes = matches
+        .and_then(|m| m.get_one::<u32>("log-mb"))
+        .unwrap_or(64);
+    u64::from(megabytes) * 1_000_000
+}
+
 /// Serves the epoch. Where its log fails, standard error says why.
-fn serve_epoch<T: Host, R: Read + Send + Drop + 'static, W: Write>(
+fn serve_epoch<T: Host, W: Write>(
     rt: T,
     alloc: Global,
     epoch: Epoch,
-    input: Option<R>,
+    most: u64,
+    port: &mut Port,
     writer: &mut W,
-    serving: Serving,
     audit: Option<AuditFile>,
-) -> Result<Served, Fault> {
+) -> Result<EpochEnd, Fault> {
     let Epoch {
-        folder,
+        number: _,
         opening,
         log,
         log_path,
     } = epoch;
-    let Ok(failure) = log.failure() else {
+    let (Ok(failure), Ok(size)) = (log.failure(), log.size()) else {
         return Err(Fault::Memory);
     };
-    let outcome = serve_logged(rt, alloc, &opening, log, input, writer, serving, audit);
+    let bound = LogBound { size, most };
+    let ended = port.serve_epoch(rt, alloc, &opening, log, bound, audit, writer);
     if let Some(error) = failure.get() {
         let path = log_path.as_str();
         let _ = eprintln!(rt; "album: {path}: {error}");
     }
-    drop(folder);
-    outcome
+    ended
 }
 
 /// The same, where the input has the opening. It calls `serve_beside` with no other input, and not `serve_for`: a call
@@ -145,8 +220,8 @@ fn serve_input<T: Host, R: Read + Send + Drop + 'static, W: Write>(
     serve_beside(rt, alloc, &mut reader, None::<R>, writer, serving, audit)
 }
 
-/// What the command line says of the service. Where it ends by no number of connections, whoever connects has a limit of
-/// time.
+/// What the command line says of the service. Where it ends by no number of connections, whoever connects has a limit
+/// of time.
 fn serving_of(matches: Option<&ArgMatches<'_>>, admins: Admins, goes_on: bool) -> Serving {
     let conns = matches.and_then(|m| m.get_one::<u16>("conns"));
     let limit = if goes_on { LIMIT } else { 0 };

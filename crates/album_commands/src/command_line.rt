@@ -1,6 +1,8 @@
-//! The command line of `album`: its subcommands, how it is read, and what those do that need no running service.
+//! The command line of `album`: its subcommands, how it is read, and what those do that need neither a running service
+//! nor its folder.
 
 use crate::asking::{ask_command, ask_service};
+use crate::checking::check_data_command;
 use crate::explaining::{explain_command, explain_lines, flags_command, mask_command, print_bits};
 use crate::judging::{judge_command, judge_lines};
 use crate::replaying::{replay_command, replay_lines};
@@ -38,14 +40,15 @@ fn album_command<'a>(alloc: Global) -> Result<Command<'a>, AllocError> {
     let command = with_subcommand(Ok(command), judge_command(alloc));
     let command = with_subcommand(command, replay_command(alloc));
     let command = with_subcommand(command, serve_command(alloc));
+    let command = with_subcommand(command, check_data_command(alloc));
     let command = with_subcommand(command, ask_command(alloc));
     let command = with_subcommand(command, explain_command(alloc));
     let command = with_subcommand(command, mask_command(alloc));
     with_subcommand(command, flags_command(alloc))
 }
 
-/// Does what the command line names, but for `serve`, and gives the status that the program ends with. On a terminal
-/// `ask` has a prompt.
+/// Does what the command line names, but for `serve` and `check-data`, and gives the status that the program ends with.
+/// On a terminal `ask` has a prompt.
 pub fn run<T, R: Read, W: Write>(
     rt: &T,
     alloc: Global,

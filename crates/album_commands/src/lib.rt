@@ -1,7 +1,7 @@
-//! The command line of `album`, and its subcommands. Of `serve` it has the arguments alone.
+//! The command line of `album`, and its subcommands. Of `serve` and `check-data` it has the arguments alone.
 //!
 //! What comes in: the words of a command line, a reader and a writer. What goes out: lines, and the status that the
-//! program ends with. Each file has a subcommand: its arguments, and what it does; `album` does what `serve` says.
+//! program ends with. Each file has a subcommand: its arguments, and what it does; `album` does what these two say.
 //!
 //! Read `command_line` first; `running` has what all of them share.
 #![tactic(auto)]
@@ -10,6 +10,7 @@ mod command_line;
 
 // The subcommands.
 mod asking;
+mod checking;
 mod explaining;
 mod judging;
 mod replaying;

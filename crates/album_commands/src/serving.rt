@@ -22,6 +22,7 @@ pub(crate) fn serve_command<'a>(alloc: Global) -> Result<Command<'a>, AllocError
     let command = with_arg(command, grace_arg(alloc));
     let command = with_arg(command, opening_arg(alloc));
     let command = with_arg(command, data_arg(alloc));
+    let command = with_arg(command, log_mb_arg(alloc));
     let command = with_arg(command, admin_arg(alloc));
     let command = with_arg(command, stats_arg(alloc));
     with_arg(command, audit_arg(alloc))
@@ -80,6 +81,15 @@ fn data_arg<'a>(alloc: Global) -> Arg<'a> {
     Arg::new(alloc, "data").long("data").value_name("DIR").help(
         "A folder that keeps what is written; the opening is read where it is empty",
     )
+}
+
+fn log_mb_arg<'a>(alloc: Global) -> Arg<'a> {
+    Arg::new(alloc, "log-mb")
+        .long("log-mb")
+        .value_name("N")
+        .help("With --data: once its log has so many megabytes, the epoch turns")
+        .value_parser(value_parser!(u32).range(1..))
+        .default_value("64")
 }
 
 fn admin_arg<'a>(alloc: Global) -> Arg<'a> {

@@ -153,6 +153,18 @@ pub(crate) const NAMES_HELP: &str = r#"As in
 
 docs/FORMATS.md has all names."#;
 
+pub(crate) const CHECK_DATA_ABOUT: &str =
+    "Looks whether a service would begin on a folder, and on what";
+
+pub(crate) const CHECK_DATA_HELP: &str =
+    r#"The folder is that of album serve PORT --data DIR. Its newest epoch is read, as a start reads it:
+
+  {"epoch":3,"items":4,"lines":17}
+
+This epoch's log has 17 lines, and the next one would open with 4 items. Where a line is damaged, standard
+error names the file, the line and its first byte, and the status is 1. Nothing is changed, unless
+--repair-to-line is given. The epoch that is read then stays as it is, as the one before the newest."#;
+
 pub(crate) const SERVE_ABOUT: &str =
     "Opens a store by the lines of standard input, and answers the requests of connections to a port";
 
