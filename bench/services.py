@@ -74,14 +74,14 @@ def service(opening, connections, more=(), tool=(), program=ALBUM, errors=None):
 
 
 @contextlib.contextmanager
-def durable(opening, program=ALBUM):
-    """A service of the opening's lines that keeps what it writes in a folder, as its process and its port. It ends by no
-    number of connections, so it is killed."""
+def durable(opening, program=ALBUM, folder=None):
+    """A service of the opening's lines that keeps what it writes in this folder, or one of its own, as its process and
+    its port. It ends by no number of connections, so it is killed."""
     port = free_port()
-    with tempfile.TemporaryFile() as lines, tempfile.TemporaryDirectory() as folder:
+    with tempfile.TemporaryFile() as lines, tempfile.TemporaryDirectory() as own:
         lines.write("".join(opening).encode())
         lines.seek(0)
-        words = [program, "serve", str(port), "--data", folder]
+        words = [program, "serve", str(port), "--data", folder or own]
         with subprocess.Popen(words, stdin=lines, stdout=subprocess.PIPE) as process:
             try:
                 if b'"serving"' not in process.stdout.readline():

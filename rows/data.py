@@ -112,6 +112,12 @@ def refused(program, folder, given=b"", *words):
     return run.stdout.decode(), run.stderr.decode().replace(str(folder), "DIR")
 
 
+def checked(program, folder, *words):
+    """The status of `check-data`, what it prints, and what it says."""
+    run = subprocess.run([program, "check-data", str(folder), *words], capture_output=True, timeout=SECONDS)
+    return run.returncode, run.stdout.decode(), run.stderr.decode().replace(str(folder), "DIR")
+
+
 def names_in(folder):
     return sorted(file.name for file in folder.iterdir())
 
@@ -196,10 +202,37 @@ def damaged(program, folder):
             ("a title that is none", line(0, 65537, ["picture/0"], ["picture/0", picture("a\tb")]), 1, "BadText")):
         folder_with(folder, opening(1), log)
         before = {file.name: file.read_bytes() for file in folder.iterdir() if file.name != "lock"}
-        want(("", f"album: DIR/epoch-1.log: line {number} is damaged ({why}): nothing is served\n"),
-             refused(program, folder), f"what is said of {name}")
+        byte = 0 if number == 1 else len(right)
+        said = f"album: DIR/epoch-1.log: line {number}, from byte {byte}, is damaged ({why})"
+        want(("", f"{said}: nothing is served\n"), refused(program, folder), f"what is said of {name}")
+        want((1, "", f"{said}\n"), checked(program, folder), f"what check-data says of {name}")
         after = {file.name: file.read_bytes() for file in folder.iterdir() if file.name != "lock"}
         want(before, after, f"the files after {name}")
+
+
+def looked_at_and_repaired(program, folder):
+    """What `check-data` finds, where nothing is damaged and where a line is; and an epoch that begins on the lines before
+    it. The folder of a running service is refused, as one that has no epoch."""
+    want((1, "", "album: DIR: it has no epoch\n"), checked(program, folder), "what is said of an empty folder")
+    first = line(0, 65537, ["picture/0"], ["picture/0", picture("Lake")])
+    second = line(0, 131073, ["picture/0"], ["picture/0", picture("Hill")])
+    folder_with(folder, opening(1), first + second)
+    want((0, '{"epoch":1,"items":4,"lines":2}\n', ""), checked(program, folder), "what is found")
+    folder_with(folder, opening(1), first + second + b"x\n" + second)
+    damaged_at = len(first + second)
+    want((1, "", f"album: DIR/epoch-1.log: line 3, from byte {damaged_at}, is damaged (BadLine)\n"),
+         checked(program, folder), "what is said of damage")
+    want((1, "", "album: DIR/epoch-1.log: it has less than 5 lines\n"),
+         checked(program, folder, "--repair-to-line", "5"), "what is said of a line that isn't there")
+    want(damaged_at + 2 + len(second), (folder / "epoch-1.log").stat().st_size, "the size of the log")
+    want((1, "", f"album: DIR/epoch-1.log: line 3, from byte {damaged_at}, is damaged (BadLine)\n"),
+         checked(program, folder, "--repair-to-line", "3"), "what is said of a line that is damaged")
+    want(["epoch-1.log", "epoch-1.opening", "lock"], names_in(folder), "the files")
+    want((0, '{"epoch":2,"items":4,"lines":0}\n', ""), checked(program, folder, "--repair-to-line", "2"), "a repair")
+    want(first + second + b"x\n" + second, (folder / "epoch-1.log").read_bytes(), "the log that was damaged")
+    with served(program, folder) as service:
+        want("Hill", title_in(service), "the title after a repair")
+        want((1, "", "album: DIR: another service has it\n"), checked(program, folder), "what is said meanwhile")
 
 
 def openings_that_are_none(program, folder):
@@ -278,6 +311,7 @@ FACTS = {
     "a service goes on": goes_on,
     "logs by hand": logs_by_hand,
     "damaged logs": damaged,
+    "a folder that is looked at, and repaired": looked_at_and_repaired,
     "openings that are none": openings_that_are_none,
     "an epoch that was begun and never opened": begun_and_not_opened,
     "an opening that isn't read": opening_that_is_not_read,
