@@ -1,9 +1,9 @@
 //! A gate: it sees each message that a partition takes, and may hold the partition up. Tests order messages by it.
 
 /// A partition's thread calls `enter` once it has taken its message of this number, from 0, and before
-/// it does what the message asks, and `leave` once its reply is sent, or the log has it: those that came in one mail enter one
-/// after another, and leave when the replies to all of them are sent. Registrations and control
-/// requests aren't numbered, and don't call it.
+/// it does what the message asks, and `leave` once its reply is sent, or the log has it: those that came
+/// in one mail enter one after another, and leave when the replies to all of them are sent. Registrations
+/// and control requests aren't numbered, and don't call it.
 pub trait Gate {
     fn enter(&self, part: u16, number: u64);
 

@@ -96,8 +96,8 @@ impl<J: DeskNames> Outbox<J> {
         post_to(rt, self.alloc, &self.parts, envelope)
     }
 
-    /// Sends an envelope to its partition: by the log, where the service has one and there is an entry that the envelope
-    /// rests on.
+    /// Sends an envelope to its partition: by the log, where the service has one and there is an entry that the
+    /// envelope rests on.
     pub(crate) fn post_out<R: Wait>(
         &self,
         rt: &R,

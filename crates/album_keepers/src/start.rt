@@ -24,7 +24,8 @@ use std::thread::{JoinHandle, Threads, spawn};
 use std::time;
 
 /// Starts the threads of all partitions, as they open, the last one first, and puts them into
-/// `threads`. What they prepare goes to the log, if there is one. Where a thread can't be had, those that run stay there.
+/// `threads`. What they prepare goes to the log, if there is one. Where a thread can't be had, those that
+/// run stay there.
 ///
 /// # Errors
 ///

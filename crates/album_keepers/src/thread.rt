@@ -137,8 +137,8 @@ impl<J: DeskNames> PartitionLoop<J> {
         Ok(())
     }
 
-    /// Takes an envelope, and adds its reply, if there is one, with what the log is to keep of it. An envelope for which
-    /// there is no memory is refused, and the partition stays as it is.
+    /// Takes an envelope, and adds its reply, if there is one, with what the log is to keep of it. An envelope for
+    /// which there is no memory is refused, and the partition stays as it is.
     ///
     /// # Errors
     ///

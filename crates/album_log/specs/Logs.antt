@@ -37,6 +37,11 @@ pub record LogView (D : Type 0) : Type 0 where
   -- the disk was mixing as the log began
   pub is_mixing : Bool
 
+-- a file was found to have a byte: it had one, if the disk that was left then is clean
+pub record HadByte (D : Type 0) (is_clean : D → Bool) (file : List ℕ) : Type 0 where
+  pub left : D
+  pub some : IsTrue (is_clean left) → 0 < length file
+
 -- the file is the text with zeros behind it, at least one, and a crash leaves just that
 pub record IsLog (text file : List ℕ) (outcomes : Outcomes) : Type 0 where
   pub whole : IsWholeText text

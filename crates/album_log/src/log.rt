@@ -2,7 +2,7 @@
 ghost use Rattle.std.specs.Prelude.{◌≡◌, ◌+◌, ◌<◌, ◌≤◌, ◌^◌, ◌++◌, [], ℕ, List, length, take, IsTrue, IfOk, OnOk, OnErr, ◌↔◌, ◌⊎◌, is_ok, false, slice_index, EachIndex};
 ghost use Rattle.sqlite_disk.specs.Disk.{Only};
 ghost use Rattle.album_log.specs.Texts.{IsWholeText, whole_text};
-ghost use Rattle.album_log.specs.Logs.{IsLog, LeavesKept, HasCause};
+ghost use Rattle.album_log.specs.Logs.{HadByte, IsLog, LeavesKept, HasCause};
 
 use crate::LogError;
 use crate::groups::append_group;
@@ -64,6 +64,7 @@ impl<D: Disk> Log<D> {
         ensures empty { IfOk result (λ log. IsTrue (D.Disk.is_clean log.disk) → D.Disk.seen disk ≡ []) }
         ensures log { IfOk result (λ log. IsTrue (D.Disk.is_clean log.disk)
             → IsLog log.text (D.Disk.seen log.disk) (D.Disk.may_leave log.disk)) }
+        ensures not_empty { result ≡ Err LogError.NotEmpty → HadByte D D.Disk.is_clean (D.Disk.seen disk) }
     {
         let is_mixing = disk.mixes();
         if disk.len()? != 0 {

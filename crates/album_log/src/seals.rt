@@ -1,7 +1,8 @@
 //! A line that shows whether it is as it was written: its last member is the sum of what is before it.
 //!
-//! `{"a":1}` is sealed as `{"a":1,"sum":"a0c798bf319e411d"}`, where the digits are the sum of `{"a":1`. It is SipHash-1-3
-//! of eight zeros and those bytes, under keys of 0, or 1 in place of 0. It finds damage, and is no proof against a forger.
+//! `{"a":1}` is sealed as `{"a":1,"sum":"a0c798bf319e411d"}`, where the digits are the sum of `{"a":1`. It is
+//! SipHash-1-3 of eight zeros and those bytes, under keys of 0, or 1 in place of 0. It finds damage, and is no proof
+//! against a forger.
 ghost use Rattle.std.specs.Prelude.{◌≡◌, ◌≢◌, ◌+◌, ◌-◌, ◌<◌, ◌++◌, ℕ, List, length, take, slice_index, Some, None, IfSome, OnOk, OnErr};
 ghost use Rattle.album_log.specs.Seals.{sealed, seal_of, digits_of, opening, closing};
 

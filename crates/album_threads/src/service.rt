@@ -270,8 +270,8 @@ impl<J: ServiceNames> Service<J> {
         Ok(channel)
     }
 
-    /// Whether a partition's thread has ended for want of memory, or the log has failed. Then each session answers `Closed`, and all that is
-    /// left is to close the service.
+    /// Whether a partition's thread has ended for want of memory, or the log has failed. Then each session answers
+    /// `Closed`, and all that is left is to close the service.
     pub fn is_broken(&self) -> bool {
         self.breakage.is_set()
     }
